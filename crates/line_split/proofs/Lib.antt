@@ -1,0 +1,11 @@
+pub mod SumBelow
+pub mod Ranks
+pub mod Quotas
+pub mod Enumerated
+pub mod Places
+pub mod ClaimLemmas
+pub mod Fair
+pub mod Division
+pub mod FirstPlaces
+pub mod ByAccount
+pub mod Over

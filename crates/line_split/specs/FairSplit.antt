@@ -1,0 +1,36 @@
+-- What makes a division of an amount a fair one, in the terms of apportionment.
+use Rattle.std.specs.Prelude.{ℕ, ◌≡◌, ◌+◌, ◌*◌, ◌<◌, ◌⊎◌, List, map, length, sum_by, slice_index}
+use Rattle.line_split.specs.Claims.{base_of, participants_of}
+use Rattle.line_split.specs.LargestRemainder.{quota_of, remainder_of}
+
+-- the number beside the account at a place
+abbrev pub number_at : List (ℕ × ℕ) → ℕ → ℕ
+number_at list i = slice_index (map (λ entry. entry.1) list) i
+
+-- Each portion is less than a unit away from the exact share, so it is that share, rounded down or up.
+abbrev pub StaysWithinQuota : (amount base : ℕ) → (participants portions : List (ℕ × ℕ)) → Type 0
+StaysWithinQuota amount base participants portions = (i : ℕ) → i < length participants →
+    (amount * number_at participants i < base * number_at portions i + base)
+    × (base * number_at portions i < amount * number_at participants i + base)
+
+-- the participant at a place has one of the units that the quotas leave
+abbrev pub HasUnit : (amount base : ℕ) → (participants portions : List (ℕ × ℕ)) → ℕ → Type 0
+HasUnit amount base participants portions i = quota_of amount base (number_at participants i) < number_at portions i
+
+-- the participant at i has the better right to a unit than the one at j: a greater remainder, or an equal one and an earlier place
+abbrev pub GoesFirst : (amount base : ℕ) → List (ℕ × ℕ) → (i j : ℕ) → Type 0
+GoesFirst amount base participants i j =
+    let remainder : ℕ → ℕ = λ k. remainder_of amount base (number_at participants k) in
+    (remainder j < remainder i) ⊎ ((remainder i ≡ remainder j) × (i < j))
+
+-- A unit is given to nobody before one who has the better right to it.
+abbrev pub GivesByRemainder : (amount base : ℕ) → (participants portions : List (ℕ × ℕ)) → Type 0
+GivesByRemainder amount base participants portions = (i j : ℕ) → i < length participants → j < length participants →
+    GoesFirst amount base participants i j → HasUnit amount base participants portions j → HasUnit amount base participants portions i
+
+-- a fair division of an amount by the claims on it
+pub record IsFairSplit (amount : ℕ) (claims portions : List (ℕ × ℕ)) : Type 0 where
+  pub same_accounts : map (λ portion. portion.0) portions ≡ map (λ p. p.0) (participants_of claims)
+  pub adds_up : sum_by (λ portion. portion.1) portions ≡ amount
+  pub within_quota : StaysWithinQuota amount (base_of claims) (participants_of claims) portions
+  pub by_remainder : GivesByRemainder amount (base_of claims) (participants_of claims) portions

@@ -1,0 +1,38 @@
+//! How the amount of one usage line is divided: claims in, portions out.
+//!
+//! The rule is the method of largest remainder (Hamilton). `split` applies it, `portion_by_rank`
+//! computes its definition slowly, and `laws` says what makes the division a fair one.
+#![tactic(auto)]
+
+mod by_rank;
+mod claims;
+pub mod laws;
+mod pairs;
+mod portions;
+#[cfg(test)]
+mod tests;
+mod turn;
+
+pub use by_rank::portion_by_rank;
+pub use claims::{ClaimFault, Claims};
+pub use portions::{Portions, split};
+
+/// Who a claim or a portion belongs to, by number. 0 is the residue account.
+pub type Account = u16;
+
+/// The account that gets what nobody claims.
+pub const RESIDUE: Account = 0;
+
+/// The most claims that one line has.
+pub const MOST_CLAIMS: usize = 256;
+
+/// 100.00 per cent, in hundredths of a per cent: the whole of a line, and the most that `Claims::of`
+/// takes for one claim.
+pub const FULL_SHARE: u32 = 10_000;
+
+/// 100.06 per cent, in hundredths of a per cent. Claims that come to more hold the whole line in the
+/// residue.
+pub const MOST_CLAIMED: u32 = 10_006;
+
+/// The most that a line may bring in, in minor units of its currency.
+pub const MOST_AMOUNT: u64 = 1_000_000_000_000;

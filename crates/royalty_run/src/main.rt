@@ -1,0 +1,22 @@
+//! The distribution run's command line.
+#![tactic(auto)]
+
+mod commands;
+mod pair;
+mod program;
+mod split_words;
+
+#[cfg(test)]
+mod tests;
+
+use program::{Failure, program, report, words_of};
+use std::process::ExitCode;
+
+fn main(rt: HostRuntime) -> ExitCode {
+    let mut err = rt.stderr();
+    let status = match words_of(&rt) {
+        Ok(words) => program(&rt, rt.alloc(), words.as_slice(), &mut rt.stdout(), &mut err),
+        Err(failure) => report(&failure, &mut err),
+    };
+    ExitCode::from(status)
+}
