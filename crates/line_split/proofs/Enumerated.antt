@@ -14,14 +14,20 @@ enumerate_from_push {X} n (y ∷ xs) x =
     ap (λ (l : List (ℕ × X)). (n, y) ∷ l)
     (enumerate_from_push (n + 1) xs x ∙ ap (λ (k : ℕ). enumerate_from (n + 1) xs ++ (k, x) ∷ []) (omega arith))
 
--- the step of a loop that makes something of each element and its place
+-- the step of a loop that makes something of each element and its place, counted from n
+pub enumerated_from_more : {X Y : Type 0} (f : ℕ × X → Y) (n : ℕ) (xs : List X) (i : ℕ) (d : X) → i < length xs
+    → map f (enumerate_from n (take (i + 1) xs)) ≡ map f (enumerate_from n (take i xs)) ++ f (n + i, get_or xs i d) ∷ []
+enumerated_from_more {X} {Y} f n xs i d lt =
+    ap (λ (l : List X). map f (enumerate_from n l)) (take_more xs i d lt)
+    ∙ (ap (λ (l : List (ℕ × X)). map f l) (enumerate_from_push n (take i xs) (get_or xs i d))
+    ∙ (map_push f (enumerate_from n (take i xs)) (n + length (take i xs), get_or xs i d)
+    ∙ ap (λ (k : ℕ). map f (enumerate_from n (take i xs)) ++ f (n + k, get_or xs i d) ∷ []) (length-take-le i xs (omega arith))))
+
+-- the same, counted from 0
 pub enumerated_more : {X Y : Type 0} (f : ℕ × X → Y) (xs : List X) (i : ℕ) (d : X) → i < length xs
     → map f (enumerate_from 0 (take (i + 1) xs)) ≡ map f (enumerate_from 0 (take i xs)) ++ f (i, get_or xs i d) ∷ []
 enumerated_more {X} {Y} f xs i d lt =
-    ap (λ (l : List X). map f (enumerate_from 0 l)) (take_more xs i d lt)
-    ∙ (ap (λ (l : List (ℕ × X)). map f l) (enumerate_from_push 0 (take i xs) (get_or xs i d))
-    ∙ (map_push f (enumerate_from 0 (take i xs)) (0 + length (take i xs), get_or xs i d)
-    ∙ ap (λ (k : ℕ). map f (enumerate_from 0 (take i xs)) ++ f (k, get_or xs i d) ∷ []) (zero-add (length (take i xs)) ∙ length-take-le i xs (omega arith))))
+    enumerated_from_more f 0 xs i d lt ∙ ap (λ (k : ℕ). map f (enumerate_from 0 (take i xs)) ++ f (k, get_or xs i d) ∷ []) (zero-add i)
 
 -- Two functions that agree make the same list.
 pub map_same : {X Y : Type 0} (f g : X → Y) → ((x : X) → f x ≡ g x) → (xs : List X) → map f xs ≡ map g xs

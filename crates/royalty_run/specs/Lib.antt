@@ -1,0 +1,5 @@
+pub mod Pair
+pub mod PairFault
+pub mod Rows
+pub mod Status
+pub mod SplitCommand

@@ -1,50 +1,106 @@
 //! The command line's grammar, and what its words ask for.
 
+ghost use Rattle.std.specs.Prelude.{◌≡◌, ◌≤◌, IfOk, Some, codes};
+ghost use Rattle.clap.specs.declared.builder.value_parser.ValueParser.TheVariants as vp;
+ghost use Rattle.royalty_run.specs.SplitCommand.{IsRequiredArg, IsSplitCommand};
+ghost use Rattle.line_split.specs.declared.TheConstants.{MOST_AMOUNT};
+
+use clap::error::ErrorKind;
 use clap::{Arg, ArgAction, Command, Error, value_parser};
 use std::alloc::{AllocError, Global};
 
-/// The words of a division: what is divided, and the words that name who takes part.
+/// What stands below the help of `split`.
+const SPLIT_HELP: &str = "\
+The answer has a row P,party,portion for each party and last M,,portion for the residue, which has
+what nobody claims. Units left by rounding down go to the largest remainders. Shares that come to
+more than 10006 leave the whole amount to the residue.
+
+Example:
+  royalty_run split 100 A=3333 B=3333 C=3333
+prints
+  P,A,34
+  P,B,33
+  P,C,33
+  M,,0";
+
+/// The words of a division: the amount in minor units, and the words PARTY=SHARE.
 #[derive(Debug, Drop)]
 pub struct SplitWords {
     pub amount: u64,
     pub pairs: Vec<String>,
 }
 
-fn split_command(alloc: Global) -> Result<Command<'static>, AllocError> {
-    let amount = Arg::new(alloc, "AMOUNT")
-        .help("What is divided, in minor units: 0 to 1000000000000")
-        .required(true)
-        .action(ArgAction::Set)
-        .value_parser(value_parser!(u64).range(0..=1_000_000_000_000));
-    let pairs = Arg::new(alloc, "PARTY=SHARE")
-        .help("A party and its share in hundredths of a per cent, as A=2500 for 25 per cent")
-        .required(true)
-        .action(ArgAction::Append)
-        .num_args(1..);
-    let command = Command::new(alloc, "split")
-        .bin_name("royalty_run split")?
-        .about("Divide an amount among parties by their shares")
-        .after_help("Example: royalty_run split 100 A=3333 B=3333 C=3333");
-    command.arg(amount)?.arg(pairs)
+/// Reads the words of the command line, the first of which is the program's own name.
+pub fn read_words(alloc: Global, words: &[String]) -> Result<SplitWords, Error>
+    ensures { IfOk result (λ asked. asked.amount ≤ MOST_AMOUNT) }
+{
+    if words.len() > 1 && words[1].as_str() == "split" {
+        read_split(alloc, &words[1..])
+    } else {
+        Err(refusal(alloc, words)?)
+    }
 }
 
-/// Reads the words of the command line, the first of which is the program's own name.
-pub fn read_words(alloc: Global, words: &[String]) -> Result<SplitWords, Error> {
-    let mut split = split_command(alloc)?;
-    if words.len() > 1 && words[1].as_str() == "split" {
-        let matches = split.try_get_matches_from(&words[1..])?;
-        let amount = matches.get_one::<u64>("AMOUNT").unwrap_or(0);
-        let mut pairs = Vec::new(alloc);
-        for word in matches.get_strs("PARTY=SHARE").unwrap_or(&[]) {
-            pairs.push(String::from_str(alloc, word)?)?;
-        }
-        return Ok(SplitWords { amount, pairs });
+/// Reads the words of a division, the first of which is `split`. They are a command of their own,
+/// since what is proved of a parse that succeeds is proved of the top command's arguments.
+fn read_split(alloc: Global, words: &[String]) -> Result<SplitWords, Error>
+    ensures { IfOk result (λ asked. asked.amount ≤ MOST_AMOUNT) }
+{
+    let matches = split_command(alloc)?.try_get_matches_from(words)?;
+    let amount = matches.get_one::<u64>("AMOUNT").unwrap();
+    let mut pairs = Vec::new(alloc);
+    for word in matches.get_strs("PARTY=SHARE").unwrap() {
+        pairs.push(String::from_str(alloc, word)?)?;
     }
-    let whole = Command::new(alloc, "royalty_run")
+    Ok(SplitWords { amount, pairs })
+}
+
+fn split_command<'a>(alloc: Global) -> Result<Command<'a>, AllocError>
+    ensures { IfOk result IsSplitCommand }
+{
+    Command::new(alloc, "split")
+        .bin_name("royalty_run split")?
+        .about("Divide an amount among parties by their shares")
+        .after_help(SPLIT_HELP)
+        .arg(amount_arg(alloc))?
+        .arg(pairs_arg(alloc))
+}
+
+/// The amount, whose range clap checks as it parses.
+fn amount_arg<'a>(alloc: Global) -> Arg<'a>
+    ensures needed { IsRequiredArg (codes "AMOUNT") result }
+    ensures in_range { result.value_parser ≡ Some (vp.Unsigned 0 MOST_AMOUNT) }
+{
+    Arg::new(alloc, "AMOUNT")
+        .help("What is divided: a whole number of minor units, as cents, from 0 to 1000000000000")
+        .required(true)
+        .action(ArgAction::Set)
+        .value_parser(value_parser!(u64).range(0..=1_000_000_000_000))
+}
+
+/// The words PARTY=SHARE, one or more.
+fn pairs_arg<'a>(alloc: Global) -> Arg<'a>
+    ensures { IsRequiredArg (codes "PARTY=SHARE") result }
+{
+    Arg::new(alloc, "PARTY=SHARE")
+        .help(
+            "A party (1 to 9 printable characters) and its share in hundredths of a per cent, as A=2500 for 25 per cent; 0 to 10000, at most 256 of them",
+        )
+        .required(true)
+        .action(ArgAction::Set)
+        .num_args(1..)
+}
+
+/// What is wrong with words that name no command, or the help that they ask for.
+fn refusal(alloc: Global, words: &[String]) -> Result<Error, AllocError> {
+    let mut whole = Command::new(alloc, "royalty_run")
+        .bin_name("royalty_run")?
         .about("Divide the money of music usage among those who are due it")
         .subcommand_required(true)
         .arg_required_else_help(true)
-        .subcommand(split)?;
-    whole.try_get_matches_from(words)?;
-    Ok(SplitWords { amount: 0, pairs: Vec::new(alloc) })
+        .subcommand(split_command(alloc)?)?;
+    match whole.try_get_matches_from_mut(words) {
+        Err(error) => Ok(error),
+        Ok(_) => whole.error(ErrorKind::MissingSubcommand, "the command comes first"),
+    }
 }

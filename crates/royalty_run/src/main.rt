@@ -2,21 +2,28 @@
 #![tactic(auto)]
 
 mod commands;
+mod failure;
 mod pair;
+mod pair_fault;
 mod program;
 mod split_words;
-
 #[cfg(test)]
 mod tests;
 
-use program::{Failure, program, report, words_of};
+use program::{program, words_of};
 use std::process::ExitCode;
 
 fn main(rt: HostRuntime) -> ExitCode {
     let mut err = rt.stderr();
     let status = match words_of(&rt) {
-        Ok(words) => program(&rt, rt.alloc(), words.as_slice(), &mut rt.stdout(), &mut err),
-        Err(failure) => report(&failure, &mut err),
+        Ok(words) => program(
+            &rt,
+            rt.alloc(),
+            words.as_slice(),
+            &mut rt.stdout(),
+            &mut err,
+        ),
+        Err(failure) => failure.report(&mut err),
     };
     ExitCode::from(status)
 }

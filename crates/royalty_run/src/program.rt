@@ -1,54 +1,19 @@
 //! What the program does with its words, and the status that it answers.
 
+ghost use Rattle.std.specs.Prelude.{◌≡◌, ◌≢◌, ◌⊎◌, ℕ, List, OnOk};
+ghost use Rattle.std.specs.Io.KnownBytes.{Appends};
+
 use crate::commands::read_words;
-use crate::split_words::{PairFault, split_words};
+use crate::failure::Failure;
+use crate::pair_fault::PairFault;
+use crate::split_words::split_words;
 use clap::error::ErrorKind;
 use std::alloc::Global;
 use std::env;
-use std::fmt;
-use std::io;
-use std::io::Write;
+use std::io::{self, Write};
 use std::rt::{Env, Files};
 
-/// Why there is no answer.
-#[derive(Debug, Drop)]
-pub enum Failure {
-    Words(clap::Error),
-    NotText,
-    Pairs(PairFault),
-    Room,
-    Output,
-}
-
-impl fmt::Display for Failure {
-    fn fmt<W: fmt::Write>(&self, f: &mut fmt::Formatter<W>) -> fmt::Result {
-        match self {
-            Failure::Words(error) => write!(f, "{error}"),
-            Failure::NotText => f.write_str("royalty_run: an argument is not text\n"),
-            Failure::Pairs(fault) => {
-                let number = fault.number();
-                match fault.place() {
-                    Some(place) => write!(f, "royalty_run: pair fault {number} at {place}\n"),
-                    None => write!(f, "royalty_run: pair fault {number}\n"),
-                }
-            }
-            Failure::Room => f.write_str("royalty_run: out of room\n"),
-            Failure::Output => f.write_str("royalty_run: cannot write\n"),
-        }
-    }
-}
-
-impl Failure {
-    fn status(&self) -> u8 {
-        match self {
-            Failure::Words(_) | Failure::NotText | Failure::Pairs(_) => 2,
-            Failure::Room => 3,
-            Failure::Output => 4,
-        }
-    }
-}
-
-/// The words of the command line.
+/// The words of the command line, the first of which is the program's own name.
 pub fn words_of<R: Env + AllocGlobal>(rt: &R) -> Result<Vec<String>, Failure> {
     match env::args(rt) {
         Ok(words) => words.collect(rt.alloc()).map_err(|_| Failure::Room),
@@ -57,52 +22,54 @@ pub fn words_of<R: Env + AllocGlobal>(rt: &R) -> Result<Vec<String>, Failure> {
     }
 }
 
-/// Says on `err` what failed, and answers the status.
-pub fn report<E: Write>(failure: &Failure, err: &mut E) -> u8 {
-    let _ = write!(err, "{failure}");
-    let _ = err.flush();
-    failure.status()
-}
-
-/// Does what the words ask for.
+/// Does what the words ask for, of which the first is the program's own name. The answer goes to
+/// `out`, and what went wrong to `err`. The status is 0 where the answer was printed or help was
+/// asked for, 2 where the words are refused, 3 for want of memory, and 4 where `out` refused a
+/// write.
 pub fn program<R: Files, W: Write, E: Write>(
     _rt: &R,
     alloc: Global,
     words: &[String],
     out: &mut W,
     err: &mut E,
-) -> u8 {
-    match answer(alloc, words, out) {
-        Ok(()) => 0,
-        Err(failure) => report(&failure, err),
+) -> u8
+    ensures known { (result ≡ 0) ⊎ ((result ≡ 2) ⊎ ((result ≡ 3) ⊎ (result ≡ 4))) }
+    ensures answered { result ≡ 0 → (text : List ℕ) × Appends (W.contents out.old) (W.contents out.new) text }
+    ensures silent { (result ≡ 2) ⊎ (result ≡ 3) → out.new ≡ out.old }
+{
+    match answer(alloc, words) {
+        Ok(text) => match print(text.as_slice(), out) {
+            Ok(()) => 0,
+            Err(_) => Failure::Output.report(err),
+        },
+        Err(failure) => failure.report(err),
     }
 }
 
-fn answer<W: Write>(alloc: Global, words: &[String], out: &mut W) -> Result<(), Failure> {
+/// What is to be printed: the rows of a division, or help.
+fn answer(alloc: Global, words: &[String]) -> Result<Vec<u8>, Failure> {
     let asked = match read_words(alloc, words) {
         Ok(asked) => asked,
         Err(error) if error.kind() == ErrorKind::OutOfMemory => return Err(Failure::Room),
         Err(error) if error.use_stderr() => return Err(Failure::Words(error)),
         Err(help) => {
-            return match write!(out, "{help}") {
-                Ok(()) => Ok(()),
-                Err(_) => Err(Failure::Output),
+            return match format!(in alloc; "{help}") {
+                Ok(text) => Ok(text.into_bytes()),
+                Err(_) => Err(Failure::Room),
             };
         }
     };
-    if asked.amount > 1_000_000_000_000 {
-        return Ok(());
-    }
     match split_words(alloc, asked.amount, asked.pairs.as_slice()) {
-        Ok(text) => print(text.as_slice(), out),
+        Ok(text) => Ok(text),
         Err(PairFault::Memory) => Err(Failure::Room),
         Err(fault) => Err(Failure::Pairs(fault)),
     }
 }
 
-fn print<W: Write>(text: &[u8], out: &mut W) -> Result<(), Failure> {
-    if out.write_all(text).is_err() || out.flush().is_err() {
-        return Err(Failure::Output);
-    }
-    Ok(())
+/// Writes the whole text, and sees it through to the output.
+fn print<W: Write>(text: &[u8], out: &mut W) -> io::Result<()>
+    ensures { OnOk result (Appends (W.contents out.old) (W.contents out.new) text.now) }
+{
+    out.write_all(text)?;
+    out.flush()
 }

@@ -1,127 +1,166 @@
 //! The division that the words of a command line ask for.
 
-ghost use Rattle.std.specs.Prelude.{◌≡◌, ◌≤◌};
+ghost use Rattle.std.specs.Prelude.{◌≡◌, ◌≤◌, ◌<◌, ◌+◌, ◌∷◌, [], ℕ, length, map, All, IfOk, IfErr, IfSome, IfNone, IsTrue, ◌↔◌, ◌++◌, OnOk, string_bytes};
 ghost use Rattle.line_split.specs.declared.TheConstants.{MOST_AMOUNT};
+ghost use Rattle.line_split.specs.FirstPlace.{IsFirstPlace};
+ghost use Rattle.royalty_run.specs.Pair.{IsPair, claims_of as claims_made, word_at};
+ghost use Rattle.royalty_run.specs.PairFault.{AreSound, IsFaultOf, IsMalformed, IsNamedBefore};
+ghost use Rattle.royalty_run.specs.Rows.{IsBetweenRows, labels_of, row_of, rows_of, text_of, written};
 
-use crate::pair::{Pair, read_pair};
-use csv::WriterBuilder;
+use crate::pair::{is_pair, party_of, share_of};
+use crate::pair_fault::PairFault;
+use csv::{Writer, WriterBuilder};
 use itoa::Buffer;
 use line_split::{Account, ClaimFault, Claims, MOST_CLAIMS, Portions, split};
 use std::alloc::{AllocError, Global};
-use thiserror::Error;
 
-/// Why the pairs cannot be split by. Places count from 1.
-#[derive(Clone, Copy, Debug, PartialEq, Eq, Error)]
-pub enum PairFault {
-    /// The word at this place is not PARTY=SHARE.
-    #[error("word {0} is not PARTY=SHARE")]
-    Pair(u64),
-    /// The party at this place was named before.
-    #[error("the party of word {0} was named before")]
-    Name(u64),
-    /// The share at this place is over 100.00 per cent.
-    #[error("the share of word {0} is over 10000, which is 100.00 per cent")]
-    Share(u64),
-    /// There are more than 256 pairs.
-    #[error("there are more than 256 pairs")]
-    Many,
-    /// A growth of memory was refused.
-    #[error("memory ran out")]
-    Memory,
-}
-
-impl PairFault {
-    /// The fault's number: 1 to 5, in the order above.
-    pub fn number(&self) -> u8 {
-        match self {
-            PairFault::Pair(_) => 1,
-            PairFault::Name(_) => 2,
-            PairFault::Share(_) => 3,
-            PairFault::Many => 4,
-            PairFault::Memory => 5,
-        }
-    }
-
-    /// The place of the word at fault, from 1, where it is one word's.
-    pub fn place(&self) -> Option<u64> {
-        match *self {
-            PairFault::Pair(place) | PairFault::Name(place) | PairFault::Share(place) => Some(place),
-            PairFault::Many | PairFault::Memory => None,
-        }
-    }
-}
-
-/// Divides `amount`, in minor units, by pairs of a party and its share, and answers the portions as
-/// CSV: a row `P,party,portion` for each pair in order, then `M,,portion` for the residue. The k-th
-/// pair has account k.
-pub fn split_words(alloc: Global, amount: u64, pairs: &[String]) -> Result<Vec<u8>, PairFault>
+/// Divides `amount`, in minor units, by words PARTY=SHARE, and answers the portions as CSV: a row
+/// `P,party,portion` for each word in order, then `M,,portion` for the residue. The k-th word has
+/// account k.
+pub fn split_words(alloc: Global, amount: u64, words: &[String]) -> Result<Vec<u8>, PairFault>
     requires { amount ≤ MOST_AMOUNT }
+    ensures rows { IfOk result (λ text. text.items ≡ rows_of amount (map string_bytes words.now)) }
+    ensures sound { IfOk result (λ _. AreSound (map string_bytes words.now)) }
+    ensures fault { IfErr result (IsFaultOf (map string_bytes words.now)) }
 {
-    if pairs.len() > MOST_CLAIMS {
+    if words.len() > MOST_CLAIMS {
         return Err(PairFault::Many);
     }
-    let parsed = read_pairs(alloc, pairs)?;
-    if let Some(at) = first_named_before(parsed.as_slice()) {
-        return Err(PairFault::Name(at as u64 + 1));
+    if let Some(place) = first_malformed(words) {
+        return Err(PairFault::Pair(place as u64 + 1));
     }
-    let list = listed(alloc, parsed.as_slice()).map_err(|_| PairFault::Memory)?;
-    let claims = match Claims::of(alloc, list.as_slice()) {
-        Ok(claims) => claims,
-        Err(ClaimFault::Share(place)) => return Err(PairFault::Share(place)),
-        Err(_) => return Err(PairFault::Memory),
-    };
-    let Ok(mut portions) = Portions::room(alloc, pairs.len() + 1) else {
+    if let Some(place) = first_named_before(words) {
+        return Err(PairFault::Name(place as u64 + 1));
+    }
+    let claims = claims_of(alloc, words)?;
+    let Ok(mut portions) = Portions::room(alloc, words.len() + 1) else {
         return Err(PairFault::Memory);
     };
     split(amount, &claims, &mut portions);
-    rows(alloc, parsed.as_slice(), portions.list()).map_err(|_| PairFault::Memory)
+    rows(alloc, words, portions.list())
 }
 
-fn read_pairs<'a>(alloc: Global, words: &'a [String]) -> Result<Vec<Pair<'a>>, PairFault> {
-    let mut pairs = Vec::new(alloc);
-    for (place, word) in words.iter().enumerate() {
-        let Some(pair) = read_pair(word.as_str()) else {
-            return Err(PairFault::Pair(place as u64 + 1));
-        };
-        pairs.push(pair).map_err(|_| PairFault::Memory)?;
-    }
-    Ok(pairs)
+/// The word at a place.
+fn word(words: &[String], place: usize) -> &str
+    requires { place < length words.now }
+    ensures { result.now ≡ word_at (map string_bytes words.now) place }
+{
+    words[place].as_str()
 }
 
-/// The first pair whose party stands in an earlier one.
-fn first_named_before(pairs: &[Pair<'_>]) -> Option<usize> {
-    for place in 0..pairs.len() {
-        let party = pairs[place].party;
-        if pairs[..place].iter().any(|earlier| earlier.party == party) {
+/// The first word that is not PARTY=SHARE.
+fn first_malformed(words: &[String]) -> Option<usize>
+    ensures found { IfSome result (λ place. (place < length words.now) × IsFirstPlace (IsMalformed (map string_bytes words.now)) (place + 1)) }
+    ensures none { IfNone result (All IsPair (map string_bytes words.now)) }
+{
+    for place in 0..words.len() {
+        if !is_pair(word(words, place)) {
             return Some(place);
         }
     }
     None
 }
 
-/// The pairs as claims: the k-th has account k, from 1.
-fn listed(alloc: Global, pairs: &[Pair<'_>]) -> Result<Vec<(Account, u32)>, AllocError> {
+/// The first word whose party stands in an earlier one.
+fn first_named_before(words: &[String]) -> Option<usize>
+    requires { All IsPair (map string_bytes words.now) }
+    ensures found { IfSome result (λ place. (place < length words.now) × IsFirstPlace (IsNamedBefore (map string_bytes words.now)) (place + 1)) }
+    ensures none { IfNone result ((i : ℕ) → ¬ IsNamedBefore (map string_bytes words.now) i) }
+{
+    for place in 0..words.len() {
+        if is_named_before(words, place) {
+            return Some(place);
+        }
+    }
+    None
+}
+
+/// Whether the party of the word at a place stands in an earlier word too.
+fn is_named_before(words: &[String], place: usize) -> bool
+    requires pairs { All IsPair (map string_bytes words.now) }
+    requires place { place < length words.now }
+    ensures { IsTrue result ↔ IsNamedBefore (map string_bytes words.now) place }
+{
+    for earlier in 0..place {
+        if party_of(word(words, earlier)) == party_of(word(words, place)) {
+            return true;
+        }
+    }
+    false
+}
+
+/// The claims that the words make: the k-th word's has account k.
+fn claims_of(alloc: Global, words: &[String]) -> Result<Claims, PairFault>
+    requires few { length words.now ≤ MOST_CLAIMS }
+    requires pairs { All IsPair (map string_bytes words.now) }
+    requires named_once { (i : ℕ) → ¬ IsNamedBefore (map string_bytes words.now) i }
+    ensures claims { IfOk result (λ claims. claims ≡ claims_made (map string_bytes words.now)) }
+    ensures sound { IfOk result (λ _. AreSound (map string_bytes words.now)) }
+    ensures fault { IfErr result (IsFaultOf (map string_bytes words.now)) }
+{
+    let Ok(list) = list_claims(alloc, words) else {
+        return Err(PairFault::Memory);
+    };
+    match Claims::of(alloc, list.as_slice()) {
+        Ok(claims) => Ok(claims),
+        Err(ClaimFault::Share(place)) => Err(PairFault::Share(place)),
+        Err(_) => Err(PairFault::Memory),
+    }
+}
+
+/// The words' shares, by accounts from 1 on.
+fn list_claims(alloc: Global, words: &[String]) -> Result<Vec<(Account, u32)>, AllocError>
+    requires few { length words.now ≤ MOST_CLAIMS }
+    requires pairs { All IsPair (map string_bytes words.now) }
+    ensures { IfOk result (λ list. list.items ≡ claims_made (map string_bytes words.now)) }
+{
     let mut list = Vec::new(alloc);
-    let mut account: Account = 0;
-    for pair in pairs {
-        account += 1;
-        list.push((account, pair.share))?;
+    for place in 0..words.len() {
+        let account = place as Account + 1;
+        list.push((account, share_of(word(words, place))))?;
     }
     Ok(list)
 }
 
 /// The rows of the portions, the last of them the residue's.
-fn rows(alloc: Global, pairs: &[Pair<'_>], portions: &[(Account, u64)]) -> Result<Vec<u8>, csv::Error> {
+fn rows(alloc: Global, words: &[String], portions: &[(Account, u64)]) -> Result<Vec<u8>, PairFault>
+    requires pairs { All IsPair (map string_bytes words.now) }
+    requires each { length portions.now ≡ length words.now + 1 }
+    ensures text { IfOk result (λ text. text.items ≡ text_of (labels_of (map string_bytes words.now)) portions.now) }
+    ensures memory { IfErr result (λ fault. fault ≡ PairFault.Memory) }
+{
     let mut out = WriterBuilder::new().from_writer(Vec::new(alloc));
-    let mut digits = Buffer::new();
-    for (place, pair) in pairs.iter().enumerate() {
-        let portion = digits.format(portions[place].1);
-        out.write_fields(&[b"P", pair.party.as_bytes(), portion.as_bytes()])?;
+    for place in 0..words.len() {
+        write_row(
+            &mut out,
+            "P",
+            party_of(word(words, place)),
+            portions[place].1,
+        )?;
     }
-    let residue = digits.format(portions[pairs.len()].1);
-    out.write_fields(&[b"M", b"", residue.as_bytes()])?;
+    write_row(&mut out, "M", "", portions[words.len()].1)?;
     match out.into_inner() {
         Ok(text) => Ok(text),
-        Err(_) => Ok(Vec::new(alloc)),
+        Err(_) => Err(PairFault::Memory),
+    }
+}
+
+/// Writes the row of one portion. Writing into memory fails only where memory does.
+fn write_row(
+    out: &mut Writer<Vec<u8>>,
+    kind: &str,
+    party: &str,
+    portion: u64,
+) -> Result<(), PairFault>
+    requires { IsBetweenRows out.old }
+    ensures row { OnOk result (written out.new ≡ written out.old ++ row_of kind.now party.now portion) }
+    ensures ready { OnOk result (IsBetweenRows out.new) }
+    ensures memory { IfErr result (λ fault. fault ≡ PairFault.Memory) }
+{
+    let mut digits = Buffer::new();
+    let portion = digits.format(portion);
+    match out.write_fields(&[kind.as_bytes(), party.as_bytes(), portion.as_bytes()]) {
+        Ok(()) => Ok(()),
+        Err(_) => Err(PairFault::Memory),
     }
 }

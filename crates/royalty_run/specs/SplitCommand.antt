@@ -1,0 +1,28 @@
+-- What the command of a division asks of its words.
+use Rattle.std.specs.Prelude.{◌≡◌, ◌∷◌, ℕ, List, [], Some, false, codes}
+use Rattle.clap.specs.Words.{IsPlain, IsPlainArg, args_of}
+use Rattle.clap.specs.Built.{TakesValue}
+use Rattle.clap.specs.declared.builder.arg.Arg.{Arg}
+use Rattle.clap.specs.declared.builder.command.Command.{Command}
+use Rattle.clap.specs.declared.builder.command.Command.TheViews.{out-Command as fields_of}
+use Rattle.clap.specs.declared.builder.value_parser.ValueParser.TheVariants as vp
+use Rattle.line_split.specs.declared.TheConstants.{MOST_AMOUNT}
+
+-- a required argument with this id, which takes a value and excludes nothing
+pub record IsRequiredArg (name : List ℕ) (a : Arg) : Type 0 where
+  pub id : a.id.now ≡ name
+  pub value : TakesValue a
+  pub plain : IsPlainArg a
+  pub local : a.global ≡ false
+
+-- the command has two arguments: the amount, a number up to the most, and the words PARTY=SHARE
+pub record IsSplitCommand (c : Command) : Type 0 where
+  pub amount : Arg
+  pub pairs : Arg
+  pub args : args_of c ≡ amount ∷ pairs ∷ []
+  pub needs_amount : IsRequiredArg (codes "AMOUNT") amount
+  pub in_range : amount.value_parser ≡ Some (vp.Unsigned 0 MOST_AMOUNT)
+  pub needs_pairs : IsRequiredArg (codes "PARTY=SHARE") pairs
+  pub plain : IsPlain c
+  pub globals : (fields_of c).has_globals ≡ false
+  pub negates : (fields_of c).subcommand_negates_reqs ≡ false
