@@ -1,5 +1,5 @@
 -- Words of the command line: their digits, and the lists that the code makes of them.
-use Rattle.std.proofs.Common.{◌≡◌, ℕ, ◌+◌, ◌-◌, ◌*◌, ◌^◌, ◌<◌, ◌≤◌, List, [], ◌∷◌, length, map, get_or, All, refl, sym, ap, ◌∙◌, arith, Result, Ok, IsOk}
+use Rattle.std.proofs.Common.{◌≡◌, ℕ, ◌+◌, ◌<◌, ◌≤◌, List, [], length, map, get_or, All, ap, ◌∙◌, arith, Result, Ok}
 use Rattle.std.specs.Char.{IsAsciiDigit}
 use Rattle.std.specs.List.{enumerate_from}
 use Rattle.std.specs.List.Sorted.{IsStrictlyIncreasing}

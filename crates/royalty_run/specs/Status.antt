@@ -1,5 +1,5 @@
 -- The status that the program answers.
-use Rattle.std.specs.Prelude.{ℕ, ◌≡◌, ◌⊎◌}
+use Rattle.std.specs.Prelude.{ℕ}
 use Rattle.royalty_run.specs.declared.failure.Failure.{Failure}
 use Rattle.royalty_run.specs.declared.failure.Failure.TheVariants.{Words, NotText, Pairs, Room, Output}
 

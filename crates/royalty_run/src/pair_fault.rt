@@ -45,9 +45,9 @@ impl PairFault {
         ensures { result ≡ place_of self.now }
     {
         match *self {
-            PairFault::Pair(place) | PairFault::Name(place) | PairFault::Share(place) => Some(
-                place,
-            ),
+            PairFault::Pair(place) => Some(place),
+            PairFault::Name(place) => Some(place),
+            PairFault::Share(place) => Some(place),
             PairFault::Many | PairFault::Memory => None,
         }
     }

@@ -131,12 +131,8 @@ fn rows(alloc: Global, words: &[String], portions: &[(Account, u64)]) -> Result<
 {
     let mut out = WriterBuilder::new().from_writer(Vec::new(alloc));
     for place in 0..words.len() {
-        write_row(
-            &mut out,
-            "P",
-            party_of(word(words, place)),
-            portions[place].1,
-        )?;
+        let party = party_of(word(words, place));
+        write_row(&mut out, "P", party, portions[place].1)?;
     }
     write_row(&mut out, "M", "", portions[words.len()].1)?;
     match out.into_inner() {

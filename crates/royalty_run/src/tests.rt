@@ -1,0 +1,183 @@
+//! The worked examples, as words of a command line, and what an output that refuses a write does.
+
+use crate::pair_fault::PairFault;
+use crate::program::program;
+use crate::split_words::split_words;
+use std::alloc::Global;
+use std::io::{self, Write};
+use std::test::Fail;
+
+/// What a run of the program answers: its status, standard output and standard error.
+#[derive(Drop)]
+struct Answer {
+    status: u8,
+    out: Vec<u8>,
+    err: Vec<u8>,
+}
+
+fn words(alloc: Global, line: &str) -> Result<Vec<String>, Fail> {
+    let mut words = Vec::new(alloc);
+    for word in line.split(' ') {
+        words.push(String::from_str(alloc, word)?)?;
+    }
+    Ok(words)
+}
+
+fn run(rt: &HostRuntime, line: &str) -> Result<Answer, Fail> {
+    let alloc = rt.alloc();
+    let words = words(alloc, line)?;
+    let mut out = Vec::new(alloc);
+    let mut err = Vec::new(alloc);
+    let status = program(rt, alloc, words.as_slice(), &mut out, &mut err);
+    Ok(Answer { status, out, err })
+}
+
+/// An output that refuses a write, or takes so many bytes before it does.
+#[derive(Drop)]
+struct Narrow {
+    room: usize,
+}
+
+impl Write for Narrow {
+    fn write(&mut self, buf: &[u8]) -> io::Result<usize> {
+        if self.room == 0 {
+            return Err(io::Error::from(io::ErrorKind::BrokenPipe));
+        }
+        let taken = buf.len().min(self.room);
+        self.room -= taken;
+        Ok(taken)
+    }
+
+    fn flush(&mut self) -> io::Result<()> {
+        Ok(())
+    }
+}
+
+#[test]
+fn divides_as_in_the_examples(rt: HostRuntime) -> Result<(), Fail> {
+    for (line, want) in [
+        (
+            "r split 100 A=3333 B=3333 C=3333",
+            "P,A,34\nP,B,33\nP,C,33\nM,,0\n",
+        ),
+        ("r split 1 A=5000 B=5000", "P,A,1\nP,B,0\nM,,0\n"),
+        ("r split 3 A=5000", "P,A,2\nM,,1\n"),
+        ("r split 0 A=10000", "P,A,0\nM,,0\n"),
+        ("r split 100 A=5003 B=5003", "P,A,50\nP,B,50\nM,,0\n"),
+        ("r split 100 A=5003 B=5004", "P,A,0\nP,B,0\nM,,100\n"),
+        ("r split 10 A=5001 B=5002", "P,A,5\nP,B,5\nM,,0\n"),
+        (
+            "r split 1000000000000 A=1",
+            "P,A,100000000\nM,,999900000000\n",
+        ),
+        ("r split -- 4 a,\"b=5000", "P,\"a,\"\"b\",2\nM,,2\n"),
+    ] {
+        let answer = run(&rt, line)?;
+        assert_eq!(rt; answer.out.as_slice(), want.as_bytes(), "{line}");
+        assert_eq!(rt; answer.status, 0, "{line}");
+        assert!(rt; answer.err.is_empty(), "{line}");
+    }
+    Ok(())
+}
+
+#[test]
+fn refuses_pairs_by_number_and_place(rt: HostRuntime) -> Result<(), Fail> {
+    for (line, want) in [
+        ("r split 5 A=1 A=2", "royalty_run: pair fault 2 at 2\n"),
+        ("r split 5 A=10001", "royalty_run: pair fault 3 at 1\n"),
+        ("r split 5 A=1 B", "royalty_run: pair fault 1 at 2\n"),
+        ("r split 5 A=1 A=2 =3", "royalty_run: pair fault 1 at 3\n"),
+        ("r split 5 TENLETTERS=1", "royalty_run: pair fault 1 at 1\n"),
+        ("r split 5 A=+1", "royalty_run: pair fault 1 at 1\n"),
+        ("r split 5 A=000001", "royalty_run: pair fault 1 at 1\n"),
+        ("r split 5 A=1=2", "royalty_run: pair fault 1 at 1\n"),
+    ] {
+        let answer = run(&rt, line)?;
+        assert_eq!(rt; answer.err.as_slice(), want.as_bytes(), "{line}");
+        assert_eq!(rt; answer.status, 2, "{line}");
+        assert!(rt; answer.out.is_empty(), "{line}");
+    }
+    Ok(())
+}
+
+#[test]
+fn refuses_words_and_shows_help(rt: HostRuntime) -> Result<(), Fail> {
+    for line in [
+        "r",
+        "r splti",
+        "r split",
+        "r split 5",
+        "r split x A=1",
+        "r split 1000000000001 A=1",
+    ] {
+        let answer = run(&rt, line)?;
+        assert_eq!(rt; answer.status, 2, "{line}");
+        assert!(rt; answer.out.is_empty(), "{line}");
+        assert!(rt; !answer.err.is_empty(), "{line}");
+    }
+    for line in ["r --help", "r help split", "r split --help"] {
+        let answer = run(&rt, line)?;
+        assert_eq!(rt; answer.status, 0, "{line}");
+        assert!(rt; answer.out.len() > 100, "{line}");
+        assert!(rt; answer.err.is_empty(), "{line}");
+    }
+    Ok(())
+}
+
+#[test]
+fn names_the_fault_of_words(rt: HostRuntime) -> Result<(), Fail> {
+    let alloc = rt.alloc();
+    let named_twice = words(alloc, "A=1 A=2")?;
+    assert_eq!(rt;
+        split_words(alloc, 5, named_twice.as_slice()).err(),
+        Some(PairFault::Name(2))
+    );
+    let none = split_words(alloc, 5, &[])?;
+    assert_eq!(rt; none.as_slice(), b"M,,5\n".as_slice());
+    let mut many = Vec::new(alloc);
+    for n in 0..257u32 {
+        many.push(format!(in alloc; "{n}=1")?)?;
+    }
+    assert_eq!(rt;
+        split_words(alloc, 5, many.as_slice()).err(),
+        Some(PairFault::Many)
+    );
+    many.truncate(256);
+    assert!(rt; split_words(alloc, 5, many.as_slice()).is_ok());
+    Ok(())
+}
+
+#[test]
+fn an_output_that_refuses_is_status_4(rt: HostRuntime) -> Result<(), Fail> {
+    let alloc = rt.alloc();
+    let good = words(alloc, "r split 100 A=3333 B=3333 C=3333")?;
+    for room in [0, 1, 25] {
+        let mut err = Vec::new(alloc);
+        let status = program(&rt, alloc, good.as_slice(), &mut Narrow { room }, &mut err);
+        assert_eq!(rt; status, 4, "{room}");
+        assert_eq!(rt; err.as_slice(), b"royalty_run: cannot write\n".as_slice());
+    }
+    let bad = words(alloc, "r split 5 A")?;
+    let mut out = Vec::new(alloc);
+    assert_eq!(rt;
+        program(
+            &rt,
+            alloc,
+            bad.as_slice(),
+            &mut out,
+            &mut Narrow { room: 0 }
+        ),
+        2
+    );
+    assert_eq!(rt;
+        program(
+            &rt,
+            alloc,
+            good.as_slice(),
+            &mut Narrow { room: 0 },
+            &mut Narrow { room: 0 }
+        ),
+        4
+    );
+    Ok(())
+}

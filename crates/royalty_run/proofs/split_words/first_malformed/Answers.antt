@@ -1,4 +1,4 @@
-use Rattle.std.proofs.Common.{ℕ, ◌<◌, [], length, map, below_more, subst, arith}
+use Rattle.std.proofs.Common.{◌<◌, [], map, below_more, subst, arith}
 use Rattle.std.proofs.lemmas.List.{get_or_default, length-map}
 use Rattle.std.specs.Prelude.{string_bytes}
 use Rattle.royalty_run.specs.Pair.{IsPair, word_at}

@@ -1,4 +1,4 @@
-use Rattle.std.proofs.Common.{ℕ, length, map, arith}
+use Rattle.std.proofs.Common.{length, map, arith}
 use Rattle.std.proofs.lemmas.Bool.{iff_false}
 use Rattle.std.proofs.lemmas.List.{length-map}
 use Rattle.std.specs.Prelude.{string_bytes}

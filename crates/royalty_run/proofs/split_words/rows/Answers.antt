@@ -10,12 +10,12 @@ pub loop-place-preserved : goal.loop-place-preserved
 loop-place-preserved c =
     let words = map string_bytes c.args.words.now in
     let in_words : c.loop-place.place < length (map string_bytes c.args.words.now) = omega (arith, c.loop-place-test.true, length-map c.args.words.now string_bytes) in
-    let wrote : written c.write_row.new.out ≡ written c.loop-place.out ++ row_of (codes "P") c.party_of.result.now (get_or c.args.portions.now c.loop-place.place (0, 0)).1 = c.in_ok-write_row.ensures.row in
-    let party : c.party_of.result.now ≡ party_of (word_at (map string_bytes c.args.words.now) c.loop-place.place) = c.party_of.ensures ∙ ap party_of c.word.ensures in
+    let wrote : written c.write_row.new.out ≡ written c.loop-place.out ++ row_of (codes "P") c.party_of-party.result.now (get_or c.args.portions.now c.loop-place.place (0, 0)).1 = c.in_ok-write_row.ensures.row in
+    let party : c.party_of-party.result.now ≡ party_of (word_at (map string_bytes c.args.words.now) c.loop-place.place) = c.party_of-party.ensures ∙ ap party_of c.word.ensures in
     record {
       ready = c.in_ok-write_row.ensures.ready;
       rows = wrote
-          ∙ (ap (λ (text : List ℕ). text ++ row_of (codes "P") c.party_of.result.now (get_or c.args.portions.now c.loop-place.place (0, 0)).1) c.loop-place.invariant.rows
+          ∙ (ap (λ (text : List ℕ). text ++ row_of (codes "P") c.party_of-party.result.now (get_or c.args.portions.now c.loop-place.place (0, 0)).1) c.loop-place.invariant.rows
           ∙ (ap (λ (name : List ℕ). flat_map row (take c.loop-place.place (zip (labels_of (map string_bytes c.args.words.now)) c.args.portions.now)) ++ row_of (codes "P") name (get_or c.args.portions.now c.loop-place.place (0, 0)).1) party
           ∙ rows_more (labels_of (map string_bytes c.args.words.now)) c.args.portions.now c.loop-place.place (codes "P", party_of (word_at (map string_bytes c.args.words.now) c.loop-place.place))
           (omega (arith, in_words, length-labels (map string_bytes c.args.words.now))) (omega (arith, c.requires.each, c.loop-place-test.true)) (label_at (map string_bytes c.args.words.now) c.loop-place.place in_words)));

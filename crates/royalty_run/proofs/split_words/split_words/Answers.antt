@@ -1,11 +1,10 @@
-use Rattle.std.proofs.Common.{◌≡◌, ◌+◌, ℕ, List, length, map, ap, ◌∙◌, arith}
+use Rattle.std.proofs.Common.{ℕ, List, length, map, ap, ◌∙◌, arith}
 use Rattle.std.proofs.lemmas.List.{length-map}
 use Rattle.std.specs.Prelude.{string_bytes}
 use Rattle.line_split.specs.Claims.{base_of, participants_of}
 use Rattle.line_split.specs.Roomed.{Roomed}
 use Rattle.line_split.proofs.Places.{length-portions}
 use Rattle.line_split.proofs.ClaimLemmas.{length-participants}
-use Rattle.royalty_run.specs.Pair.{claims_of}
 use Rattle.royalty_run.proofs.Words.{length-claims}
 use Rattle.royalty_run.proofs.split_words.split_words.Goals as goal
 
