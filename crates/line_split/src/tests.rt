@@ -96,3 +96,33 @@ fn orders_claims_and_names_faults(rt: HostRuntime) -> Result<(), Fail> {
     assert_eq!(rt; ClaimFault::Twice(2).place(), Some(2));
     Ok(())
 }
+
+#[test]
+fn takes_lists_of_every_length(rt: HostRuntime) -> Result<(), Fail> {
+    let alloc = rt.alloc();
+    let mut list = Vec::new(alloc);
+    for account in 1..257u16 {
+        list.push((account, 39))?;
+        assert!(rt; list.iter().all(|claim| claim.0 > 0));
+        let claims = Claims::of(alloc, list.as_slice())?;
+        assert_eq!(rt; claims.list(), list.as_slice());
+    }
+    Ok(())
+}
+
+#[test]
+fn says_what_is_wrong(rt: HostRuntime) -> Result<(), Fail> {
+    let alloc = rt.alloc();
+    for (fault, want) in [
+        (ClaimFault::Share(3), "claim 3 is over 100.00 per cent"),
+        (
+            ClaimFault::Twice(2),
+            "the account of claim 2 has a claim already",
+        ),
+        (ClaimFault::Many, "there are more than 256 claims"),
+        (ClaimFault::Memory, "memory ran out"),
+    ] {
+        assert_eq!(rt; format!(in alloc; "{fault}")?.as_str(), want);
+    }
+    Ok(())
+}
