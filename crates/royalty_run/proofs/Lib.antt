@@ -1,3 +1,5 @@
 pub mod Words
 pub mod RowLemmas
+pub mod Shifted
 pub mod SplitLemmas
+pub mod Walked

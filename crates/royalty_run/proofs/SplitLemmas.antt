@@ -1,22 +1,32 @@
 -- What a parse of the words of a division gives.
-use Rattle.std.proofs.Common.{◌≡◌, ◌∙◌, ◌≤◌, ◌<◌, zero, suc, ap, ℕ, true, false, List, [], ◌∷◌, length, is_some, Option, Some, None, refl, inl, inr, arith, codes}
+use Rattle.std.proofs.Common.{◌≡◌, ◌≢◌, ◌∙◌, ◌≤◌, ◌<◌, All, map, take, drop, sym, subst, ◌+◌, ◌++◌, zero, suc, ap, ap₂, ℕ, true, false, List, [], ◌∷◌, length, is_some, Option, Some, None, refl, inl, inr, arith, codes}
 use Rattle.std.specs.List.{slice_index_or}
 use Rattle.std.specs.Option.{IfSome, IsSome, option_map}
 use Rattle.std.specs.Str.{bytes_eq}
 use Rattle.std.specs.Str.Parse.{ExplainsUnsignedError, HasUnsignedDigitsIfOk, ParsesUnsigned}
+use Rattle.std.specs.Borrow.{Bor}
+use Rattle.std.proofs.Math.Seq.{take-suc}
+use Rattle.std.proofs.lemmas.List.{map-append, take-map}
 use Rattle.std.proofs.lemmas.List.Elements.{All-nil}
 use Rattle.std.proofs.lemmas.Slice.Eq.{bytes_eq-Decides}
-use Rattle.clap.specs.Words.{AddsArg, IsParsedFrom, IsPlain, IsPlainArg, IsUnsignedIn, ReadsOne, SameRules, args_of, found_of, groups_of, matched_of, one_text, raw_values}
+use Rattle.clap.specs.Words.{AddsArg, IsParsedFrom, IsPlain, IsPlainArg, IsUnsignedIn, ReadsOne, SameRules, args_of, found_of, groups_of, matched_of, new_app, one_text, raw_values, app_of, rule_of, with_rule}
+use Rattle.clap.specs.Words.{HasKind, HasMatchesOf, all_of, fault_of, is_simple, is_simple_and_free, kind_of, matches_of, one_of, rows_of}
 use Rattle.clap.specs.declared.builder.action.ArgAction.TheVariants.{Set}
 use Rattle.clap.specs.declared.builder.arg.Arg.{Arg}
 use Rattle.clap.specs.declared.builder.command.Command.{Command}
 use Rattle.clap.specs.declared.builder.command.Command.TheViews.{out-Command as fields_of}
 use Rattle.clap.specs.declared.builder.value_parser.ValueParser.TheVariants as vp
+use Rattle.clap.specs.declared.error.Error.{Error}
+use Rattle.clap.specs.declared.error.kind.ErrorKind.TheVariants as kinds
 use Rattle.clap.specs.declared.parser.matches.ArgMatches.{ArgMatches}
 use Rattle.clap.proofs.BuiltLemmas.{plain_same}
 use Rattle.clap.proofs.CallerLemmas.{added_plain, present_has_entry, required_present}
 use Rattle.clap.proofs.CallerReads.{required_reads}
-use Rattle.royalty_run.specs.SplitCommand.{IsRequiredArg, IsSplitCommand}
+use Rattle.clap.proofs.WalkLemmas.{one_text-rows, raw_values-rows}
+use Rattle.royalty_run.specs.Asked.{IsValue, number_in}
+use Rattle.royalty_run.specs.Pair.{word_at}
+use Rattle.royalty_run.specs.SplitCommand.{IsRequiredArg, IsSplitCommand, amount_rule, pairs_rule, split_app}
+use Rattle.royalty_run.proofs.Walked.{amount_is, kinds_no_help, pairs_are, split_free, split_simple}
 use Rattle.line_split.specs.declared.TheConstants.{MOST_AMOUNT}
 
 -- an argument stays required in the command that it is added to
@@ -38,8 +48,9 @@ pub adds_two : (start mid c : Command) (a b : Arg) → args_of start ≡ [] → 
     → (fields_of start).has_globals ≡ false → (fields_of start).subcommand_negates_reqs ≡ false
     → AddsArg start a mid → AddsArg mid b c
     → IsRequiredArg (codes "AMOUNT") a → a.value_parser ≡ Some (vp.Unsigned 0 MOST_AMOUNT)
-    → IsRequiredArg (codes "PARTY=SHARE") b → IsSplitCommand c
-adds_two start mid c a b args groups globals negates first second amount parser pairs =
+    → IsRequiredArg (codes "PARTY=SHARE") b
+    → app_of start ≡ new_app (codes "split") → rule_of a ≡ amount_rule → rule_of b ≡ pairs_rule → IsSplitCommand c
+adds_two start mid c a b args groups globals negates first second amount parser pairs app amount_is pairs_are =
     let start_plain : IsPlain start = (rw args (All-nil IsPlainArg), groups) in
     let mid_plain = added_plain start mid a first start_plain amount.plain in record {
       amount = first.arg;
@@ -51,6 +62,7 @@ adds_two start mid c a b args groups globals negates first second amount parser 
       plain = added_plain mid c b second mid_plain pairs.plain;
       globals = rw (second.globals, first.globals, globals, amount.local, pairs.local) refl;
       negates = cc;
+      shape = second.shape pairs.local ∙ ap₂ with_rule (first.shape amount.local ∙ ap₂ with_rule app amount_is) pairs_are;
     }
 
 -- how `get_one::<u64>` reads a text
@@ -114,3 +126,49 @@ pairs_read f c m r s p same =
     let used = required_present c m p s.plain s.globals s.negates 1 s.pairs (rw s.args (omega arith))
     (rw second s.needs_pairs.value.0) in
     some_of_map f raw_values r _ same (present_has_entry (found_of m) _ (rw id at used))
+
+-- what a parse finds of the words, where none is an option
+rows_are : (c : Command) (m : ArgMatches) (words : List (List ℕ)) → IsSplitCommand c → HasMatchesOf (app_of c) words m
+    → rows_of (found_of m) ≡ matches_of split_app words
+rows_are c m words s found = (found (ap is_simple s.shape ∙ split_simple)).0 ∙ ap (λ a. matches_of a words) s.shape
+
+-- then the amount is the number of the second word
+pub amount_given : (c : Command) (m : ArgMatches) (words : List (List ℕ)) (r : Option ℕ) (n : ℕ) → IsSplitCommand c → IsParsedFrom c m
+    → HasMatchesOf (app_of c) words m → All IsValue (drop 1 words)
+    → ((t : List ℕ) → one_text (found_of m) (codes "AMOUNT") ≡ Some t → ReadsU64 t r) → r ≡ Some n → n ≡ number_in (word_at words 1)
+amount_given c m words r n s p found are reads is =
+    let text = amount_text c m s p in
+    let at : one_of (codes "AMOUNT") (matches_of split_app words) ≡ Some text.0 =
+    ap (one_of (codes "AMOUNT")) (sym (rows_are c m words s found)) ∙ sym (one_text-rows (found_of m) (codes "AMOUNT")) ∙ text.1 in
+    let read : ReadsU64 text.0 (Some n) = subst (ReadsU64 text.0) is (reads text.0 text.1) in
+    read.0.1 ∙ ap number_in (amount_is words text.0 are at)
+
+-- and the values of PARTY=SHARE are the words after it
+pub pairs_given : {X : Type 0} (f : X → List (List ℕ)) (c : Command) (m : ArgMatches) (words : List (List ℕ)) (r : Option X) (v : X) → IsSplitCommand c
+    → HasMatchesOf (app_of c) words m → All IsValue (drop 1 words)
+    → option_map f r ≡ option_map raw_values (matched_of (found_of m) (codes "PARTY=SHARE")) → r ≡ Some v → f v ≡ drop 2 words
+pairs_given f c m words r v s found are same is =
+    let at : all_of (codes "PARTY=SHARE") (matches_of split_app words) ≡ Some (f v) =
+    ap (all_of (codes "PARTY=SHARE")) (sym (rows_are c m words s found)) ∙ sym (raw_values-rows (found_of m) (codes "PARTY=SHARE"))
+    ∙ sym same ∙ ap (option_map f) is in
+    pairs_are words (f v) are at
+
+-- a parse that fails does not ask for help
+pub error_given : (c : Command) (words : List (List ℕ)) (e : Error) → IsSplitCommand c
+    → (is_simple_and_free (app_of c) ≡ true → HasKind (fault_of (app_of c) words) e) → All IsValue (drop 1 words)
+    → (kind_of e ≢ kinds.DisplayHelp) × (kind_of e ≢ kinds.DisplayVersion)
+error_given c words e s fails are =
+    kinds_no_help words (kind_of e) are (subst (λ a. HasKind (fault_of a words) e) s.shape (fails (ap is_simple_and_free s.shape ∙ split_free)))
+
+-- one more word of those that a parse gives is copied
+pub copied_more : {S : Type 0} (bytes : S → List ℕ) (words : List (Bor (List ℕ))) (copies more : List S) (i : ℕ) (copy : S) (d : Bor (List ℕ)) → i < length words
+    → more ≡ copies ++ copy ∷ [] → bytes copy ≡ (slice_index_or words i d).now
+    → map bytes copies ≡ take i (map (λ word. word.now) words) → map bytes more ≡ take (i + 1) (map (λ word. word.now) words)
+copied_more bytes words copies more i copy d lt pushed same so_far =
+    let next : i + 1 ≡ suc i = omega arith in
+    let step : map (λ word. word.now) (take (suc i) words) ≡ map (λ word. word.now) (take i words) ++ (slice_index_or words i d).now ∷ [] =
+    ap (map (λ (word : Bor (List ℕ)). word.now)) (take-suc words i d lt) ∙ map-append (λ word. word.now) (take i words) (slice_index_or words i d ∷ []) in
+    ap (map bytes) pushed ∙ map-append bytes copies (copy ∷ [])
+    ∙ ap (λ l. l ++ bytes copy ∷ []) so_far ∙ ap (λ l. l ++ bytes copy ∷ []) (take-map (λ word. word.now) i words)
+    ∙ ap (λ b. map (λ word. word.now) (take i words) ++ b ∷ []) same
+    ∙ sym step ∙ sym (take-map (λ word. word.now) (suc i) words) ∙ ap (λ n. take n (map (λ word. word.now) words)) (sym next)

@@ -1,3 +1,4 @@
+pub mod Asked
 pub mod Pair
 pub mod PairFault
 pub mod Rows

@@ -1,8 +1,12 @@
 //! The command line's grammar, and what its words ask for.
 
-ghost use Rattle.std.specs.Prelude.{◌≡◌, ◌≤◌, IfOk, Some, codes};
+ghost use Rattle.std.specs.Prelude.{◌≡◌, ◌≢◌, ◌≤◌, IfOk, IfErr, Some, All, codes, drop, map, string_bytes};
+ghost use Rattle.clap.specs.Words.{kind_of, rule_of};
+ghost use Rattle.clap.specs.declared.error.kind.ErrorKind.TheVariants as kinds;
 ghost use Rattle.clap.specs.declared.builder.value_parser.ValueParser.TheVariants as vp;
-ghost use Rattle.royalty_run.specs.SplitCommand.{IsRequiredArg, IsSplitCommand};
+ghost use Rattle.royalty_run.specs.Asked.{IsDivision, IsValue, amount_of, number_in, pairs_of};
+ghost use Rattle.royalty_run.specs.Pair.{word_at};
+ghost use Rattle.royalty_run.specs.SplitCommand.{IsRequiredArg, IsSplitCommand, amount_rule, pairs_rule};
 ghost use Rattle.line_split.specs.declared.TheConstants.{MOST_AMOUNT};
 
 use clap::error::ErrorKind;
@@ -32,7 +36,11 @@ pub struct SplitWords {
 
 /// Reads the words of the command line, the first of which is the program's own name.
 pub fn read_words(alloc: Global, words: &[String]) -> Result<SplitWords, Error>
-    ensures { IfOk result (λ asked. asked.amount ≤ MOST_AMOUNT) }
+    ensures named { IfOk result (λ _. word_at (map string_bytes words.now) 1 ≡ codes "split") }
+    ensures in_range { IfOk result (λ asked. asked.amount ≤ MOST_AMOUNT) }
+    ensures amount { IsDivision (map string_bytes words.now) → IfOk result (λ asked. asked.amount ≡ amount_of (map string_bytes words.now)) }
+    ensures pairs { IsDivision (map string_bytes words.now) → IfOk result (λ asked. map string_bytes asked.pairs.items ≡ pairs_of (map string_bytes words.now)) }
+    ensures no_help { IsDivision (map string_bytes words.now) → IfErr result (λ error. (kind_of error ≢ kinds.DisplayHelp) × (kind_of error ≢ kinds.DisplayVersion)) }
 {
     if words.len() > 1 && words[1].as_str() == "split" {
         read_split(alloc, &words[1..])
@@ -44,7 +52,10 @@ pub fn read_words(alloc: Global, words: &[String]) -> Result<SplitWords, Error>
 /// Reads the words of a division, the first of which is `split`. They are a command of their own,
 /// since what is proved of a parse that succeeds is proved of the top command's arguments.
 fn read_split(alloc: Global, words: &[String]) -> Result<SplitWords, Error>
-    ensures { IfOk result (λ asked. asked.amount ≤ MOST_AMOUNT) }
+    ensures in_range { IfOk result (λ asked. asked.amount ≤ MOST_AMOUNT) }
+    ensures amount { All IsValue (drop 1 (map string_bytes words.now)) → IfOk result (λ asked. asked.amount ≡ number_in (word_at (map string_bytes words.now) 1)) }
+    ensures pairs { All IsValue (drop 1 (map string_bytes words.now)) → IfOk result (λ asked. map string_bytes asked.pairs.items ≡ drop 2 (map string_bytes words.now)) }
+    ensures no_help { All IsValue (drop 1 (map string_bytes words.now)) → IfErr result (λ error. (kind_of error ≢ kinds.DisplayHelp) × (kind_of error ≢ kinds.DisplayVersion)) }
 {
     let matches = split_command(alloc)?.try_get_matches_from(words)?;
     let amount = matches.get_one::<u64>("AMOUNT").unwrap();
@@ -70,6 +81,7 @@ fn split_command<'a>(alloc: Global) -> Result<Command<'a>, AllocError>
 fn amount_arg<'a>(alloc: Global) -> Arg<'a>
     ensures needed { IsRequiredArg (codes "AMOUNT") result }
     ensures in_range { result.value_parser ≡ Some (vp.Unsigned 0 MOST_AMOUNT) }
+    ensures rule { rule_of result ≡ amount_rule }
 {
     Arg::new(alloc, "AMOUNT")
         .help("What is divided: a whole number of minor units, as cents, from 0 to 1000000000000")
@@ -80,7 +92,8 @@ fn amount_arg<'a>(alloc: Global) -> Arg<'a>
 
 /// The words PARTY=SHARE, one or more.
 fn pairs_arg<'a>(alloc: Global) -> Arg<'a>
-    ensures { IsRequiredArg (codes "PARTY=SHARE") result }
+    ensures needed { IsRequiredArg (codes "PARTY=SHARE") result }
+    ensures rule { rule_of result ≡ pairs_rule }
 {
     Arg::new(alloc, "PARTY=SHARE")
         .help(

@@ -41,7 +41,19 @@ impl fmt::Display for Failure {
 }
 
 impl Failure {
-    ghost use Rattle.royalty_run.specs.Status.{status_of};
+    ghost use Rattle.royalty_run.specs.Status.{failure_of_fault, status_of};
+
+    /// What a fault of the pairs is to the program: want of memory is no fault of theirs.
+    pub fn of(fault: PairFault) -> Failure
+        ensures { result ≡ failure_of_fault fault }
+    {
+        match fault {
+            PairFault::Memory => Failure::Room,
+            PairFault::Pair(_) | PairFault::Name(_) | PairFault::Share(_) | PairFault::Many => {
+                Failure::Pairs(fault)
+            }
+        }
+    }
 
     /// The status that the program answers.
     pub fn status(&self) -> u8

@@ -1,11 +1,12 @@
 //! What the program does with its words, and the status that it answers.
 
-ghost use Rattle.std.specs.Prelude.{◌≡◌, ◌≢◌, ◌⊎◌, ℕ, List, OnOk};
+ghost use Rattle.std.specs.Prelude.{◌≡◌, ◌≢◌, ◌⊎◌, ℕ, List, IfOk, IfErr, OnOk, map, string_bytes};
 ghost use Rattle.std.specs.Io.KnownBytes.{Appends};
+ghost use Rattle.royalty_run.specs.Asked.{IsAnswerTo, IsDivision};
+ghost use Rattle.royalty_run.specs.Status.{IsFailureOf, IsRefusal, failure_of_kind};
 
 use crate::commands::read_words;
 use crate::failure::Failure;
-use crate::pair_fault::PairFault;
 use crate::split_words::split_words;
 use clap::error::ErrorKind;
 use std::alloc::Global;
@@ -17,8 +18,17 @@ use std::rt::{Env, Files};
 pub fn words_of<R: Env + AllocGlobal>(rt: &R) -> Result<Vec<String>, Failure> {
     match env::args(rt) {
         Ok(words) => words.collect(rt.alloc()).map_err(|_| Failure::Room),
-        Err(error) if error.kind() == io::ErrorKind::InvalidData => Err(Failure::NotText),
-        Err(_) => Err(Failure::Room),
+        Err(error) => Err(no_words(error.kind())),
+    }
+}
+
+/// Why the words cannot be had, by the kind of the error.
+pub(crate) fn no_words(kind: io::ErrorKind) -> Failure
+    ensures { result ≡ failure_of_kind kind }
+{
+    match kind {
+        io::ErrorKind::InvalidData => Failure::NotText,
+        _ => Failure::Room,
     }
 }
 
@@ -34,7 +44,8 @@ pub fn program<R: Files, W: Write, E: Write>(
     err: &mut E,
 ) -> u8
     ensures known { (result ≡ 0) ⊎ ((result ≡ 2) ⊎ ((result ≡ 3) ⊎ (result ≡ 4))) }
-    ensures answered { result ≡ 0 → (text : List ℕ) × Appends (W.contents out.old) (W.contents out.new) text }
+    ensures printed { result ≡ 0 → (text : List ℕ) × Appends (W.contents out.old) (W.contents out.new) text × (IsDivision (map string_bytes words.now) → IsAnswerTo (map string_bytes words.now) text) }
+    ensures quiet { result ≡ 0 → err.new ≡ err.old }
     ensures silent { (result ≡ 2) ⊎ (result ≡ 3) → out.new ≡ out.old }
 {
     match answer(alloc, words) {
@@ -47,7 +58,11 @@ pub fn program<R: Files, W: Write, E: Write>(
 }
 
 /// What is to be printed: the rows of a division, or help.
-fn answer(alloc: Global, words: &[String]) -> Result<Vec<u8>, Failure> {
+fn answer(alloc: Global, words: &[String]) -> Result<Vec<u8>, Failure>
+    ensures rows { IsDivision (map string_bytes words.now) → IfOk result (λ text. IsAnswerTo (map string_bytes words.now) text.items) }
+    ensures failure { IfErr result IsRefusal }
+    ensures pairs { IsDivision (map string_bytes words.now) → IfErr result (IsFailureOf (map string_bytes words.now)) }
+{
     let asked = match read_words(alloc, words) {
         Ok(asked) => asked,
         Err(error) if error.kind() == ErrorKind::OutOfMemory => return Err(Failure::Room),
@@ -61,8 +76,7 @@ fn answer(alloc: Global, words: &[String]) -> Result<Vec<u8>, Failure> {
     };
     match split_words(alloc, asked.amount, asked.pairs.as_slice()) {
         Ok(text) => Ok(text),
-        Err(PairFault::Memory) => Err(Failure::Room),
-        Err(fault) => Err(Failure::Pairs(fault)),
+        Err(fault) => Err(Failure::of(fault)),
     }
 }
 

@@ -1,7 +1,8 @@
 //! The worked examples, as words of a command line, and what an output that refuses a write does.
 
+use crate::failure::Failure;
 use crate::pair_fault::PairFault;
-use crate::program::program;
+use crate::program::{no_words, program};
 use crate::split_words::split_words;
 use std::alloc::Global;
 use std::io::{self, Write};
@@ -30,6 +31,20 @@ fn run(rt: &HostRuntime, line: &str) -> Result<Answer, Fail> {
     let mut err = Vec::new(alloc);
     let status = program(rt, alloc, words.as_slice(), &mut out, &mut err);
     Ok(Answer { status, out, err })
+}
+
+/// An output that holds its bytes back and cannot bring them through.
+#[derive(Drop)]
+struct Stopped {}
+
+impl Write for Stopped {
+    fn write(&mut self, buf: &[u8]) -> io::Result<usize> {
+        Ok(buf.len())
+    }
+
+    fn flush(&mut self) -> io::Result<()> {
+        Err(io::Error::from(io::ErrorKind::StorageFull))
+    }
 }
 
 /// An output that refuses a write, or takes so many bytes before it does.
@@ -71,6 +86,8 @@ fn divides_as_in_the_examples(rt: HostRuntime) -> Result<(), Fail> {
             "P,A,100000000\nM,,999900000000\n",
         ),
         ("r split -- 4 a,\"b=5000", "P,\"a,\"\"b\",2\nM,,2\n"),
+        ("r split 1000000000000 A=10000", "P,A,1000000000000\nM,,0\n"),
+        ("r split +4 A=10000", "P,A,4\nM,,0\n"),
     ] {
         let answer = run(&rt, line)?;
         assert_eq!(rt; answer.out.as_slice(), want.as_bytes(), "{line}");
@@ -109,6 +126,8 @@ fn refuses_words_and_shows_help(rt: HostRuntime) -> Result<(), Fail> {
         "r split 5",
         "r split x A=1",
         "r split 1000000000001 A=1",
+        "r split -1 A=1",
+        "r SPLIT 1 A=1",
     ] {
         let answer = run(&rt, line)?;
         assert_eq!(rt; answer.status, 2, "{line}");
@@ -148,6 +167,78 @@ fn names_the_fault_of_words(rt: HostRuntime) -> Result<(), Fail> {
 }
 
 #[test]
+fn divides_among_the_most_parties(rt: HostRuntime) -> Result<(), Fail> {
+    let alloc = rt.alloc();
+    let mut most = words(alloc, "r split 256")?;
+    let mut want = Vec::new(alloc);
+    for n in 1..=256u32 {
+        most.push(format!(in alloc; "{n}=39")?)?;
+        writeln!(&mut want, "P,{n},1")?;
+    }
+    writeln!(&mut want, "M,,0")?;
+    let mut out = Vec::new(alloc);
+    let mut err = Vec::new(alloc);
+    assert_eq!(rt; program(&rt, alloc, most.as_slice(), &mut out, &mut err), 0);
+    assert_eq!(rt; out.as_slice(), want.as_slice());
+
+    most.push(format!(in alloc; "257=39")?)?;
+    let mut out = Vec::new(alloc);
+    assert_eq!(rt; program(&rt, alloc, most.as_slice(), &mut out, &mut err), 2);
+    assert!(rt; out.is_empty());
+    assert_eq!(rt; err.as_slice(), b"royalty_run: pair fault 4\n".as_slice());
+    Ok(())
+}
+
+#[test]
+fn keeps_spaces_in_a_party(rt: HostRuntime) -> Result<(), Fail> {
+    let alloc = rt.alloc();
+    let mut spaced = words(alloc, "r split 4")?;
+    spaced.push(String::from_str(alloc, " A =5000")?)?;
+    spaced.push(String::from_str(alloc, "A=5000")?)?;
+    let mut out = Vec::new(alloc);
+    let mut err = Vec::new(alloc);
+    assert_eq!(rt;
+        program(&rt, alloc, spaced.as_slice(), &mut out, &mut err),
+        0
+    );
+    assert_eq!(rt; out.as_slice(), b"P, A ,2\nP,A,2\nM,,0\n".as_slice());
+    Ok(())
+}
+
+#[test]
+fn says_what_failed(rt: HostRuntime) -> Result<(), Fail> {
+    let alloc = rt.alloc();
+    for (failure, want) in [
+        (
+            Failure::of(PairFault::Share(7)),
+            "royalty_run: pair fault 3 at 7\n",
+        ),
+        (Failure::of(PairFault::Many), "royalty_run: pair fault 4\n"),
+        (Failure::of(PairFault::Memory), "royalty_run: out of room\n"),
+        (
+            no_words(io::ErrorKind::InvalidData),
+            "royalty_run: an argument is not UTF-8\n",
+        ),
+        (no_words(io::ErrorKind::Other), "royalty_run: out of room\n"),
+    ] {
+        assert_eq!(rt; format!(in alloc; "{failure}")?.as_str(), want);
+    }
+    for (fault, want) in [
+        (PairFault::Pair(1), "word 1 is not PARTY=SHARE"),
+        (PairFault::Name(2), "the party of word 2 was named before"),
+        (
+            PairFault::Share(3),
+            "the share of word 3 is over 10000, which is 100.00 per cent",
+        ),
+        (PairFault::Many, "there are more than 256 pairs"),
+        (PairFault::Memory, "memory ran out"),
+    ] {
+        assert_eq!(rt; format!(in alloc; "{fault}")?.as_str(), want);
+    }
+    Ok(())
+}
+
+#[test]
 fn an_output_that_refuses_is_status_4(rt: HostRuntime) -> Result<(), Fail> {
     let alloc = rt.alloc();
     let good = words(alloc, "r split 100 A=3333 B=3333 C=3333")?;
@@ -157,6 +248,9 @@ fn an_output_that_refuses_is_status_4(rt: HostRuntime) -> Result<(), Fail> {
         assert_eq!(rt; status, 4, "{room}");
         assert_eq!(rt; err.as_slice(), b"royalty_run: cannot write\n".as_slice());
     }
+    let mut err = Vec::new(alloc);
+    let stopped = program(&rt, alloc, good.as_slice(), &mut Stopped {}, &mut err);
+    assert_eq!(rt; stopped, 4);
     let bad = words(alloc, "r split 5 A")?;
     let mut out = Vec::new(alloc);
     assert_eq!(rt;
