@@ -10,7 +10,7 @@ use std::io::Write;
 /// line.
 #[derive(Debug, Drop)]
 pub enum Failure {
-    /// The words of the command line are refused, or help was asked for that cannot be shown.
+    /// The words of the command line are refused. The text is clap's.
     Words(clap::Error),
     /// An argument is not UTF-8.
     NotText,
