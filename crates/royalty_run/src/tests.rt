@@ -140,6 +140,19 @@ fn refuses_words_and_shows_help(rt: HostRuntime) -> Result<(), Fail> {
         assert!(rt; answer.out.len() > 100, "{line}");
         assert!(rt; answer.err.is_empty(), "{line}");
     }
+    let help = run(&rt, "r split --help")?;
+    let text = str::from_utf8(help.out.as_slice())?;
+    for told in [
+        "minor units",
+        "from 0 to 1000000000000",
+        "hundredths of a per cent",
+        "0 to 10000, at most 256 of them",
+        "more than 10006",
+        "split 100 A=3333 B=3333 C=3333",
+        "  P,A,34\n  P,B,33\n  P,C,33\n  M,,0\n",
+    ] {
+        assert!(rt; text.contains(told), "{told}");
+    }
     Ok(())
 }
 
