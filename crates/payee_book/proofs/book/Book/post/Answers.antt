@@ -1,0 +1,63 @@
+use Rattle.std.proofs.Common.{◌≡◌, ◌<◌, ◌∙◌, ℕ, List, [], length, map, slice_index_or, slice_set, sym, ap, subst}
+use Rattle.std.specs.List.{insert}
+use Rattle.payee_book.specs.Statement.{AreStatements, IsRising, with_posting}
+use Rattle.payee_book.proofs.Rising.{shown, kept, put, placed, statements_with}
+use Rattle.payee_book.proofs.book.Book.post.Goals.{in-Ok, in-Err}
+use Rattle.payee_book.proofs.book.Book.post.Goals as goal
+
+pub place_of-place-requires : goal.place_of-place-requires
+place_of-place-requires c =
+    let within : c.args.account < length (map (λ s. s.items) c.self.inside.statements.items) = rw c.self.view_is c.requires.account in
+    subst IsRising
+    (shown (λ s. s.items) c.self.inside.statements.items c.args.account c.index_mut-statement.result.now within c.index_mut-statement.ensures.value
+    ∙ sym c.as_slice.ensures.value)
+    (c.self.invariant.rising c.args.account [] within)
+
+module _ (c : goal.Joined-insert) where
+  abbrev book : List (List (ℕ × ℕ))
+  book = map (λ s. s.items) c.self.inside.statements.items
+
+  abbrev book_after : List (List (ℕ × ℕ))
+  book_after = map (λ s. s.items) (slice_set c.self.inside.statements.items c.args.account c.insert.new.self)
+
+  within : c.args.account < length book
+  within = rw c.self.view_is c.requires.account
+
+  -- where the insert succeeded
+  with_it : c.insert.new.self.items ≡ insert c.index_mut-statement.result.now.items c.place_of-place.result (c.args.line, c.args.amount)
+      → book_after ≡ slice_set book c.args.account (with_posting (c.args.line, c.args.amount) (slice_index_or book c.args.account []))
+  with_it items =
+      put (λ s. s.items) c.self.inside.statements.items c.args.account c.index_mut-statement.result.now within c.index_mut-statement.ensures.value
+      c.insert.new.self (c.args.line, c.args.amount)
+      (items
+      ∙ (ap (λ (l : List (ℕ × ℕ)). insert l c.place_of-place.result (c.args.line, c.args.amount)) (sym c.as_slice.ensures.value)
+      ∙ (placed (c.args.line, c.args.amount) c.as_slice.result.now c.place_of-place.result c.place_of-place.ensures.bound c.place_of-place.ensures.after
+      c.place_of-place.ensures.before
+      ∙ ap (with_posting (c.args.line, c.args.amount)) c.as_slice.ensures.value)))
+
+  -- where it failed
+  without : c.insert.new.self.items ≡ c.index_mut-statement.result.now.items → book_after ≡ book
+  without items =
+      kept (λ s. s.items) c.self.inside.statements.items c.args.account c.index_mut-statement.result.now within c.index_mut-statement.ensures.value
+      c.insert.new.self items
+
+pub invariant_of-self : goal.invariant_of-self
+invariant_of-self c = elim c.match-insert.branch [
+  | in-Ok w ↦ subst AreStatements (sym (with_it c w.in-Ok.ensures.items))
+      (statements_with (book c) c.args.account (c.args.line, c.args.amount) (within c) c.requires.amount c.self.invariant)
+  | in-Err w ↦ subst AreStatements (sym (without c w.in-Err.ensures.items)) c.self.invariant
+]
+
+pub returns-clause-posted : goal.returns-clause-posted
+returns-clause-posted c = elim c.match-insert.branch [
+  | in-Ok w ↦ rw w.result-is
+      (with_it c w.in-Ok.ensures.items
+      ∙ ap (λ b. slice_set b c.args.account (with_posting (c.args.line, c.args.amount) (slice_index_or b c.args.account []))) c.self.view_is)
+  | in-Err w ↦ rw w.result-is tt
+]
+
+pub returns-clause-refused : goal.returns-clause-refused
+returns-clause-refused c = elim c.match-insert.branch [
+  | in-Ok w ↦ rw w.result-is tt
+  | in-Err w ↦ rw w.result-is (without c w.in-Err.ensures.items ∙ c.self.view_is)
+]

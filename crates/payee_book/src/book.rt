@@ -1,0 +1,113 @@
+//! The statements of all accounts.
+
+ghost use Rattle.std.specs.Prelude.{◌≡◌, true, false, ◌<◌, ◌≤◌, ◌∷◌, ℕ, List, [], All, IfOk, IfErr, OnOk, OnErr, length, map, replicate, slice_index_or, slice_set};
+ghost use Rattle.line_split.specs.declared.TheConstants.{MOST_AMOUNT};
+ghost use Rattle.payee_book.specs.Statement.{AreStatements, IsRising, comes_before, total_of, with_posting};
+
+use line_split::{Account, MOST_AMOUNT};
+use std::alloc::{AllocError, Global};
+use std::marker::Model;
+
+/// The statement of each account: its postings, pairs of a usage line's number and an amount in
+/// minor units, by rising line and amount.
+#[derive(Drop)]
+pub struct Book {
+    statements: Vec<Vec<(u64, u64)>>,
+}
+
+impl Model for Book {
+    ghost Value = { List (List (ℕ × ℕ)) };
+
+    ghost view = { λ b. map (λ s. s.items) b.statements.items };
+
+    ghost invariant = { λ b. AreStatements (map (λ s. s.items) b.statements.items) };
+}
+
+impl Book {
+    /// A book with no postings, for so many accounts, the residue's included.
+    pub fn open(alloc: Global, accounts: u16) -> Result<Book, AllocError>
+        requires { 0 < accounts }
+        ensures { IfOk result (λ book. book ≡ replicate accounts []) }
+    {
+        let mut statements = Vec::new(alloc);
+        for _ in 0..accounts {
+            statements.push(Vec::new(alloc))?;
+        }
+        Ok(Book { statements })
+    }
+
+    /// How many accounts there are, the residue's included.
+    pub fn accounts(&self) -> u16
+        ensures { result ≡ length self.now }
+    {
+        self.statements.len() as u16
+    }
+
+    /// Adds a posting to the statement of an account, at its place. A refusal of memory leaves the
+    /// book as it was.
+    pub fn post(&mut self, account: Account, line: u64, amount: u64) -> Result<(), AllocError>
+        requires account { account < length self.old }
+        requires amount { amount ≤ MOST_AMOUNT }
+        ensures posted { OnOk result (self.new ≡ slice_set self.old account (with_posting (line, amount) (slice_index_or self.old account []))) }
+        ensures refused { OnErr result (self.new ≡ self.old) }
+    {
+        let statement = &mut self.statements[account as usize];
+        let place = place_of(statement.as_slice(), (line, amount));
+        match statement.insert(place, (line, amount)) {
+            Ok(()) => Ok(()),
+            Err(_) => Err(AllocError),
+        }
+    }
+
+    /// The postings of an account, by rising line and amount.
+    pub fn lines(&self, account: Account) -> &[(u64, u64)]
+        requires { account < length self.now }
+        ensures postings { result.now ≡ slice_index_or self.now account [] }
+        ensures rising { IsRising result.now }
+        ensures small { All (λ posting. posting.1 ≤ MOST_AMOUNT) result.now }
+    {
+        self.statements[account as usize].as_slice()
+    }
+
+    /// What the postings of an account come to, in minor units.
+    pub fn total(&self, account: Account) -> u128
+        requires { account < length self.now }
+        ensures { result ≡ total_of (slice_index_or self.now account []) }
+    {
+        sum(self.lines(account))
+    }
+}
+
+/// What postings come to. There cannot be so many that the sum is too large for its type.
+fn sum(statement: &[(u64, u64)]) -> u128
+    requires { All (λ posting. posting.1 ≤ MOST_AMOUNT) statement.now }
+    ensures { result ≡ total_of statement.now }
+{
+    let mut total = 0;
+    for posting in statement {
+        total += u128::from(posting.1);
+    }
+    total
+}
+
+/// Where a posting belongs among others: after all that it does not come before. It is looked for
+/// from the end, since postings come nearly in order.
+fn place_of(statement: &[(u64, u64)], posting: (u64, u64)) -> usize
+    requires { IsRising statement.now }
+    ensures bound { result ≤ length statement.now }
+    ensures after { (k : ℕ) (d : ℕ × ℕ) → k < result → comes_before posting (slice_index_or statement.now k d) ≡ false }
+    ensures before { (k : ℕ) (d : ℕ × ℕ) → result ≤ k → k < length statement.now → comes_before posting (slice_index_or statement.now k d) ≡ true }
+{
+    let mut place = statement.len();
+    while place > 0 && is_before(posting, statement[place - 1]) {
+        place -= 1;
+    }
+    place
+}
+
+/// Whether a posting comes before another: by its line, and within a line by its amount.
+fn is_before(posting: (u64, u64), other: (u64, u64)) -> bool
+    ensures { result ≡ comes_before posting other }
+{
+    posting.0 < other.0 || (posting.0 == other.0 && posting.1 < other.1)
+}

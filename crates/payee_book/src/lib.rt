@@ -1,0 +1,11 @@
+//! The book of a run: the statement of every account, built posting by posting.
+#![tactic(auto)]
+
+mod book;
+#[cfg(test)]
+mod tests;
+
+pub use book::Book;
+
+/// The most accounts that a book has, the residue's included.
+pub const MOST_ACCOUNTS: usize = 65_535;
