@@ -9,3 +9,4 @@ pub mod Division
 pub mod FirstPlaces
 pub mod ByAccount
 pub mod Over
+mod UsageRows

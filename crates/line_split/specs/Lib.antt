@@ -5,3 +5,6 @@ pub mod Roomed
 pub mod LargestRemainder
 pub mod Turns
 pub mod FairSplit
+pub mod UsageLine
+pub mod UsageLines
+pub mod UsageTable

@@ -1,4 +1,4 @@
-//! How the amount of one usage line is divided: claims in, portions out.
+//! Usage lines, and how the amount of one is divided: claims in, portions out.
 //!
 //! The rule is the method of largest remainder (Hamilton). `split` applies it, `portion_by_rank`
 //! computes its definition slowly, and `laws` says what makes the division a fair one.
@@ -7,15 +7,23 @@
 mod by_rank;
 mod claims;
 pub mod laws;
+mod line_fault;
 mod pairs;
 mod portions;
+mod reason;
 #[cfg(test)]
 mod tests;
 mod turn;
+mod usage;
 
 pub use by_rank::portion_by_rank;
 pub use claims::{ClaimFault, Claims};
+pub use line_fault::LineFault;
 pub use portions::{Portions, split};
+pub use reason::Reason;
+pub use usage::{
+    Line, MOST_LINES, MOST_TERRITORY, MOST_TERRITORY_DIGITS, MOST_TEXT_BYTES, Right, Usage,
+};
 
 /// Who a claim or a portion belongs to, by number. 0 is the residue account.
 pub type Account = u16;

@@ -1,0 +1,7 @@
+use Rattle.std.proofs.Common.{◌≡◌, ◌∙◌, ap, Some}
+use Rattle.csv.specs.Reading.{strip_bom}
+use Rattle.csv_table.proofs.Walks.{all_left}
+use Rattle.csv_table.proofs.rows.Rows.of.Goals as goal
+
+pub returns-clause-left : goal.returns-clause-left
+returns-clause-left c = rw (c.from_reader.ensures.state, c.from_reader.ensures.source) (all_left (strip_bom c.args.text.now))

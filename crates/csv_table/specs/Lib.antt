@@ -1,0 +1,3 @@
+pub mod Forms
+pub mod Table
+pub mod Walk

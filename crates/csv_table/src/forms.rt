@@ -1,0 +1,30 @@
+//! The forms of fields: text and numbers.
+
+ghost use Rattle.std.specs.Prelude.{◌≡◌, ◌↔◌, IsTrue, IfSome, IfNone};
+ghost use Rattle.csv_table.specs.Forms.{IsNumber, IsPrintable, number_of};
+
+use std::str;
+
+/// Whether a field has 1 to `most` bytes, all of them printable ASCII.
+pub fn is_printable(field: &[u8], most: usize) -> bool
+    ensures { IsTrue result ↔ IsPrintable most field.now }
+{
+    !field.is_empty() && field.len() <= most && field.iter().all(|byte| *byte >= 32 && *byte <= 126)
+}
+
+/// The number that a field writes with one or more decimal digits, where it is at most `most`.
+pub fn number_up_to(field: &[u8], most: u64) -> Option<u64>
+    ensures number { IfSome result (λ number. IsNumber most field.now × (number ≡ number_of field.now)) }
+    ensures none { IfNone result (¬ IsNumber most field.now) }
+{
+    if field.is_empty() || !field[0].is_ascii_digit() {
+        return None;
+    }
+    let Ok(digits) = str::from_utf8(field) else {
+        return None;
+    };
+    match digits.parse::<u64>() {
+        Ok(number) if number <= most => Some(number),
+        _ => None,
+    }
+}

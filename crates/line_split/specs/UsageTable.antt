@@ -1,0 +1,80 @@
+-- The table of usage lines: a header, and a row for each line. Rows count from 0, the header's.
+use Rattle.std.specs.Prelude.{ℕ, ◌≡◌, ◌≤◌, ◌<◌, ◌+◌, ◌⊎◌, ◌∷◌, ◌++◌, [], List, All, length, map, codes, Option, Some, None, ⊤}
+use Rattle.line_split.specs.UsageLine.{HasAmount, HasRight, HasTerritory, HasTexts, UsageLine, line_of}
+use Rattle.line_split.specs.declared.usage.TheConstants.{MOST_LINES}
+use Rattle.line_split.specs.declared.line_fault.LineFault.{LineFault}
+use Rattle.line_split.specs.declared.line_fault.LineFault.TheVariants.{Csv, Fields, Territory, Right, Amount, Lines, Memory}
+
+abbrev pub header : List (List ℕ)
+header = codes "usage" ∷ codes "work" ∷ codes "territory" ∷ codes "right" ∷ codes "amount" ∷ []
+
+-- a row that is a line
+pub record IsLine (row : List (List ℕ)) : Type 0 where
+  pub whole : length row ≡ length header
+  pub texts : HasTexts row
+  pub territory : HasTerritory row
+  pub right : HasRight row
+  pub amount : HasAmount row
+
+-- the rows are a table of these lines
+pub record IsTableOf (rows : List (List (List ℕ))) (lines : List UsageLine) : Type 0 where
+  pub few : length lines ≤ MOST_LINES
+  pub rows_below : List (List (List ℕ))
+  pub headed : rows ≡ header ∷ rows_below
+  pub sound : All IsLine rows_below
+  pub same : lines ≡ map line_of rows_below
+
+-- what a row is refused for, by its number: the first thing, in this order, that is not as it has to be
+abbrev pub IsFaultOfRow : ℕ → List (List ℕ) → LineFault → Type 0
+IsFaultOfRow number row Lines = MOST_LINES < number
+IsFaultOfRow number row (Csv n) = (n ≡ number) × (number ≤ MOST_LINES) × (¬ (length row ≡ length header))
+IsFaultOfRow number row (Fields n) = (n ≡ number) × (number ≤ MOST_LINES) × (length row ≡ length header) × (¬ HasTexts row)
+IsFaultOfRow number row (Territory n) = (n ≡ number) × (number ≤ MOST_LINES) × (length row ≡ length header) × HasTexts row × (¬ HasTerritory row)
+IsFaultOfRow number row (Right n) =
+    (n ≡ number) × (number ≤ MOST_LINES) × (length row ≡ length header) × HasTexts row × HasTerritory row × (¬ HasRight row)
+IsFaultOfRow number row (Amount n) =
+    (n ≡ number) × (number ≤ MOST_LINES) × (length row ≡ length header) × HasTexts row × HasTerritory row × HasRight row × (¬ HasAmount row)
+IsFaultOfRow number row Memory = ⊤
+
+-- a row that is refused stands below a header and rows that are lines
+pub record IsFirstFault (rows : List (List (List ℕ))) (fault : LineFault) : Type 0 where
+  pub before : List (List (List ℕ))
+  pub row : List (List ℕ)
+  pub after : List (List (List ℕ))
+  pub split : rows ≡ header ∷ (before ++ row ∷ after)
+  pub sound : All IsLine before
+  pub refused : IsFaultOfRow (length before + 1) row fault
+
+-- the first row is not the header, or there is none
+abbrev pub HasNoHeader : List (List (List ℕ)) → Type 0
+HasNoHeader rows = (rows_below : List (List (List ℕ))) → ¬ (rows ≡ header ∷ rows_below)
+
+-- What a table is refused for: its header, or else the first row that is no line. Memory may run out at any row.
+abbrev pub IsFaultOf : List (List (List ℕ)) → LineFault → Type 0
+IsFaultOf rows Memory = ⊤
+IsFaultOf rows Lines = IsFirstFault rows Lines
+IsFaultOf rows (Csv n) = ((n ≡ 0) × HasNoHeader rows) ⊎ IsFirstFault rows (Csv n)
+IsFaultOf rows (Fields n) = IsFirstFault rows (Fields n)
+IsFaultOf rows (Territory n) = IsFirstFault rows (Territory n)
+IsFaultOf rows (Right n) = IsFirstFault rows (Right n)
+IsFaultOf rows (Amount n) = IsFirstFault rows (Amount n)
+
+-- the fault's number
+abbrev pub number_of : LineFault → ℕ
+number_of (Csv row) = 1
+number_of (Fields row) = 2
+number_of (Territory row) = 3
+number_of (Right row) = 4
+number_of (Amount row) = 5
+number_of Lines = 6
+number_of Memory = 7
+
+-- the row's number, where the fault is one row's
+abbrev pub place_of : LineFault → Option ℕ
+place_of (Csv row) = Some row
+place_of (Fields row) = Some row
+place_of (Territory row) = Some row
+place_of (Right row) = Some row
+place_of (Amount row) = Some row
+place_of Lines = None
+place_of Memory = None

@@ -1,0 +1,76 @@
+//! Why bytes are no table of usage lines.
+
+ghost use Rattle.std.specs.Prelude.{◌≡◌};
+
+use std::alloc::AllocError;
+use thiserror::Error;
+
+/// Why bytes are no table of usage lines. Rows count from 0, the header's.
+#[derive(Clone, Copy, Debug, PartialEq, Eq, Error)]
+pub enum LineFault {
+    /// Row 0 is missing or is not the header, or another row has more or fewer than five fields.
+    #[error("row {0} is not usage,work,territory,right,amount")]
+    Csv(u64),
+    /// The usage or the work of this row is not 1 to 64 printable ASCII bytes.
+    #[error("the usage or the work of row {0} is not 1 to 64 printable characters")]
+    Fields(u64),
+    /// The territory of this row is not one to four digits with a value from 1 on.
+    #[error("the territory of row {0} is not a number from 1 to 9999")]
+    Territory(u64),
+    /// The right of this row is not `P`, `M` or `S`.
+    #[error("the right of row {0} is not P, M or S")]
+    Right(u64),
+    /// The amount of this row is not digits, or is over 1000000000000.
+    #[error("the amount of row {0} is not a number from 0 to 1000000000000")]
+    Amount(u64),
+    /// There are more than 1000000 lines.
+    #[error("there are more than 1000000 lines")]
+    Lines,
+    /// A growth of memory was refused.
+    #[error("memory ran out")]
+    Memory,
+}
+
+impl LineFault {
+    ghost use Rattle.line_split.specs.UsageTable.{number_of, place_of};
+
+    /// The fault's number: 1 to 7, in the order above.
+    pub fn number(&self) -> u8
+        ensures { result ≡ number_of self.now }
+    {
+        match self {
+            LineFault::Csv(_) => 1,
+            LineFault::Fields(_) => 2,
+            LineFault::Territory(_) => 3,
+            LineFault::Right(_) => 4,
+            LineFault::Amount(_) => 5,
+            LineFault::Lines => 6,
+            LineFault::Memory => 7,
+        }
+    }
+
+    /// The number of the row at fault, where it is one row's.
+    pub fn place(&self) -> Option<u64>
+        ensures { result ≡ place_of self.now }
+    {
+        match *self {
+            LineFault::Csv(row)
+            | LineFault::Fields(row)
+            | LineFault::Territory(row)
+            | LineFault::Right(row)
+            | LineFault::Amount(row) => Some(row),
+            LineFault::Lines | LineFault::Memory => None,
+        }
+    }
+}
+
+impl From<AllocError> for LineFault {
+    ghost use Rattle.std.specs.Prelude.{◌≡◌};
+    ghost use Rattle.line_split.specs.declared.line_fault.LineFault.TheVariants.{Memory};
+
+    ghost from_gives = { λ _ fault. fault ≡ Memory };
+
+    fn from(_: AllocError) -> LineFault {
+        LineFault::Memory
+    }
+}

@@ -1,0 +1,179 @@
+//! The list of usage lines: what the money comes in by.
+
+ghost use Rattle.std.specs.Prelude.{◌≡◌, ◌≤◌, ◌<◌, ◌+◌, ◌↔◌, ℕ, List, IfOk, IfErr, IfSome, IfNone, Some, length, slice_get};
+ghost use Rattle.csv_table.specs.Forms.{IsCode, number_of};
+ghost use Rattle.csv_table.specs.Table.{rows_of};
+ghost use Rattle.line_split.specs.UsageLine.{shown, line_of, right_named, IsRight};
+ghost use Rattle.line_split.specs.UsageLines.{IsUsageLine};
+ghost use Rattle.line_split.specs.UsageTable.{IsFaultOf, IsFaultOfRow, IsLine, IsTableOf};
+
+use crate::{LineFault, MOST_AMOUNT};
+use csv_table::Rows;
+use csv_table::forms::{is_printable, number_up_to};
+use std::alloc::Global;
+use std::marker::Model;
+
+/// The most lines that one list has.
+pub const MOST_LINES: u64 = 1_000_000;
+
+/// The longest text of a usage or of a work number, in bytes.
+pub const MOST_TEXT_BYTES: usize = 64;
+
+/// The greatest territory code.
+pub const MOST_TERRITORY: u16 = 9999;
+
+/// The most digits that a territory code is written with.
+pub const MOST_TERRITORY_DIGITS: usize = 4;
+
+/// The fields of the table's first row.
+const HEADER: [&str; 5] = ["usage", "work", "territory", "right", "amount"];
+
+/// The right that a work is used under.
+#[derive(Clone, Copy, Debug, PartialEq, Eq)]
+pub enum Right {
+    /// Performing right.
+    P,
+    /// Mechanical right.
+    M,
+    /// Synchronisation right.
+    S,
+}
+
+/// One use of a work, and what it brought in.
+#[derive(Debug, Drop)]
+pub struct Line {
+    /// What the use is called: 1 to 64 printable ASCII bytes. Several lines may have the same.
+    pub usage: Vec<u8>,
+    /// The submitter work number: 1 to 64 printable ASCII bytes.
+    pub work: Vec<u8>,
+    /// The TIS numeric code of the land or group of lands, 1 to 9999.
+    pub territory: u16,
+    /// The right that the work is used under.
+    pub right: Right,
+    /// The amount in minor units, at most 1000000000000.
+    pub amount: u64,
+}
+
+/// Usage lines, at most 1000000, in the order of their table.
+#[derive(Drop)]
+pub struct Usage {
+    lines: Vec<Line>,
+}
+
+impl Model for Usage {
+    ghost use Rattle.std.specs.Prelude.{List, map};
+    ghost use Rattle.line_split.specs.UsageLine.{UsageLine, shown};
+    ghost use Rattle.line_split.specs.UsageLines.{AreUsageLines};
+
+    ghost Value = { List UsageLine };
+
+    ghost view = { λ usage. map shown usage.lines.items };
+
+    ghost invariant = { λ usage. AreUsageLines (map shown usage.lines.items) };
+}
+
+impl Usage {
+    /// Reads a table of usage lines: CSV with the header `usage,work,territory,right,amount`, and
+    /// the lines below it.
+    pub fn read(alloc: Global, bytes: &[u8]) -> Result<Usage, LineFault>
+        ensures lines { IfOk result (IsTableOf (rows_of bytes.now)) }
+        ensures fault { IfErr result (IsFaultOf (rows_of bytes.now)) }
+    {
+        let mut rows = Rows::of(alloc, bytes);
+        if !(rows.next()? && rows.is(&HEADER)) {
+            return Err(LineFault::Csv(0));
+        }
+        let mut lines = Vec::new(alloc);
+        for number in 1..=MOST_LINES {
+            if !rows.next()? {
+                return Ok(Usage { lines });
+            }
+            if lines.push(read_line(alloc, number, &rows)?).is_err() {
+                return Err(LineFault::Memory);
+            }
+        }
+        if rows.next()? {
+            return Err(LineFault::Lines);
+        }
+        Ok(Usage { lines })
+    }
+
+    /// How many lines there are.
+    pub fn len(&self) -> usize
+        ensures lines { result ≡ length self.now }
+        ensures few { result ≤ MOST_LINES }
+    {
+        self.lines.len()
+    }
+
+    /// The line at a place, from 0.
+    pub fn line(&self, i: usize) -> &Line
+        requires { i < length self.now }
+        ensures line { slice_get self.now i ≡ Some (shown result.now) }
+        ensures sound { IsUsageLine (shown result.now) }
+    {
+        &self.lines[i]
+    }
+}
+
+/// The line of the row at hand, which has this number.
+fn read_line(alloc: Global, number: u64, rows: &Rows<'_>) -> Result<Line, LineFault>
+    requires { number ≤ MOST_LINES }
+    ensures line { IfOk result (λ line. IsLine rows.now.row × (shown line ≡ line_of rows.now.row)) }
+    ensures fault { IfErr result (IsFaultOfRow number rows.now.row) }
+{
+    if rows.len() != HEADER.len() {
+        return Err(LineFault::Csv(number));
+    }
+    let usage = rows.field(0);
+    let work = rows.field(1);
+    if !is_printable(usage, MOST_TEXT_BYTES) || !is_printable(work, MOST_TEXT_BYTES) {
+        return Err(LineFault::Fields(number));
+    }
+    let Some(territory) = territory_of(rows.field(2)) else {
+        return Err(LineFault::Territory(number));
+    };
+    let Some(right) = right_of(rows.field(3)) else {
+        return Err(LineFault::Right(number));
+    };
+    let Some(amount) = number_up_to(rows.field(4), MOST_AMOUNT) else {
+        return Err(LineFault::Amount(number));
+    };
+    Ok(Line {
+        usage: Vec::from_slice(alloc, usage)?,
+        work: Vec::from_slice(alloc, work)?,
+        territory,
+        right,
+        amount,
+    })
+}
+
+/// The territory that a field names.
+fn territory_of(field: &[u8]) -> Option<u16>
+    ensures some { IfSome result (λ code. IsCode MOST_TERRITORY_DIGITS field.now × (code ≡ number_of field.now) × (code ≤ MOST_TERRITORY)) }
+    ensures none { IfNone result (¬ IsCode MOST_TERRITORY_DIGITS field.now) }
+{
+    if field.len() > MOST_TERRITORY_DIGITS {
+        return None;
+    }
+    match number_up_to(field, u64::from(MOST_TERRITORY)) {
+        Some(code) if code > 0 => Some(code as u16),
+        _ => None,
+    }
+}
+
+/// The right that a field names.
+fn right_of(field: &[u8]) -> Option<Right>
+    ensures some { IfSome result (λ right. IsRight field.now × (right ≡ right_named field.now)) }
+    ensures none { IfNone result (¬ IsRight field.now) }
+{
+    if field == b"P".as_slice() {
+        Some(Right::P)
+    } else if field == b"M".as_slice() {
+        Some(Right::M)
+    } else if field == b"S".as_slice() {
+        Some(Right::S)
+    } else {
+        None
+    }
+}
