@@ -81,7 +81,7 @@ goes_down s fields field c (d ∷ rest) p is =
 abbrev owed : State → ℕ
 owed s = if ends_at_end s then 1 else 0
 
-ends : (k : ℕ) → records_from default_config k st.StartRecord [] ≡ []
+pub ends : (k : ℕ) → records_from default_config k st.StartRecord [] ≡ []
 unfolding records_from next_record
 ends zero = refl
 ends (suc k) = refl

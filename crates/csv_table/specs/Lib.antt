@@ -1,3 +1,4 @@
 pub mod Forms
 pub mod Table
 pub mod Walk
+pub mod Written

@@ -2,6 +2,8 @@
 #![tactic(auto)]
 
 pub mod forms;
+mod row_writer;
 mod rows;
 
+pub use row_writer::RowWriter;
 pub use rows::Rows;

@@ -79,7 +79,7 @@ impl Book {
 }
 
 /// What postings come to. There cannot be so many that the sum is too large for its type.
-fn sum(statement: &[(u64, u64)]) -> u128
+pub(crate) fn sum(statement: &[(u64, u64)]) -> u128
     requires { All (λ posting. posting.1 ≤ MOST_AMOUNT) statement.now }
     ensures { result ≡ total_of statement.now }
 {

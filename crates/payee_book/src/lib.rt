@@ -2,6 +2,7 @@
 #![tactic(auto)]
 
 mod book;
+mod text;
 #[cfg(test)]
 mod tests;
 

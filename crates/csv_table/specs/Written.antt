@@ -1,0 +1,23 @@
+-- A CSV text in the making.
+use Rattle.std.specs.Prelude.{ℕ, ◌≡◌, false, List, ◌++◌, flat_map, Vec}
+use Rattle.csv.specs.Writing.{row_text, default_writer, writer_setup, writer_under, writer_pending, fields_written, has_written}
+use Rattle.csv.specs.declared.writer.Writer.{Writer}
+use Rattle.std.specs.declared.alloc.Global.{Global}
+
+-- a row of fields, as the crate csv writes it with its default settings
+abbrev pub text_of_row : List (List ℕ) → List ℕ
+text_of_row fields = row_text default_writer fields
+
+-- rows, one after another
+abbrev pub text_of : List (List (List ℕ)) → List ℕ
+text_of rows = flat_map text_of_row rows
+
+-- what a writer into a vector was given so far
+abbrev pub written : Writer (Vec ℕ Global) → List ℕ
+written out = (writer_under out).items ++ writer_pending out
+
+-- a writer with the default settings that stands before a row
+pub record IsBetweenRows (out : Writer (Vec ℕ Global)) : Type 0 where
+  pub setup : writer_setup out ≡ default_writer
+  pub fields : fields_written out ≡ 0
+  pub clean : has_written out ≡ false

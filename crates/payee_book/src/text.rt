@@ -1,0 +1,167 @@
+//! The statements as CSV.
+
+ghost use Rattle.std.specs.Prelude.{◌≡◌, ◌≤◌, ◌<◌, ◌++◌, ◌∷◌, [], All, OnOk, IfOk, decimal, length, map, sum_by};
+ghost use Rattle.csv_table.specs.Table.{rows_of};
+ghost use Rattle.csv_table.specs.Written.{text_of, text_of_row};
+ghost use Rattle.line_split.specs.declared.TheConstants.{MOST_AMOUNT};
+ghost use Rattle.line_split.specs.declared.usage.TheConstants.{MOST_LINES};
+ghost use Rattle.payee_book.specs.Statement.{total_of};
+ghost use Rattle.payee_book.specs.Text.{payee_rows, reason_text, residue_rows, rows_of_book, run_row, total_row, usage_at};
+
+use crate::Book;
+use crate::book::sum;
+use csv_table::RowWriter;
+use itoa::Buffer;
+use line_split::{Account, RESIDUE, Reason, Usage};
+use std::alloc::{AllocError, Global};
+
+impl Book {
+    /// The statements as CSV, four fields a row: for each account from 1 on that has postings,
+    /// a row `L,party,usage,amount` for each of them and `S,party,count,total`; then a row
+    /// `M,reason,usage,amount` for each posting of the residue account and `T,,count,total`; and
+    /// last `R,,lines,amount` for the usage lines.
+    pub fn text(
+        &self,
+        alloc: Global,
+        usage: &Usage,
+        parties: &[Vec<u8>],
+        reasons: &[Reason],
+    ) -> Result<Vec<u8>, AllocError>
+        requires parties { length parties.now ≡ length self.now }
+        requires reasons { length reasons.now ≡ length usage.now }
+        requires lines { All (All (λ posting. posting.0 < length usage.now)) self.now }
+        ensures rows { IfOk result (λ text. text.items ≡ text_of (rows_of_book self.now usage.now (map (λ party. party.items) parties.now) reasons.now)) }
+        ensures reads_back { IfOk result (λ text. rows_of text.items ≡ rows_of_book self.now usage.now (map (λ party. party.items) parties.now) reasons.now) }
+    {
+        let mut out = RowWriter::new(alloc);
+        for account in 1..self.accounts() {
+            let party = parties[account as usize].as_slice();
+            write_payee(&mut out, usage, party, self.lines(account))?;
+        }
+        write_residue(&mut out, usage, reasons, self.lines(RESIDUE))?;
+        write_run(&mut out, usage)?;
+        out.into_text()
+    }
+}
+
+/// A payee's statement, where it has a posting.
+fn write_payee(
+    out: &mut RowWriter,
+    usage: &Usage,
+    party: &[u8],
+    statement: &[(u64, u64)],
+) -> Result<(), AllocError>
+    requires lines { All (λ posting. posting.0 < length usage.now) statement.now }
+    requires small { All (λ posting. posting.1 ≤ MOST_AMOUNT) statement.now }
+    ensures { OnOk result (out.new ≡ out.old ++ text_of (payee_rows usage.now party.now statement.now)) }
+{
+    if statement.is_empty() {
+        return Ok(());
+    }
+    for posting in statement {
+        let name = usage_of(usage, posting.0);
+        write_posting(out, "L", party, name, posting.1)?;
+    }
+    write_total(out, "S", party, statement)
+}
+
+/// The residue's statement.
+fn write_residue(
+    out: &mut RowWriter,
+    usage: &Usage,
+    reasons: &[Reason],
+    statement: &[(u64, u64)],
+) -> Result<(), AllocError>
+    requires reasons { length reasons.now ≡ length usage.now }
+    requires lines { All (λ posting. posting.0 < length usage.now) statement.now }
+    requires small { All (λ posting. posting.1 ≤ MOST_AMOUNT) statement.now }
+    ensures { OnOk result (out.new ≡ out.old ++ text_of (residue_rows usage.now reasons.now statement.now)) }
+{
+    for posting in statement {
+        let reason = word_of(reasons[posting.0 as usize]);
+        let name = usage_of(usage, posting.0);
+        write_posting(out, "M", reason.as_bytes(), name, posting.1)?;
+    }
+    write_total(out, "T", b"", statement)
+}
+
+/// What the usage lines come to.
+fn write_run(out: &mut RowWriter, usage: &Usage) -> Result<(), AllocError>
+    ensures { OnOk result (out.new ≡ out.old ++ text_of_row (run_row usage.now)) }
+{
+    let mut lines = Buffer::new();
+    let mut amount = Buffer::new();
+    out.row(&[
+        b"R",
+        b"",
+        lines.format(usage.len()).as_bytes(),
+        amount.format(total_amount(usage)).as_bytes(),
+    ])
+}
+
+/// What the usage lines come to, in minor units. There cannot be so many that the sum is too large
+/// for its type.
+fn total_amount(usage: &Usage) -> u64
+    ensures { result ≡ sum_by (λ line. line.amount) usage.now }
+{
+    let mut total = 0;
+    for place in 0..usage.len() {
+        total += usage.line(place).amount;
+    }
+    total
+}
+
+/// What the use of the line with a number is called.
+fn usage_of(usage: &Usage, line: u64) -> &[u8]
+    requires { line < length usage.now }
+    ensures { result.now ≡ usage_at usage.now line }
+{
+    usage.line(line as usize).usage.as_slice()
+}
+
+/// A posting.
+fn write_posting<'a>(
+    out: &mut RowWriter,
+    kind: &str,
+    whose: &'a [u8],
+    usage: &'a [u8],
+    amount: u64,
+) -> Result<(), AllocError>
+    ensures { OnOk result (out.new ≡ out.old ++ text_of_row (kind.now ∷ whose.now ∷ usage.now ∷ decimal amount ∷ [])) }
+{
+    let mut digits = Buffer::new();
+    let amount = digits.format(amount);
+    out.row(&[kind.as_bytes(), whose, usage, amount.as_bytes()])
+}
+
+/// What a statement comes to.
+fn write_total(
+    out: &mut RowWriter,
+    kind: &str,
+    whose: &[u8],
+    statement: &[(u64, u64)],
+) -> Result<(), AllocError>
+    requires { All (λ posting. posting.1 ≤ MOST_AMOUNT) statement.now }
+    ensures { OnOk result (out.new ≡ out.old ++ text_of_row (total_row kind.now whose.now statement.now)) }
+{
+    let mut count = Buffer::new();
+    let mut total = Buffer::new();
+    out.row(&[
+        kind.as_bytes(),
+        whose,
+        count.format(statement.len()).as_bytes(),
+        total.format(sum(statement)).as_bytes(),
+    ])
+}
+
+/// The word for a reason.
+fn word_of(reason: Reason) -> &'static str
+    ensures { result.now ≡ reason_text reason }
+{
+    match reason {
+        Reason::Work => "WORK",
+        Reason::Land => "LAND",
+        Reason::Over => "OVER",
+        Reason::Open => "OPEN",
+    }
+}
