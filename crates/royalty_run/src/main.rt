@@ -1,6 +1,7 @@
 //! The distribution run's command line.
 #![tactic(auto)]
 
+mod book;
 mod commands;
 mod failure;
 mod pair;

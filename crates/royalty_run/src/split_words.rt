@@ -5,11 +5,11 @@ ghost use Rattle.line_split.specs.declared.TheConstants.{MOST_AMOUNT};
 ghost use Rattle.line_split.specs.FirstPlace.{IsFirstPlace};
 ghost use Rattle.royalty_run.specs.Pair.{IsPair, claims_of as claims_made, word_at};
 ghost use Rattle.royalty_run.specs.PairFault.{AreSound, IsFaultOf, IsMalformed, IsNamedBefore};
-ghost use Rattle.royalty_run.specs.Rows.{IsBetweenRows, labels_of, row_of, rows_of, text_of, written};
+ghost use Rattle.royalty_run.specs.Rows.{labels_of, row_of, rows_of, text_of};
 
 use crate::pair::{is_pair, party_of, share_of};
 use crate::pair_fault::PairFault;
-use csv::{Writer, WriterBuilder};
+use csv_table::RowWriter;
 use itoa::Buffer;
 use line_split::{Account, ClaimFault, Claims, MOST_CLAIMS, Portions, split};
 use std::alloc::{AllocError, Global};
@@ -129,33 +129,31 @@ fn rows(alloc: Global, words: &[String], portions: &[(Account, u64)]) -> Result<
     ensures text { IfOk result (λ text. text.items ≡ text_of (labels_of (map string_bytes words.now)) portions.now) }
     ensures memory { IfErr result (λ fault. fault ≡ PairFault.Memory) }
 {
-    let mut out = WriterBuilder::new().from_writer(Vec::new(alloc));
+    let mut out = RowWriter::new(alloc);
     for place in 0..words.len() {
         let party = party_of(word(words, place));
         write_row(&mut out, "P", party, portions[place].1)?;
     }
     write_row(&mut out, "M", "", portions[words.len()].1)?;
-    match out.into_inner() {
+    match out.into_text() {
         Ok(text) => Ok(text),
         Err(_) => Err(PairFault::Memory),
     }
 }
 
-/// Writes the row of one portion. Writing into memory fails only where memory does.
+/// Writes the row of one portion.
 fn write_row(
-    out: &mut Writer<Vec<u8>>,
+    out: &mut RowWriter,
     kind: &str,
     party: &str,
     portion: u64,
 ) -> Result<(), PairFault>
-    requires { IsBetweenRows out.old }
-    ensures row { OnOk result (written out.new ≡ written out.old ++ row_of kind.now party.now portion) }
-    ensures ready { OnOk result (IsBetweenRows out.new) }
+    ensures row { OnOk result (out.new ≡ out.old ++ row_of kind.now party.now portion) }
     ensures memory { IfErr result (λ fault. fault ≡ PairFault.Memory) }
 {
     let mut digits = Buffer::new();
     let portion = digits.format(portion);
-    match out.write_fields(&[kind.as_bytes(), party.as_bytes(), portion.as_bytes()]) {
+    match out.row(&[kind.as_bytes(), party.as_bytes(), portion.as_bytes()]) {
         Ok(()) => Ok(()),
         Err(_) => Err(PairFault::Memory),
     }
