@@ -10,3 +10,4 @@ pub mod FirstPlaces
 pub mod ByAccount
 pub mod Over
 mod UsageRows
+pub mod PortionAccounts

@@ -47,7 +47,7 @@ module _ (test : ℕ × ℕ → Bool) where
       rw (first, rest.0, rest.1) (refl, refl)
 
   -- where the first n fail and the others pass
-  parted : (xs : List (ℕ × ℕ)) (n : ℕ) → ((k : ℕ) (d : ℕ × ℕ) → k < n → k < length xs → test (get_or xs k d) ≡ false)
+  pub parted : (xs : List (ℕ × ℕ)) (n : ℕ) → ((k : ℕ) (d : ℕ × ℕ) → k < n → k < length xs → test (get_or xs k d) ≡ false)
       → ((k : ℕ) (d : ℕ × ℕ) → n ≤ k → k < length xs → test (get_or xs k d) ≡ true)
       → (filter (λ x. not (test x)) xs ≡ take n xs) × (filter test xs ≡ drop n xs)
   parted xs zero fail pass = all_pass xs (λ k d lt. pass k d (omega arith) lt)

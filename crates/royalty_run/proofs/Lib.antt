@@ -3,3 +3,4 @@ pub mod RowLemmas
 pub mod Shifted
 pub mod SplitLemmas
 pub mod Walked
+mod BookLemmas

@@ -1,7 +1,6 @@
 pub mod Asked
 pub mod Pair
 pub mod PairFault
-pub mod Posted
 pub mod Rows
 pub mod Status
 pub mod SplitCommand

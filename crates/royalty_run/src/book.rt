@@ -1,11 +1,10 @@
 //! The book of a list of usage lines that all have the same claims.
 
-ghost use Rattle.std.specs.Prelude.{◌≡◌, ◌<◌, ◌≤◌, ◌++◌, ℕ, All, IfOk, OnOk, [], length, slice_index_or};
+ghost use Rattle.std.specs.Prelude.{◌≡◌, ◌<◌, ◌≤◌, ◌++◌, ℕ, All, IfOk, OnOk, [], length, map, slice_index_or};
 ghost use Rattle.std.specs.List.{AllPairs};
 ghost use Rattle.line_split.specs.LargestRemainder.{portions_of};
 ghost use Rattle.line_split.specs.declared.TheConstants.{MOST_AMOUNT};
-ghost use Rattle.payee_book.specs.Run.{IsBookOf, portion_of};
-ghost use Rattle.royalty_run.specs.Posted.{posting_of};
+ghost use Rattle.payee_book.specs.Run.{IsBookOf, portion_of, posting_of};
 
 use line_split::{Account, Claims, Portions, Usage, split};
 use payee_book::Book;
@@ -34,8 +33,8 @@ pub fn book_of(
 
 /// Posts those portions of a line that are not 0.
 fn post_line(book: &mut Book, line: u64, portions: &[(Account, u64)]) -> Result<(), AllocError>
-    requires accounts { All (λ portion. portion.0 < length book.old) portions.now }
-    requires once { AllPairs (λ portion other. ¬ (portion.0 ≡ other.0)) portions.now }
+    requires accounts { All (λ account. account < length book.old) (map (λ portion. portion.0) portions.now) }
+    requires once { AllPairs (λ account other. ¬ (account ≡ other)) (map (λ portion. portion.0) portions.now) }
     requires small { All (λ portion. portion.1 ≤ MOST_AMOUNT) portions.now }
     requires later { All (All (λ posting. posting.0 < line)) book.old }
     ensures whole { OnOk result (length book.new ≡ length book.old) }

@@ -28,7 +28,7 @@ returns-in-Ok-clause-text c =
     c.loop-place.invariant ∙ ap (λ (k : ℕ). flat_map row (take k (zip (labels_of (map string_bytes c.args.words.now)) c.args.portions.now))) all in
     let last : get_or (labels_of (map string_bytes c.args.words.now)) (length c.args.words.now) ([], []) ≡ (codes "M", []) =
     ap (λ (k : ℕ). get_or (labels_of (map string_bytes c.args.words.now)) k ([], [])) (sym same) ∙ label_last (map string_bytes c.args.words.now) in
-    c.in-Ok.ensures.ok
+    c.in-Ok.ensures
     ∙ (wrote
     ∙ (ap (λ (text : List ℕ). text ++ row_of (codes "M") [] (get_or c.args.portions.now (length c.args.words.now) (0, 0)).1) so_far
     ∙ (rows_more (labels_of (map string_bytes c.args.words.now)) c.args.portions.now (length c.args.words.now) (codes "M", [])
