@@ -15,6 +15,8 @@ mod reason;
 mod tests;
 mod turn;
 mod usage;
+#[cfg(test)]
+mod usage_tests;
 
 pub use by_rank::portion_by_rank;
 pub use claims::{ClaimFault, Claims};
