@@ -12,7 +12,7 @@ use crate::Book;
 use crate::book::sum;
 use csv_table::RowWriter;
 use itoa::Buffer;
-use line_split::{Account, RESIDUE, Reason, Usage};
+use line_split::{Account, Reason, Usage};
 use std::alloc::{AllocError, Global};
 
 impl Book {
@@ -38,7 +38,7 @@ impl Book {
             let party = parties[account as usize].as_slice();
             write_payee(&mut out, usage, party, self.lines(account))?;
         }
-        write_residue(&mut out, usage, reasons, self.lines(RESIDUE))?;
+        write_residue(&mut out, usage, reasons, self.residue())?;
         write_run(&mut out, usage)?;
         out.into_text()
     }
