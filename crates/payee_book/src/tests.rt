@@ -1,8 +1,24 @@
 //! A book of two accounts, and one of three as text.
 
+ghost use Rattle.std.specs.Prelude.{◌<◌, All};
+
 use super::*;
 use line_split::{Reason, Usage};
+use std::process::Abort;
 use std::test::Fail;
+
+/// Asserts that the postings of a book are of the first so many lines.
+fn assert_lines(rt: &impl Abort, book: &Book, lines: usize)
+    ensures { All (All (λ posting. posting.0 < lines)) book.now }
+{
+    for account in 0..book.accounts() {
+        assert!(rt;
+            book.lines(account)
+                .iter()
+                .all(|posting| posting.0 < lines as u64)
+        );
+    }
+}
 
 #[test]
 fn keeps_postings_in_order(rt: HostRuntime) -> Result<(), Fail> {
@@ -26,13 +42,17 @@ fn writes_the_statements(rt: HostRuntime) -> Result<(), Fail> {
     )?;
     let mut book = Book::open(alloc, 3)?;
     for (account, line, amount) in [(1, 0, 60), (2, 0, 40), (2, 1, 20), (0, 1, 30), (0, 2, 7)] {
+        assert!(rt; account < book.accounts());
         book.post(account, line, amount)?;
     }
+    assert_lines(&rt, &book, usage.len());
     let mut parties = Vec::new(alloc);
     for name in ["", "A,B", "say \"B\""] {
         parties.push(Vec::from_slice(alloc, name.as_bytes())?)?;
     }
+    assert!(rt; parties.len() == book.accounts() as usize);
     let reasons = [Reason::Open, Reason::Open, Reason::Work];
+    assert!(rt; reasons.len() == usage.len());
     let text = book.text(alloc, &usage, parties.as_slice(), &reasons)?;
     let want = "L,\"A,B\",u1,60\n\
                 S,\"A,B\",1,60\n\
