@@ -2,9 +2,9 @@
 #![tactic(auto)]
 
 mod book;
-mod text;
 #[cfg(test)]
 mod tests;
+mod text;
 
 pub use book::Book;
 

@@ -1,7 +1,24 @@
-//! A book of two accounts.
+//! A book of two accounts, and one of three as text.
+
+ghost use Rattle.std.specs.Prelude.{◌<◌, All};
 
 use super::*;
+use line_split::{Reason, Usage};
+use std::process::Abort;
 use std::test::Fail;
+
+/// Asserts that the postings of a book are of the first so many lines.
+fn assert_lines(rt: &impl Abort, book: &Book, lines: usize)
+    ensures { All (All (λ posting. posting.0 < lines)) book.now }
+{
+    for account in 0..book.accounts() {
+        assert!(rt;
+            book.lines(account)
+                .iter()
+                .all(|posting| posting.0 < lines as u64)
+        );
+    }
+}
 
 #[test]
 fn keeps_postings_in_order(rt: HostRuntime) -> Result<(), Fail> {
@@ -13,5 +30,39 @@ fn keeps_postings_in_order(rt: HostRuntime) -> Result<(), Fail> {
     assert_eq!(rt; book.lines(1), [(2, 3), (7, 5)].as_slice());
     assert_eq!(rt; book.total(1), 8);
     assert_eq!(rt; book.total(0), 0);
+    Ok(())
+}
+
+#[test]
+fn writes_the_statements(rt: HostRuntime) -> Result<(), Fail> {
+    let alloc = rt.alloc();
+    let usage = Usage::read(
+        alloc,
+        b"usage,work,territory,right,amount\nu1,W1,276,P,100\nu2,W1,840,P,50\nu3,W9,276,P,7\n",
+    )?;
+    let mut book = Book::open(alloc, 3)?;
+    for (account, line, amount) in [(1, 0, 60), (2, 0, 40), (2, 1, 20), (0, 1, 30), (0, 2, 7)] {
+        assert!(rt; account < book.accounts());
+        book.post(account, line, amount)?;
+    }
+    assert_lines(&rt, &book, usage.len());
+    let mut parties = Vec::new(alloc);
+    for name in ["", "A,B", "say \"B\""] {
+        parties.push(Vec::from_slice(alloc, name.as_bytes())?)?;
+    }
+    assert!(rt; parties.len() == book.accounts() as usize);
+    let reasons = [Reason::Open, Reason::Open, Reason::Work];
+    assert!(rt; reasons.len() == usage.len());
+    let text = book.text(alloc, &usage, parties.as_slice(), &reasons)?;
+    let want = "L,\"A,B\",u1,60\n\
+                S,\"A,B\",1,60\n\
+                L,\"say \"\"B\"\"\",u1,40\n\
+                L,\"say \"\"B\"\"\",u2,20\n\
+                S,\"say \"\"B\"\"\",2,60\n\
+                M,OPEN,u2,30\n\
+                M,WORK,u3,7\n\
+                T,,2,37\n\
+                R,,3,157\n";
+    assert_eq!(rt; text.as_slice(), want.as_bytes());
     Ok(())
 }

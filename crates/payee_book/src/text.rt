@@ -4,15 +4,13 @@ ghost use Rattle.std.specs.Prelude.{◌≡◌, ◌≤◌, ◌<◌, ◌++◌, ◌
 ghost use Rattle.csv_table.specs.Table.{rows_of};
 ghost use Rattle.csv_table.specs.Written.{text_of, text_of_row};
 ghost use Rattle.line_split.specs.declared.TheConstants.{MOST_AMOUNT};
-ghost use Rattle.line_split.specs.declared.usage.TheConstants.{MOST_LINES};
-ghost use Rattle.payee_book.specs.Statement.{total_of};
 ghost use Rattle.payee_book.specs.Text.{payee_rows, reason_text, residue_rows, rows_of_book, run_row, total_row, usage_at};
 
 use crate::Book;
 use crate::book::sum;
 use csv_table::RowWriter;
 use itoa::Buffer;
-use line_split::{Account, RESIDUE, Reason, Usage};
+use line_split::{Reason, Usage};
 use std::alloc::{AllocError, Global};
 
 impl Book {
@@ -38,7 +36,7 @@ impl Book {
             let party = parties[account as usize].as_slice();
             write_payee(&mut out, usage, party, self.lines(account))?;
         }
-        write_residue(&mut out, usage, reasons, self.lines(RESIDUE))?;
+        write_residue(&mut out, usage, reasons, self.residue())?;
         write_run(&mut out, usage)?;
         out.into_text()
     }

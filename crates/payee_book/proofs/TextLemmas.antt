@@ -1,0 +1,137 @@
+-- The rows of a book, as they are written and as they read back.
+use Rattle.std.proofs.Common.{◌≡◌, ◌∙◌, ◌-◌, ◌+◌, ◌<◌, ◌≤◌, ◌++◌, ◌∷◌, [], ℕ, Bool, true, false, List, length, map, take, drop, get_or, codes, ap, sym, subst, refl, arith, append_assoc, suc, All}
+use Rattle.std.specs.Prelude.{◌==◌, flat_map, if◌then◌else◌, zip}
+use Rattle.std.proofs.lemmas.Grind.{flat_map-append, get_or_after_one}
+use Rattle.std.proofs.lemmas.List.{flat_map_more, length-drop, take_all, take_more}
+use Rattle.std.proofs.lemmas.List.Elements.{All-append, All-cons, All-map, All-nil}
+use Rattle.std.proofs.lemmas.Slice.Zip.{get_or-zip, length-zip}
+use Rattle.csv.specs.Reading.{default_config, records, strip_bom}
+use Rattle.csv.specs.Writing.{default_writer, field_text, needs_byte, read_back}
+use Rattle.csv_table.specs.Table.{rows_of}
+use Rattle.csv_table.specs.Written.{text_of, text_of_row}
+use Rattle.csv_table.proofs.ReadBack.{no_mark, rows_read_back}
+use Rattle.line_split.specs.UsageLine.{UsageLine}
+use Rattle.line_split.specs.declared.reason.Reason.{Reason}
+use Rattle.payee_book.specs.Text.{payee_rows, posting_row, reason_at, residue_rows, rows_of_book, run_row, total_row}
+
+-- the rows of one block more
+blocks_more : {X : Type 0} (block : X → List (List (List ℕ))) (xs : List X) (i : ℕ) (d : X) → i < length xs
+    → text_of (flat_map block (take i xs)) ++ text_of (block (get_or xs i d)) ≡ text_of (flat_map block (take (i + 1) xs))
+blocks_more block xs i d lt =
+    sym (flat_map-append text_of_row (flat_map block (take i xs)) (block (get_or xs i d)))
+    ∙ ap text_of (flat_map_more block [] (take i xs) (get_or xs i d) ∙ ap (flat_map block) (sym (take_more xs i d lt)))
+
+module _ (usage : List UsageLine) (parties : List (List ℕ)) (book : List (List (ℕ × ℕ))) where
+  -- the accounts from 1 on, each with its party
+  abbrev accounts : List (List ℕ × List (ℕ × ℕ))
+  accounts = zip (drop 1 parties) (drop 1 book)
+
+  -- the rows of one of them
+  abbrev rows_for : List ℕ × List (ℕ × ℕ) → List (List (List ℕ))
+  rows_for e = payee_rows usage e.0 e.1
+
+  -- the text of their first statements
+  abbrev first_statements : ℕ → List ℕ
+  first_statements n = text_of (flat_map rows_for (take n accounts))
+
+  -- the statement of one account more
+  pub statements_more : (account : ℕ) (before after party : List ℕ) (statement : List (ℕ × ℕ)) → 0 < account → account < length parties → account < length book
+      → get_or parties account [] ≡ party → get_or book account [] ≡ statement
+      → before ≡ first_statements (account - 1) → after ≡ before ++ text_of (payee_rows usage party statement)
+      → after ≡ first_statements (account + 1 - 1)
+  statements_more account before after party statement some in_parties in_book whose which so_far wrote =
+      let place : 1 + (account - 1) ≡ account = omega arith in
+      let whose_at : get_or (drop 1 parties) (account - 1) [] ≡ party = get_or_after_one parties (account - 1) [] ∙ (ap (λ k. get_or parties k []) place ∙ whose) in
+      let which_at : get_or (drop 1 book) (account - 1) [] ≡ statement = get_or_after_one book (account - 1) [] ∙ (ap (λ k. get_or book k []) place ∙ which) in
+      let at : get_or accounts (account - 1) ([], []) ≡ (party, statement) =
+      get_or-zip (drop 1 parties) (drop 1 book) (account - 1) ([], []) (omega (arith, length-drop 1 parties)) (omega (arith, length-drop 1 book))
+      ∙ cc (whose_at, which_at) in
+      wrote
+      ∙ (ap (λ text. text ++ text_of (payee_rows usage party statement)) so_far
+      ∙ (ap (λ e. first_statements (account - 1) ++ text_of (rows_for e)) (sym at)
+      ∙ (blocks_more rows_for accounts (account - 1) ([], [])
+      (omega (arith, length-zip (drop 1 parties) (drop 1 book), length-drop 1 parties, length-drop 1 book))
+      ∙ ap first_statements (let same : account - 1 + 1 ≡ account + 1 - 1 = omega arith in same))))
+
+  -- all statements, and the rows below them
+  pub whole_text : (reasons : List Reason) (account : ℕ) (before residue after : List ℕ) → length book ≤ account
+      → before ≡ first_statements (account - 1) → residue ≡ before ++ text_of (residue_rows usage reasons (get_or book 0 []))
+      → after ≡ residue ++ text_of_row (run_row usage)
+      → after ≡ text_of (rows_of_book book usage parties reasons)
+  whole_text reasons account before residue after past so_far wrote_residue wrote =
+      let payees = flat_map rows_for accounts in
+      let below = residue_rows usage reasons (get_or book 0 []) in
+      let all : before ≡ text_of payees =
+      so_far ∙ ap (λ l. text_of (flat_map rows_for l))
+      (take_all (account - 1) accounts (omega (arith, length-zip (drop 1 parties) (drop 1 book), length-drop 1 book))) in
+      let joined : (payees ++ below) ++ run_row usage ∷ [] ≡ payees ++ (below ++ run_row usage ∷ []) = append_assoc payees below (run_row usage ∷ []) in
+      wrote
+      ∙ (ap (λ text. text ++ text_of_row (run_row usage)) (wrote_residue ∙ (ap (λ text. text ++ text_of below) all ∙ sym (flat_map-append text_of_row payees below)))
+      ∙ (flat_map_more text_of_row [] (payees ++ below) (run_row usage) ∙ ap text_of joined))
+
+-- a row whose first field is one letter
+abbrev HasLetter : List (List ℕ) → Type 0
+HasLetter row = (letter : ℕ) × (rest : List (List ℕ)) × (row ≡ (letter ∷ []) ∷ rest) × (needs_byte default_writer letter ≡ false) × ((letter == 239) ≡ false)
+
+-- such rows are not empty
+kept : (rows : List (List (List ℕ))) → All HasLetter rows → map read_back rows ≡ rows
+kept [] all = refl
+kept (row ∷ rows) all =
+    let first = all 0 row (omega arith) in
+    let same : read_back row ≡ row = subst (λ r. read_back r ≡ r) (sym first.2) refl in
+    let rest = kept rows (λ k d lt. all (suc k) d (omega (arith, lt))) in
+    rw (same, rest) refl
+
+-- a field of one letter takes no quotes
+plain : (letter : ℕ) → needs_byte default_writer letter ≡ false → field_text default_writer (letter ∷ []) ≡ letter ∷ []
+plain letter e = rw e refl
+
+-- a text of such rows begins with no byte order mark
+unmarked : (rows : List (List (List ℕ))) → All HasLetter rows → strip_bom (text_of rows) ≡ text_of rows
+unfolding strip_bom
+unmarked [] all = refl
+unmarked (row ∷ rows) all =
+    let first = all 0 row (omega arith) in
+    subst (λ r. strip_bom (text_of_row r ++ text_of rows) ≡ text_of_row r ++ text_of rows) (sym first.2)
+    (rw (plain first.0 first.3) (no_mark first.0 _ first.4))
+
+-- rows that each begin with a letter read back
+all_read_back : (rows : List (List (List ℕ))) → All HasLetter rows → rows_of (text_of rows) ≡ rows
+all_read_back rows all = ap (records default_config) (unmarked rows all) ∙ (rows_read_back rows ∙ kept rows all)
+
+-- what holds of all elements of all blocks
+All-flat_map : {X Y : Type 0} (P : Y → Type 0) (f : X → List Y) (xs : List X) → ((x : X) → All P (f x)) → All P (flat_map f xs)
+All-flat_map P f [] each = All-nil P
+All-flat_map P f (x ∷ xs) each = All-append P (f x) (flat_map f xs) (each x) (All-flat_map P f xs each)
+
+-- what holds of all elements either way
+All-if : {X : Type 0} (P : X → Type 0) (test : Bool) (xs ys : List X) → All P xs → All P ys → All P (if test then xs else ys)
+All-if P true xs ys all_xs all_ys = all_xs
+All-if P false xs ys all_xs all_ys = all_ys
+
+module _ (usage : List UsageLine) where
+  -- a payee's rows
+  payee_letters : (party : List ℕ) (statement : List (ℕ × ℕ)) → All HasLetter (payee_rows usage party statement)
+  payee_letters party statement =
+      All-if HasLetter (length statement == 0) [] _ (All-nil HasLetter)
+      (All-append HasLetter (map (posting_row usage (codes "L") party) statement) (total_row (codes "S") party statement ∷ [])
+      (All-map HasLetter (posting_row usage (codes "L") party) statement (λ k d lt. (76, _, refl, refl, refl)))
+      (All-cons HasLetter (total_row (codes "S") party statement) [] (83, _, refl, refl, refl) (All-nil HasLetter)))
+
+  -- the residue's rows
+  residue_letters : (reasons : List Reason) (statement : List (ℕ × ℕ)) → All HasLetter (residue_rows usage reasons statement)
+  residue_letters reasons statement =
+      All-append HasLetter (map (λ posting. posting_row usage (codes "M") (reason_at reasons posting.0) posting) statement) (total_row (codes "T") [] statement ∷ [])
+      (All-map HasLetter (λ (posting : ℕ × ℕ). posting_row usage (codes "M") (reason_at reasons posting.0) posting) statement (λ k d lt. (77, _, refl, refl, refl)))
+      (All-cons HasLetter (total_row (codes "T") [] statement) [] (84, _, refl, refl, refl) (All-nil HasLetter))
+
+  -- the rows of a book read back
+  pub book_reads_back : (parties : List (List ℕ)) (book : List (List (ℕ × ℕ))) (reasons : List Reason)
+      → rows_of (text_of (rows_of_book book usage parties reasons)) ≡ rows_of_book book usage parties reasons
+  book_reads_back parties book reasons =
+      let residue = residue_rows usage reasons (get_or book 0 []) in
+      all_read_back (rows_of_book book usage parties reasons)
+      (All-append HasLetter (flat_map (rows_for usage parties book) (accounts usage parties book)) (residue ++ run_row usage ∷ [])
+      (All-flat_map HasLetter (rows_for usage parties book) (accounts usage parties book) (λ e. payee_letters e.0 e.1))
+      (All-append HasLetter residue (run_row usage ∷ []) (residue_letters reasons (get_or book 0 []))
+      (All-cons HasLetter (run_row usage) [] (82, _, refl, refl, refl) (All-nil HasLetter))))
