@@ -1,7 +1,8 @@
 -- A CSV text in the making.
-use Rattle.std.specs.Prelude.{ℕ, ◌≡◌, false, List, ◌++◌, flat_map, Vec}
-use Rattle.csv.specs.Writing.{row_text, default_writer, writer_setup, writer_under, writer_pending, fields_written, has_written}
+use Rattle.std.specs.Prelude.{ℕ, ◌≡◌, true, false, List, ◌++◌, flat_map, Vec}
+use Rattle.csv.specs.Writing.{row_text, default_writer, with_flexible, writer_setup, writer_under, writer_pending, fields_written, has_written}
 use Rattle.csv.specs.declared.writer.Writer.{Writer}
+use Rattle.csv.specs.declared.writer.WriterBuilder.{WriterBuilder}
 use Rattle.std.specs.declared.alloc.Global.{Global}
 
 -- a row of fields, as the crate csv writes it with its default settings
@@ -16,8 +17,12 @@ text_of rows = flat_map text_of_row rows
 abbrev pub written : Writer (Vec ℕ Global) → List ℕ
 written out = (writer_under out).items ++ writer_pending out
 
--- a writer with the default settings that stands before a row
+-- how a writer writes with the default settings, but for rows of any number of fields
+abbrev pub any_width : WriterBuilder
+any_width = with_flexible default_writer true
+
+-- such a writer that stands before a row
 pub record IsBetweenRows (out : Writer (Vec ℕ Global)) : Type 0 where
-  pub setup : writer_setup out ≡ default_writer
+  pub setup : writer_setup out ≡ any_width
   pub fields : fields_written out ≡ 0
   pub clean : has_written out ≡ false

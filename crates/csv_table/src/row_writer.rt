@@ -9,7 +9,7 @@ use csv::{Writer, WriterBuilder};
 use std::alloc::{AllocError, Global};
 use std::marker::Model;
 
-/// Rows as text, so far. All rows have the same number of fields.
+/// Rows as text, so far. They may have any number of fields.
 #[derive(Drop)]
 pub struct RowWriter {
     out: Writer<Vec<u8>>,
@@ -33,7 +33,9 @@ impl RowWriter {
         ensures { result ≡ [] }
     {
         RowWriter {
-            out: WriterBuilder::new().from_writer(Vec::new(alloc)),
+            out: WriterBuilder::new()
+                .flexible(true)
+                .from_writer(Vec::new(alloc)),
             has_failed: false,
         }
     }
@@ -45,10 +47,10 @@ impl RowWriter {
         if self.has_failed {
             return Err(AllocError);
         }
-        if self.out.write_fields(fields).is_err() {
+        let Ok(()) = self.out.write_fields(fields) else {
             self.has_failed = true;
             return Err(AllocError);
-        }
+        };
         Ok(())
     }
 

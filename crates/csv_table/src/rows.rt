@@ -3,7 +3,7 @@
 //! It is the crate `csv` with its default settings and no header handling: the first row is a row
 //! like any other, and rows may have any number of fields.
 
-ghost use Rattle.std.specs.Prelude.{◌≡◌, ◌∷◌, ◌↔◌, [], true, false, IfOk, IsTrue, List, ℕ, length, map, slice_index_or};
+ghost use Rattle.std.specs.Prelude.{◌≡◌, ◌∷◌, ◌↔◌, [], true, false, IfOk, OnErr, IsTrue, List, ℕ, length, map, slice_index_or};
 ghost use Rattle.csv_table.specs.Table.{rows_of};
 
 use csv::{ByteRecord, Reader, ReaderBuilder};
@@ -15,10 +15,12 @@ use std::marker::Model;
 pub struct Rows<'a> {
     reader: Reader<&'a [u8]>,
     row: ByteRecord,
+    /// There are no more rows, or memory was refused.
+    has_ended: bool,
 }
 
 impl<'a> Model for Rows<'a> {
-    ghost use Rattle.std.specs.Prelude.{◌≡◌, false};
+    ghost use Rattle.std.specs.Prelude.{◌≡◌, false, [], if◌then◌else◌};
     ghost use Rattle.csv.specs.Reading.{Ready, default_config, has_failed, reader_config, reader_trim};
     ghost use Rattle.csv.specs.Records.{fields_of};
     ghost use Rattle.csv.specs.declared.reader.Trim.TheVariants as trim;
@@ -26,9 +28,9 @@ impl<'a> Model for Rows<'a> {
 
     ghost Value = { Walk };
 
-    ghost view = { λ b. record { row = fields_of b.row; left = rows_left b.reader } };
+    ghost view = { λ b. record { row = fields_of b.row; left = if b.has_ended then [] else rows_left b.reader } };
 
-    ghost invariant = { λ b. has_failed b.reader ≡ false → (reader_trim b.reader ≡ trim.None) × Ready b.reader × (reader_config b.reader ≡ default_config) };
+    ghost invariant = { λ b. b.has_ended ≡ false → (reader_trim b.reader ≡ trim.None) × Ready b.reader × (reader_config b.reader ≡ default_config) × (has_failed b.reader ≡ false) };
 }
 
 impl<'a> Rows<'a> {
@@ -43,18 +45,25 @@ impl<'a> Rows<'a> {
                 .flexible(true)
                 .from_reader(alloc, text),
             row: ByteRecord::new(alloc),
+            has_ended: false,
         }
     }
 
     /// Goes on to the next row, and answers whether there was one. Reading from memory fails only
-    /// where memory does.
+    /// where memory does, and then there are no more rows.
     pub fn next(&mut self) -> Result<bool, AllocError>
         ensures found { IfOk result (λ found. found ≡ true → self.old.left ≡ self.new.row ∷ self.new.left) }
-        ensures end { IfOk result (λ found. found ≡ false → self.old.left ≡ []) }
+        ensures end { IfOk result (λ found. found ≡ false → (self.old.left ≡ []) × (self.new.left ≡ [])) }
+        ensures refused { OnErr result (self.new.left ≡ []) }
     {
+        if self.has_ended {
+            return Ok(false);
+        }
         let Ok(found) = self.reader.read_byte_record(&mut self.row) else {
+            self.has_ended = true;
             return Err(AllocError);
         };
+        self.has_ended = !found;
         Ok(found)
     }
 

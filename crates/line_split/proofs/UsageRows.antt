@@ -5,7 +5,8 @@ use Rattle.std.proofs.lemmas.List.Elements.{All-map, All-nil, All-push}
 use Rattle.std.proofs.lemmas.Str.Parse.{IsNumeralModel, digits_value_short}
 use Rattle.std.specs.Str.Parse.{AllDigits, digits_value}
 use Rattle.csv_table.specs.Forms.{IsCode, IsNumber}
-use Rattle.line_split.specs.UsageLine.{UsageLine, line_of}
+use Rattle.line_split.specs.UsageLine.{line_of}
+use Rattle.line_split.specs.declared.usage.Line.{Line}
 use Rattle.line_split.specs.UsageLines.{AreUsageLines, IsUsageLine}
 use Rattle.line_split.specs.UsageTable.{IsFaultOf, IsFaultOfRow, IsFirstFault, IsLine, IsTableOf, header}
 use Rattle.line_split.specs.declared.line_fault.LineFault.{LineFault}
@@ -22,7 +23,7 @@ code_small field code =
     record { digits = code.digits; small = omega (arith, small) }
 
 -- the rows below the header that were read so far are these lines
-pub record Walked (rows left : List (List (List ℕ))) (number : ℕ) (lines : List UsageLine) : Type 0 where
+pub record Walked (rows left : List (List (List ℕ))) (number : ℕ) (lines : List Line) : Type 0 where
   pub below : List (List (List ℕ))
   pub split : rows ≡ header ∷ (below ++ left)
   pub sound : All IsLine below
@@ -32,7 +33,7 @@ pub record Walked (rows left : List (List (List ℕ))) (number : ℕ) (lines : L
 pub walked_start : (rows left : List (List (List ℕ))) → rows ≡ header ∷ left → Walked rows left 1 []
 walked_start rows left is = record { below = []; split = is; sound = All-nil IsLine; same = refl; count = refl }
 
-pub walked_more : (rows left : List (List (List ℕ))) (row : List (List ℕ)) (number : ℕ) (lines : List UsageLine) (line : UsageLine)
+pub walked_more : (rows left : List (List (List ℕ))) (row : List (List ℕ)) (number : ℕ) (lines : List Line) (line : Line)
     → Walked rows (row ∷ left) number lines → IsLine row → line ≡ line_of row → Walked rows left (number + 1) (lines ++ line ∷ [])
 walked_more rows left row number lines line walked sound is = record {
   below = walked.below ++ row ∷ [];
@@ -50,13 +51,13 @@ line_in_limits row line = record {
   amount = line.amount.small;
 }
 
-pub walked_lines : (rows left : List (List (List ℕ))) (number : ℕ) (lines : List UsageLine) → Walked rows left number lines → number ≤ MOST_LINES + 1 → AreUsageLines lines
+pub walked_lines : (rows left : List (List (List ℕ))) (number : ℕ) (lines : List Line) → Walked rows left number lines → number ≤ MOST_LINES + 1 → AreUsageLines lines
 walked_lines rows left number lines walked few = record {
   few = rw (walked.same, length-map walked.below line_of) (omega (arith, walked.count, few));
   each = rw walked.same (All-map IsUsageLine line_of walked.below (λ k d lt. line_in_limits _ (walked.sound k d lt)));
 }
 
-pub walked_table : (rows : List (List (List ℕ))) (number : ℕ) (lines : List UsageLine) → Walked rows [] number lines → number ≤ MOST_LINES + 1 → IsTableOf rows lines
+pub walked_table : (rows : List (List (List ℕ))) (number : ℕ) (lines : List Line) → Walked rows [] number lines → number ≤ MOST_LINES + 1 → IsTableOf rows lines
 walked_table rows number lines walked few = record {
   few = (walked_lines rows [] number lines walked few).few;
   rows_below = walked.below;
@@ -65,7 +66,7 @@ walked_table rows number lines walked few = record {
   same = walked.same;
 }
 
-first_fault : (rows left : List (List (List ℕ))) (row : List (List ℕ)) (number : ℕ) (lines : List UsageLine) (fault : LineFault)
+first_fault : (rows left : List (List (List ℕ))) (row : List (List ℕ)) (number : ℕ) (lines : List Line) (fault : LineFault)
     → Walked rows (row ∷ left) number lines → IsFaultOfRow number row fault → IsFirstFault rows fault
 first_fault rows left row number lines fault walked refused = record {
   before = walked.below;
@@ -76,7 +77,7 @@ first_fault rows left row number lines fault walked refused = record {
   refused = rw walked.count refused;
 }
 
-pub walked_fault : (rows left : List (List (List ℕ))) (row : List (List ℕ)) (number : ℕ) (lines : List UsageLine) (fault : LineFault)
+pub walked_fault : (rows left : List (List (List ℕ))) (row : List (List ℕ)) (number : ℕ) (lines : List Line) (fault : LineFault)
     → Walked rows (row ∷ left) number lines → IsFaultOfRow number row fault → IsFaultOf rows fault
 walked_fault rows left row number lines (Csv n) walked refused = inr (first_fault rows left row number lines (Csv n) walked refused)
 walked_fault rows left row number lines (Fields n) walked refused = first_fault rows left row number lines (Fields n) walked refused

@@ -7,17 +7,6 @@ use Rattle.line_split.specs.declared.usage.Line.{Line}
 use Rattle.line_split.specs.declared.usage.Right.{Right}
 use Rattle.line_split.specs.declared.usage.Right.TheVariants.{P, M, S}
 
--- what a line says
-pub record UsageLine : Type 0 where
-  pub usage : List ℕ
-  pub work : List ℕ
-  pub territory : ℕ
-  pub right : Right
-  pub amount : ℕ
-
-abbrev pub shown : Line → UsageLine
-shown line = record { usage = line.usage.items; work = line.work.items; territory = line.territory; right = line.right; amount = line.amount }
-
 -- the five fields of a row
 abbrev pub usage_of : List (List ℕ) → List ℕ
 usage_of row = slice_index_or row 0 []
@@ -58,7 +47,7 @@ right_named letter =
     else S
 
 -- the line of a row whose fields have these forms
-abbrev pub line_of : List (List ℕ) → UsageLine
+abbrev pub line_of : List (List ℕ) → Line
 line_of row = record {
   usage = usage_of row;
   work = work_of row;

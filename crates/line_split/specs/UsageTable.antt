@@ -1,6 +1,7 @@
 -- The table of usage lines: a header, and a row for each line. Rows count from 0, the header's.
 use Rattle.std.specs.Prelude.{ℕ, ◌≡◌, ◌≤◌, ◌<◌, ◌+◌, ◌⊎◌, ◌∷◌, ◌++◌, [], List, All, length, map, codes, Option, Some, None, ⊤}
-use Rattle.line_split.specs.UsageLine.{HasAmount, HasRight, HasTerritory, HasTexts, UsageLine, line_of}
+use Rattle.line_split.specs.UsageLine.{HasAmount, HasRight, HasTerritory, HasTexts, line_of}
+use Rattle.line_split.specs.declared.usage.Line.{Line}
 use Rattle.line_split.specs.declared.usage.TheConstants.{MOST_LINES}
 use Rattle.line_split.specs.declared.line_fault.LineFault.{LineFault}
 use Rattle.line_split.specs.declared.line_fault.LineFault.TheVariants.{Csv, Fields, Territory, Right, Amount, Lines, Memory}
@@ -17,14 +18,14 @@ pub record IsLine (row : List (List ℕ)) : Type 0 where
   pub amount : HasAmount row
 
 -- the rows are a table of these lines
-pub record IsTableOf (rows : List (List (List ℕ))) (lines : List UsageLine) : Type 0 where
+pub record IsTableOf (rows : List (List (List ℕ))) (lines : List Line) : Type 0 where
   pub few : length lines ≤ MOST_LINES
   pub rows_below : List (List (List ℕ))
   pub headed : rows ≡ header ∷ rows_below
   pub sound : All IsLine rows_below
   pub same : lines ≡ map line_of rows_below
 
--- what a row is refused for, by its number: the first thing, in this order, that is not as it has to be
+-- what a row is refused for, by its number: the first thing, in this order, that is not as it has to be. Memory is asked for after all that.
 abbrev pub IsFaultOfRow : ℕ → List (List ℕ) → LineFault → Type 0
 IsFaultOfRow number row Lines = MOST_LINES < number
 IsFaultOfRow number row (Csv n) = (n ≡ number) × (number ≤ MOST_LINES) × (¬ (length row ≡ length header))
@@ -34,7 +35,7 @@ IsFaultOfRow number row (Right n) =
     (n ≡ number) × (number ≤ MOST_LINES) × (length row ≡ length header) × HasTexts row × HasTerritory row × (¬ HasRight row)
 IsFaultOfRow number row (Amount n) =
     (n ≡ number) × (number ≤ MOST_LINES) × (length row ≡ length header) × HasTexts row × HasTerritory row × HasRight row × (¬ HasAmount row)
-IsFaultOfRow number row Memory = ⊤
+IsFaultOfRow number row Memory = (number ≤ MOST_LINES) × IsLine row
 
 -- a row that is refused stands below a header and rows that are lines
 pub record IsFirstFault (rows : List (List (List ℕ))) (fault : LineFault) : Type 0 where

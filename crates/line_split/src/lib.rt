@@ -13,6 +13,7 @@ mod portions;
 mod reason;
 #[cfg(test)]
 mod tests;
+mod text;
 mod turn;
 mod usage;
 #[cfg(test)]
@@ -23,6 +24,7 @@ pub use claims::{ClaimFault, Claims};
 pub use line_fault::LineFault;
 pub use portions::{Portions, split};
 pub use reason::Reason;
+pub use text::Text;
 pub use usage::{
     Line, MOST_LINES, MOST_TERRITORY, MOST_TERRITORY_DIGITS, MOST_TEXT_BYTES, Right, Usage,
 };

@@ -3,11 +3,11 @@
 ghost use Rattle.std.specs.Prelude.{◌≡◌, ◌≤◌, ◌<◌, ◌+◌, ◌↔◌, ℕ, List, IfOk, IfErr, IfSome, IfNone, Some, length, slice_get};
 ghost use Rattle.csv_table.specs.Forms.{IsCode, number_of};
 ghost use Rattle.csv_table.specs.Table.{rows_of};
-ghost use Rattle.line_split.specs.UsageLine.{shown, line_of, right_named, IsRight};
+ghost use Rattle.line_split.specs.UsageLine.{line_of, right_named, IsRight};
 ghost use Rattle.line_split.specs.UsageLines.{IsUsageLine};
 ghost use Rattle.line_split.specs.UsageTable.{IsFaultOf, IsFaultOfRow, IsLine, IsTableOf};
 
-use crate::{LineFault, MOST_AMOUNT};
+use crate::{LineFault, MOST_AMOUNT, Text};
 use csv_table::Rows;
 use csv_table::forms::{is_printable, number_up_to};
 use std::alloc::Global;
@@ -43,9 +43,9 @@ pub enum Right {
 #[derive(Debug, Drop)]
 pub struct Line {
     /// What the use is called: 1 to 64 printable ASCII bytes. Several lines may have the same.
-    pub usage: Vec<u8>,
+    pub usage: Text,
     /// The submitter work number: 1 to 64 printable ASCII bytes.
-    pub work: Vec<u8>,
+    pub work: Text,
     /// The TIS numeric code of the land or group of lands, 1 to 9999.
     pub territory: u16,
     /// The right that the work is used under.
@@ -61,15 +61,15 @@ pub struct Usage {
 }
 
 impl Model for Usage {
-    ghost use Rattle.std.specs.Prelude.{List, map};
-    ghost use Rattle.line_split.specs.UsageLine.{UsageLine, shown};
+    ghost use Rattle.std.specs.Prelude.{List};
+    ghost use Rattle.line_split.specs.declared.usage.Line.{Line};
     ghost use Rattle.line_split.specs.UsageLines.{AreUsageLines};
 
-    ghost Value = { List UsageLine };
+    ghost Value = { List Line };
 
-    ghost view = { λ usage. map shown usage.lines.items };
+    ghost view = { λ usage. usage.lines.items };
 
-    ghost invariant = { λ usage. AreUsageLines (map shown usage.lines.items) };
+    ghost invariant = { λ usage. AreUsageLines usage.lines.items };
 }
 
 impl Usage {
@@ -109,8 +109,8 @@ impl Usage {
     /// The line at a place, from 0.
     pub fn line(&self, i: usize) -> &Line
         requires { i < length self.now }
-        ensures line { slice_get self.now i ≡ Some (shown result.now) }
-        ensures sound { IsUsageLine (shown result.now) }
+        ensures line { slice_get self.now i ≡ Some result.now }
+        ensures sound { IsUsageLine result.now }
     {
         &self.lines[i]
     }
@@ -119,7 +119,7 @@ impl Usage {
 /// The line of the row at hand, which has this number.
 fn read_line(alloc: Global, number: u64, rows: &Rows<'_>) -> Result<Line, LineFault>
     requires { number ≤ MOST_LINES }
-    ensures line { IfOk result (λ line. IsLine rows.now.row × (shown line ≡ line_of rows.now.row)) }
+    ensures line { IfOk result (λ line. IsLine rows.now.row × (line ≡ line_of rows.now.row)) }
     ensures fault { IfErr result (IsFaultOfRow number rows.now.row) }
 {
     if rows.len() != HEADER.len() {
@@ -140,8 +140,8 @@ fn read_line(alloc: Global, number: u64, rows: &Rows<'_>) -> Result<Line, LineFa
         return Err(LineFault::Amount(number));
     };
     Ok(Line {
-        usage: Vec::from_slice(alloc, usage)?,
-        work: Vec::from_slice(alloc, work)?,
+        usage: Text::of(Vec::from_slice(alloc, usage)?),
+        work: Text::of(Vec::from_slice(alloc, work)?),
         territory,
         right,
         amount,

@@ -4,7 +4,7 @@ ghost use Rattle.std.specs.Prelude.{◌≡◌, true, false, ◌<◌, ◌≤◌, 
 ghost use Rattle.line_split.specs.declared.TheConstants.{MOST_AMOUNT};
 ghost use Rattle.payee_book.specs.Statement.{AreStatements, IsRising, comes_before, total_of, with_posting};
 
-use line_split::{Account, MOST_AMOUNT, RESIDUE};
+use line_split::{Account, MOST_AMOUNT};
 use std::alloc::{AllocError, Global};
 use std::marker::Model;
 
@@ -38,7 +38,8 @@ impl Book {
 
     /// How many accounts there are, the residue's included.
     pub fn accounts(&self) -> u16
-        ensures { result ≡ length self.now }
+        ensures count { result ≡ length self.now }
+        ensures some { 0 < result }
     {
         self.statements.len() as u16
     }
@@ -67,16 +68,6 @@ impl Book {
         ensures small { All (λ posting. posting.1 ≤ MOST_AMOUNT) result.now }
     {
         self.statements[account as usize].as_slice()
-    }
-
-    /// The postings of the residue account, by rising line and amount.
-    pub(crate) fn residue(&self) -> &[(u64, u64)]
-        ensures postings { result.now ≡ slice_index_or self.now 0 [] }
-        ensures small { All (λ posting. posting.1 ≤ MOST_AMOUNT) result.now }
-    {
-        // There is one: a look at the fields says so.
-        let _ = &self.statements;
-        self.lines(RESIDUE)
     }
 
     /// What the postings of an account come to, in minor units.

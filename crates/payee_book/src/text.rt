@@ -10,7 +10,7 @@ use crate::Book;
 use crate::book::sum;
 use csv_table::RowWriter;
 use itoa::Buffer;
-use line_split::{Reason, Usage};
+use line_split::{RESIDUE, Reason, Usage};
 use std::alloc::{AllocError, Global};
 
 impl Book {
@@ -36,7 +36,7 @@ impl Book {
             let party = parties[account as usize].as_slice();
             write_payee(&mut out, usage, party, self.lines(account))?;
         }
-        write_residue(&mut out, usage, reasons, self.residue())?;
+        write_residue(&mut out, usage, reasons, self.lines(RESIDUE))?;
         write_run(&mut out, usage)?;
         out.into_text()
     }

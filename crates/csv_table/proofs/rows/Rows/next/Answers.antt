@@ -1,29 +1,20 @@
-use Rattle.std.proofs.Common.{◌≡◌, ◌∙◌, ap, true, false, sym, inl, inr}
-use Rattle.std.proofs.lemmas.Bool.{cases_Bool}
-use Rattle.csv.specs.Reading.{has_failed}
+use Rattle.std.proofs.Common.{◌≡◌, ◌∙◌, ap, refl, false, sym, List, ℕ, [], ◌∷◌}
+use Rattle.csv.specs.Reading.{reader_config}
 use Rattle.csv.specs.Records.{fields_of}
-use Rattle.csv_table.specs.Walk.{Walk}
-use Rattle.csv_table.proofs.Walks.{failed_none, reads_none, reads_row}
+use Rattle.csv_table.specs.Walk.{Walk, rows_left}
+use Rattle.csv_table.proofs.Walks.{reads_none, reads_row}
 use Rattle.csv_table.proofs.rows.Rows.next.Goals as goal
 
 pub returns-clause-found : goal.returns-clause-found
 returns-clause-found c found =
-    elim (cases_Bool (has_failed c.self.inside.reader)) [
-      | inl failed ↦ cc (found, c.in-Ok.ensures.failed failed)
-      | inr going ↦
-          let (trim, ready, config) = c.self.invariant going in
-          let read = rw found at (c.in-Ok.ensures.reads trim ready) in
-          ap (λ (w : Walk). w.left) (sym c.self.view_is)
-          ∙ reads_row c.self.inside.reader c.read_byte_record.new.self (fields_of c.read_byte_record.new.row) config going read
-    ]
+    let (trim, ready, config, going) = c.self.invariant c.if-self.false in
+    let read = rw found at (c.in-Ok.ensures.reads trim ready) in
+    let old : c.args.self.now.left ≡ rows_left c.self.inside.reader = ap (λ (w : Walk). w.left) (sym c.self.view_is) ∙ rw c.if-self.false refl in
+    rw found (old ∙ reads_row c.self.inside.reader c.read_byte_record.new.self (fields_of c.read_byte_record.new.row) config going read)
 
 pub returns-clause-end : goal.returns-clause-end
 returns-clause-end c found =
-    elim (cases_Bool (has_failed c.self.inside.reader)) [
-      | inl failed ↦ ap (λ (w : Walk). w.left) (sym c.self.view_is) ∙ failed_none c.self.inside.reader failed
-      | inr going ↦
-          let (trim, ready, config) = c.self.invariant going in
-          let read = rw found at (c.in-Ok.ensures.reads trim ready) in
-          ap (λ (w : Walk). w.left) (sym c.self.view_is)
-          ∙ reads_none c.self.inside.reader c.read_byte_record.new.self (fields_of c.read_byte_record.new.row) config going read
-    ]
+    let (trim, ready, config, going) = c.self.invariant c.if-self.false in
+    let read = rw found at (c.in-Ok.ensures.reads trim ready) in
+    let old : c.args.self.now.left ≡ rows_left c.self.inside.reader = ap (λ (w : Walk). w.left) (sym c.self.view_is) ∙ rw c.if-self.false refl in
+    (old ∙ reads_none c.self.inside.reader c.read_byte_record.new.self (fields_of c.read_byte_record.new.row) config going read, rw found refl)

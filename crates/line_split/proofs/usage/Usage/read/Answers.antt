@@ -1,14 +1,12 @@
 use Rattle.std.proofs.Common.{◌≡◌, ◌∙◌, ◌+◌, ◌≤◌, ◌∷◌, ◌++◌, List, ℕ, [], ap, sym, map, subst, rules, true, arith}
 use Rattle.std.specs.Result.{is_ok}
-use Rattle.std.proofs.lemmas.List.{map-append}
 use Rattle.csv_table.specs.Table.{rows_of}
-use Rattle.line_split.specs.UsageLine.{UsageLine, shown}
 use Rattle.line_split.proofs.UsageRows.{Walked, walked_lines, walked_more, walked_table}
 use Rattle.line_split.proofs.usage.Usage.read.Goals as goal
 
 pub invariant_of-result : goal.invariant_of-result
 invariant_of-result c =
-    walked_lines (rows_of c.args.bytes.now) c.loop-number.rows.left c.loop-number.number (map shown c.loop-number.lines.items) c.loop-number.invariant
+    walked_lines (rows_of c.args.bytes.now) c.loop-number.rows.left c.loop-number.number c.loop-number.lines.items c.loop-number.invariant
     (omega (arith, c.loop-number-test.true))
 
 pub loop-number-preserved : goal.loop-number-preserved
@@ -18,16 +16,16 @@ loop-number-preserved c =
     let good : is_ok c.push.result ≡ true = search rules in
     let items = rw good at c.push.ensures.items in
     let more = walked_more (rows_of c.args.bytes.now) c.next-in-loop-number.new.self.left c.next-in-loop-number.new.self.row c.loop-number.number
-    (map shown c.loop-number.lines.items) (shown c.in_ok-read_line.field-0) (rw found at c.loop-number.invariant) sound same in
-    rw (items, map-append shown c.loop-number.lines.items (c.in_ok-read_line.field-0 ∷ [])) more
+    c.loop-number.lines.items c.in_ok-read_line.field-0 (rw found at c.loop-number.invariant) sound same in
+    rw items more
 
 pub invariant_of-result-2 : goal.invariant_of-result-2
 invariant_of-result-2 c =
-    walked_lines (rows_of c.args.bytes.now) c.loop-number.rows.left c.loop-number.number (map shown c.loop-number.lines.items) c.loop-number.invariant
+    walked_lines (rows_of c.args.bytes.now) c.loop-number.rows.left c.loop-number.number c.loop-number.lines.items c.loop-number.invariant
     (omega (arith, c.loop-number-test.false, c.loop-number.auto.number-end))
 
 pub returns-clause-lines : goal.returns-clause-lines
 returns-clause-lines c =
     let none = c.in_ok-next-3.ensures.end c.if-branch-2.false in
-    walked_table (rows_of c.args.bytes.now) c.loop-number.number (map shown c.loop-number.lines.items) (rw none at c.loop-number.invariant)
+    walked_table (rows_of c.args.bytes.now) c.loop-number.number c.loop-number.lines.items (rw none.0 at c.loop-number.invariant)
     (omega (arith, c.loop-number.auto.number-end))

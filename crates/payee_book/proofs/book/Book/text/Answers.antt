@@ -25,7 +25,7 @@ module _ (c : goal.After-into_text) where
   whole : c.write_run.new.out ≡ text_of (rows_of_book c.args.self.now c.args.usage.now names c.args.reasons.now)
   whole =
       whole_text c.args.usage.now names c.args.self.now c.args.reasons.now c.loop-account.account c.loop-account.out c.write_residue.new.out c.write_run.new.out
-      (omega arith) c.loop-account.invariant (c.in_ok-write_residue.ensures ∙ ap (λ statement. c.loop-account.out ++ text_of (residue_rows c.args.usage.now c.args.reasons.now statement)) c.residue.ensures.postings)
+      (omega arith) c.loop-account.invariant (c.in_ok-write_residue.ensures ∙ ap (λ statement. c.loop-account.out ++ text_of (residue_rows c.args.usage.now c.args.reasons.now statement)) c.lines-2.ensures.postings)
       c.in_ok-write_run.ensures
 
 pub returns-clause-rows : goal.returns-clause-rows
