@@ -4,6 +4,8 @@
 pub mod forms;
 mod row_writer;
 mod rows;
+#[cfg(test)]
+mod tests;
 
 pub use row_writer::RowWriter;
 pub use rows::Rows;

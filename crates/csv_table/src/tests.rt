@@ -1,0 +1,48 @@
+//! A text is walked over, and rows are written.
+
+use crate::forms::{is_printable, number_up_to};
+use crate::{RowWriter, Rows};
+use std::test::Fail;
+
+#[test]
+fn walks_over_rows(rt: HostRuntime) -> Result<(), Fail> {
+    let text = "\u{feff}a,b\r\n\n\"x,\"\"y\",,z\nlast";
+    let mut rows = Rows::of(rt.alloc(), text.as_bytes());
+    assert_eq!(rt; rows.len(), 0);
+    assert!(rt; rows.next()? && rows.is(&["a", "b"]));
+    assert!(rt; !rows.is(&["a"]) && !rows.is(&["a", "b", ""]) && !rows.is(&["a", "B"]));
+    assert!(rt; rows.next()? && rows.len() == 3);
+    assert_eq!(rt; rows.field(0), b"x,\"y".as_slice());
+    assert_eq!(rt; rows.field(1), b"".as_slice());
+    assert_eq!(rt; rows.field(2), b"z".as_slice());
+    assert_eq!(rt; rows.field(3), b"".as_slice());
+    assert!(rt; rows.next()? && rows.is(&["last"]));
+    assert!(rt; !rows.next()? && !rows.next()?);
+    Ok(())
+}
+
+#[test]
+fn writes_rows_of_any_width(rt: HostRuntime) -> Result<(), Fail> {
+    let mut out = RowWriter::new(rt.alloc());
+    out.row(&[b"a,b", b"say \"c\""])?;
+    out.row(&[b""])?;
+    out.row(&[b"", b"1", b"two\nlines"])?;
+    let text = out.into_text()?;
+    let want = "\"a,b\",\"say \"\"c\"\"\"\n\"\"\n,1,\"two\nlines\"\n";
+    assert_eq!(rt; text.as_slice(), want.as_bytes());
+    Ok(())
+}
+
+#[test]
+fn knows_the_forms_of_fields(rt: HostRuntime) -> Result<(), Fail> {
+    assert!(rt; is_printable(b" ~", 2) && !is_printable(b" ~", 1));
+    assert!(rt; !is_printable(b"", 1) && !is_printable(b"\x7f", 1) && !is_printable(b"\x1f", 1));
+    assert_eq!(rt; number_up_to(b"007", 7), Some(7));
+    assert_eq!(rt; number_up_to(b"8", 7), None);
+    assert_eq!(rt; number_up_to(b"", 7), None);
+    assert_eq!(rt; number_up_to(b"+7", 7), None);
+    assert_eq!(rt; number_up_to(b"7 ", 7), None);
+    assert_eq!(rt; number_up_to(b"18446744073709551615", u64::MAX), Some(u64::MAX));
+    assert_eq!(rt; number_up_to(b"18446744073709551616", u64::MAX), None);
+    Ok(())
+}
