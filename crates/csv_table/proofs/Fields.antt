@@ -1,5 +1,5 @@
 -- The field at a place, and the number that digits write.
-use Rattle.std.proofs.Common.{◌≡◌, ◌<◌, ◌≤◌, ◌+◌, ◌⊎◌, ℕ, zero, suc, List, [], ◌∷◌, ◌++◌, length, Option, Some, None, refl, sym, ap, ◌∙◌, arith}
+use Rattle.std.proofs.Common.{◌≡◌, ◌<◌, ◌+◌, ◌⊎◌, ℕ, zero, suc, List, [], ◌∷◌, Some, None, refl, arith}
 use Rattle.std.specs.Prelude.{Bool, true, false, not, slice_index_or}
 use Rattle.std.proofs.Common.{inl, inr}
 use Rattle.std.proofs.lemmas.Slice.Eq.{bytes_eq-Decides}
@@ -20,7 +20,7 @@ field_missing (f ∷ fields) zero is = cc is
 field_missing (f ∷ fields) (suc place) is = field_missing fields place is
 
 pub place_before_or_last : (k place : ℕ) → k < place + 1 → (k < place) ⊎ (k ≡ place)
-place_before_or_last k place lt = elim (cases_lt k place) [ | inl before ↦ inl before | inr after ↦ inr (omega (arith, lt, after)) ]
+place_before_or_last k place lt = elim (cases_lt k place) [ inl before ↦ inl before | inr after ↦ inr (omega (arith, lt, after)) ]
 
 -- a test whether bytes differ
 pub differ : (a b : List ℕ) → true ≡ not (bytes_eq a b) → ¬ (a ≡ b)

@@ -1,11 +1,10 @@
 -- Rows that were written read back.
-use Rattle.std.proofs.Common.{◌≡◌, ◌<◌, ◌≤◌, ◌+◌, ℕ, zero, suc, List, [], ◌∷◌, ◌++◌, length, map, Some, false, refl, ap, ◌∙◌, arith}
-use Rattle.std.specs.Prelude.{◌==◌, flat_map, if◌then◌else◌}
+use Rattle.std.proofs.Common.{◌≡◌, ◌<◌, ◌+◌, ℕ, zero, suc, List, [], ◌∷◌, ◌++◌, length, map, false, refl, ap, arith}
+use Rattle.std.specs.Prelude.{◌==◌, if◌then◌else◌}
 use Rattle.std.proofs.lemmas.List.{length-append}
 use Rattle.csv.proofs.RoundTrip.{read-write}
-use Rattle.csv.specs.Machine.{next_record}
 use Rattle.csv.specs.Reading.{default_config, records, records_from, strip_bom}
-use Rattle.csv.specs.Writing.{default_writer, is_blank, read_back, row_body, row_text}
+use Rattle.csv.specs.Writing.{default_writer, is_blank, read_back, row_body}
 use Rattle.csv.specs.declared.parser.State.TheVariants as st
 use Rattle.csv_table.specs.Written.{text_of, text_of_row}
 use Rattle.csv_table.proofs.Walks.{ends}

@@ -2,14 +2,13 @@
 use Rattle.std.proofs.Common.{◌≡◌, ◌<◌, ◌≤◌, ◌+◌, ℕ, zero, suc, List, [], ◌∷◌, ◌++◌, length, Option, Some, None, Bool, true, false, refl, subst, sym, ap, ◌∙◌, arith}
 use Rattle.std.specs.Prelude.{◌==◌, ◌||◌, ◌&&◌, not, take, drop, option_map, if◌then◌else◌}
 use Rattle.std.specs.Borrow.{Bor}
-use Rattle.csv.specs.Machine.{Read, after_end, ends_at_end, field_after, fields_after, in_field, is_end, next_record, start_field, start_record, step}
+use Rattle.csv.specs.Machine.{Read, ends_at_end, field_after, fields_after, in_field, is_end, next_record, start_record, step}
 use Rattle.csv.proofs.ReadFacts.{rows-end, rows-more}
 use Rattle.csv.specs.Reading.{ReadRecord, Reached, buffered_of, default_config, has_failed, reader_config, reader_state, records, records_from, records_next, source_of, strip_bom}
 use Rattle.csv.specs.declared.reader.Reader.{Reader}
 use Rattle.csv_table.specs.Walk.{in_memory, rows_from, rows_left}
 use Rattle.csv.specs.declared.parser.Action.{Action}
 use Rattle.csv.specs.declared.parser.Action.TheVariants as act
-use Rattle.csv.specs.declared.parser.Config.{Config}
 use Rattle.csv.specs.declared.parser.State.{State}
 use Rattle.csv.specs.declared.parser.State.TheVariants as st
 
@@ -74,8 +73,8 @@ goes_down s fields field c [] p is =
     by_byte s (is_end (step default_config s c).1) fields field c [] p refl is (at_end (step default_config s c).0 (ends_at_end (step default_config s c).0) _ _ 0 p refl)
 goes_down s fields field c (d ∷ rest) p is =
     by_byte s (is_end (step default_config s c).1) fields field c (d ∷ rest) p refl is (λ h.
-        let down = goes_down (step default_config s c).0 (fields_after (step default_config s c).1 fields field) (field_after (step default_config s c).1 c field) d rest p h in
-        (omega (arith, down.0), down.1))
+    let down = goes_down (step default_config s c).0 (fields_after (step default_config s c).1 fields field) (field_after (step default_config s c).1 c field) d rest p h in
+    (omega (arith, down.0), down.1))
 
 -- a row that is begun at the end of the text is a row too
 abbrev owed : State → ℕ

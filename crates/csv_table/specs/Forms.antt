@@ -1,6 +1,7 @@
 -- The forms of fields.
-use Rattle.std.specs.Prelude.{ℕ, ◌≡◌, ◌≤◌, ◌<◌, List, length, All, codes}
+use Rattle.std.specs.Prelude.{ℕ, ◌≤◌, ◌<◌, List, length, All}
 use Rattle.std.specs.Str.Parse.{IsNumeral, digits_value}
+use Rattle.csv_table.specs.declared.forms.TheConstants.{MOST_CODE_DIGITS}
 
 -- so many printable ASCII bytes at most, and at least one
 pub record IsPrintable (most : ℕ) (field : List ℕ) : Type 0 where
@@ -17,8 +18,8 @@ pub record IsNumber (most : ℕ) (field : List ℕ) : Type 0 where
 abbrev pub number_of : List ℕ → ℕ
 number_of field = digits_value 10 field
 
--- a number from 1 on, of so many digits at most
-pub record IsCode (most_digits : ℕ) (field : List ℕ) : Type 0 where
+-- a TIS numeric code: one to four digits, not 0
+pub record IsCode (field : List ℕ) : Type 0 where
   pub digits : IsNumeral 10 field
-  pub short : length field ≤ most_digits
+  pub short : length field ≤ MOST_CODE_DIGITS
   pub some : 0 < digits_value 10 field

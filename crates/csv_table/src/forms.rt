@@ -1,9 +1,15 @@
 //! The forms of fields: text and numbers.
 
-ghost use Rattle.std.specs.Prelude.{◌≡◌, ◌↔◌, IsTrue, IfSome, IfNone};
-ghost use Rattle.csv_table.specs.Forms.{IsNumber, IsPrintable, number_of};
+ghost use Rattle.std.specs.Prelude.{◌≡◌, ◌≤◌, ◌<◌, ◌↔◌, IsTrue, IfSome, IfNone};
+ghost use Rattle.csv_table.specs.Forms.{IsCode, IsNumber, IsPrintable, number_of};
 
 use std::str;
+
+/// The greatest TIS numeric code.
+pub const MOST_CODE: u16 = 9999;
+
+/// The most digits that a TIS numeric code is written with.
+pub const MOST_CODE_DIGITS: usize = 4;
 
 /// Whether a field has 1 to `most` bytes, all of them printable ASCII.
 pub fn is_printable(field: &[u8], most: usize) -> bool
@@ -25,6 +31,21 @@ pub fn number_up_to(field: &[u8], most: u64) -> Option<u64>
     };
     match digits.parse::<u64>() {
         Ok(number) if number <= most => Some(number),
+        _ => None,
+    }
+}
+
+/// The TIS numeric code that a field writes with one to four digits, where it is not 0.
+pub fn code(field: &[u8]) -> Option<u16>
+    ensures code { IfSome result (λ code. IsCode field.now × (code ≡ number_of field.now)) }
+    ensures in_range { IfSome result (λ code. (0 < code) × (code ≤ MOST_CODE)) }
+    ensures none { IfNone result (¬ IsCode field.now) }
+{
+    if field.len() > MOST_CODE_DIGITS {
+        return None;
+    }
+    match number_up_to(field, u64::from(MOST_CODE)) {
+        Some(code) if code > 0 => Some(code as u16),
         _ => None,
     }
 }

@@ -1,6 +1,6 @@
 //! A text is walked over, and rows are written.
 
-use crate::forms::{is_printable, number_up_to};
+use crate::forms::{code, is_printable, number_up_to};
 use crate::{RowWriter, Rows};
 use std::test::Fail;
 
@@ -42,7 +42,15 @@ fn knows_the_forms_of_fields(rt: HostRuntime) -> Result<(), Fail> {
     assert_eq!(rt; number_up_to(b"", 7), None);
     assert_eq!(rt; number_up_to(b"+7", 7), None);
     assert_eq!(rt; number_up_to(b"7 ", 7), None);
-    assert_eq!(rt; number_up_to(b"18446744073709551615", u64::MAX), Some(u64::MAX));
+    assert_eq!(rt;
+        number_up_to(b"18446744073709551615", u64::MAX),
+        Some(u64::MAX)
+    );
     assert_eq!(rt; number_up_to(b"18446744073709551616", u64::MAX), None);
+    assert_eq!(rt; code(b"2136"), Some(2136));
+    assert_eq!(rt; code(b"0001"), Some(1));
+    assert_eq!(rt; code(b"00001"), None);
+    assert_eq!(rt; code(b"0"), None);
+    assert_eq!(rt; code(b"21 6"), None);
     Ok(())
 }

@@ -2,25 +2,14 @@
 use Rattle.std.proofs.Common.{◌≡◌, ◌≤◌, ◌<◌, ◌+◌, ◌⊎◌, ℕ, List, [], ◌∷◌, ◌++◌, length, map, All, ap, sym, refl, subst, ◌∙◌, append_assoc, inl, inr, arith}
 use Rattle.std.proofs.lemmas.List.{append-nil, length-map, length_push, map-append}
 use Rattle.std.proofs.lemmas.List.Elements.{All-map, All-nil, All-push}
-use Rattle.std.proofs.lemmas.Str.Parse.{IsNumeralModel, digits_value_short}
-use Rattle.std.specs.Str.Parse.{AllDigits, digits_value}
-use Rattle.csv_table.specs.Forms.{IsCode, IsNumber}
+use Rattle.csv_table.proofs.Codes.{code_small}
 use Rattle.line_split.specs.UsageLine.{line_of}
 use Rattle.line_split.specs.declared.usage.Line.{Line}
 use Rattle.line_split.specs.UsageLines.{AreUsageLines, IsUsageLine}
 use Rattle.line_split.specs.UsageTable.{IsFaultOf, IsFaultOfRow, IsFirstFault, IsLine, IsTableOf, header}
 use Rattle.line_split.specs.declared.line_fault.LineFault.{LineFault}
 use Rattle.line_split.specs.declared.line_fault.LineFault.TheVariants.{Csv, Fields, Territory, Right, Amount, Lines, Memory}
-use Rattle.line_split.specs.declared.usage.TheConstants.{MOST_LINES, MOST_TERRITORY, MOST_TERRITORY_DIGITS}
-
-own : IsNumeralModel (AllDigits 10) (digits_value 10)
-own = record { to = λ ds digits. digits; from = λ ds digits. digits; same = λ ds digits. refl }
-
--- a territory code is at most 9999
-pub code_small : (field : List ℕ) → IsCode MOST_TERRITORY_DIGITS field → IsNumber MOST_TERRITORY field
-code_small field code =
-    let small = digits_value_short own field MOST_TERRITORY_DIGITS code.digits.1 code.short in
-    record { digits = code.digits; small = omega (arith, small) }
+use Rattle.line_split.specs.declared.usage.TheConstants.{MOST_LINES}
 
 -- the rows below the header that were read so far are these lines
 pub record Walked (rows left : List (List (List ℕ))) (number : ℕ) (lines : List Line) : Type 0 where

@@ -2,7 +2,7 @@
 use Rattle.std.specs.Prelude.{ℕ, ◌≡◌, ◌≤◌, ◌<◌, ◌⊎◌, ◌==◌, List, [], length, codes, slice_index, slice_index_or, if◌then◌else◌}
 use Rattle.csv_table.specs.Forms.{IsCode, IsNumber, IsPrintable, number_of}
 use Rattle.line_split.specs.declared.TheConstants.{MOST_AMOUNT}
-use Rattle.line_split.specs.declared.usage.TheConstants.{MOST_TEXT_BYTES, MOST_TERRITORY_DIGITS}
+use Rattle.line_split.specs.declared.usage.TheConstants.{MOST_TEXT_BYTES}
 use Rattle.line_split.specs.declared.usage.Line.{Line}
 use Rattle.line_split.specs.declared.usage.Right.{Right}
 use Rattle.line_split.specs.declared.usage.Right.TheVariants.{P, M, S}
@@ -28,7 +28,7 @@ abbrev pub HasTexts : List (List ℕ) → Type 0
 HasTexts row = IsPrintable MOST_TEXT_BYTES (usage_of row) × IsPrintable MOST_TEXT_BYTES (work_of row)
 
 abbrev pub HasTerritory : List (List ℕ) → Type 0
-HasTerritory row = IsCode MOST_TERRITORY_DIGITS (territory_of row)
+HasTerritory row = IsCode (territory_of row)
 
 abbrev pub IsRight : List ℕ → Type 0
 IsRight field = (field ≡ codes "P") ⊎ (field ≡ codes "M") ⊎ (field ≡ codes "S")

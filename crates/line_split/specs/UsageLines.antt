@@ -3,13 +3,14 @@ use Rattle.std.specs.Prelude.{ℕ, ◌≤◌, ◌<◌, List, All, length}
 use Rattle.csv_table.specs.Forms.{IsPrintable}
 use Rattle.line_split.specs.declared.usage.Line.{Line}
 use Rattle.line_split.specs.declared.TheConstants.{MOST_AMOUNT}
-use Rattle.line_split.specs.declared.usage.TheConstants.{MOST_LINES, MOST_TERRITORY, MOST_TEXT_BYTES}
+use Rattle.line_split.specs.declared.usage.TheConstants.{MOST_LINES, MOST_TEXT_BYTES}
+use Rattle.csv_table.specs.declared.forms.TheConstants.{MOST_CODE}
 
 -- a line in its limits
 pub record IsUsageLine (line : Line) : Type 0 where
   pub usage : IsPrintable MOST_TEXT_BYTES line.usage
   pub work : IsPrintable MOST_TEXT_BYTES line.work
-  pub land : (0 < line.territory) × (line.territory ≤ MOST_TERRITORY)
+  pub land : (0 < line.territory) × (line.territory ≤ MOST_CODE)
   pub amount : line.amount ≤ MOST_AMOUNT
 
 -- at most 1000000 of them

@@ -25,9 +25,7 @@ pub use line_fault::LineFault;
 pub use portions::{Portions, split};
 pub use reason::Reason;
 pub use text::Text;
-pub use usage::{
-    Line, MOST_LINES, MOST_TERRITORY, MOST_TERRITORY_DIGITS, MOST_TEXT_BYTES, Right, Usage,
-};
+pub use usage::{Line, MOST_LINES, MOST_TEXT_BYTES, Right, Usage};
 
 /// Who a claim or a portion belongs to, by number. 0 is the residue account.
 pub type Account = u16;

@@ -1,7 +1,6 @@
 //! The list of usage lines: what the money comes in by.
 
 ghost use Rattle.std.specs.Prelude.{◌≡◌, ◌≤◌, ◌<◌, ◌+◌, ◌↔◌, ℕ, List, IfOk, IfErr, IfSome, IfNone, Some, length, slice_get};
-ghost use Rattle.csv_table.specs.Forms.{IsCode, number_of};
 ghost use Rattle.csv_table.specs.Table.{rows_of};
 ghost use Rattle.line_split.specs.UsageLine.{line_of, right_named, IsRight};
 ghost use Rattle.line_split.specs.UsageLines.{IsUsageLine};
@@ -9,7 +8,7 @@ ghost use Rattle.line_split.specs.UsageTable.{IsFaultOf, IsFaultOfRow, IsLine, I
 
 use crate::{LineFault, MOST_AMOUNT, Text};
 use csv_table::Rows;
-use csv_table::forms::{is_printable, number_up_to};
+use csv_table::forms::{code, is_printable, number_up_to};
 use std::alloc::Global;
 use std::marker::Model;
 
@@ -18,12 +17,6 @@ pub const MOST_LINES: u64 = 1_000_000;
 
 /// The longest text of a usage or of a work number, in bytes.
 pub const MOST_TEXT_BYTES: usize = 64;
-
-/// The greatest territory code.
-pub const MOST_TERRITORY: u16 = 9999;
-
-/// The most digits that a territory code is written with.
-pub const MOST_TERRITORY_DIGITS: usize = 4;
 
 /// The fields of the table's first row.
 const HEADER: [&str; 5] = ["usage", "work", "territory", "right", "amount"];
@@ -130,7 +123,7 @@ fn read_line(alloc: Global, number: u64, rows: &Rows<'_>) -> Result<Line, LineFa
     if !is_printable(usage, MOST_TEXT_BYTES) || !is_printable(work, MOST_TEXT_BYTES) {
         return Err(LineFault::Fields(number));
     }
-    let Some(territory) = territory_of(rows.field(2)) else {
+    let Some(territory) = code(rows.field(2)) else {
         return Err(LineFault::Territory(number));
     };
     let Some(right) = right_of(rows.field(3)) else {
@@ -146,20 +139,6 @@ fn read_line(alloc: Global, number: u64, rows: &Rows<'_>) -> Result<Line, LineFa
         right,
         amount,
     })
-}
-
-/// The territory that a field names.
-fn territory_of(field: &[u8]) -> Option<u16>
-    ensures some { IfSome result (λ code. IsCode MOST_TERRITORY_DIGITS field.now × (code ≡ number_of field.now) × (code ≤ MOST_TERRITORY)) }
-    ensures none { IfNone result (¬ IsCode MOST_TERRITORY_DIGITS field.now) }
-{
-    if field.len() > MOST_TERRITORY_DIGITS {
-        return None;
-    }
-    match number_up_to(field, u64::from(MOST_TERRITORY)) {
-        Some(code) if code > 0 => Some(code as u16),
-        _ => None,
-    }
 }
 
 /// The right that a field names.

@@ -1,4 +1,4 @@
-use Rattle.std.proofs.Common.{◌≡◌, ◌∙◌, ◌≢◌, ◌++◌, ap, sym, map, Bor, List, ℕ}
+use Rattle.std.proofs.Common.{◌∙◌, ◌≢◌, ◌++◌, ap, map, Bor, List, ℕ}
 use Rattle.csv.specs.Writing.{row_text, writer_setup}
 use Rattle.csv.specs.declared.writer.WriterBuilder.{WriterBuilder}
 use Rattle.csv_table.specs.Written.{text_of_row, written}

@@ -1,4 +1,4 @@
-use Rattle.std.proofs.Common.{◌≡◌, ◌∙◌, ap, List, ℕ, []}
+use Rattle.std.proofs.Common.{◌∙◌, ap, []}
 use Rattle.std.specs.Prelude.{slice_index_or}
 use Rattle.csv.specs.Records.{fields_of}
 use Rattle.csv_table.specs.Walk.{Walk}

@@ -1,16 +1,18 @@
-use Rattle.std.proofs.Common.{◌≡◌, ◌∙◌, ◌<◌, ap, sym, refl, List, ℕ, [], map, length, Bor, inl, inr, arith}
+use Rattle.std.proofs.Common.{◌≡◌, ◌∙◌, ap, sym, refl, List, ℕ, [], map, Bor, inl, inr, arith}
 use Rattle.std.specs.Prelude.{slice_index_or}
 use Rattle.std.proofs.lemmas.List.{ext_get_or, get_or-map, length-map}
 use Rattle.csv_table.proofs.Fields.{agree, differ, place_before_or_last}
 use Rattle.csv_table.proofs.rows.Rows.is.Goals as goal
 
 pub returns-then-ne : goal.returns-then-ne
-returns-then-ne c =
-    ((λ e. cc e), (λ same.
-        let named = get_or-map (λ (field : Bor (List ℕ)). field.now) c.args.fields.now c.loop-place.place (record { ref_ptr = (0, 0); now = [] }) [] c.loop-place-test.true in
-        let equal : c.field.result.now ≡ c.as_bytes.result.now =
-        c.field.ensures ∙ (ap (λ (row : List (List ℕ)). slice_index_or row c.loop-place.place []) same ∙ (named ∙ sym c.as_bytes.ensures.value)) in
-        absurd (differ c.field.result.now c.as_bytes.result.now c.if-ne.ensures equal)))
+returns-then-ne c = (
+  (λ e. cc e),
+  (λ same.
+      let named = get_or-map (λ (field : Bor (List ℕ)). field.now) c.args.fields.now c.loop-place.place (record { ref_ptr = (0, 0); now = [] }) [] c.loop-place-test.true in
+      let equal : c.field.result.now ≡ c.as_bytes.result.now =
+      c.field.ensures ∙ (ap (λ (row : List (List ℕ)). slice_index_or row c.loop-place.place []) same ∙ (named ∙ sym c.as_bytes.ensures.value)) in
+      absurd (differ c.field.result.now c.as_bytes.result.now c.if-ne.ensures equal)),
+)
 
 pub loop-place-preserved : goal.loop-place-preserved
 loop-place-preserved c k lt =
@@ -23,6 +25,8 @@ loop-place-preserved c k lt =
 pub returns : goal.returns
 returns c =
     let size = length-map c.args.fields.now (λ (field : Bor (List ℕ)). field.now) in
-    let same = c.len.ensures in
-    ((λ e. ext_get_or [] c.args.self.now.row (map (λ (field : Bor (List ℕ)). field.now) c.args.fields.now) (sym same ∙ (c.if-len-fields.false ∙ sym size))
-        (λ i lt. c.loop-place.invariant i (omega (arith, lt, same, c.if-len-fields.false, c.loop-place-test.false)))), (λ all. refl))
+    let same = c.len.ensures in (
+      (λ e. ext_get_or [] c.args.self.now.row (map (λ (field : Bor (List ℕ)). field.now) c.args.fields.now) (sym same ∙ (c.if-len-fields.false ∙ sym size))
+          (λ i lt. c.loop-place.invariant i (omega (arith, lt, same, c.if-len-fields.false, c.loop-place-test.false)))),
+      (λ all. refl),
+    )

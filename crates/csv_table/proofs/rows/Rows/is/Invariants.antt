@@ -1,5 +1,4 @@
-use Rattle.std.proofs.Common.{◌≡◌, ◌∷◌, ◌↔◌, [], true, false, IfOk, IsTrue, List, ℕ, length, map, slice_index_or, ◌+◌, ◌-◌, ◌*◌, ◌<◌, ◌≤◌}
-use Rattle.csv_table.specs.Table.{rows_of}
+use Rattle.std.proofs.Common.{◌≡◌, [], ℕ, map, slice_index_or, ◌<◌}
 use Rattle.csv_table.proofs.rows.Rows.is.Given as goal
 
 abbrev pub invariant-loop-place : goal.invariant-loop-place

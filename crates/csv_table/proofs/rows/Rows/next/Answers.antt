@@ -1,5 +1,4 @@
-use Rattle.std.proofs.Common.{◌≡◌, ◌∙◌, ap, refl, false, sym, List, ℕ, [], ◌∷◌}
-use Rattle.csv.specs.Reading.{reader_config}
+use Rattle.std.proofs.Common.{◌≡◌, ◌∙◌, ap, refl, sym}
 use Rattle.csv.specs.Records.{fields_of}
 use Rattle.csv_table.specs.Walk.{Walk, rows_left}
 use Rattle.csv_table.proofs.Walks.{reads_none, reads_row}

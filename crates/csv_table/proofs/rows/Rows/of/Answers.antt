@@ -1,4 +1,3 @@
-use Rattle.std.proofs.Common.{◌≡◌, ◌∙◌, ap, Some}
 use Rattle.csv.specs.Reading.{strip_bom}
 use Rattle.csv_table.proofs.Walks.{all_left}
 use Rattle.csv_table.proofs.rows.Rows.of.Goals as goal

@@ -1,5 +1,5 @@
-use Rattle.line_split.proofs.UsageRows.{code_small}
-use Rattle.line_split.proofs.usage.territory_of.Goals as goal
+use Rattle.csv_table.proofs.Codes.{code_small}
+use Rattle.csv_table.proofs.forms.code.Goals as goal
 
 pub returns-in_default-2-clause-none : goal.returns-in_default-2-clause-none
 returns-in_default-2-clause-none c code =
