@@ -54,10 +54,13 @@ impl RowWriter {
         Ok(())
     }
 
-    /// The text of the rows.
+    /// The text of the rows. After a row that was refused there is none.
     pub fn into_text(self) -> Result<Vec<u8>, AllocError>
         ensures { IfOk result (λ text. text.items ≡ self) }
     {
+        if self.has_failed {
+            return Err(AllocError);
+        }
         match self.out.into_inner() {
             Ok(text) => Ok(text),
             Err(_) => Err(AllocError),

@@ -26,9 +26,9 @@ fn writes_rows_of_any_width(rt: HostRuntime) -> Result<(), Fail> {
     let mut out = RowWriter::new(rt.alloc());
     out.row(&[b"a,b", b"say \"c\""])?;
     out.row(&[b""])?;
-    out.row(&[b"", b"1", b"two\nlines"])?;
+    out.row(&[b"", b"1", b"two\nlines", b"4", b"5", b"6"])?;
     let text = out.into_text()?;
-    let want = "\"a,b\",\"say \"\"c\"\"\"\n\"\"\n,1,\"two\nlines\"\n";
+    let want = "\"a,b\",\"say \"\"c\"\"\"\n\"\"\n,1,\"two\nlines\",4,5,6\n";
     assert_eq!(rt; text.as_slice(), want.as_bytes());
     Ok(())
 }

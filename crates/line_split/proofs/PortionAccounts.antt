@@ -1,10 +1,9 @@
 -- Whose the portions of a division are, and how large.
-use Rattle.std.proofs.Common.{◌≡◌, ◌∙◌, ◌+◌, ◌<◌, ◌≤◌, ◌++◌, ◌∷◌, [], ℕ, Bool, true, false, zero, suc, List, length, map, get_or, All, ap, sym, refl, subst, arith}
+use Rattle.std.proofs.Common.{◌≡◌, ◌∙◌, ◌+◌, ◌<◌, ◌≤◌, ◌++◌, ◌∷◌, [], ℕ, Bool, true, false, List, length, map, get_or, All, ap, sym, refl, subst, arith}
 use Rattle.std.specs.Prelude.{if◌then◌else◌, nat_le, sum_by}
 use Rattle.std.specs.List.{AllPairs, enumerate_from}
-use Rattle.std.specs.List.Sorted.{IsStrictlyIncreasing}
-use Rattle.std.proofs.lemmas.List.{get_or-map, length-map, map-append}
-use Rattle.std.proofs.lemmas.List.Elements.{All-append, All-map, All-push}
+use Rattle.std.proofs.lemmas.List.{map-append}
+use Rattle.std.proofs.lemmas.List.Elements.{All-map, All-push}
 use Rattle.std.proofs.lemmas.List.Quantifiers.{all_pairs_push}
 use Rattle.std.proofs.lemmas.List.Kept.{AllPairs-from_increasing}
 use Rattle.std.proofs.lemmas.List.Sums.{sum_by_more_le}
@@ -24,6 +23,7 @@ counted_accounts claims = by (nat_le (total_of claims) MOST_CLAIMED)
     nothing : (cs : List (ℕ × ℕ)) → map {A = ℕ × ℕ} (λ claim. claim.0) (map (λ claim. (claim.0, 0)) cs) ≡ map (λ claim. claim.0) cs
     nothing [] = refl
     nothing (c ∷ cs) = ap (λ (l : List ℕ). c.0 ∷ l) (nothing cs)
+
     by : (b : Bool) → map {A = ℕ × ℕ} (λ claim. claim.0) (if b then claims else map (λ claim. (claim.0, 0)) claims) ≡ map (λ claim. claim.0) claims
     by true = refl
     by false = nothing claims
@@ -41,14 +41,13 @@ portions_once amount claims are =
     subst (AllPairs (λ x y. ¬ (x ≡ y))) (sym (portion_accounts amount claims))
     (all_pairs_push (λ x y. ¬ (x ≡ y)) (map (λ claim. claim.0) claims) RESIDUE by_order
     (λ k d lt is.
-        let payee = All-map (λ account. RESIDUE < account) (λ (claim : ℕ × ℕ). claim.0) claims are.payees k d lt in
-        omega (arith, payee, is)))
+    let payee = All-map (λ account. RESIDUE < account) (λ (claim : ℕ × ℕ). claim.0) claims are.payees k d lt in
+    omega (arith, payee, is)))
   where
     by_order : (i j d : ℕ) → i < j → j < length (map {A = ℕ × ℕ} (λ claim. claim.0) claims) → ¬ (get_or (map {A = ℕ × ℕ} (λ claim. claim.0) claims) i d ≡ get_or (map {A = ℕ × ℕ} (λ claim. claim.0) claims) j d)
     by_order i j d lt inside same =
         let rises = AllPairs-from_increasing (map {A = ℕ × ℕ} (λ claim. claim.0) claims) are.rising i j d lt inside in
         omega (arith, rises, same)
-
 
 -- they are of accounts that there are
 pub portions_below : (amount accounts : ℕ) (claims : List (ℕ × ℕ)) → RESIDUE < accounts → All (λ claim. claim.0 < accounts) claims

@@ -1,5 +1,5 @@
 -- How the rows of a usage table are read one by one.
-use Rattle.std.proofs.Common.{◌≡◌, ◌≤◌, ◌<◌, ◌+◌, ◌⊎◌, ℕ, List, [], ◌∷◌, ◌++◌, length, map, All, ap, sym, refl, subst, ◌∙◌, append_assoc, inl, inr, arith}
+use Rattle.std.proofs.Common.{◌≡◌, ◌≤◌, ◌+◌, ℕ, List, [], ◌∷◌, ◌++◌, length, map, All, ap, sym, refl, ◌∙◌, append_assoc, inr, arith}
 use Rattle.std.proofs.lemmas.List.{append-nil, length-map, length_push, map-append}
 use Rattle.std.proofs.lemmas.List.Elements.{All-map, All-nil, All-push}
 use Rattle.csv_table.proofs.Codes.{code_small}

@@ -1,5 +1,5 @@
 -- A usage line: so much money for one use of a work, in one land, under one right.
-use Rattle.std.specs.Prelude.{ℕ, ◌≡◌, ◌≤◌, ◌<◌, ◌⊎◌, ◌==◌, List, [], length, codes, slice_index, slice_index_or, if◌then◌else◌}
+use Rattle.std.specs.Prelude.{ℕ, ◌≡◌, ◌⊎◌, ◌==◌, List, [], codes, slice_index, slice_index_or, if◌then◌else◌}
 use Rattle.csv_table.specs.Forms.{IsCode, IsNumber, IsPrintable, number_of}
 use Rattle.line_split.specs.declared.TheConstants.{MOST_AMOUNT}
 use Rattle.line_split.specs.declared.usage.TheConstants.{MOST_TEXT_BYTES}

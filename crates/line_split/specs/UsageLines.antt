@@ -1,5 +1,5 @@
 -- What every list of usage lines keeps to.
-use Rattle.std.specs.Prelude.{ℕ, ◌≤◌, ◌<◌, List, All, length}
+use Rattle.std.specs.Prelude.{◌≤◌, ◌<◌, List, All, length}
 use Rattle.csv_table.specs.Forms.{IsPrintable}
 use Rattle.line_split.specs.declared.usage.Line.{Line}
 use Rattle.line_split.specs.declared.TheConstants.{MOST_AMOUNT}

@@ -59,8 +59,14 @@ fn refuses_what_is_no_table(rt: HostRuntime) -> Result<(), Fail> {
     assert_eq!(rt; refusal(alloc, b"\n\r\n"), no_header);
     assert_eq!(rt; refusal(alloc, b"u1,W1,276,P,100\n"), no_header);
     assert_eq!(rt; refusal(alloc, b"usage,work,territory,right\n"), no_header);
-    assert_eq!(rt; refusal(alloc, b"usage,work,territory,right,amount,\n"), no_header);
-    assert_eq!(rt; refusal(alloc, b"usage,work,territory,right,Amount\n"), no_header);
+    assert_eq!(rt;
+        refusal(alloc, b"usage,work,territory,right,amount,\n"),
+        no_header
+    );
+    assert_eq!(rt;
+        refusal(alloc, b"usage,work,territory,right,Amount\n"),
+        no_header
+    );
     assert_eq!(rt; refusal(alloc, b"\x00\xff\x80\x89PNG\r\n\x1a\n"), no_header);
     Ok(())
 }
@@ -96,7 +102,10 @@ fn refuses_a_row_for_its_first_fault(rt: HostRuntime) -> Result<(), Fail> {
         ("u,W,276,P,+5", Some((5, Some(1)))),
         ("u,W,276,P,-5", Some((5, Some(1)))),
         ("u,W,276,P,1000000000001", Some((5, Some(1)))),
-        ("u,W,276,P,999999999999999999999999999999", Some((5, Some(1)))),
+        (
+            "u,W,276,P,999999999999999999999999999999",
+            Some((5, Some(1))),
+        ),
         (",W,0,X,x", Some((2, Some(1)))),
         ("u,W,276,X,1\nu", Some((4, Some(1)))),
     ];
@@ -125,5 +134,42 @@ fn takes_a_million_lines_and_no_more(rt: HostRuntime) -> Result<(), Fail> {
     assert_eq!(rt; usage.len() as u64, MOST_LINES);
     table.extend_from_slice(b"x\n")?;
     assert_eq!(rt; refusal(alloc, table.as_slice()), Some((6, None)));
+    Ok(())
+}
+
+#[test]
+fn keeps_to_the_limits(rt: HostRuntime) -> Result<(), Fail> {
+    assert_eq!(rt; MOST_LINES, 1_000_000);
+    assert_eq!(rt; MOST_TEXT_BYTES, 64);
+    assert_eq!(rt; MOST_AMOUNT, 1_000_000_000_000);
+    Ok(())
+}
+
+#[test]
+fn says_what_is_wrong_with_a_table(rt: HostRuntime) -> Result<(), Fail> {
+    let alloc = rt.alloc();
+    for (fault, want) in [
+        (
+            LineFault::Csv(0),
+            "row 0 is not usage,work,territory,right,amount",
+        ),
+        (
+            LineFault::Fields(3),
+            "the usage or the work of row 3 is not 1 to 64 printable characters",
+        ),
+        (
+            LineFault::Territory(3),
+            "the territory of row 3 is not a number from 1 to 9999",
+        ),
+        (LineFault::Right(3), "the right of row 3 is not P, M or S"),
+        (
+            LineFault::Amount(3),
+            "the amount of row 3 is not a number from 0 to 1000000000000",
+        ),
+        (LineFault::Lines, "there are more than 1000000 lines"),
+        (LineFault::Memory, "memory ran out"),
+    ] {
+        assert_eq!(rt; format!(in alloc; "{fault}")?.as_str(), want);
+    }
     Ok(())
 }

@@ -1,6 +1,6 @@
 -- Statements that are built line by line.
-use Rattle.std.proofs.Common.{◌≡◌, ◌∙◌, ◌+◌, ◌<◌, ◌≤◌, ◌++◌, ◌∷◌, [], ℕ, Bool, true, false, zero, suc, List, length, map, set, take, drop, get_or, All, ap, sym, refl, inl, inr, ◌⊎◌, arith}
-use Rattle.std.specs.Prelude.{◌==◌, if◌then◌else◌, nat_lt, slice_set, sum_by}
+use Rattle.std.proofs.Common.{◌≡◌, ◌∙◌, ◌+◌, ◌<◌, ◌++◌, ◌∷◌, [], ℕ, Bool, true, false, suc, List, length, map, set, get_or, All, ap, sym, refl, inl, inr, ◌⊎◌, arith}
+use Rattle.std.specs.Prelude.{◌==◌, if◌then◌else◌, nat_lt, sum_by}
 use Rattle.std.specs.List.{enumerate_from, filter}
 use Rattle.std.proofs.lemmas.Bool.{cases_eq}
 use Rattle.std.proofs.lemmas.List.{append-nil, drop_all, get_or-set_other, get_or-set_same, length-set, map-append, take_all}
@@ -60,7 +60,7 @@ pub lines_below : (division : Line → List (ℕ × ℕ)) (usage : List Line) (a
 lines_below division usage account =
     All-filter (λ posting. nat_lt 0 posting.1) (λ posting. posting.0 < length usage) (map (λ e. (e.0, portion_of account (division e.1))) (enumerate_from 0 usage))
     (All-map (λ posting. posting.0 < length usage) (λ e. (e.0, portion_of account (division e.1))) (enumerate_from 0 usage) (λ k d lt.
-        rw (enumerated usage k d (rw (length-enumerate_from 0 usage) at lt)) (rw (length-enumerate_from 0 usage) at lt)))
+    rw (enumerated usage k d (rw (length-enumerate_from 0 usage) at lt)) (rw (length-enumerate_from 0 usage) at lt)))
 
 -- the book old, with so much of a line's division posted
 pub record IsPosted (line : ℕ) (old : List (List (ℕ × ℕ))) (division : List (ℕ × ℕ)) (book : List (List (ℕ × ℕ))) : Type 0 where

@@ -66,3 +66,38 @@ fn writes_the_statements(rt: HostRuntime) -> Result<(), Fail> {
     assert_eq!(rt; text.as_slice(), want.as_bytes());
     Ok(())
 }
+
+#[test]
+fn takes_the_most_accounts(rt: HostRuntime) -> Result<(), Fail> {
+    let mut book = Book::open(rt.alloc(), 65_535)?;
+    assert_eq!(rt; book.accounts(), 65_535);
+    assert!(rt; book.accounts() > 65_534);
+    book.post(65_534, 3, 0)?;
+    assert!(rt; book.accounts() > 65_534);
+    assert_eq!(rt; book.lines(65_534), [(3, 0)].as_slice());
+    Ok(())
+}
+
+#[test]
+fn writes_many_lines(rt: HostRuntime) -> Result<(), Fail> {
+    let alloc = rt.alloc();
+    let mut table = Vec::from_slice(alloc, b"usage,work,territory,right,amount\n")?;
+    let mut want = Vec::new(alloc);
+    let mut reasons = Vec::new(alloc);
+    let mut book = Book::open(alloc, 1)?;
+    for line in 0..1200u64 {
+        table.extend_from_slice(b"u,W,1,P,2\n")?;
+        want.extend_from_slice(b"M,OVER,u,2\n")?;
+        reasons.push(Reason::Over)?;
+        assert!(rt; book.accounts() == 1);
+        book.post(0, line, 2)?;
+    }
+    want.extend_from_slice(b"T,,1200,2400\nR,,1200,2400\n")?;
+    let usage = Usage::read(alloc, table.as_slice())?;
+    assert!(rt; reasons.len() == usage.len() && book.accounts() == 1);
+    assert_lines(&rt, &book, usage.len());
+    let nobody = [Vec::new(alloc)];
+    let text = book.text(alloc, &usage, &nobody, reasons.as_slice())?;
+    assert_eq!(rt; text.as_slice(), want.as_slice());
+    Ok(())
+}

@@ -1,9 +1,8 @@
 -- Posting the portions of one line after another.
-use Rattle.std.proofs.Common.{◌≡◌, ◌∙◌, ◌+◌, ◌<◌, ◌≤◌, ◌++◌, ◌∷◌, [], ℕ, List, length, map, take, get_or, All, ap, sym, refl, subst, arith}
+use Rattle.std.proofs.Common.{◌≡◌, ◌∙◌, ◌+◌, ◌<◌, ◌≤◌, ◌++◌, ◌∷◌, [], ℕ, List, length, map, take, get_or, All, ap, sym, subst, arith}
 use Rattle.std.specs.List.{AllPairs}
 use Rattle.std.proofs.lemmas.List.{get_or-take, get_or_default, length-map, length-take, length-take-le, take_more}
 use Rattle.line_split.proofs.ByAccount.{account_at}
-use Rattle.line_split.specs.LargestRemainder.{portions_of}
 use Rattle.line_split.specs.declared.usage.Line.{Line}
 use Rattle.payee_book.specs.Run.{IsBookOf, portion_of, posting_of, statement_of}
 use Rattle.payee_book.proofs.RunLemmas.{lines_below, statement_more}

@@ -1,8 +1,6 @@
-use Rattle.std.proofs.Common.{◌≡◌, ◌∙◌, ◌<◌, ◌≤◌, ℕ, List, length, map, All, sym, subst, arith}
-use Rattle.std.specs.List.{AllPairs}
+use Rattle.std.proofs.Common.{◌∙◌, ◌<◌, length, arith}
 use Rattle.std.proofs.lemmas.Option.{get_or_from_slice_get}
 use Rattle.line_split.specs.LargestRemainder.{portions_of}
-use Rattle.line_split.specs.declared.usage.Line.{Line}
 use Rattle.line_split.proofs.PortionAccounts.{portions_below, portions_once}
 use Rattle.royalty_run.proofs.BookLemmas.{earlier_lines, line_more}
 use Rattle.royalty_run.proofs.book.book_of.Goals as goal
@@ -23,8 +21,9 @@ post_line-requires-clause-later c =
 
 pub loop-place-preserved : goal.loop-place-preserved
 loop-place-preserved c =
-    let within : c.loop-place.place < length c.args.usage.now = omega (arith, c.loop-place-test.true, c.len-place-end.ensures.lines) in
-    (line_more (λ line. portions_of line.amount c.args.claims.now) c.args.usage.now c.loop-place.place c.args.accounts c.loop-place.book c.post_line.new.book
-        c.line.result.now c.list-in-loop-place.result.now within (get_or_from_slice_get c.args.usage.now c.loop-place.place c.line.result.now c.line.result.now c.line.ensures.line)
-        (c.list-in-loop-place.ensures ∙ c.split.ensures.portions) c.loop-place.invariant.0 c.in_ok-post_line.ensures.whole c.in_ok-post_line.ensures.each,
-        c.split.ensures.room ∙ c.loop-place.invariant.1)
+    let within : c.loop-place.place < length c.args.usage.now = omega (arith, c.loop-place-test.true, c.len-place-end.ensures.lines) in (
+      line_more (λ line. portions_of line.amount c.args.claims.now) c.args.usage.now c.loop-place.place c.args.accounts c.loop-place.book c.post_line.new.book
+          c.line.result.now c.list-in-loop-place.result.now within (get_or_from_slice_get c.args.usage.now c.loop-place.place c.line.result.now c.line.result.now c.line.ensures.line)
+          (c.list-in-loop-place.ensures ∙ c.split.ensures.portions) c.loop-place.invariant.0 c.in_ok-post_line.ensures.whole c.in_ok-post_line.ensures.each,
+      c.split.ensures.room ∙ c.loop-place.invariant.1,
+    )

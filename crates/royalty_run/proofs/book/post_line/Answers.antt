@@ -1,7 +1,7 @@
-use Rattle.std.proofs.Common.{◌≡◌, ◌∙◌, ◌+◌, ◌<◌, ◌++◌, ◌∷◌, [], ℕ, List, length, map, take, get_or, ap, sym, arith}
+use Rattle.std.proofs.Common.{◌≡◌, ◌<◌, ℕ, length, take, get_or, arith}
 use Rattle.std.proofs.lemmas.List.{length-map, take_more}
 use Rattle.line_split.proofs.ByAccount.{account_at}
-use Rattle.payee_book.proofs.RunLemmas.{IsPosted, posted_more, posted_zero}
+use Rattle.payee_book.proofs.RunLemmas.{posted_more, posted_zero}
 use Rattle.royalty_run.proofs.BookLemmas.{others_before}
 use Rattle.royalty_run.proofs.book.post_line.Goals.{then-portion-gt0+in_ok-post, else-portion-gt0}
 use Rattle.royalty_run.proofs.book.post_line.Goals as goal

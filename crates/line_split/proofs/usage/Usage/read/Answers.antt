@@ -1,7 +1,7 @@
-use Rattle.std.proofs.Common.{◌≡◌, ◌∙◌, ◌+◌, ◌≤◌, ◌∷◌, ◌++◌, List, ℕ, [], ap, sym, map, subst, rules, true, arith}
+use Rattle.std.proofs.Common.{◌≡◌, rules, true, arith}
 use Rattle.std.specs.Result.{is_ok}
 use Rattle.csv_table.specs.Table.{rows_of}
-use Rattle.line_split.proofs.UsageRows.{Walked, walked_lines, walked_more, walked_table}
+use Rattle.line_split.proofs.UsageRows.{walked_lines, walked_more, walked_table}
 use Rattle.line_split.proofs.usage.Usage.read.Goals as goal
 
 pub invariant_of-result : goal.invariant_of-result
