@@ -1,0 +1,6 @@
+pub mod Bits
+pub mod Compiling
+pub mod Enclosing
+mod GroupWords
+pub mod Pieces
+mod TisWalks

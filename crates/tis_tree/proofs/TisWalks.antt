@@ -1,0 +1,84 @@
+-- How the rows of a table of territories are read one by one.
+use Rattle.std.proofs.Common.{◌≡◌, ◌≤◌, ◌<◌, ◌+◌, ◌⊎◌, ℕ, List, [], ◌∷◌, ◌++◌, length, map, take, slice_index_or, ap, sym, refl, ◌∙◌, append_assoc, inl, inr, arith}
+use Rattle.std.proofs.Math.Seq.{take-append_seam}
+use Rattle.std.proofs.lemmas.List.{append-nil, get_or_append_left, get_or_push, length_push, map-append, take-append-le}
+use Rattle.csv_table.specs.Forms.{number_of}
+use Rattle.tis_tree.specs.Territories.{IsKnown}
+use Rattle.tis_tree.specs.TisRows.{AreRows, HasCode, HasGroups, IsFaultOf, IsFaultOfRow, IsFirstFault, IsTableOf, IsTerritory, code_field, header, territory_of}
+use Rattle.tis_tree.specs.declared.TheConstants.{MOST_ROWS}
+use Rattle.tis_tree.specs.declared.tis_fault.TisFault.{TisFault}
+use Rattle.tis_tree.specs.declared.tis_fault.TisFault.TheVariants.{Csv, Code, Twice, Group, Rows, Memory}
+use Rattle.tis_tree.proofs.Compiling.{last_or}
+
+-- the rows below the header that were read so far are this table
+pub record Walked (rows left : List (List (List ℕ))) (number : ℕ) (table : List (ℕ × List ℕ)) : Type 0 where
+  pub below : List (List (List ℕ))
+  pub split : rows ≡ header ∷ (below ++ left)
+  pub sound : AreRows below
+  pub same : table ≡ map territory_of below
+  pub count : length below + 1 ≡ number
+
+-- below the header no row is read yet
+pub walked_start : (rows left : List (List (List ℕ))) → rows ≡ header ∷ left → Walked rows left 1 []
+walked_start rows left is = record { below = []; split = is; sound = λ place within. absurd (omega arith); same = refl; count = refl }
+
+-- rows that are territories, and one more below them
+rows_push : (below : List (List (List ℕ))) (row : List (List ℕ)) → AreRows below → IsTerritory (map territory_of below) row → AreRows (below ++ row ∷ [])
+rows_push below row sound good = λ place within. by place (last_or (length below) place (rw length_push at within))
+  where
+    by : (place : ℕ) → (place < length below) ⊎ (place ≡ length below) → IsTerritory (map territory_of (take place (below ++ row ∷ []))) (slice_index_or (below ++ row ∷ []) place [])
+    by place (inl before) = rw (take-append-le place below (row ∷ []) (omega arith), get_or_append_left below (row ∷ []) [] place before) (sound place before)
+    by place (inr last) = rw (last, take-append_seam below (row ∷ []), get_or_push below row [] (length below) refl) good
+
+-- a row that is a territory adds it to the table
+pub walked_more : (rows left : List (List (List ℕ))) (row : List (List ℕ)) (number : ℕ) (table grown : List (ℕ × List ℕ))
+    → Walked rows (row ∷ left) number table → IsTerritory table row → grown ≡ table ++ territory_of row ∷ [] → Walked rows left (number + 1) grown
+walked_more rows left row number table grown walked good is = record {
+  below = walked.below ++ row ∷ [];
+  split = walked.split ∙ ap (λ (l : List (List (List ℕ))). header ∷ l) (sym (append_assoc walked.below (row ∷ []) left));
+  sound = rows_push walked.below row walked.sound (rw walked.same at good);
+  same = rw (is, walked.same) (sym (map-append territory_of walked.below (row ∷ [])));
+  count = rw (length_push walked.below row, walked.count) refl;
+}
+
+-- where no row is left, the rows are the table
+pub walked_table : (rows : List (List (List ℕ))) (number : ℕ) (table : List (ℕ × List ℕ)) → Walked rows [] number table → number ≤ MOST_ROWS + 1 → IsTableOf rows table
+walked_table rows number table walked few = record {
+  below = walked.below;
+  headed = walked.split ∙ ap (λ (l : List (List (List ℕ))). header ∷ l) (append-nil walked.below);
+  few = omega (arith, walked.count, few);
+  sound = walked.sound;
+  same = walked.same;
+}
+
+-- the row at hand is the first that is refused
+first_fault : (rows left : List (List (List ℕ))) (row : List (List ℕ)) (number : ℕ) (table : List (ℕ × List ℕ)) (fault : TisFault)
+    → Walked rows (row ∷ left) number table → IsFaultOfRow table number row fault → IsFirstFault rows fault
+first_fault rows left row number table fault walked refused = record {
+  before = walked.below;
+  row = row;
+  after = left;
+  split = walked.split;
+  sound = walked.sound;
+  refused = rw walked.count (rw walked.same at refused);
+}
+
+-- the table is refused for the row at hand
+pub walked_fault : (rows left : List (List (List ℕ))) (row : List (List ℕ)) (number : ℕ) (table : List (ℕ × List ℕ)) (fault : TisFault)
+    → Walked rows (row ∷ left) number table → IsFaultOfRow table number row fault → IsFaultOf rows fault
+walked_fault rows left row number table (Csv n) walked refused = inr (first_fault rows left row number table (Csv n) walked refused)
+walked_fault rows left row number table (Code n) walked refused = first_fault rows left row number table (Code n) walked refused
+walked_fault rows left row number table (Twice n) walked refused = first_fault rows left row number table (Twice n) walked refused
+walked_fault rows left row number table (Group n) walked refused = first_fault rows left row number table (Group n) walked refused
+walked_fault rows left row number table Rows walked refused = first_fault rows left row number table Rows walked refused
+walked_fault rows left row number table Memory walked refused = tt
+
+-- what a row is refused for whose groups are
+pub group_fault : (table : List (ℕ × List ℕ)) (number : ℕ) (row : List (List ℕ)) (fault : TisFault) → number ≤ MOST_ROWS → length row ≡ length header → HasCode row → ¬ IsKnown table (number_of (code_field row))
+    → (fault ≡ Memory) ⊎ ((fault ≡ Group number) × ¬ HasGroups table row) → IsFaultOfRow table number row fault
+group_fault table number row fault few whole code new (inl same) = rw same tt
+group_fault table number row fault few whole code new (inr (same, wrong)) = rw same (refl, few, whole, code, new, wrong)
+
+-- the row that is added, by its parts
+pub same_row : (table : List (ℕ × List ℕ)) (code code' : ℕ) (groups groups' : List ℕ) → code ≡ code' → groups ≡ groups' → table ++ (code, groups) ∷ [] ≡ table ++ (code', groups') ∷ []
+same_row table code code' groups groups' same alike = rw (same, alike) refl

@@ -1,0 +1,3 @@
+pub mod Territories
+pub mod TisRows
+pub mod Compiled

@@ -1,0 +1,113 @@
+-- The table of territories as CSV: a header, and a row for each code. Rows count from 0, the header's.
+use Rattle.std.specs.Prelude.{ℕ, ◌≡◌, ◌≤◌, ◌<◌, ◌+◌, ◌⊎◌, ◌==◌, ◌∷◌, ◌++◌, [], List, All, length, map, not, codes, take, slice_index_or, if◌then◌else◌, Option, Some, None, ⊤}
+use Rattle.std.specs.List.{filter}
+use Rattle.csv_table.specs.Forms.{IsCode, number_of}
+use Rattle.tis_tree.specs.Territories.{IsKnown}
+use Rattle.tis_tree.specs.declared.TheConstants.{MOST_ROWS}
+use Rattle.tis_tree.specs.declared.tis_fault.TisFault.{TisFault}
+use Rattle.tis_tree.specs.declared.tis_fault.TisFault.TheVariants.{Csv, Code, Twice, Group, Rows, Memory}
+
+abbrev pub header : List (List ℕ)
+header = codes "code" ∷ codes "groups" ∷ []
+
+-- what stands between the spaces of a text, empty pieces too
+abbrev pub before_piece : ℕ → List (List ℕ) → List (List ℕ)
+before_piece byte [] = (byte ∷ []) ∷ []
+before_piece byte (piece ∷ pieces) = (byte ∷ piece) ∷ pieces
+
+unfoldable pub pieces_of : List ℕ → List (List ℕ)
+pieces_of [] = [] ∷ []
+pieces_of (byte ∷ rest) = if byte == 32 then [] ∷ pieces_of rest else before_piece byte (pieces_of rest)
+
+-- the words of a text, with one or more spaces between them and any at its ends
+abbrev pub words_of : List ℕ → List (List ℕ)
+words_of text = filter (λ piece. not (length piece == 0)) (pieces_of text)
+
+-- the two fields of a row
+abbrev pub code_field : List (List ℕ) → List ℕ
+code_field row = slice_index_or row 0 []
+
+abbrev pub groups_field : List (List ℕ) → List ℕ
+groups_field row = slice_index_or row 1 []
+
+-- the code and the groups that a row names
+abbrev pub territory_of : List (List ℕ) → ℕ × List ℕ
+territory_of row = (number_of (code_field row), map number_of (words_of (groups_field row)))
+
+abbrev pub HasCode : List (List ℕ) → Type 0
+HasCode row = IsCode (code_field row)
+
+-- each group is a code of an earlier row
+abbrev pub HasGroups : List (ℕ × List ℕ) → List (List ℕ) → Type 0
+HasGroups earlier row = All (λ word. IsCode word × IsKnown earlier (number_of word)) (words_of (groups_field row))
+
+-- a row that is a territory, below the rows of the earlier ones
+pub record IsTerritory (earlier : List (ℕ × List ℕ)) (row : List (List ℕ)) : Type 0 where
+  pub whole : length row ≡ length header
+  pub code : HasCode row
+  pub new : ¬ IsKnown earlier (number_of (code_field row))
+  pub groups : HasGroups earlier row
+
+-- rows below the header that are territories, each below those before it
+abbrev pub AreRows : List (List (List ℕ)) → Type 0
+AreRows rows = (place : ℕ) → place < length rows → IsTerritory (map territory_of (take place rows)) (slice_index_or rows place [])
+
+-- the rows are this table
+pub record IsTableOf (rows : List (List (List ℕ))) (table : List (ℕ × List ℕ)) : Type 0 where
+  pub below : List (List (List ℕ))
+  pub headed : rows ≡ header ∷ below
+  pub few : length below ≤ MOST_ROWS
+  pub sound : AreRows below
+  pub same : table ≡ map territory_of below
+
+-- what a row is refused for, by its number: the first thing, in this order, that is not as it has to be. Memory is asked for after all that.
+abbrev pub IsFaultOfRow : List (ℕ × List ℕ) → ℕ → List (List ℕ) → TisFault → Type 0
+IsFaultOfRow earlier number row Rows = MOST_ROWS < number
+IsFaultOfRow earlier number row (Csv n) = (n ≡ number) × (number ≤ MOST_ROWS) × (¬ (length row ≡ length header))
+IsFaultOfRow earlier number row (Code n) = (n ≡ number) × (number ≤ MOST_ROWS) × (length row ≡ length header) × (¬ HasCode row)
+IsFaultOfRow earlier number row (Twice n) =
+    (n ≡ number) × (number ≤ MOST_ROWS) × (length row ≡ length header) × HasCode row × IsKnown earlier (number_of (code_field row))
+IsFaultOfRow earlier number row (Group n) =
+    (n ≡ number) × (number ≤ MOST_ROWS) × (length row ≡ length header) × HasCode row × (¬ IsKnown earlier (number_of (code_field row)))
+    × (¬ HasGroups earlier row)
+IsFaultOfRow earlier number row Memory = ⊤
+
+-- a row that is refused stands below a header and rows that are territories
+pub record IsFirstFault (rows : List (List (List ℕ))) (fault : TisFault) : Type 0 where
+  pub before : List (List (List ℕ))
+  pub row : List (List ℕ)
+  pub after : List (List (List ℕ))
+  pub split : rows ≡ header ∷ (before ++ row ∷ after)
+  pub sound : AreRows before
+  pub refused : IsFaultOfRow (map territory_of before) (length before + 1) row fault
+
+-- the first row is not the header, or there is none
+abbrev pub HasNoHeader : List (List (List ℕ)) → Type 0
+HasNoHeader rows = (below : List (List (List ℕ))) → ¬ (rows ≡ header ∷ below)
+
+-- What a table is refused for: its header, or else the first row that is no territory. Memory may run out at any row.
+abbrev pub IsFaultOf : List (List (List ℕ)) → TisFault → Type 0
+IsFaultOf rows Memory = ⊤
+IsFaultOf rows Rows = IsFirstFault rows Rows
+IsFaultOf rows (Csv n) = ((n ≡ 0) × HasNoHeader rows) ⊎ IsFirstFault rows (Csv n)
+IsFaultOf rows (Code n) = IsFirstFault rows (Code n)
+IsFaultOf rows (Twice n) = IsFirstFault rows (Twice n)
+IsFaultOf rows (Group n) = IsFirstFault rows (Group n)
+
+-- the fault's number
+abbrev pub number_of_fault : TisFault → ℕ
+number_of_fault (Csv row) = 1
+number_of_fault (Code row) = 2
+number_of_fault (Twice row) = 3
+number_of_fault (Group row) = 4
+number_of_fault Rows = 5
+number_of_fault Memory = 6
+
+-- the row's number, where the fault is one row's
+abbrev pub place_of_fault : TisFault → Option ℕ
+place_of_fault (Csv row) = Some row
+place_of_fault (Code row) = Some row
+place_of_fault (Twice row) = Some row
+place_of_fault (Group row) = Some row
+place_of_fault Rows = None
+place_of_fault Memory = None

@@ -1,0 +1,30 @@
+//! What containment of territories keeps to, whatever the table. A law has an empty body: its
+//! contract is the law.
+
+ghost use Rattle.std.specs.Prelude.{◌≡◌, ◌↔◌, ◌++◌, ◌∷◌, [], ℕ, List};
+ghost use Rattle.tis_tree.specs.Territories.{AreTerritories, Encloses, IsKnown};
+
+/// A code contains itself where it has a row, and only there.
+pub fn law_a_code_contains_itself()
+    ensures { (table : List (ℕ × List ℕ)) (code : ℕ) → Encloses table code code ↔ IsKnown table code }
+{}
+
+/// What contains a group of a land contains the land.
+pub fn law_containment_is_transitive()
+    ensures { (table : List (ℕ × List ℕ)) (group between land : ℕ) → Encloses table group between → Encloses table between land → Encloses table group land }
+{}
+
+/// Two territories that contain each other are one.
+pub fn law_containment_is_antisymmetric()
+    ensures { (table : List (ℕ × List ℕ)) (group land : ℕ) → AreTerritories table → Encloses table group land → Encloses table land group → group ≡ land }
+{}
+
+/// A code without a row contains nothing and is contained in nothing.
+pub fn law_an_unknown_code_is_apart()
+    ensures { (table : List (ℕ × List ℕ)) (code other : ℕ) → ¬ IsKnown table code → (¬ Encloses table code other) × (¬ Encloses table other code) }
+{}
+
+/// A row more at the end changes nothing in what contains a code before it.
+pub fn law_a_later_row_changes_nothing()
+    ensures { (table : List (ℕ × List ℕ)) (row : ℕ × List ℕ) (group land : ℕ) → AreTerritories (table ++ row ∷ []) → IsKnown table land → Encloses (table ++ row ∷ []) group land ↔ Encloses table group land }
+{}

@@ -1,0 +1,206 @@
+//! The table of territories, with what contains what worked out as it is read.
+
+ghost use Rattle.std.specs.Prelude.{◌≡◌, ◌≤◌, ◌<◌, ◌+◌, ◌↔◌, ◌⊎◌, ◌++◌, ◌∷◌, [], ℕ, true, All, Contains, IfOk, IfErr, IfSome, IfNone, IsTrue, OnOk, length, map};
+ghost use Rattle.csv_table.specs.Forms.{IsCode, number_of};
+ghost use Rattle.csv_table.specs.Table.{rows_of};
+ghost use Rattle.tis_tree.specs.Compiled.{has_bit};
+ghost use Rattle.tis_tree.specs.Territories.{AreTerritories, Encloses, IsKnown, row_at};
+ghost use Rattle.tis_tree.specs.TisRows.{IsFaultOf, IsFaultOfRow, IsTableOf, IsTerritory, territory_of, words_of};
+
+use crate::places::Places;
+use crate::words::first_word;
+use crate::{Code, MOST_ROWS, TisFault};
+use csv_table::Rows;
+use csv_table::forms::{MOST_CODE, code};
+use std::alloc::{AllocError, Global};
+use std::marker::Model;
+
+/// A code, and the groups that its row names.
+#[derive(Drop)]
+struct Territory {
+    code: u16,
+    groups: Vec<u16>,
+}
+
+/// A table of territories, at most 2048. A territory may be in several groups, each of which has an
+/// earlier row.
+#[derive(Drop)]
+pub struct TisTable {
+    rows: Vec<Territory>,
+    /// For each code the place of its row, from 1, or 0 where it has none.
+    places: Vec<u16>,
+    /// For each row the places of the rows whose codes contain its own.
+    enclosing: Vec<Places>,
+}
+
+impl Model for TisTable {
+    ghost use Rattle.std.specs.Prelude.{ℕ, List, map};
+    ghost use Rattle.tis_tree.specs.Compiled.{IsCompiled};
+
+    ghost Value = { List (ℕ × List ℕ) };
+
+    ghost view = { λ t. map (λ row. (row.code, row.groups.items)) t.rows.items };
+
+    ghost invariant = { λ t. IsCompiled (map (λ row. (row.code, row.groups.items)) t.rows.items) t.places.items (map (λ set. set.words) t.enclosing.items) };
+}
+
+impl TisTable {
+    /// Reads a table of territories: CSV with the header `code,groups`. The groups are codes of
+    /// earlier rows, with spaces between them.
+    pub fn read(alloc: Global, bytes: &[u8]) -> Result<TisTable, TisFault>
+        ensures table { IfOk result (IsTableOf (rows_of bytes.now)) }
+        ensures fault { IfErr result (IsFaultOf (rows_of bytes.now)) }
+    {
+        let mut rows = Rows::of(alloc, bytes);
+        if !(rows.next()? && rows.is(&["code", "groups"])) {
+            return Err(TisFault::Csv(0));
+        }
+        let mut table = TisTable::new(alloc)?;
+        for number in 1..=MOST_ROWS as u64 {
+            if !rows.next()? {
+                return Ok(table);
+            }
+            table.add_row(alloc, number, &rows)?;
+        }
+        if rows.next()? {
+            return Err(TisFault::Rows);
+        }
+        Ok(table)
+    }
+
+    /// Whether a code has a row.
+    pub fn known(&self, code: Code) -> bool
+        ensures { IsTrue result ↔ IsKnown self.now code }
+    {
+        self.place(code.number()).is_some()
+    }
+
+    /// Whether a group contains a land: both have rows, and the group is the land or contains a group
+    /// of it. A look at one bit.
+    pub fn contains(&self, group: Code, land: Code) -> bool
+        ensures { IsTrue result ↔ Encloses self.now group land }
+    {
+        match (self.place(group.number()), self.place(land.number())) {
+            (Some(group), Some(land)) => self.enclosing[land].has(group as u16),
+            _ => false,
+        }
+    }
+
+    /// How many rows there are.
+    pub fn len(&self) -> usize
+        ensures rows { result ≡ length self.now }
+        ensures sound { AreTerritories self.now }
+    {
+        self.rows.len()
+    }
+
+    /// A table with no rows.
+    fn new(alloc: Global) -> Result<TisTable, AllocError>
+        ensures { IfOk result (λ table. table ≡ []) }
+    {
+        let mut places = Vec::new(alloc);
+        for _ in 0..=MOST_CODE {
+            places.push(0)?;
+        }
+        Ok(TisTable {
+            rows: Vec::new(alloc),
+            places,
+            enclosing: Vec::new(alloc),
+        })
+    }
+
+    /// Adds the row at hand, which has this number.
+    fn add_row(&mut self, alloc: Global, number: u64, rows: &Rows<'_>) -> Result<(), TisFault>
+        requires { length self.old + 1 ≡ number × (number ≤ MOST_ROWS) }
+        ensures added { OnOk result (IsTerritory self.old rows.now.row × (self.new ≡ self.old ++ territory_of rows.now.row ∷ [])) }
+        ensures fault { IfErr result (IsFaultOfRow self.old number rows.now.row) }
+    {
+        if rows.len() != 2 {
+            return Err(TisFault::Csv(number));
+        }
+        let Some(code) = code(rows.field(0)) else {
+            return Err(TisFault::Code(number));
+        };
+        if self.place(code).is_some() {
+            return Err(TisFault::Twice(number));
+        }
+        let mut set = Places::none();
+        let groups = self.read_groups(alloc, number, rows.field(1), &mut set)?;
+        self.push(code, groups, set)?;
+        Ok(())
+    }
+
+    /// The groups that a text names, with the places of all that contain one of them added to a set.
+    fn read_groups(
+        &self,
+        alloc: Global,
+        number: u64,
+        text: &[u8],
+        set: &mut Places,
+    ) -> Result<Vec<u16>, TisFault>
+        ensures known { IfOk result (λ _. All (λ word. IsCode word × IsKnown self.now (number_of word)) (words_of text.now)) }
+        ensures groups { IfOk result (λ groups. groups.items ≡ map number_of (words_of text.now)) }
+        ensures set { IfOk result (λ groups. (place : ℕ) → place < MOST_ROWS → (has_bit set.new.words place ≡ true) ↔ ((has_bit set.old.words place ≡ true) ⊎ ((group : ℕ) × Contains groups.items group × (place < length self.now) × Encloses self.now (row_at self.now place).0 group))) }
+        ensures fault { IfErr result (λ fault. (fault ≡ TisFault.Memory) ⊎ ((fault ≡ TisFault.Group number) × ¬ All (λ word. IsCode word × IsKnown self.now (number_of word)) (words_of text.now))) }
+    {
+        let mut groups = Vec::new(alloc);
+        let mut rest = text;
+        for _ in 0..text.len() {
+            let (word, after) = first_word(rest);
+            if word.is_empty() {
+                return Ok(groups);
+            }
+            let Some(place) = self.place_of(word) else {
+                return Err(TisFault::Group(number));
+            };
+            set.add_all(&self.enclosing[place]);
+            if groups.push(self.rows[place].code).is_err() {
+                return Err(TisFault::Memory);
+            }
+            rest = after;
+        }
+        Ok(groups)
+    }
+
+    /// The place of the row of the code that a word writes, where there is one.
+    fn place_of(&self, word: &[u8]) -> Option<usize>
+        ensures some { IfSome result (λ place. IsCode word.now × (place < length self.now) × ((row_at self.now place).0 ≡ number_of word.now)) }
+        ensures none { IfNone result (¬ (IsCode word.now × IsKnown self.now (number_of word.now))) }
+    {
+        match code(word) {
+            Some(code) => self.place(code),
+            None => None,
+        }
+    }
+
+    /// The place of a code's row, where it has one.
+    fn place(&self, code: u16) -> Option<usize>
+        requires { code ≤ MOST_CODE }
+        ensures some { IfSome result (λ place. (place < length self.now) × ((row_at self.now place).0 ≡ code)) }
+        ensures none { IfNone result (¬ IsKnown self.now code) }
+    {
+        match self.places[code as usize] {
+            0 => None,
+            place => Some(place as usize - 1),
+        }
+    }
+
+    /// Adds a row whose groups have rows, with the places of all that contain one of them.
+    fn push(&mut self, code: u16, groups: Vec<u16>, set: Places) -> Result<(), AllocError>
+        requires few { length self.old < MOST_ROWS }
+        requires code { (0 < code) × (code ≤ MOST_CODE) × ¬ IsKnown self.old code }
+        requires groups { All (IsKnown self.old) groups.items }
+        requires set { (place : ℕ) → place < MOST_ROWS → (has_bit set.words place ≡ true) ↔ ((group : ℕ) × Contains groups.items group × (place < length self.old) × Encloses self.old (row_at self.old place).0 group) }
+        ensures { OnOk result (self.new ≡ self.old ++ (code, groups.items) ∷ []) }
+    {
+        let place = self.rows.len() as u16;
+        let mut set = set;
+        set.add(place);
+        self.rows.reserve(1)?;
+        self.enclosing.reserve(1)?;
+        self.rows.push_reserved(Territory { code, groups });
+        self.enclosing.push_reserved(set);
+        self.places[code as usize] = place + 1;
+        Ok(())
+    }
+}
