@@ -50,7 +50,7 @@ pub record IsFirstFault (rows : List (List (List ℕ))) (fault : LineFault) : Ty
 abbrev pub HasNoHeader : List (List (List ℕ)) → Type 0
 HasNoHeader rows = (rows_below : List (List (List ℕ))) → ¬ (rows ≡ header ∷ rows_below)
 
--- What a table is refused for: its header, or else the first row that is no line. Memory may run out at any row.
+-- What a table is refused for: its header, or else the first row that is no line. Memory may run out at any row, the header's too.
 abbrev pub IsFaultOf : List (List (List ℕ)) → LineFault → Type 0
 IsFaultOf rows Memory = ⊤
 IsFaultOf rows Lines = IsFirstFault rows Lines

@@ -10,11 +10,12 @@ use Rattle.tis_tree.specs.declared.tis_fault.TisFault.TheVariants.{Csv, Code, Tw
 abbrev pub header : List (List ℕ)
 header = codes "code" ∷ codes "groups" ∷ []
 
--- what stands between the spaces of a text, empty pieces too
+-- a byte more in front of the first piece
 abbrev pub before_piece : ℕ → List (List ℕ) → List (List ℕ)
 before_piece byte [] = (byte ∷ []) ∷ []
 before_piece byte (piece ∷ pieces) = (byte ∷ piece) ∷ pieces
 
+-- what stands between the spaces of a text, empty pieces too
 unfoldable pub pieces_of : List ℕ → List (List ℕ)
 pieces_of [] = [] ∷ []
 pieces_of (byte ∷ rest) = if byte == 32 then [] ∷ pieces_of rest else before_piece byte (pieces_of rest)
@@ -30,7 +31,7 @@ code_field row = slice_index_or row 0 []
 abbrev pub groups_field : List (List ℕ) → List ℕ
 groups_field row = slice_index_or row 1 []
 
--- the code and the groups that a row names
+-- the code and the groups that a row names; whether one is named twice makes no difference to what contains what
 abbrev pub territory_of : List (List ℕ) → ℕ × List ℕ
 territory_of row = (number_of (code_field row), map number_of (words_of (groups_field row)))
 
@@ -60,7 +61,7 @@ pub record IsTableOf (rows : List (List (List ℕ))) (table : List (ℕ × List 
   pub sound : AreRows below
   pub same : table ≡ map territory_of below
 
--- what a row is refused for, by its number: the first thing, in this order, that is not as it has to be. Memory is asked for after all that.
+-- what a row is refused for, by its number: the first thing, in this order, that is not as it has to be. Memory may be refused in the middle of the groups.
 abbrev pub IsFaultOfRow : List (ℕ × List ℕ) → ℕ → List (List ℕ) → TisFault → Type 0
 IsFaultOfRow earlier number row Rows = MOST_ROWS < number
 IsFaultOfRow earlier number row (Csv n) = (n ≡ number) × (number ≤ MOST_ROWS) × (¬ (length row ≡ length header))
@@ -85,7 +86,7 @@ pub record IsFirstFault (rows : List (List (List ℕ))) (fault : TisFault) : Typ
 abbrev pub HasNoHeader : List (List (List ℕ)) → Type 0
 HasNoHeader rows = (below : List (List (List ℕ))) → ¬ (rows ≡ header ∷ below)
 
--- What a table is refused for: its header, or else the first row that is no territory. Memory may run out at any row.
+-- What a table is refused for: its header, or else the first row that is no territory. Memory may run out at any row, the header's too.
 abbrev pub IsFaultOf : List (List (List ℕ)) → TisFault → Type 0
 IsFaultOf rows Memory = ⊤
 IsFaultOf rows Rows = IsFirstFault rows Rows

@@ -47,6 +47,8 @@ fn knows_what_contains_what(rt: HostRuntime) -> Result<(), Fail> {
     for (group, land, expected) in lines {
         assert_eq!(rt; contains(&table, group, land), expected, "{group} {land}");
     }
+    let none = TisTable::read(rt.alloc(), b"code,groups\n")?;
+    assert_eq!(rt; none.len(), 0);
     for (number, expected) in [(2136, true), (276, true), (1, false), (9999, false)] {
         if let Some(code) = Code::of(number) {
             assert_eq!(rt; code.number(), number);
