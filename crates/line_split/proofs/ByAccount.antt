@@ -1,5 +1,5 @@
 -- Pairs by rising account: what a sort of distinct accounts gives, and that it is the only such list.
-use Rattle.std.proofs.Common.{◌≡◌, ℕ, zero, suc, ◌<◌, ◌≤◌, inl, inr, Bool, true, ltb, eqb, List, length, map, get_or, All, sym, ap, ◌∙◌, arith}
+use Rattle.std.proofs.Common.{◌≡◌, ℕ, zero, suc, ◌+◌, ◌<◌, ◌≤◌, inl, inr, Bool, true, ltb, eqb, List, [], ◌∷◌, ◌++◌, length, map, get_or, All, sym, ap, ◌∙◌, arith}
 use Rattle.std.specs.List.{IsDistinct, sum_by}
 use Rattle.std.specs.Ordering.{nat_cmp}
 use Rattle.std.specs.declared.cmp.Ordering.TheVariants.{Less}
@@ -7,10 +7,12 @@ use Rattle.std.specs.List.Sorted.{IsPermutation, IsNonDecreasingBy, IsStrictlyIn
 use Rattle.std.proofs.lemmas.Bool.{ne_eqb, lt-ltb, ltb-true, cases_lt}
 use Rattle.std.proofs.lemmas.Bool.Decides.{nat_tests}
 use Rattle.std.proofs.lemmas.Cmp.{nat_eq_equiv}
-use Rattle.std.proofs.lemmas.List.{get_or-map, get_or_default, length-map, same_lists}
+use Rattle.std.proofs.lemmas.List.{get_or-map, get_or_append_left, get_or_default, get_or_push, length-map, length_push, map_push, same_lists}
+use Rattle.std.proofs.lemmas.List.Elements.{All-push}
 use Rattle.std.proofs.lemmas.List.Sorted.{IsPermutation-map, length_permutation, Contains-permutation, sum_by-IsPermutation}
 use Rattle.std.proofs.lemmas.Map.Keys.{Less-from_sorted, sorted_from_strictly_increasing, IsDistinct-from_apart, IsDistinct-IsPermutation, IsStrictlyIncreasing-from_distinct}
-use Rattle.line_split.specs.declared.TheConstants.{FULL_SHARE}
+use Rattle.line_split.specs.declared.TheConstants.{FULL_SHARE, MOST_CLAIMED, MOST_CLAIMS, RESIDUE}
+use Rattle.line_split.specs.Claims.{AreClaims}
 use Rattle.line_split.specs.ClaimFault.{IsOver, StandsBefore}
 use Rattle.line_split.proofs.SumBelow.{bit, sum_by-places}
 use Rattle.line_split.proofs.Ranks.{count_below, front_counts}
@@ -42,6 +44,35 @@ rising_by_account list sorted none moved up =
     rw (account_at sorted i d (0, 0) (omega arith), account_at sorted j d (0, 0) in_list) (up i j (0, 0) le in_list))
     (IsDistinct-IsPermutation eqb nat_eq_equiv.symm (map (λ pair. pair.0) list) (map (λ pair. pair.0) sorted)
     (IsPermutation-map (λ pair. pair.0) list sorted moved) (distinct_accounts list none))
+
+-- Accounts that rise, and one above them all, rise.
+rises_more : (list : List (ℕ × ℕ)) (pair : ℕ × ℕ) → IsStrictlyIncreasing (map (λ p. p.0) list) → All (λ other. other.0 < pair.0) list
+    → IsStrictlyIncreasing (map (λ p. p.0) (list ++ pair ∷ []))
+rises_more list pair up below = rw (map_push (λ p. p.0) list pair) (λ k lt.
+    let many : length accounts ≡ length list = length-map list (λ p. p.0) in
+    let more : length (accounts ++ pair.0 ∷ []) ≡ length accounts + 1 = length_push accounts pair.0 in
+    let here = get_or_append_left accounts (pair.0 ∷ []) 0 k (omega arith) in
+    elim (cases_lt (k + 1) (length accounts)) [
+      | inl inside ↦
+          let next = get_or_append_left accounts (pair.0 ∷ []) 0 (k + 1) inside in
+          omega (arith, here, next, up k inside)
+      | inr last ↦
+          let next = get_or_push accounts pair.0 0 (k + 1) (omega arith) in
+          omega (arith, here, next, account_at list k 0 (0, 0) (omega arith), below k (0, 0) (omega arith))
+    ])
+  where
+    accounts : List ℕ
+    accounts = map (λ p. p.0) list
+
+-- Claims, and a claim more of an account above them all, are claims.
+pub claims_more : (list : List (ℕ × ℕ)) (account claim : ℕ) → AreClaims list → length list < MOST_CLAIMS → RESIDUE < account
+    → All (λ other. other.0 < account) list → claim ≤ MOST_CLAIMED → AreClaims (list ++ (account, claim) ∷ [])
+claims_more list account claim are few payee above small = record {
+  few = omega (arith, length_push list (account, claim));
+  rising = rises_more list (account, claim) are.rising above;
+  payees = All-push (λ c. RESIDUE < c.0) list (account, claim) are.payees payee;
+  shares = All-push (λ c. c.1 ≤ MOST_CLAIMED) list (account, claim) are.shares small;
+}
 
 less_means : (a b : ℕ) → nat_cmp a b ≡ Less → a < b
 less_means a b h = elim (cases_lt a b) [

@@ -13,8 +13,8 @@ use crate::{Account, Claims, FULL_SHARE, MOST_CLAIMED};
 /// last claim's is the residue's.
 pub fn portion_by_rank(amount: u64, claims: &Claims, place: usize) -> u64
     requires in_range { amount ≤ MOST_AMOUNT }
-    requires place { place ≤ length claims.now }
-    ensures { result ≡ number_at (portions_of amount claims.now) place }
+    requires place { place ≤ length claims.now.list }
+    ensures { result ≡ number_at (portions_of amount claims.now.list) place }
 {
     let claims = claims.list();
     let base = u64::from(counted(claims).max(FULL_SHARE));

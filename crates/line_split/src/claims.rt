@@ -1,13 +1,13 @@
 //! The claims on one usage line.
 
-ghost use Rattle.std.specs.Prelude.{◌≡◌, ◌<◌, ◌≤◌, List, ℕ, All, IfOk, IfErr, map};
+ghost use Rattle.std.specs.Prelude.{◌≡◌, ◌<◌, ◌≤◌, ◌++◌, ◌∷◌, [], List, ℕ, All, IfOk, IfErr, length, map};
 ghost use Rattle.std.specs.List.Sorted.{IsPermutation, IsStrictlyIncreasing};
-ghost use Rattle.line_split.specs.declared.TheConstants.{RESIDUE, FULL_SHARE};
+ghost use Rattle.line_split.specs.declared.TheConstants.{FULL_SHARE, MOST_CLAIMED, MOST_CLAIMS, RESIDUE};
 ghost use Rattle.line_split.specs.Claims.{AreClaims};
 
 use crate::pairs::{by_account, first_over, first_twice};
 use crate::{Account, MOST_CLAIMS};
-use std::alloc::Global;
+use std::alloc::{AllocError, Global};
 use std::marker::Model;
 use thiserror::Error;
 
@@ -55,18 +55,25 @@ impl ClaimFault {
 }
 
 /// The claims on one line, in hundredths of a per cent: at most 256 pairs of an account and its
-/// claim, by rising account, none of them the residue account's and none over 100.06 per cent.
+/// claim, by rising account, none of them the residue account's and none over 100.06 per cent. Their
+/// room is taken once and used for many lines.
 #[derive(Debug, Drop)]
 pub struct Claims {
     pairs: Vec<(Account, u32)>,
+    room: usize,
 }
 
 impl Model for Claims {
-    ghost Value = { List (ℕ × ℕ) };
+    ghost use Rattle.std.specs.Prelude.{◌≤◌, length, vec_capacity};
+    ghost use Rattle.line_split.specs.declared.TheConstants.{MOST_CLAIMS};
+    ghost use Rattle.line_split.specs.Claims.{AreClaims};
+    ghost use Rattle.line_split.specs.Roomed.{Roomed};
 
-    ghost view = { λ c. c.pairs.items };
+    ghost Value = { Roomed };
 
-    ghost invariant = { λ c. AreClaims c.pairs.items };
+    ghost view = { λ c. record { list = c.pairs.items; room = c.room } };
+
+    ghost invariant = { λ c. AreClaims c.pairs.items × (length c.pairs.items ≤ c.room) × (c.room ≤ MOST_CLAIMS) × (c.room ≤ vec_capacity c.pairs) };
 }
 
 impl Claims {
@@ -76,10 +83,11 @@ impl Claims {
     /// found first, then the first claim that is too large, then the first account that came before.
     pub fn of(alloc: Global, list: &[(Account, u32)]) -> Result<Claims, ClaimFault>
         requires { All (λ claim. RESIDUE < claim.0) list.now }
-        ensures same { IfOk result (λ claims. IsPermutation list.now claims) }
-        ensures sound { IfOk result AreClaims }
-        ensures shares { IfOk result (All (λ claim. claim.1 ≤ FULL_SHARE)) }
-        ensures in_order { IfOk result (λ claims. IsStrictlyIncreasing (map (λ claim. claim.0) list.now) → claims ≡ list.now) }
+        ensures same { IfOk result (λ claims. IsPermutation list.now claims.list) }
+        ensures sound { IfOk result (λ claims. AreClaims claims.list) }
+        ensures shares { IfOk result (λ claims. All (λ claim. claim.1 ≤ FULL_SHARE) claims.list) }
+        ensures in_order { IfOk result (λ claims. IsStrictlyIncreasing (map (λ claim. claim.0) list.now) → claims.list ≡ list.now) }
+        ensures room { IfOk result (λ claims. claims.room ≡ length claims.list) }
         ensures fault { IfErr result (IsFaultOf list.now) }
     {
         if list.len() > MOST_CLAIMS {
@@ -94,16 +102,55 @@ impl Claims {
         match list.to_vec(alloc) {
             Ok(pairs) => Ok(Claims {
                 pairs: by_account(pairs),
+                room: list.len(),
             }),
             Err(_) => Err(ClaimFault::Memory),
         }
     }
 
+    /// No claims, with room for `n` of them.
+    pub fn room(alloc: Global, n: usize) -> Result<Claims, AllocError>
+        requires { n ≤ MOST_CLAIMS }
+        ensures { IfOk result (λ claims. claims ≡ record { list = []; room = n }) }
+    {
+        Ok(Claims {
+            pairs: Vec::with_capacity(alloc, n)?,
+            room: n,
+        })
+    }
+
+    /// How many claims there is room for, whatever is in it.
+    pub fn spare(&self) -> usize
+        ensures room { result ≡ self.now.room }
+        ensures few { result ≤ MOST_CLAIMS }
+    {
+        self.room
+    }
+
     /// The pairs of an account and its claim, by rising account.
     pub fn list(&self) -> &[(Account, u32)]
-        ensures value { result.now ≡ self.now }
-        ensures sound { AreClaims self.now }
+        ensures value { result.now ≡ self.now.list }
+        ensures sound { AreClaims self.now.list }
     {
         self.pairs.as_slice()
+    }
+
+    /// Takes all claims out. The room stays.
+    pub fn clear(&mut self)
+        ensures { self.new ≡ record { list = []; room = self.old.room } }
+    {
+        self.pairs.clear();
+    }
+
+    /// Adds a claim last, in hundredths of a per cent: that of an account above all others in the
+    /// list, at most 100.06 per cent.
+    pub fn push(&mut self, account: Account, claim: u32)
+        requires account { RESIDUE < account }
+        requires rising { All (λ other. other.0 < account) self.old.list }
+        requires claim { claim ≤ MOST_CLAIMED }
+        requires room { length self.old.list < self.old.room }
+        ensures { self.new ≡ record { list = self.old.list ++ (account, claim) ∷ []; room = self.old.room } }
+    {
+        self.pairs.push_reserved((account, claim));
     }
 }

@@ -64,8 +64,8 @@ impl Portions {
 /// claim, in the order of the claims, and last that of the residue account; 0 is a portion too.
 pub fn split(amount: u64, claims: &Claims, portions: &mut Portions)
     requires in_range { amount ≤ MOST_AMOUNT }
-    requires room { length claims.now + 1 ≤ portions.old.room }
-    ensures portions { portions.new.list ≡ portions_of amount claims.now }
+    requires room { length claims.now.list + 1 ≤ portions.old.room }
+    ensures portions { portions.new.list ≡ portions_of amount claims.now.list }
     ensures adds_up { sum_by (λ portion. portion.1) portions.new.list ≡ amount }
     ensures room { portions.new.room ≡ portions.old.room }
 {

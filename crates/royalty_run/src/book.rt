@@ -19,8 +19,8 @@ pub fn book_of(
     accounts: u16,
 ) -> Result<Book, AllocError>
     requires some { 0 < accounts }
-    requires claims { All (λ claim. claim.0 < accounts) claims.now }
-    ensures { IfOk result (IsBookOf (λ line. portions_of line.amount claims.now) usage.now accounts) }
+    requires claims { All (λ claim. claim.0 < accounts) claims.now.list }
+    ensures { IfOk result (IsBookOf (λ line. portions_of line.amount claims.now.list) usage.now accounts) }
 {
     let mut book = Book::open(alloc, accounts)?;
     let mut portions = Portions::room(alloc, claims.list().len() + 1)?;

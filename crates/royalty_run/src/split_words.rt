@@ -94,7 +94,7 @@ fn claims_of(alloc: Global, words: &[String]) -> Result<Claims, PairFault>
     requires few { length words.now ≤ MOST_CLAIMS }
     requires pairs { All IsPair (map string_bytes words.now) }
     requires named_once { (i : ℕ) → ¬ IsNamedBefore (map string_bytes words.now) i }
-    ensures claims { IfOk result (λ claims. claims ≡ claims_made (map string_bytes words.now)) }
+    ensures claims { IfOk result (λ claims. claims.list ≡ claims_made (map string_bytes words.now)) }
     ensures sound { IfOk result (λ _. AreSound (map string_bytes words.now)) }
     ensures fault { IfErr result (IsFaultOf (map string_bytes words.now)) }
 {

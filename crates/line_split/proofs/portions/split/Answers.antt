@@ -30,7 +30,7 @@ pub returns-clause-portions : goal.returns-clause-portions
 returns-clause-portions c =
     let same_list : c.as_mut_slice-2.result.now ≡ c.as_slice.result.now = c.as_mut_slice-2.ensures.value ∙ sym c.as_slice.ensures.value in
     let turns = ap (λ (l : List Turn). map seen l) c.as_mut_slice.ensures.value ∙ c.line_up-left.ensures.turns in
-    let portions : c.round.new.list ≡ portions_of c.args.amount c.args.claims.now =
+    let portions : c.round.new.list ≡ portions_of c.args.amount c.args.claims.now.list =
     c.round.ensures
     ∙ (ap (rounded c.args.amount c.enter-base.result c.last_served-last.result) same_list
     ∙ (divided c.args.amount c.enter-base.result c.line_up-left.result c.list.result.now c.as_slice.result.now c.as_mut_slice.result.now c.last_served-last.result
@@ -43,4 +43,4 @@ returns-clause-portions c =
 
 pub returns-clause-adds_up : goal.returns-clause-adds_up
 returns-clause-adds_up c =
-    ap (λ (l : List (ℕ × ℕ)). sum_by (λ portion. portion.1) l) (returns-clause-portions c) ∙ (portions_are_fair c.args.amount c.args.claims.now).adds_up
+    ap (λ (l : List (ℕ × ℕ)). sum_by (λ portion. portion.1) l) (returns-clause-portions c) ∙ (portions_are_fair c.args.amount c.args.claims.now.list).adds_up

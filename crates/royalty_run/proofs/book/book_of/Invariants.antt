@@ -5,4 +5,4 @@ use Rattle.royalty_run.proofs.book.book_of.Given as goal
 
 -- the statements of the lines so far
 abbrev pub invariant-loop-place : goal.invariant-loop-place
-invariant-loop-place l = IsBookOf (λ line. portions_of line.amount l.claims) (take l.place l.usage) l.accounts l.book × (l.portions.room ≡ length l.claims + 1)
+invariant-loop-place l = IsBookOf (λ line. portions_of line.amount l.claims.list) (take l.place l.usage) l.accounts l.book × (l.portions.room ≡ length l.claims.list + 1)

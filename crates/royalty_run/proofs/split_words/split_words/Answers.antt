@@ -18,5 +18,5 @@ pub rows-requires-clause-each : goal.rows-requires-clause-each
 rows-requires-clause-each c =
     let claims = ap (λ (l : List (ℕ × ℕ)). length l) c.in_ok-claims.ensures.claims ∙ (length-claims (map string_bytes c.args.words.now) ∙ length-map c.args.words.now string_bytes) in
     let portions = ap (λ (l : List (ℕ × ℕ)). length l) (c.list.ensures ∙ c.split.ensures.portions)
-    ∙ (length-portions c.args.amount (base_of c.in_ok-claims.claims) (participants_of c.in_ok-claims.claims) ∙ length-participants c.in_ok-claims.claims) in
+    ∙ (length-portions c.args.amount (base_of c.in_ok-claims.claims.list) (participants_of c.in_ok-claims.claims.list) ∙ length-participants c.in_ok-claims.claims.list) in
     omega (arith, claims, portions)
