@@ -1,6 +1,6 @@
 -- A table of territories (TIS): rows of a numeric code and the codes of its groups.
-use Rattle.std.specs.Prelude.{ℕ, ◌≡◌, ◌<◌, ◌≤◌, List, All, Contains, [], length, map, slice_index_or, take}
-use Rattle.std.specs.List.{AllPairs}
+use Rattle.std.specs.Prelude.{ℕ, ◌≡◌, ◌<◌, ◌≤◌, ◌==◌, ◌||◌, ◌∷◌, Bool, false, List, All, Contains, [], length, map, reverse, slice_index_or, take, if◌then◌else◌}
+use Rattle.std.specs.List.{AllPairs, list_any}
 use Rattle.tis_tree.specs.declared.TheConstants.{MOST_ROWS}
 use Rattle.csv_table.specs.declared.forms.TheConstants.{MOST_CODE}
 
@@ -16,6 +16,16 @@ IsGroupOf table group land = (groups : List ℕ) × Contains table (land, groups
 pub data Encloses (table : List (ℕ × List ℕ)) (group : ℕ) : ℕ → Type 0 where
   itself : IsKnown table group → Encloses table group group
   through : (land between : ℕ) → IsGroupOf table between land → Encloses table group between → Encloses table group land
+
+-- The same, worked out by looking from the last row back: a land's groups have rows before its own.
+unfoldable pub encloses_backwards : List (ℕ × List ℕ) → (group land : ℕ) → Bool
+encloses_backwards [] group land = false
+encloses_backwards (row ∷ before) group land =
+    if row.0 == land then (group == land) || list_any (λ between. encloses_backwards before group between) row.1
+    else encloses_backwards before group land
+
+abbrev pub encloses : List (ℕ × List ℕ) → (group land : ℕ) → Bool
+encloses table group land = encloses_backwards (reverse table) group land
 
 -- the row at a place
 abbrev pub row_at : List (ℕ × List ℕ) → ℕ → ℕ × List ℕ

@@ -4,7 +4,7 @@ ghost use Rattle.std.specs.Prelude.{◌≡◌, ◌≤◌, ◌<◌, ◌+◌, ◌�
 ghost use Rattle.csv_table.specs.Forms.{IsCode, number_of};
 ghost use Rattle.csv_table.specs.Table.{rows_of};
 ghost use Rattle.tis_tree.specs.Compiled.{has_bit};
-ghost use Rattle.tis_tree.specs.Territories.{AreTerritories, Encloses, IsKnown, row_at};
+ghost use Rattle.tis_tree.specs.Territories.{AreTerritories, Encloses, IsKnown, encloses, row_at};
 ghost use Rattle.tis_tree.specs.TisRows.{IsFaultOf, IsFaultOfRow, IsTableOf, IsTerritory, territory_of, words_of};
 
 use crate::places::Places;
@@ -78,7 +78,8 @@ impl TisTable {
     /// Whether a group contains a land: both have rows, and the group is the land or contains a group
     /// of it. A look at one bit.
     pub fn contains(&self, group: Code, land: Code) -> bool
-        ensures { IsTrue result ↔ Encloses self.now group land }
+        ensures contains { IsTrue result ↔ Encloses self.now group land }
+        ensures worked_out { result ≡ encloses self.now group land }
     {
         match (self.place(group.number()), self.place(land.number())) {
             (Some(group), Some(land)) => self.enclosing[land].has(group as u16),
