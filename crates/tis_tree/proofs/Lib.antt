@@ -4,3 +4,4 @@ pub mod Enclosing
 mod GroupWords
 pub mod Pieces
 mod TisWalks
+pub mod WorkedOut

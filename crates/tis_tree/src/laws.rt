@@ -1,8 +1,8 @@
 //! What containment of territories keeps to, whatever the table. A law has an empty body: its
 //! contract is the law.
 
-ghost use Rattle.std.specs.Prelude.{◌≡◌, ◌↔◌, ◌++◌, ◌∷◌, [], ℕ, List};
-ghost use Rattle.tis_tree.specs.Territories.{AreTerritories, Encloses, IsKnown};
+ghost use Rattle.std.specs.Prelude.{◌≡◌, ◌↔◌, ◌++◌, ◌∷◌, [], true, ℕ, List};
+ghost use Rattle.tis_tree.specs.Territories.{AreTerritories, Encloses, IsKnown, encloses};
 
 /// A code contains itself where it has a row, and only there.
 pub fn law_a_code_contains_itself()
@@ -27,4 +27,9 @@ pub fn law_an_unknown_code_is_apart()
 /// A row more at the end changes nothing in what contains a code before it.
 pub fn law_a_later_row_changes_nothing()
     ensures { (table : List (ℕ × List ℕ)) (row : ℕ × List ℕ) (group land : ℕ) → AreTerritories (table ++ row ∷ []) → IsKnown table land → Encloses (table ++ row ∷ []) group land ↔ Encloses table group land }
+{}
+
+/// What contains what can be worked out, by looking from the last row back.
+pub fn law_containment_can_be_worked_out()
+    ensures { (table : List (ℕ × List ℕ)) (group land : ℕ) → AreTerritories table → (encloses table group land ≡ true) ↔ Encloses table group land }
 {}
