@@ -1,0 +1,493 @@
+-- What a party's share lines come to, from the last line back.
+use Rattle.std.proofs.Common.{◌≡◌, ◌∙◌, ◌≤◌, ◌<◌, ◌+◌, ◌*◌, ◌-◌, ◌++◌, ◌∷◌, ◌⊎◌, [], ℕ, Bool, true, false, List, Option, Some, None, All, AllPairs, Contains, zero, suc, drop, filter, find, length, take, map, get_or, ltb, nat_eq, nat_le, not, option_map, sum_by, append-nil, ap, sym, refl, subst, inl, inr, arith}
+use Rattle.std.specs.Prelude.{Any, IsTrue, ◌↔◌, ◌==◌, ◌&&◌, if◌then◌else◌}
+use Rattle.std.specs.List.{enumerate_from, list_any, range_with_len}
+use Rattle.std.specs.Option.{option_eq}
+use Rattle.std.specs.Cmp.Lexicographic.{pointwise}
+use Rattle.std.proofs.lemmas.Bool.{cases_Bool, false_from_ne_true, le-leb, le-ltb, leb-false, leb-true, lt-leb, lt-ltb, false≢true, cases_eq, and_parts, and_right, eqb-true, eqb-false, eq-eqb, ne_eqb}
+use Rattle.std.proofs.lemmas.Bool.Decides.{same_from_decides}
+use Rattle.std.proofs.lemmas.List.{get_or-map, get_or_default, length-map, length-drop, length-take-le, drop_more, get_or-drop, get_or-take, same_lists, take_all}
+use Rattle.std.proofs.lemmas.List.Elements.{All-contains, All-filter, All-map, All-tail, filter_more, filter_passes}
+use Rattle.std.proofs.lemmas.List.Kept.{AllPairs-filter}
+use Rattle.std.proofs.lemmas.List.Folds.{Any-from_list_any, list_any_at, list_any_none}
+use Rattle.std.proofs.lemmas.List.FromFn.{get_or-enumerate_from, get_or-map-range_with_len, length-enumerate_from, length-map-range_with_len}
+use Rattle.std.proofs.lemmas.List.Sums.{count_by-le-length, length-filter, sum_by-cons, sum_by-take-le, sum_by_more}
+use Rattle.std.proofs.lemmas.Slice.Eq.{bytes_eq-Decides}
+use Rattle.csv_table.specs.declared.forms.TheConstants.{MOST_CODE}
+use Rattle.tis_tree.specs.Territories.{AreTerritories, IsKnown, row_at}
+use Rattle.tis_tree.proofs.Enclosing.{at_known, known_at}
+use Rattle.line_split.specs.Claims.{total_of}
+use Rattle.line_split.specs.declared.TheConstants.{FULL_SHARE, MOST_CLAIMED}
+use Rattle.line_split.specs.declared.reason.Reason.TheVariants.{Land, Over, Work}
+use Rattle.line_split.specs.declared.usage.Line.{Line}
+use Rattle.line_split.specs.declared.usage.Right.{Right}
+use Rattle.line_split.specs.declared.usage.Right.TheVariants.{P, M, S}
+use Rattle.cwr_share.specs.ClaimsOn.{claim_of, claims_among, claims_by, claims_on, covers, deciding, is_alike, is_known, reason_against, share_for}
+use Rattle.cwr_share.specs.Compiled.{InterestsRise, IsCompiled, claims_of_payees, lines_at, lines_of_party, seen}
+use Rattle.cwr_share.specs.declared.registration.Payee.{Payee}
+use Rattle.cwr_share.specs.declared.registration.Registration.{Registration}
+use Rattle.cwr_share.specs.Registered.{IsShareLine, Registered}
+use Rattle.cwr_share.specs.Registrations.{ShareLine, find_work}
+use Rattle.cwr_share.proofs.CompiledLemmas.{LookedUp, AllPairs-head, AllPairs-tail, contains_cases, lines_of_party_none, same_text}
+
+-- no share is over 100.00 per cent
+pub share_small : (right : Right) (line : ShareLine) → IsShareLine line → share_for right line ≤ FULL_SHARE
+share_small right line good = elim (cases_Bool line.includes) [
+  | inl includes ↦ rw includes (by right)
+  | inr excludes ↦ rw excludes (omega arith)
+]
+  where
+    by : (right : Right) → share_for right (record line { includes = true }) ≤ FULL_SHARE
+    by P = good.performing
+    by M = good.mechanical
+    by S = good.synchronisation
+
+-- two lines of one party, of which the later has no lower interest
+abbrev pub IsAlike : ShareLine → ShareLine → Type 0
+IsAlike line later = (line.party ≡ later.party) × (line.interest ≤ later.interest)
+
+module _ (table : List (ℕ × List ℕ)) (land : ℕ) where
+  -- the interest of the first line whose territory contains the land
+  abbrev pub decided_by : List ShareLine → Option ℕ
+  decided_by lines = option_map (λ line. line.interest) (find (covers table land) lines)
+
+  -- a later line of the interest and party whose territory contains the land
+  abbrev pub has_later : ShareLine → List ShareLine → Bool
+  has_later line later = list_any (λ other. is_alike line other && covers table land other) later
+
+  -- among the lines of a party the first one that contains the land tells
+  pub decided_tells : (line : ShareLine) (later : List ShareLine) → All (IsAlike line) later → AllPairs IsAlike later → option_eq nat_eq (decided_by later) (Some line.interest) ≡ has_later line later
+  decided_tells line [] alike pairs = refl
+  decided_tells line (other ∷ later) alike pairs =
+      let (party, low) = alike 0 other (omega arith) in
+      let above : All (IsAlike other) later = AllPairs-head IsAlike other later pairs in
+      let rest = decided_tells line later (All-tail (IsAlike line) other later alike) (AllPairs-tail IsAlike other later pairs) in
+      elim (cases_Bool (covers table land other)) [
+        | inr apart ↦ rw (apart, and_right (is_alike line other) false refl) rest
+        | inl here ↦ elim (cases_eq line.interest other.interest) [
+          | inl same ↦
+              let first : (other.interest == line.interest) ≡ true = eq-eqb other.interest line.interest (sym same) in
+              let second : (line.interest == other.interest) ≡ true = eq-eqb line.interest other.interest same in
+              rw (here, first, second, same_text line.party other.party party) refl
+          | inr different ↦
+              let first : (other.interest == line.interest) ≡ false = ne_eqb other.interest line.interest (λ same. different (sym same)) in
+              let second : (line.interest == other.interest) ≡ false = ne_eqb line.interest other.interest different in
+              let none : has_later line later ≡ false = list_any_none (λ other. is_alike line other && covers table land other) later
+              (λ k d within.
+              let apart : (line.interest == (get_or later k d).interest) ≡ false =
+              ne_eqb line.interest (get_or later k d).interest (λ same. different (let high = (above k d within).1 in omega (arith, high, low, same))) in
+              rw apart refl) in
+              rw (here, first, second, none) refl
+        ]
+      ]
+
+  -- what some lines come to, and the interest of the first of them whose territory contains the land
+  pub record Claimed (right : Right) (lines : List ShareLine) (claim : ℕ) (decided : Option ℕ) (count : ℕ) : Type 0 where
+    pub sum : claim ≡ sum_by (share_for right) (deciding table land lines)
+    pub small : claim ≤ count * FULL_SHARE
+    pub first : decided ≡ decided_by lines
+
+  pub claimed_none : (right : Right) → Claimed right [] 0 None 0
+  unfolding deciding
+  claimed_none right = record { sum = refl; small = omega arith; first = refl }
+
+  module _ (right : Right) (line : ShareLine) (later : List ShareLine) (claim : ℕ) (decided : Option ℕ) (count : ℕ) (alike : AllPairs IsAlike (line ∷ later))
+      (good : IsShareLine line) (claimed : Claimed right later claim decided count) where
+    -- whether a line after it decides
+    tells : option_eq nat_eq decided (Some line.interest) ≡ has_later line later
+    tells = rw claimed.first (decided_tells line later (AllPairs-head IsAlike line later alike) (AllPairs-tail IsAlike line later alike))
+
+    -- the line decides
+    pub claimed_more : option_eq nat_eq decided (Some line.interest) ≡ false → covers table land line ≡ true → Claimed right (line ∷ later) (claim + share_for right line) (Some line.interest) (count + 1)
+    unfolding deciding
+    claimed_more new here =
+        let none : has_later line later ≡ false = sym tells ∙ new in
+        record {
+          sum = rw (here, none) (omega (arith, claimed.sum, sum_by-cons (share_for right) line (deciding table land later)));
+          small = omega (arith, claimed.small, share_small right line good);
+          first = rw here refl;
+        }
+
+    -- its territory does not contain the land
+    pub claimed_apart : covers table land line ≡ false → Claimed right (line ∷ later) claim decided (count + 1)
+    unfolding deciding
+    claimed_apart apart = record { sum = rw apart claimed.sum; small = omega (arith, claimed.small); first = rw apart claimed.first }
+
+    -- a later line decides
+    pub claimed_before : option_eq nat_eq decided (Some line.interest) ≡ true → Claimed right (line ∷ later) claim decided (count + 1)
+    unfolding deciding
+    claimed_before old = elim (cases_Bool (covers table land line)) [
+      | inr apart ↦ claimed_apart apart
+      | inl here ↦
+          let some : has_later line later ≡ true = sym tells ∙ old in
+          record { sum = rw (here, some) claimed.sum; small = omega (arith, claimed.small); first = rw here (same_option decided line.interest old) }
+    ]
+      where
+        same_option : (decided : Option ℕ) (interest : ℕ) → option_eq nat_eq decided (Some interest) ≡ true → decided ≡ Some interest
+        same_option None interest told = absurd (false≢true told)
+        same_option (Some other) interest told = ap Some (eqb-true other interest told)
+
+-- as many lines as places
+pub length-lines_at : (lines : List ShareLine) (places : List ℕ) → length (lines_at lines places) ≡ length places
+length-lines_at lines places = length-map places _
+
+-- what is left of a list whose pairs are related
+AllPairs-drop : {X : Type 0} (R : X → X → Type 0) (n : ℕ) (xs : List X) → AllPairs R xs → AllPairs R (drop n xs)
+AllPairs-drop R n xs pairs = λ i j d before within. rw (get_or-drop n xs i d, get_or-drop n xs j d) (pairs (n + i) (n + j) d (omega (arith, before)) (omega (arith, within, length-drop n xs)))
+
+module _ (lines : List ShareLine) (places : List ℕ) (count : ℕ) (line : ShareLine) (some : count < length places) (within : All (λ place. place < length lines) places)
+    (is : line ≡ get_or lines (get_or places (length places - 1 - count) 0) line) where
+  -- one line more from the last one back
+  pub next_line : drop (length places - (count + 1)) (lines_at lines places) ≡ line ∷ drop (length places - count) (lines_at lines places)
+  next_line =
+      let place = length places - 1 - count in
+      let inside : place < length places = omega arith in
+      let here : get_or (lines_at lines places) place line ≡ line = get_or-map _ places place 0 line inside ∙ (get_or_default lines (get_or places place 0) _ line (within place 0 inside) ∙ sym is) in
+      let first : length places - (count + 1) ≡ place = omega arith in
+      let second : place + 1 ≡ length places - count = omega arith in
+      rw (first, sym second) (drop_more (lines_at lines places) place line (omega (arith, length-lines_at lines places)) ∙ ap (λ l. l ∷ drop (place + 1) (lines_at lines places)) here)
+
+  -- it is alike with those after it
+  pub next_alike : AllPairs IsAlike (lines_at lines places) → AllPairs IsAlike (line ∷ drop (length places - count) (lines_at lines places))
+  next_alike alike = rw next_line at (AllPairs-drop IsAlike (length places - (count + 1)) (lines_at lines places) alike)
+
+  -- it is in its limits
+  pub next_good : All IsShareLine lines → IsShareLine line
+  next_good all =
+      let place = length places - 1 - count in
+      let inside : place < length places = omega arith in
+      subst IsShareLine (sym is) (all (get_or places place 0) line (within place 0 inside))
+
+-- whether a claim is not 0
+abbrev pub counts : ℕ × ℕ → Bool
+counts claim = not (claim.1 == 0)
+
+module _ (all : List (ℕ × ℕ)) where
+  -- the first of some claims, those that are not 0, and what they come to
+  pub record Gathered (list : List (ℕ × ℕ)) (total n : ℕ) : Type 0 where
+    pub kept : list ≡ filter counts (take n all)
+    pub sum : total ≡ total_of (take n all)
+    pub small : total ≤ MOST_CLAIMED
+
+  pub gathered_none : Gathered [] 0 0
+  gathered_none = record { kept = refl; sum = refl; small = omega arith }
+
+  -- there is room for one more
+  pub gathered_few : (list : List (ℕ × ℕ)) (total n : ℕ) → Gathered list total n → n < length all → length list < length all
+  gathered_few list total n gathered left =
+      let first : length (take n all) ≡ n = length-take-le n all (omega arith) in
+      omega (arith, ap (λ (l : List (ℕ × ℕ)). length l) gathered.kept, length-filter counts (take n all), count_by-le-length counts (take n all), first)
+
+  -- where no claim is left, these are all
+  pub gathered_all : (list : List (ℕ × ℕ)) (total n : ℕ) → Gathered list total n → length all ≤ n → (nat_le (total_of all) MOST_CLAIMED ≡ true) × (list ≡ filter counts all)
+  gathered_all list total n gathered last =
+      let whole : take n all ≡ all = take_all n all last in
+      let sum : total ≡ total_of all = gathered.sum ∙ ap total_of whole in
+      (le-leb (total_of all) MOST_CLAIMED (omega (arith, gathered.small, sum)), gathered.kept ∙ ap (filter counts) whole)
+
+  module _ (list : List (ℕ × ℕ)) (total n : ℕ) (claim : ℕ × ℕ) (gathered : Gathered list total n) (left : n < length all) (is : get_or all n claim ≡ claim) where
+    next_sum : total + claim.1 ≡ total_of (take (n + 1) all)
+    next_sum = omega (arith, gathered.sum, sum_by_more (λ (claim : ℕ × ℕ). claim.1) all n claim left, ap (λ (claim : ℕ × ℕ). claim.1) is)
+
+    -- a claim more
+    pub gathered_more : 0 < claim.1 → total + claim.1 ≤ MOST_CLAIMED → Gathered (list ++ claim ∷ []) (total + claim.1) (n + 1)
+    gathered_more some small =
+        let test : (claim.1 == 0) ≡ false = ne_eqb claim.1 0 (λ none. absurd (omega arith)) in
+        record {
+          kept = rw (filter_more counts all n claim left, is, test) (ap (λ l. l ++ claim ∷ []) gathered.kept);
+          sum = next_sum;
+          small = small;
+        }
+
+    -- a claim of 0 is left out
+    pub gathered_zero : claim.1 ≡ 0 → total + claim.1 ≤ MOST_CLAIMED → Gathered list (total + claim.1) (n + 1)
+    gathered_zero none small =
+        let test : (claim.1 == 0) ≡ true = eq-eqb claim.1 0 none in
+        record {
+          kept = rw (filter_more counts all n claim left, is, test) (gathered.kept ∙ sym (append-nil (filter counts (take n all))));
+          sum = next_sum;
+          small = small;
+        }
+
+    -- the claims come to too much
+    pub gathered_over : MOST_CLAIMED < total + claim.1 → nat_le (total_of all) MOST_CLAIMED ≡ false
+    gathered_over over = lt-leb (total_of all) MOST_CLAIMED (omega (arith, next_sum, sum_by-take-le (λ (claim : ℕ × ℕ). claim.1) all (n + 1), over))
+
+-- the payee at a place, as it is seen
+pub seen_at : (payees : List Payee) (k : ℕ) (payee : Payee) → k < length payees → payee ≡ get_or payees k payee → get_or (map seen payees) k (seen payee) ≡ seen payee
+seen_at payees k payee within is = get_or-map seen payees k payee (seen payee) within ∙ ap seen (sym is)
+
+-- what holds of each payee holds of it
+pub at_payee : (Holds : ℕ × List ℕ → Type 0) (payees : List Payee) (k : ℕ) (payee : Payee) → All Holds (map seen payees) → k < length payees → payee ≡ get_or payees k payee → Holds (seen payee)
+at_payee Holds payees k payee all within is = subst Holds (seen_at payees k payee within is) (all k (seen payee) (omega (arith, within, length-map payees seen)))
+
+module _ (table : List (ℕ × List ℕ)) (land : ℕ) (right : Right) (lines : List ShareLine) where
+  -- as many claims as payees
+  pub length-claims : (payees : List Payee) → length (claims_of_payees table land right lines (map seen payees)) ≡ length payees
+  length-claims payees = length-map (map seen payees) _ ∙ length-map payees seen
+
+  module _ (payees : List Payee) (k : ℕ) (payee : Payee) (within : k < length payees) (is : payee ≡ get_or payees k payee) where
+    inside : k < length (map seen payees)
+    inside = omega (arith, within, length-map payees seen)
+
+    -- the claim of a payee
+    pub claim_at : (claim : ℕ) → claim ≡ sum_by (share_for right) (deciding table land (lines_at lines payee.places.items))
+        → get_or (claims_of_payees table land right lines (map seen payees)) k (payee.account, claim) ≡ (payee.account, claim)
+    claim_at claim sum =
+        get_or-map _ (map seen payees) k (seen payee) (payee.account, claim) inside
+        ∙ (ap (λ (p : ℕ × List ℕ). (p.0, sum_by (share_for right) (deciding table land (lines_at lines p.1)))) (seen_at payees k payee within is)
+        ∙ ap (λ n. (payee.account, n)) (sym sum))
+
+    -- it is behind those of lower accounts
+    pub lower_accounts : AllPairs (λ payee later. payee.0 < later.0) (map seen payees)
+        → All (λ other. other.0 < payee.account) (filter counts (take k (claims_of_payees table land right lines (map seen payees))))
+    lower_accounts rising =
+        let all = claims_of_payees table land right lines (map seen payees) in
+        All-filter counts (λ other. other.0 < payee.account) (take k all)
+        (λ j d kept.
+        let before : j < k = omega (arith, kept, length-take-le k all (omega (arith, within, length-claims payees))) in
+        let this : get_or (take k all) j d ≡ get_or all j d = get_or-take k all j d before in
+        let there : j < length (map seen payees) = omega (arith, before, inside) in
+        let other : (get_or all j d).0 ≡ (get_or (map seen payees) j (seen payee)).0 = ap (λ (p : ℕ × ℕ). p.0) (get_or-map _ (map seen payees) j (seen payee) d there) in
+        let lower = rising j k (seen payee) before inside in
+        omega (arith, lower, ap (λ (p : ℕ × ℕ). p.0) this, other, ap (λ (p : ℕ × List ℕ). p.0) (seen_at payees k payee within is)))
+
+-- a test that only lines of a party pass, finds one among them
+list_any-filter : {X : Type 0} (test keep : X → Bool) → ((x : X) → test x ≡ true → keep x ≡ true) → (xs : List X) → list_any test (filter keep xs) ≡ list_any test xs
+list_any-filter test keep only [] = refl
+list_any-filter test keep only (x ∷ xs) = elim (cases_Bool (keep x)) [
+  | inl kept ↦ rw (kept, list_any-filter test keep only xs) refl
+  | inr left ↦
+      let fails : test x ≡ false = false_from_ne_true (test x) (λ passes. false≢true (sym left ∙ only x passes)) in
+      rw (left, fails) (list_any-filter test keep only xs)
+]
+
+module _ (table : List (ℕ × List ℕ)) (land : ℕ) where
+  -- the lines of a party that decide are those that decide among its lines
+  pub deciding_of_party : (party : List ℕ) (lines : List ShareLine) → lines_of_party party (deciding table land lines) ≡ deciding table land (lines_of_party party lines)
+  unfolding deciding
+  deciding_of_party party [] = refl
+  deciding_of_party party (line ∷ later) = by (cases_Bool (pointwise nat_eq line.party party)) (deciding_of_party party later)
+    where
+      of_party : ShareLine → Bool
+      of_party other = pointwise nat_eq other.party party
+
+      by : (pointwise nat_eq line.party party ≡ true) ⊎ (pointwise nat_eq line.party party ≡ false) → lines_of_party party (deciding table land later) ≡ deciding table land (lines_of_party party later)
+          → lines_of_party party (deciding table land (line ∷ later)) ≡ deciding table land (lines_of_party party (line ∷ later))
+      by (inr other) rest = rw other (elim (cases_Bool (covers table land line && not (has_later table land line later))) [
+        | inl decides ↦ rw (decides, other) rest
+        | inr not_it ↦ rw not_it rest
+      ])
+      by (inl its) rest =
+          let only : (other : ShareLine) → (is_alike line other && covers table land other) ≡ true → of_party other ≡ true =
+          λ other told.
+          let alike = (and_parts (is_alike line other) (covers table land other) told).0 in
+          let same = (bytes_eq-Decides line.party other.party).0 ((and_parts (line.interest == other.interest) (pointwise nat_eq line.party other.party) alike).1) in
+          same_text other.party party (sym same ∙ (bytes_eq-Decides line.party party).0 its) in
+          let among : has_later table land line (lines_of_party party later) ≡ has_later table land line later =
+          list_any-filter (λ other. is_alike line other && covers table land other) of_party only later in
+          rw (its, among) (elim (cases_Bool (covers table land line && not (has_later table land line later))) [
+            | inl decides ↦ rw (decides, its) (ap (λ l. line ∷ l) rest)
+            | inr not_it ↦ rw not_it rest
+          ])
+
+-- two functions that agree at each element
+map_agree : {X Y : Type 0} (f g : X → Y) (xs : List X) → All (λ x. f x ≡ g x) xs → map f xs ≡ map g xs
+map_agree f g [] agree = refl
+map_agree f g (x ∷ xs) agree = rw (agree 0 x (omega arith), map_agree f g xs (All-tail (λ x. f x ≡ g x) x xs agree)) refl
+
+map_twice : {X Y Z : Type 0} (f : X → Y) (g : Y → Z) (xs : List X) → map g (map f xs) ≡ map (λ x. g (f x)) xs
+map_twice f g [] = refl
+map_twice f g (x ∷ xs) = ap (λ l. g (f x) ∷ l) (map_twice f g xs)
+
+-- those that are not 0 come to what all come to
+pub total-counts : (claims : List (ℕ × ℕ)) → total_of (filter counts claims) ≡ total_of claims
+total-counts [] = refl
+total-counts (claim ∷ claims) =
+    let rest = total-counts claims in
+    let all = sum_by-cons (λ (claim : ℕ × ℕ). claim.1) claim claims in
+    elim (cases_eq claim.1 0) [
+      | inl none ↦ rw (eq-eqb claim.1 0 none) (omega (arith, rest, all, none))
+      | inr some ↦ rw (ne_eqb claim.1 0 some) (omega (arith, rest, all, sum_by-cons (λ (claim : ℕ × ℕ). claim.1) claim (filter counts claims)))
+    ]
+
+-- Accounts that rise give the claims that all accounts give, where those that are left out have no claim.
+pub merged : (g : ℕ → ℕ) (m from : ℕ) (accounts : List ℕ) → AllPairs (λ a b. a < b) accounts → All (λ a. (from ≤ a) × (a < from + m)) accounts
+    → ((a : ℕ) → from ≤ a → a < from + m → ¬ Contains accounts a → g a ≡ 0)
+    → filter counts (map (λ a. (a, g a)) accounts) ≡ filter counts (map (λ a. (a, g a)) (range_with_len from m))
+merged g zero from [] rising within left_out = refl
+merged g zero from (a ∷ accounts) rising within left_out = let (low, high) = within 0 a (omega arith) in absurd (omega (arith, low, high))
+merged g (suc m) from [] rising within left_out =
+    let none : g from ≡ 0 = left_out from (omega arith) (omega arith) (λ has. absurd (omega (arith, has.1))) in
+    rw (eq-eqb (g from) 0 none) (merged g m (from + 1) [] rising (λ k d inside. absurd (omega arith)) (λ a low high without. left_out a (omega arith) (omega arith) without))
+merged g (suc m) from (a ∷ accounts) rising within left_out =
+    let above : All (λ b. a < b) accounts = AllPairs-head (λ a b. a < b) a accounts rising in
+    let low : from ≤ a = (within 0 a (omega arith)).0 in
+    elim (cases_eq from a) [
+      | inl is ↦
+          let rest = merged g m (from + 1) accounts (AllPairs-tail (λ a b. a < b) a accounts rising)
+          (λ k d inside. let high = (within (suc k) d (omega arith)).1 in let more = above k d inside in (omega (arith, more, is), omega (arith, high)))
+          (λ b from_next to without. left_out b (omega arith) (omega arith)
+          (λ has. elim (contains_cases a b accounts has) [ inl same ↦ omega (arith, is, same, from_next) | inr later ↦ without later ])) in
+          subst (λ b. filter counts (map (λ a. (a, g a)) (b ∷ accounts)) ≡ filter counts (map (λ a. (a, g a)) (range_with_len from (suc m)))) is
+          (ap (λ l. if counts (from, g from) then (from, g from) ∷ l else l) rest)
+      | inr apart ↦
+          let none : g from ≡ 0 = left_out from (omega arith) (omega arith) (λ has. elim (contains_cases a from accounts has) [
+            | inl same ↦ apart (sym same)
+            | inr later ↦ let more = All-contains (λ b. a < b) accounts from above later in omega (arith, more, low)
+          ]) in
+          let rest = merged g m (from + 1) (a ∷ accounts) rising
+          (λ k d inside. (behind k d inside low apart above, let high = (within k d inside).1 in omega (arith, high)))
+          (λ b from_next to without. left_out b (omega arith) (omega arith) without) in
+          rw (eq-eqb (g from) 0 none) rest
+    ]
+  where
+    behind : (k d : ℕ) → k < length (a ∷ accounts) → from ≤ a → ¬ (from ≡ a) → All (λ b. a < b) accounts → from + 1 ≤ get_or (a ∷ accounts) k d
+    behind zero d inside low apart above = omega (arith, apart)
+    behind (suc k) d inside low apart above = let more = above k d (omega (arith, inside)) in omega (arith, more, low)
+
+module _ (table : List (ℕ × List ℕ)) (land : ℕ) (right : Right) (parties : List (List ℕ)) (lines : List ShareLine) (payees : List (ℕ × List ℕ)) (compiled : IsCompiled parties lines payees) where
+  -- the claim of an account
+  abbrev of_account : ℕ → ℕ
+  of_account account = claim_of table land right lines (get_or parties account [])
+
+  -- the claims of the payees are those of their accounts
+  by_account : claims_of_payees table land right lines payees ≡ map (λ account. (account, of_account account)) (map (λ payee. payee.0) payees)
+  by_account =
+      map_agree (λ (payee : ℕ × List ℕ). (payee.0, sum_by (share_for right) (deciding table land (lines_at lines payee.1)))) (λ payee. (payee.0, of_account payee.0)) payees
+      (λ k d within.
+      let payee = get_or payees k d in
+      let party = get_or parties payee.0 [] in
+      ap (λ n. (payee.0, n)) (ap (λ l. sum_by (share_for right) (deciding table land l)) (compiled.exact k d within) ∙ ap (sum_by (share_for right)) (sym (deciding_of_party table land party lines))))
+      ∙ sym (map_twice (λ (payee : ℕ × List ℕ). payee.0) (λ account. (account, of_account account)) payees)
+
+  -- an account without a payee has no claim
+  no_claim : (account : ℕ) → account < length parties → ¬ Contains (map (λ payee. payee.0) payees) account → of_account account ≡ 0
+  unfolding deciding
+  no_claim account inside without =
+      let party = get_or parties account [] in
+      let none = lines_of_party_none party lines (λ has. without (compiled.every account inside has)) in
+      ap (sum_by (share_for right)) (deciding_of_party table land party lines) ∙ ap (λ l. sum_by (share_for right) (deciding table land l)) none
+
+  -- the claims of the accounts from 1 on
+  abbrev one_by_one : List (ℕ × ℕ)
+  one_by_one = map (λ payee. (payee.0, claim_of table land right lines payee.1)) (enumerate_from 1 (drop 1 parties))
+
+  abbrev from_one : List (ℕ × ℕ)
+  from_one = map (λ account. (account, of_account account)) (range_with_len 1 (length (drop 1 parties)))
+
+  all_accounts : one_by_one ≡ from_one
+  all_accounts =
+      let n = length (drop 1 parties) in
+      let long : length one_by_one ≡ n = length-map (enumerate_from 1 (drop 1 parties)) _ ∙ length-enumerate_from 1 (drop 1 parties) in
+      same_lists one_by_one from_one (long ∙ sym (length-map-range_with_len _ 1 n)) (λ k d within.
+      let inside : k < n = omega (arith, within, long) in
+      let numbered : get_or (enumerate_from 1 (drop 1 parties)) k (0, []) ≡ (1 + k, get_or parties (1 + k) []) =
+      get_or-enumerate_from 1 (drop 1 parties) k (0, []) inside ∙ ap (λ (party : List ℕ). (1 + k, party)) (get_or-drop 1 parties k []) in
+      get_or-map _ (enumerate_from 1 (drop 1 parties)) k (0, []) d (omega (arith, inside, length-enumerate_from 1 (drop 1 parties)))
+      ∙ (ap (λ (e : ℕ × List ℕ). (e.0, claim_of table land right lines e.1)) numbered
+      ∙ sym (get_or-map-range_with_len (λ account. (account, of_account account)) 1 n k (1 + k) d inside refl)))
+
+  -- the claims of the payees that are not 0 are the claims of all parties that are not 0
+  pub same_claims : filter counts (claims_of_payees table land right lines payees) ≡ claims_among table land right lines (drop 1 parties)
+  same_claims =
+      let long : length (drop 1 parties) ≡ length parties - 1 = length-drop 1 parties in
+      let accounts = map (λ (payee : ℕ × List ℕ). payee.0) payees in
+      let rising : AllPairs (λ a b. a < b) accounts = λ i j d before within.
+      let inside : j < length payees = omega (arith, within, length-map payees (λ (payee : ℕ × List ℕ). payee.0)) in
+      let first = get_or-map (λ (payee : ℕ × List ℕ). payee.0) payees i (0, []) d (omega arith) in
+      let second = get_or-map (λ (payee : ℕ × List ℕ). payee.0) payees j (0, []) d inside in
+      let lower = compiled.rising i j (0, []) before inside in
+      omega (arith, first, second, lower) in
+      let known : All (λ a. (1 ≤ a) × (a < 1 + length (drop 1 parties))) accounts =
+      All-map (λ a. (1 ≤ a) × (a < 1 + length (drop 1 parties))) (λ (payee : ℕ × List ℕ). payee.0) payees
+      (λ k d within. let (some, inside) = compiled.accounts k d within in (some, omega (arith, inside, long))) in
+      ap (filter counts) by_account
+      ∙ (merged of_account (length (drop 1 parties)) 1 accounts rising known (λ account some inside without. no_claim account (omega (arith, some, inside, long)) without)
+      ∙ ap (filter counts) (sym all_accounts))
+
+-- the test of a territory tells whether it has a row
+pub known_tells : (table : List (ℕ × List ℕ)) (code : ℕ) → (is_known table code ≡ true) ↔ IsKnown table code
+known_tells table code = (λ told. to (Any-from_list_any test table told), λ known. back (known_at table code known))
+  where
+    test : ℕ × List ℕ → Bool
+    test row = row.0 == code
+
+    to : Any (λ row. test row ≡ true) table → IsKnown table code
+    to (place, row, within, is, told) = at_known table code place row within (ap (λ (r : ℕ × List ℕ). r.0) is ∙ eqb-true row.0 code told)
+
+    back : (place : ℕ) × (place < length table) × ((row_at table place).0 ≡ code) → is_known table code ≡ true
+    back (place, within, is) = list_any_at test table place (0, []) within (eq-eqb (row_at table place).0 code is)
+
+-- what says whether a territory has a row says what the test does
+pub known_is : (table : List (ℕ × List ℕ)) (code : ℕ) (told : Bool) → IsTrue told ↔ IsKnown table code → told ≡ is_known table code
+known_is table code told is = same_from_decides told (is_known table code) is (known_tells table code)
+
+-- a code out of range has no row
+pub out_of_range : (table : List (ℕ × List ℕ)) (code : ℕ) → AreTerritories table → ¬ ((0 < code) × (code ≤ MOST_CODE)) → is_known table code ≡ false
+out_of_range table code sound out = false_from_ne_true (is_known table code) (λ told.
+    let (place, within, is) = known_at table code ((known_tells table code).0 told) in
+    let (some, few) = sound.codes place (0, []) within in
+    out (omega (arith, some, is), omega (arith, few, is)))
+
+module _ (table : List (ℕ × List ℕ)) (registered : Registered) (line : Line) where
+  -- no registration in force has the work
+  pub against_work : find_work line.work registered.works ≡ None → (reason_against table registered line ≡ Some Work) × (claims_on table registered line ≡ [])
+  against_work none = rw none (refl, refl)
+
+  module _ (lines : List ShareLine) (works : find_work line.work registered.works ≡ Some lines) where
+    -- the territory is unknown
+    pub against_land : is_known table line.territory ≡ false → (reason_against table registered line ≡ Some Land) × (claims_on table registered line ≡ [])
+    against_land unknown = rw (works, unknown) (refl, refl)
+
+    -- the claims come to too much
+    pub against_over : is_known table line.territory ≡ true → nat_le (total_of (claims_by table registered line lines)) MOST_CLAIMED ≡ false
+        → (reason_against table registered line ≡ Some Over) × (claims_on table registered line ≡ [])
+    against_over known over =
+        let test : ltb MOST_CLAIMED (total_of (claims_by table registered line lines)) ≡ true = lt-ltb MOST_CLAIMED _ (leb-false _ MOST_CLAIMED over) in
+        rw (works, known, test) (refl, refl)
+
+    -- nothing stands against the claims
+    pub against_nothing : is_known table line.territory ≡ true → nat_le (total_of (claims_by table registered line lines)) MOST_CLAIMED ≡ true
+        → (reason_against table registered line ≡ None) × (claims_on table registered line ≡ claims_by table registered line lines)
+    against_nothing known within =
+        let test : ltb MOST_CLAIMED (total_of (claims_by table registered line lines)) ≡ false = le-ltb MOST_CLAIMED _ (leb-true _ MOST_CLAIMED within) in
+        rw (works, known, test) (refl, refl)
+
+-- the share lines of one party are alike, where interests do not fall
+pub alike_in_party : (party : List ℕ) (lines : List ShareLine) → InterestsRise lines → AllPairs IsAlike (lines_of_party party lines)
+alike_in_party party lines rise = λ i j d before within.
+    let of_party : ShareLine → Bool = λ line. pointwise nat_eq line.party party in
+    let kept = filter_passes of_party lines in
+    let first = get_or (lines_of_party party lines) i d in
+    let second = get_or (lines_of_party party lines) j d in
+    ((bytes_eq-Decides first.party party).0 (kept i d (omega arith)) ∙ sym ((bytes_eq-Decides second.party party).0 (kept j d within)),
+    AllPairs-filter (λ line later. line.interest ≤ later.interest) of_party lines rise i j d before within)
+
+-- no party has more places than there are lines
+pub few_places : (party : List ℕ) (lines : List ShareLine) (places : List ℕ) → lines_at lines places ≡ lines_of_party party lines → length places ≤ length lines
+few_places party lines places is =
+    let of_party : ShareLine → Bool = λ line. pointwise nat_eq line.party party in
+    omega (arith, length-lines_at lines places, ap (λ (l : List ShareLine). length l) is, length-filter of_party lines, count_by-le-length of_party lines)
+
+module _ (table : List (ℕ × List ℕ)) (registered : Registered) (line : Line) (registration : Registration) (land : ℕ) (up : LookedUp registered line.work registration)
+    (same : land ≡ line.territory) (known : is_known table line.territory ≡ true) where
+  -- the claims of its payees
+  abbrev of_payees : List (ℕ × ℕ)
+  of_payees = claims_of_payees table land line.right registration.shares.items (map seen registration.payees.items)
+
+  these : filter counts of_payees ≡ claims_by table registered line registration.shares.items
+  these = rw same (same_claims table line.territory line.right registered.parties registration.shares.items (map seen registration.payees.items) up.compiled)
+
+  total : total_of (claims_by table registered line registration.shares.items) ≡ total_of of_payees
+  total = ap total_of (sym these) ∙ total-counts of_payees
+
+  -- what a claim of too much comes to
+  pub answered_over : nat_le (total_of of_payees) MOST_CLAIMED ≡ false → (reason_against table registered line ≡ Some Over) × (claims_on table registered line ≡ [])
+  answered_over over = against_over table registered line registration.shares.items up.works known (ap (λ n. nat_le n MOST_CLAIMED) total ∙ over)
+
+  -- and one of no more
+  pub answered : nat_le (total_of of_payees) MOST_CLAIMED ≡ true → (reason_against table registered line ≡ None) × (claims_on table registered line ≡ filter counts of_payees)
+  answered within =
+      let (reason, claims) = against_nothing table registered line registration.shares.items up.works known (ap (λ n. nat_le n MOST_CLAIMED) total ∙ within) in
+      (reason, claims ∙ sym these)

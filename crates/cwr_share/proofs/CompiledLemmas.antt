@@ -1,0 +1,517 @@
+-- How a registration is compiled: the accounts of its parties, and the places of their share lines.
+use Rattle.std.proofs.Common.{◌≡◌, ◌==◌, ◌∙◌, ◌++◌, ◌⊎◌, inl, inr, ◌<◌, ◌≤◌, ◌+◌, ◌∷◌, [], ℕ, zero, suc, List, All, AllPairs, Contains, HoldsAt, IsSortedBy, filter, nat_eq, ltb, true, false, insert, length, map, position, get_or, set, take, drop, ap, sym, refl, append-nil, subst, arith, zero-le, one-add, lt_trans, ⊎_elim, Bool, Vec, Global, Some, None, zip, Ordering, Less, Equal, Greater, is_lt, nat_cmp}
+use Rattle.std.specs.List.{AllWithin, position_or_len}
+use Rattle.std.specs.List.Sorted.{IsNonDecreasingBy, IsPartitionPoint, IsStrictlySortedBy}
+use Rattle.std.specs.Cmp.Lexicographic.{pointwise, slice_cmp}
+use Rattle.std.specs.Ordering.{ordering_index, ordering_reverse}
+use Rattle.std.proofs.lemmas.Bool.{cases_Bool, cases_lt, cases_order, eq-eqb, le-ltb, lt-ltb, ltb-false, ltb-true, ne_eqb, false_from_ne_true}
+use Rattle.std.proofs.lemmas.Cmp.{nat_list_cmp_total, nat_list_eq_equiv, tied_itself}
+use Rattle.std.proofs.lemmas.List.{get_or_default, get_or-map, drop-map, get_or_append_left, get_or_push, length-map, length-take-le, length_push, map_push, map-append, map-set, take-map, take_more}
+use Rattle.std.proofs.lemmas.List.Elements.{All-cons, All-contains, All-map, Contains-get_or, recursion_from_All, All-head, All-nil, All-push, All-tail, Contains-push_cases, filter-append}
+use Rattle.std.proofs.lemmas.List.Kept.{AllPairs-cons}
+use Rattle.std.proofs.lemmas.List.Sorted.{searchable_from_sorted}
+use Rattle.std.proofs.lemmas.Map.Keys.{Less-from_sorted}
+use Rattle.std.proofs.lemmas.Map.Lookups.{exact_bytes}
+use Rattle.std.proofs.lemmas.Option.{cond_some, none-some}
+use Rattle.std.proofs.lemmas.Slice.Eq.{bytes_eq-Decides}
+use Rattle.cwr_share.specs.Compiled.{AreKept, InterestsRise, IsCompiled, lines_at, lines_of_party, registered_as, seen, with_place}
+use Rattle.cwr_share.specs.Registered.{IsRegistered, IsShareLine, Registered}
+use Rattle.cwr_share.specs.Registrations.{ShareLine, find_work}
+use Rattle.cwr_share.specs.declared.registration.Registration.{Registration}
+use Rattle.cwr_share.specs.declared.TheConstants.{MOST_SHARES}
+use Rattle.cwr_share.specs.declared.registration.Payee.{Payee}
+
+-- what holds of the text of an item at a place
+text_at : {X : Type 0} (text : X → List ℕ) (P : List ℕ → Type 0) (xs : List X) (place : ℕ) → place < length xs → HoldsAt (λ x. P (text x)) xs place → P (get_or (map text xs) place [])
+text_at text P [] place within holds = absurd (omega arith)
+text_at text P (x ∷ xs) place within holds = subst P (sym (get_or-map text (x ∷ xs) place x [] within)) (holds x)
+
+module _ {X : Type 0} (text : X → List ℕ) (xs : List X) (rising : IsStrictlySortedBy (slice_cmp nat_cmp) (map text xs)) where
+  -- texts that rise are sorted
+  sorted : IsSortedBy (λ a b. is_lt (slice_cmp nat_cmp (text a) (text b))) xs
+  sorted = λ k d low within.
+      let less : slice_cmp nat_cmp (get_or (map text xs) k []) (get_or (map text xs) (k + 1) []) ≡ Less =
+      Less-from_sorted (slice_cmp nat_cmp) (map text xs) k (k + 1) [] rising (omega arith) (omega (arith, length-map xs text)) in
+      let here : slice_cmp nat_cmp (text (get_or xs k d)) (text (get_or xs (k + 1) d)) ≡ Less =
+      rw (sym (get_or-map text xs k d [] (omega arith)), sym (get_or-map text xs (k + 1) d [] within)) less in
+      ap is_lt (nat_list_cmp_total.antisymm (text (get_or xs (k + 1) d)) (text (get_or xs k d)) ∙ ap ordering_reverse here)
+
+  -- so they can be searched
+  pub searchable : (party : List ℕ) → IsNonDecreasingBy (λ x. ordering_index (slice_cmp nat_cmp (text x) party)) xs
+  searchable party = searchable_from_sorted nat_list_cmp_total text xs party sorted
+
+  -- a search that finds a text finds its place
+  pub found : (party : List ℕ) (place : ℕ) → place < length xs → HoldsAt (λ x. slice_cmp nat_cmp (text x) party ≡ Equal) xs place → get_or (map text xs) place [] ≡ party
+  found party place within holds = text_at text (λ t. t ≡ party) xs place within (λ d. exact_bytes (text (get_or xs place d)) party (holds d))
+
+  -- a search that finds a gap says that the text is not there
+  pub not_found : (party : List ℕ) (place : ℕ) → IsPartitionPoint (λ x. slice_cmp nat_cmp (text x) party ≡ Less) (λ x. slice_cmp nat_cmp (text x) party ≡ Greater) xs place → ¬ Contains (map text xs) party
+  not_found party place gap (k, within, is) = by (cases_lt k place)
+    where
+      inside : k < length xs
+      inside = omega (arith, within, length-map xs text)
+
+      here : (o : Ordering) → HoldsAt (λ x. slice_cmp nat_cmp (text x) party ≡ o) xs k → Equal ≡ o
+      here o holds =
+          let at = text_at text (λ t. slice_cmp nat_cmp t party ≡ o) xs k inside holds in
+          let same : get_or (map text xs) k [] ≡ party = get_or_default (map text xs) k [] party within ∙ is in
+          sym (tied_itself nat_list_cmp_total party) ∙ (ap (λ t. slice_cmp nat_cmp t party) (sym same) ∙ at)
+
+      by : (k < place) ⊎ (place ≤ k) → ⊥
+      by (inl low) = let no = here Less (λ d. gap.0 k d zero-le low) in cc
+      by (inr high) = let no = here Greater (λ d. gap.1 k d high inside) in cc
+
+-- accounts that rise do not fall
+pub accounts_rise : (payees : List Payee) → AllPairs (λ payee later. payee.0 < later.0) (map seen payees) → IsNonDecreasingBy (λ payee. payee.account) payees
+accounts_rise payees rising = λ i j d low within. by i j d within (cases_lt i j) low
+  where
+    by : (i j : ℕ) (d : Payee) → j < length payees → (i < j) ⊎ (j ≤ i) → i ≤ j → (get_or payees i d).account ≤ (get_or payees j d).account
+    by i j d within (inl before) low =
+        let less = rising i j (0, []) before (omega (arith, length-map payees seen)) in
+        let first = get_or-map seen payees i d (0, []) (omega arith) in
+        let second = get_or-map seen payees j d (0, []) within in
+        omega (arith, ap (λ (p : ℕ × List ℕ). p.0) first, ap (λ (p : ℕ × List ℕ). p.0) second)
+    by i j d within (inr not_before) low = let same : i ≡ j = omega arith in rw same (omega arith)
+
+module _ (account place : ℕ) where
+  -- a payee of a lower account stays in front
+  behind_lower : (payee : ℕ × List ℕ) (later more : List (ℕ × List ℕ)) → payee.0 < account → more ≡ with_place account place later → payee ∷ more ≡ with_place account place (payee ∷ later)
+  behind_lower payee later more low rest =
+      let not_lower : ltb account payee.0 ≡ false = le-ltb account payee.0 (omega arith) in
+      let other : (account == payee.0) ≡ false = ne_eqb account payee.0 (λ same. absurd (omega arith)) in
+      rw (not_lower, other) (ap (λ (l : List (ℕ × List ℕ)). payee ∷ l) rest)
+
+  -- the place goes to the account's payee, behind those of lower accounts
+  pub placed_at : (payees : List (ℕ × List ℕ)) (at : ℕ) (places : List ℕ) (d : ℕ × List ℕ) → at < length payees → ((k : ℕ) → k < at → (get_or payees k d).0 < account)
+      → get_or payees at d ≡ (account, places) → set payees at (account, places ++ place ∷ []) ≡ with_place account place payees
+  placed_at [] at places d within before is = absurd (omega arith)
+  placed_at (payee ∷ later) zero places d within before is =
+      let whose : payee.0 ≡ account = ap (λ (p : ℕ × List ℕ). p.0) is in
+      let not_lower : ltb account payee.0 ≡ false = le-ltb account payee.0 (omega arith) in
+      let same : (account == payee.0) ≡ true = eq-eqb account payee.0 (sym whose) in
+      rw (not_lower, same, ap (λ (p : ℕ × List ℕ). p.1) is) refl
+  placed_at (payee ∷ later) (suc at) places d within before is =
+      let low : payee.0 < account = before 0 (omega arith) in
+      let rest = placed_at later at places d (omega arith) (λ k lt. before (suc k) (omega arith)) is in
+      behind_lower payee later (set later at (account, places ++ place ∷ [])) low rest
+
+  -- a payee more, behind those of lower accounts and before those of higher ones
+  pub placed_new : (payees : List (ℕ × List ℕ)) (at : ℕ) (d : ℕ × List ℕ) → at ≤ length payees → ((k : ℕ) → k < at → (get_or payees k d).0 < account)
+      → (at < length payees → account < (get_or payees at d).0) → insert payees at (account, place ∷ []) ≡ with_place account place payees
+  placed_new [] zero d within before after = refl
+  placed_new [] (suc at) d within before after = absurd (omega arith)
+  placed_new (payee ∷ later) zero d within before after =
+      let higher : ltb account payee.0 ≡ true = lt-ltb account payee.0 (after (omega arith)) in
+      rw higher refl
+  placed_new (payee ∷ later) (suc at) d within before after =
+      let rest = placed_new later at d (omega arith) (λ k lt. before (suc k) (omega arith)) (λ lt. after (omega arith)) in
+      behind_lower payee later (insert later at (account, place ∷ [])) (before 0 (omega arith)) rest
+
+module _ (payees : List Payee) (at account : ℕ) (split : IsPartitionPoint (λ payee. ltb payee.account account ≡ true) (λ payee. ltb payee.account account ≡ false) payees at) where
+  -- the accounts before the place are lower
+  lower : at ≤ length payees → (k : ℕ) → k < at → (get_or (map seen payees) k (0, [])).0 < account
+  lower within k before = by payees within k before split.0
+    where
+      by : (payees : List Payee) → at ≤ length payees → (k : ℕ) → k < at → AllWithin (λ payee. ltb payee.account account ≡ true) payees 0 at → (get_or (map seen payees) k (0, [])).0 < account
+      by [] within k before low = absurd (omega arith)
+      by (payee ∷ later) within k before low =
+          let here = ltb-true (get_or (payee ∷ later) k payee).account account (low k payee zero-le before) in
+          let same = get_or-map seen (payee ∷ later) k payee (0, []) (omega arith) in
+          omega (arith, here, ap (λ (p : ℕ × List ℕ). p.0) same)
+
+  -- where the payee at the place has the account, the place goes to it
+  pub place_added : (place : ℕ) (old new : Payee) → at < length payees → old ≡ get_or payees at old → old.account ≡ account → new.account ≡ account
+      → new.places.items ≡ old.places.items ++ place ∷ [] → map seen (set payees at new) ≡ with_place account place (map seen payees)
+  place_added place old new within is whose still more =
+      let same : seen new ≡ (account, old.places.items ++ place ∷ []) = cc in
+      let at_place : get_or (map seen payees) at (0, []) ≡ (account, old.places.items) = get_or-map seen payees at old (0, []) within ∙ (ap seen (sym is) ∙ ap (λ (a : ℕ). (a, old.places.items)) whose) in
+      map-set seen payees at new
+      ∙ (ap (set (map seen payees) at) same
+      ∙ placed_at account place (map seen payees) at old.places.items (0, []) (omega (arith, length-map payees seen)) (lower (omega arith)) at_place)
+
+  -- where none has it, a payee goes in there
+  pub payee_added : (place : ℕ) (new : Payee) → at ≤ length payees → (at < length payees → (old : Payee) → ¬ ((get_or payees at old).account ≡ account)) → new.account ≡ account
+      → new.places.items ≡ place ∷ [] → map seen (insert payees at new) ≡ with_place account place (map seen payees)
+  payee_added place new within other whose only =
+      let same : seen new ≡ (account, place ∷ []) = cc in
+      map-append seen (take at payees) (new ∷ drop at payees)
+      ∙ (ap (λ l. l ++ seen new ∷ map seen (drop at payees)) (sym (take-map seen at payees))
+      ∙ (ap (λ l. take at (map seen payees) ++ seen new ∷ l) (sym (drop-map seen at payees))
+      ∙ (ap (insert (map seen payees) at) same
+      ∙ placed_new account place (map seen payees) at (0, []) (omega (arith, length-map payees seen)) (lower within) higher)))
+    where
+      higher : at < length (map seen payees) → account < (get_or (map seen payees) at (0, [])).0
+      higher inside = by payees (omega (arith, inside, length-map payees seen)) split.1 other
+        where
+          by : (payees : List Payee) → at < length payees → AllWithin (λ payee. ltb payee.account account ≡ false) payees at (length payees)
+              → (at < length payees → (old : Payee) → ¬ ((get_or payees at old).account ≡ account)) → account < (get_or (map seen payees) at (0, [])).0
+          by [] inside high other = absurd (omega arith)
+          by (payee ∷ later) inside high other =
+              let here = ltb-false (get_or (payee ∷ later) at payee).account account (high at payee (omega arith) inside) in
+              let same = get_or-map seen (payee ∷ later) at payee (0, []) inside in
+              let apart = other inside payee in
+              omega (arith, here, apart, ap (λ (p : ℕ × List ℕ). p.0) same)
+
+-- the first and the others of a list whose pairs are related
+pub AllPairs-head : {X : Type 0} (R : X → X → Type 0) (x : X) (xs : List X) → AllPairs R (x ∷ xs) → All (R x) xs
+AllPairs-head R x xs pairs = λ k d within. pairs 0 (suc k) d (omega arith) (omega (arith, within))
+
+pub AllPairs-tail : {X : Type 0} (R : X → X → Type 0) (x : X) (xs : List X) → AllPairs R (x ∷ xs) → AllPairs R xs
+AllPairs-tail R x xs pairs = λ i j d before within. pairs (suc i) (suc j) d (omega (arith, before)) (omega (arith, within))
+
+-- an element in front
+contains_first : {X : Type 0} (x : X) (xs : List X) → Contains (x ∷ xs) x
+contains_first x xs = (0, omega arith, refl)
+
+pub contains_later : {X : Type 0} (x y : X) (xs : List X) → Contains xs y → Contains (x ∷ xs) y
+contains_later x y xs (k, within, is) = (suc k, omega (arith, within), is)
+
+pub contains_cases : {X : Type 0} (x y : X) (xs : List X) → Contains (x ∷ xs) y → (x ≡ y) ⊎ Contains xs y
+contains_cases x y xs (zero, within, is) = inl is
+contains_cases x y xs (suc k, within, is) = inr (k, omega (arith, within), is)
+
+-- payees by rising account
+abbrev Rising : List (ℕ × List ℕ) → Type 0
+Rising payees = AllPairs (λ payee later. payee.0 < later.0) payees
+
+module _ (account place : ℕ) where
+  -- where the place goes, by the first payee
+  place_goes : (payee : ℕ × List ℕ) (later : List (ℕ × List ℕ))
+      → ((account < payee.0) × (with_place account place (payee ∷ later) ≡ (account, place ∷ []) ∷ payee ∷ later))
+      ⊎ (((account ≡ payee.0) × (with_place account place (payee ∷ later) ≡ (account, payee.1 ++ place ∷ []) ∷ later))
+      ⊎ ((payee.0 < account) × (with_place account place (payee ∷ later) ≡ payee ∷ with_place account place later)))
+  place_goes payee later = elim (cases_order account payee.0) [
+    | inl is ↦
+        let not_lower : ltb account payee.0 ≡ false = le-ltb account payee.0 (omega arith) in
+        inr (inl (is, rw (not_lower, eq-eqb account payee.0 is) refl))
+    | inr (inl less) ↦ inl (less, rw (lt-ltb account payee.0 less) refl)
+    | inr (inr more) ↦ inr (inr (more, sym (behind_lower account place payee later (with_place account place later) more refl)))
+  ]
+
+  -- what holds of each payee once the place is added
+  each_with_place : (P Q : ℕ × List ℕ → Type 0) → ((payee : ℕ × List ℕ) → Q payee → ¬ (payee.0 ≡ account) → P payee)
+      → ((payee : ℕ × List ℕ) → Q payee → payee.0 ≡ account → P (account, payee.1 ++ place ∷ []))
+      → (payees : List (ℕ × List ℕ)) → (All (λ payee. ¬ (payee.0 ≡ account)) payees → P (account, place ∷ []))
+      → Rising payees → All Q payees → All P (with_place account place payees)
+  each_with_place P Q same more [] new rising all = All-cons P (account, place ∷ []) [] (new (All-nil (λ (payee : ℕ × List ℕ). ¬ (payee.0 ≡ account)))) (All-nil P)
+  each_with_place P Q same more (payee ∷ later) new rising all =
+      let above : All (λ other. payee.0 < other.0) later = AllPairs-head (λ payee other. payee.0 < other.0) payee later rising in
+      let first : Q payee = All-head Q payee later all in
+      let rest : All Q later = All-tail Q payee later all in
+      let behind : account ≤ payee.0 → All P later = λ low k d within. same (get_or later k d) (rest k d within) (λ is. absurd (omega (arith, above k d within, low, is))) in
+      elim (place_goes payee later) [
+        | inl (less, is) ↦
+            let apart : All (λ other. ¬ (other.0 ≡ account)) (payee ∷ later) =
+            All-cons (λ (other : ℕ × List ℕ). ¬ (other.0 ≡ account)) payee later (λ equal. absurd (omega (arith, less, equal))) (λ k d within equal. absurd (omega (arith, above k d within, less, equal))) in
+            rw is
+            (All-cons P (account, place ∷ []) (payee ∷ later) (new apart)
+            (All-cons P payee later (same payee first (λ equal. absurd (omega (arith, less, equal)))) (behind (omega (arith, less)))))
+        | inr (inl (equal, is)) ↦ rw is (All-cons P (account, payee.1 ++ place ∷ []) later (more payee first (sym equal)) (behind (omega (arith, equal))))
+        | inr (inr (greater, is)) ↦
+            let rest_placed = each_with_place P Q same more later
+            (λ apart. new (All-cons (λ (other : ℕ × List ℕ). ¬ (other.0 ≡ account)) payee later (λ equal. absurd (omega (arith, greater, equal))) apart))
+            (AllPairs-tail (λ payee other. payee.0 < other.0) payee later rising) rest in
+            rw is (All-cons P payee (with_place account place later) (same payee first (λ equal. absurd (omega (arith, greater, equal)))) rest_placed)
+      ]
+
+  -- the accounts still rise
+  rising_with_place : (payees : List (ℕ × List ℕ)) → Rising payees → Rising (with_place account place payees)
+  rising_with_place [] rising = λ i j d before within. absurd (omega arith)
+  rising_with_place (payee ∷ later) rising =
+      let R : ℕ × List ℕ → ℕ × List ℕ → Type 0 = λ payee other. payee.0 < other.0 in
+      let above = AllPairs-head R payee later rising in
+      let rest = AllPairs-tail R payee later rising in
+      elim (place_goes payee later) [
+        | inl (less, is) ↦
+            rw is
+            (AllPairs-cons R (account, place ∷ []) (payee ∷ later) (All-cons (λ other. account < other.0) payee later less (λ k d within. lt_trans less (above k d within))) rising)
+        | inr (inl (equal, is)) ↦ rw is (AllPairs-cons R (account, payee.1 ++ place ∷ []) later (λ k d within. rw equal (above k d within)) rest)
+        | inr (inr (greater, is)) ↦
+            rw is
+            (AllPairs-cons R payee (with_place account place later)
+            (each_with_place (R payee) (R payee) (λ other low apart. low) (λ other low equal. greater) later (λ apart. greater) rest above) (rising_with_place later rest))
+      ]
+
+  -- one payee more at most
+  few_with_place : (payees : List (ℕ × List ℕ)) → length (with_place account place payees) ≤ length payees + 1
+  few_with_place [] = omega arith
+  few_with_place (payee ∷ later) = elim (place_goes payee later) [
+    | inl (less, is) ↦ rw is (omega arith)
+    | inr (inl (equal, is)) ↦ rw is (omega arith)
+    | inr (inr (greater, is)) ↦ rw is (omega (arith, few_with_place later))
+  ]
+
+  -- each account that had a payee has one
+  still_there : (payees : List (ℕ × List ℕ)) (other : ℕ) → Contains (map (λ payee. payee.0) payees) other → Contains (map (λ payee. payee.0) (with_place account place payees)) other
+  still_there [] other has = absurd (omega (arith, has.1))
+  still_there (payee ∷ later) other has = elim (place_goes payee later) [
+    | inl (less, is) ↦ rw is (contains_later account other (payee.0 ∷ map (λ payee. payee.0) later) has)
+    | inr (inl (equal, is)) ↦ rw is (subst (λ a. Contains (a ∷ map (λ payee. payee.0) later) other) (sym equal) has)
+    | inr (inr (greater, is)) ↦
+        rw is
+        (⊎_elim (λ same. subst (Contains (payee.0 ∷ map (λ payee. payee.0) (with_place account place later))) same (contains_first payee.0 (map (λ payee. payee.0) (with_place account place later))))
+        (λ rest. contains_later payee.0 other (map (λ payee. payee.0) (with_place account place later)) (still_there later other rest))
+        (contains_cases payee.0 other (map (λ payee. payee.0) later) has))
+  ]
+
+  -- and the account too
+  now_there : (payees : List (ℕ × List ℕ)) → Contains (map (λ payee. payee.0) (with_place account place payees)) account
+  now_there [] = contains_first account []
+  now_there (payee ∷ later) = elim (place_goes payee later) [
+    | inl (less, is) ↦ rw is (contains_first account (payee.0 ∷ map (λ payee. payee.0) later))
+    | inr (inl (equal, is)) ↦ rw is (contains_first account (map (λ payee. payee.0) later))
+    | inr (inr (greater, is)) ↦ rw is (contains_later payee.0 account (map (λ payee. payee.0) (with_place account place later)) (now_there later))
+  ]
+
+-- texts are tested for being one
+pub same_text : (a b : List ℕ) → a ≡ b → pointwise nat_eq a b ≡ true
+same_text a b same = (bytes_eq-Decides a b).1 same
+
+pub other_text : (a b : List ℕ) → ¬ (a ≡ b) → pointwise nat_eq a b ≡ false
+other_text a b other = false_from_ne_true (pointwise nat_eq a b) (λ told. other ((bytes_eq-Decides a b).0 told))
+
+-- the lines of a party, with one line more
+lines_of_party_other : (party : List ℕ) (lines : List ShareLine) (line : ShareLine) → ¬ (line.party ≡ party) → lines_of_party party (lines ++ line ∷ []) ≡ lines_of_party party lines
+lines_of_party_other party lines line other =
+    filter-append (λ (line : ShareLine). pointwise nat_eq line.party party) lines (line ∷ []) ∙ rw (other_text line.party party other) (append-nil (lines_of_party party lines))
+
+lines_of_party_more : (party : List ℕ) (lines : List ShareLine) (line : ShareLine) → line.party ≡ party → lines_of_party party (lines ++ line ∷ []) ≡ lines_of_party party lines ++ line ∷ []
+lines_of_party_more party lines line same =
+    filter-append (λ (line : ShareLine). pointwise nat_eq line.party party) lines (line ∷ []) ∙ rw (same_text line.party party same) refl
+
+-- a party that no line has, has no lines
+pub lines_of_party_none : (party : List ℕ) (lines : List ShareLine) → ¬ Contains (map (λ line. line.party) lines) party → lines_of_party party lines ≡ []
+lines_of_party_none party [] none = refl
+lines_of_party_none party (line ∷ lines) none =
+    let other : ¬ (line.party ≡ party) = λ same. none (0, omega arith, same) in
+    rw (other_text line.party party other) (lines_of_party_none party lines (λ has. none (contains_later line.party party (map (λ line. line.party) lines) has)))
+
+-- the lines at places are the same in a longer list
+lines_at_longer : (lines : List ShareLine) (line : ShareLine) (places : List ℕ) → All (λ place. place < length lines) places → lines_at (lines ++ line ∷ []) places ≡ lines_at lines places
+lines_at_longer lines line [] within = refl
+lines_at_longer lines line (place ∷ places) within =
+    rw (get_or_append_left lines (line ∷ []) _ place (within 0 place (omega arith)), lines_at_longer lines line places (All-tail (λ place. place < length lines) place places within)) refl
+
+-- and the one at the last place is the last
+lines_at_last : (lines : List ShareLine) (line : ShareLine) (places : List ℕ) → All (λ place. place < length lines) places
+    → lines_at (lines ++ line ∷ []) (places ++ length lines ∷ []) ≡ lines_at lines places ++ line ∷ []
+lines_at_last lines line places within =
+    map_push _ places (length lines) ∙ rw (lines_at_longer lines line places within, get_or_push lines line _ (length lines) refl) refl
+
+-- no two accounts have one party
+account_is : (parties : List (List ℕ)) (account other : ℕ) → IsStrictlySortedBy (slice_cmp nat_cmp) parties → account < length parties → other < length parties
+    → get_or parties account [] ≡ get_or parties other [] → account ≡ other
+account_is parties account other rising within inside same = elim (cases_order account other) [
+  | inl is ↦ is
+  | inr (inl less) ↦ absurd (never (get_or parties account []) (get_or parties other []) same (Less-from_sorted (slice_cmp nat_cmp) parties account other [] rising less inside))
+  | inr (inr more) ↦ absurd (never (get_or parties other []) (get_or parties account []) (sym same) (Less-from_sorted (slice_cmp nat_cmp) parties other account [] rising more within))
+]
+  where
+    never : (a b : List ℕ) → a ≡ b → slice_cmp nat_cmp a b ≡ Less → ⊥
+    never a b same less = let level : slice_cmp nat_cmp b b ≡ Less = subst (λ t. slice_cmp nat_cmp t b ≡ Less) same less in let no = sym (tied_itself nat_list_cmp_total b) ∙ level in cc
+
+-- no line is compiled yet
+pub compiled_none : (parties : List (List ℕ)) → IsCompiled parties [] []
+compiled_none parties = record {
+  few = omega arith;
+  rising = λ i j d before within. absurd (omega arith);
+  accounts = λ k d within. absurd (omega arith);
+  within = λ k d within. absurd (omega arith);
+  exact = λ k d within. absurd (omega arith);
+  every = λ account inside has. absurd (omega (arith, has.1));
+}
+
+module _ (parties : List (List ℕ)) (lines : List ShareLine) (payees : List (ℕ × List ℕ)) (line : ShareLine) (account : ℕ)
+    (rising : IsStrictlySortedBy (slice_cmp nat_cmp) parties) (some : 0 < account) (inside : account < length parties) (whose : get_or parties account [] ≡ line.party)
+    (compiled : IsCompiled parties lines payees) where
+  abbrev Inside : ℕ × List ℕ → Type 0
+  Inside payee = All (λ place. place < length lines) payee.1
+
+  abbrev Exact : ℕ × List ℕ → Type 0
+  Exact payee = (lines_at lines payee.1 ≡ lines_of_party (get_or parties payee.0 []) lines) × Inside payee × (payee.0 < length parties)
+
+  abbrev Longer : ℕ × List ℕ → Type 0
+  Longer payee = lines_at (lines ++ line ∷ []) payee.1 ≡ lines_of_party (get_or parties payee.0 []) (lines ++ line ∷ [])
+
+  -- the payees of other accounts keep their lines
+  same_lines : (payee : ℕ × List ℕ) → Exact payee → ¬ (payee.0 ≡ account) → Longer payee
+  same_lines payee (is, within, known) other =
+      let apart : ¬ (line.party ≡ get_or parties payee.0 []) = λ same. other (account_is parties payee.0 account rising known inside (sym same ∙ sym whose)) in
+      lines_at_longer lines line payee.1 within ∙ (is ∙ sym (lines_of_party_other (get_or parties payee.0 []) lines line apart))
+
+  -- that of the account gets the line
+  more_lines : (payee : ℕ × List ℕ) → Exact payee → payee.0 ≡ account → Longer (account, payee.1 ++ length lines ∷ [])
+  more_lines payee (is, within, known) same =
+      let party : get_or parties payee.0 [] ≡ get_or parties account [] = ap (λ a. get_or parties a []) same in
+      lines_at_last lines line payee.1 within
+      ∙ (ap (λ l. l ++ line ∷ []) (is ∙ ap (λ p. lines_of_party p lines) party) ∙ sym (lines_of_party_more (get_or parties account []) lines line (sym whose)))
+
+  -- or it is the first of the account
+  first_line : All (λ payee. ¬ (payee.0 ≡ account)) payees → Longer (account, length lines ∷ [])
+  first_line none =
+      let absent : ¬ Contains (map (λ line. line.party) lines) (get_or parties account []) =
+      λ has. missing payees none (compiled.every account inside has) in
+      rw (get_or_push lines line _ (length lines) refl)
+      (ap (λ l. l ++ line ∷ []) (sym (lines_of_party_none (get_or parties account []) lines absent)) ∙ sym (lines_of_party_more (get_or parties account []) lines line (sym whose)))
+    where
+      missing : (payees : List (ℕ × List ℕ)) → All (λ payee. ¬ (payee.0 ≡ account)) payees → ¬ Contains (map (λ payee. payee.0) payees) account
+      missing [] none has = absurd (omega (arith, has.1))
+      missing (payee ∷ later) none has = elim (contains_cases payee.0 account (map (λ payee. payee.0) later) has) [
+        | inl is ↦ none 0 payee (omega arith) is
+        | inr rest ↦ missing later (All-tail (λ payee. ¬ (payee.0 ≡ account)) payee later none) rest
+      ]
+
+  -- a line more is compiled
+  pub compiled_more : IsCompiled parties (lines ++ line ∷ []) (with_place account (length lines) payees)
+  compiled_more = record {
+    few = omega (arith, few_with_place account (length lines) payees, compiled.few, length_push lines line);
+    rising = rising_with_place account (length lines) payees compiled.rising;
+    accounts = each_with_place account (length lines) (λ payee. (0 < payee.0) × (payee.0 < length parties)) (λ payee. (0 < payee.0) × (payee.0 < length parties))
+        (λ payee known other. known) (λ payee known same. (some, inside)) payees (λ none. (some, inside)) compiled.rising compiled.accounts;
+    within = each_with_place account (length lines) (λ payee. All (λ place. place < length (lines ++ line ∷ [])) payee.1) Inside (λ payee all other. further payee.1 all)
+        (λ payee all same. All-push (λ place. place < length (lines ++ line ∷ [])) payee.1 (length lines) (further payee.1 all) last) payees
+        (λ none. All-cons (λ place. place < length (lines ++ line ∷ [])) (length lines) [] last (λ k d within. absurd (omega arith))) compiled.rising compiled.within;
+    exact = each_with_place account (length lines) Longer Exact same_lines more_lines payees first_line compiled.rising
+        (λ k d within. (compiled.exact k d within, compiled.within k d within, (compiled.accounts k d within).1));
+    every = λ other known has.
+        elim (Contains-push_cases (map (λ line. line.party) lines) line.party (get_or parties other []) (rw map_push at has)) [
+          | inl earlier ↦ still_there account (length lines) payees other (compiled.every other known earlier)
+          | inr is ↦
+              let same : other ≡ account = account_is parties other account rising known inside (sym is ∙ sym whose) in
+              rw same (now_there account (length lines) payees)
+        ];
+  }
+    where
+      last : length lines < length (lines ++ line ∷ [])
+      last = omega (arith, length_push lines line)
+
+      further : (places : List ℕ) → All (λ place. place < length lines) places → All (λ place. place < length (lines ++ line ∷ [])) places
+      further places all = λ k d within. omega (arith, all k d within, length_push lines line)
+
+-- the line at the next place is compiled
+pub compiled_next : (parties : List (List ℕ)) (lines : List ShareLine) (place : ℕ) (line : ShareLine) (account : ℕ) (payees more : List (ℕ × List ℕ))
+    → IsStrictlySortedBy (slice_cmp nat_cmp) parties → get_or parties 0 [] ≡ [] → All IsShareLine lines
+    → place < length lines → line ≡ get_or lines place line → account < length parties → get_or parties account [] ≡ line.party
+    → IsCompiled parties (take place lines) payees → more ≡ with_place account place payees → IsCompiled parties (take (place + 1) lines) more
+compiled_next parties lines place line account payees more rising residue filled within is inside whose compiled grown =
+    let front : length (take place lines) ≡ place = length-take-le place lines (omega arith) in
+    let party : 0 < length line.party = subst (λ (l : ShareLine). 0 < length l.party) (sym is) (filled place line within).party in
+    let some : 0 < account = elim (cases_order 0 account) [
+      | inl none ↦
+          let empty : line.party ≡ [] = sym whose ∙ (ap (λ a. get_or parties a []) (sym none) ∙ residue) in
+          absurd (omega (arith, party, ap (λ (text : List ℕ). length text) empty))
+      | inr (inl less) ↦ less
+      | inr (inr more) ↦ absurd (omega arith)
+    ] in
+    let last : take (place + 1) lines ≡ take place lines ++ line ∷ [] = take_more lines place line within ∙ ap (λ l. take place lines ++ l ∷ []) (sym is) in
+    rw (grown, last)
+    (subst (λ n. IsCompiled parties (take place lines ++ line ∷ []) (with_place account n payees)) front
+    (compiled_more parties (take place lines) payees line account rising some inside whose compiled))
+
+-- works beside their share lines
+abbrev pub entries : List (Vec ℕ Global) → List Registration → List (List ℕ × List ShareLine)
+entries works registrations = map (λ entry. (entry.0.items, entry.1.shares.items)) (zip works registrations)
+
+module _ (work : List ℕ) where
+  abbrev pub is_work : Vec ℕ Global → Bool
+  is_work key = pointwise nat_eq work key.items
+
+  -- the test of a work either way round
+  turned : (key : Vec ℕ Global) → pointwise nat_eq key.items work ≡ is_work key
+  turned key = nat_list_eq_equiv.symm key.items work
+
+  -- a work that is found stands beside its registration
+  pub found_work : (works : List (Vec ℕ Global)) (registrations : List Registration) (place : ℕ) (registration : Registration) → length works ≡ length registrations
+      → position_or_len is_work works ≡ place → place < length works → registration ≡ get_or registrations place registration
+      → find_work work (entries works registrations) ≡ Some registration.shares.items
+  found_work [] registrations place registration paired at within is = absurd (omega arith)
+  found_work (key ∷ works) [] place registration paired at within is = absurd (omega arith)
+  found_work (key ∷ works) (first ∷ registrations) place registration paired at within is = elim (cases_Bool (is_work key)) [
+    | inl its ↦
+        let here : place ≡ 0 = sym (rw its at at) in
+        let same : registration ≡ first = subst (λ p. registration ≡ get_or (first ∷ registrations) p registration) here is in
+        rw (turned key, its) (ap (λ (r : Registration). Some r.shares.items) (sym same))
+    | inr other ↦
+        let n = position_or_len is_work works in
+        let after : place ≡ suc n = sym (rw other at at) ∙ one-add n in
+        let rest : registration ≡ get_or registrations n registration = subst (λ p. registration ≡ get_or (first ∷ registrations) p registration) after is in
+        rw (turned key, other) (found_work works registrations n registration (omega (arith, paired)) refl (omega (arith, within, after)) rest)
+  ]
+
+  -- a work that is not found has none
+  pub no_work : (works : List (Vec ℕ Global)) (registrations : List Registration) → length works ≤ position_or_len is_work works → find_work work (entries works registrations) ≡ None
+  no_work [] registrations past = refl
+  no_work (key ∷ works) [] past = refl
+  no_work (key ∷ works) (first ∷ registrations) past = elim (cases_Bool (is_work key)) [
+    | inl its ↦ absurd (omega (arith, rw its at past))
+    | inr other ↦ rw (turned key, other) (no_work works registrations (omega (arith, rw other at past)))
+  ]
+
+  -- what a look-up by the index says
+  pub found_at : (works : List (Vec ℕ Global)) (registrations : List Registration) (place : ℕ) (registration : Registration) → length works ≡ length registrations
+      → Some place ≡ position is_work works → registration ≡ get_or registrations place registration → find_work work (entries works registrations) ≡ Some registration.shares.items
+  found_at works registrations place registration paired index is =
+      let n = position_or_len is_work works in
+      let (inside, at) = cond_some (ltb n (length works)) n place (sym index) in
+      found_work works registrations place registration paired at (omega (arith, ltb-true n (length works) inside, at)) is
+
+  pub found_nowhere : (works : List (Vec ℕ Global)) (registrations : List Registration) → None ≡ position is_work works → find_work work (entries works registrations) ≡ None
+  found_nowhere works registrations index =
+      let n = position_or_len is_work works in
+      no_work works registrations (elim (cases_Bool (ltb n (length works))) [
+        | inr past ↦ ltb-false n (length works) past
+        | inl inside ↦ absurd (none-some n (index ∙ rw inside refl))
+      ])
+
+-- what holds of the share lines of each work holds of those of a registration
+pub entry_at : (Holds : List ShareLine → Type 0) (works : List (Vec ℕ Global)) (registrations : List Registration) (place : ℕ) (registration : Registration) → length works ≡ length registrations
+    → place < length registrations → registration ≡ get_or registrations place registration → All (λ (entry : List ℕ × List ShareLine). Holds entry.1) (entries works registrations) → Holds registration.shares.items
+entry_at Holds [] registrations place registration paired within is all = absurd (omega arith)
+entry_at Holds (key ∷ works) [] place registration paired within is all = absurd (omega arith)
+entry_at Holds (key ∷ works) (first ∷ registrations) zero registration paired within is all = subst (λ (r : Registration). Holds r.shares.items) (sym is) (all 0 (key.items, first.shares.items) (omega arith))
+entry_at Holds (key ∷ works) (first ∷ registrations) (suc place) registration paired within is all =
+    entry_at Holds works registrations place registration (omega (arith, paired)) (omega (arith, within)) is
+    (All-tail (λ (entry : List ℕ × List ShareLine). Holds entry.1) (key.items, first.shares.items) (entries works registrations) all)
+
+-- the parties of a registry rise, the residue's too
+pub parties_rise : (registered : Registered) → IsRegistered registered → IsStrictlySortedBy (slice_cmp nat_cmp) registered.parties
+unfolding IsStrictlySortedBy
+parties_rise registered sound =
+    let filled : (party : List ℕ) → Contains sound.payees party → 0 < length party =
+    λ party has.
+    let (work, lines, entry, among) = (sound.exact.exact party).0 has in
+    let good = All-contains (λ (entry : List ℕ × List ShareLine). All IsShareLine entry.1) registered.works (work, lines) sound.shares entry in
+    All-contains (λ (text : List ℕ). 0 < length text) (map (λ line. line.party) lines) party (All-map (λ (text : List ℕ). 0 < length text) (λ (line : ShareLine). line.party) lines (λ k d within. (good k d within).party)) among in
+    rw sound.accounts (recursion_from_All (λ y. slice_cmp nat_cmp [] y ≡ Less) sound.payees (λ k d within. above (get_or sound.payees k d) (filled (get_or sound.payees k d) (Contains-get_or sound.payees k d within))), sound.exact.rising)
+  where
+    above : (party : List ℕ) → 0 < length party → slice_cmp nat_cmp [] party ≡ Less
+    above [] some = absurd (omega arith)
+    above (byte ∷ rest) some = refl
+
+-- A registry has this registration of a work.
+pub record LookedUp (registered : Registered) (work : List ℕ) (registration : Registration) : Type 0 where
+  pub works : find_work work registered.works ≡ Some registration.shares.items
+  pub compiled : IsCompiled registered.parties registration.shares.items (map seen registration.payees.items)
+  pub rise : InterestsRise registration.shares.items
+  pub good : All IsShareLine registration.shares.items
+  pub few : length registration.shares.items ≤ MOST_SHARES
+
+-- what a look-up by the index finds
+pub looked_up : (works : List (Vec ℕ Global)) (registrations : List Registration) (parties : List (Vec ℕ Global)) (registered : Registered) (work : List ℕ) (place : ℕ) (registration : Registration)
+    → IsRegistered (registered_as works registrations parties) → AreKept works registrations parties → registered_as works registrations parties ≡ registered
+    → Some place ≡ position (is_work work) works → place < length works → registration ≡ get_or registrations place registration → LookedUp registered work registration
+looked_up works registrations parties registered work place registration sound kept view index within is =
+    let inside : place < length registrations = omega (arith, within, kept.paired) in
+    subst (λ r. LookedUp r work registration) view (record {
+      works = found_at work works registrations place registration kept.paired index is;
+      compiled = subst (λ (r : Registration). IsCompiled (map (λ party. party.items) parties) r.shares.items (map seen r.payees.items)) (sym is) (kept.compiled place registration inside);
+      rise = subst (λ (r : Registration). InterestsRise r.shares.items) (sym is) (kept.rise place registration inside);
+      good = entry_at (All IsShareLine) works registrations place registration kept.paired inside is sound.shares;
+      few = entry_at (λ lines. length lines ≤ MOST_SHARES) works registrations place registration kept.paired inside is sound.few;
+    })
+
+-- there is a registration at a place
+pub registration_at : (registrations : List Registration) (place : ℕ) → place < length registrations → (registration : Registration) × (registration ≡ get_or registrations place registration)
+registration_at [] place within = absurd (omega arith)
+registration_at (first ∷ registrations) place within =
+    (get_or (first ∷ registrations) place first, get_or_default (first ∷ registrations) place first (get_or (first ∷ registrations) place first) within)

@@ -1,0 +1,994 @@
+-- How what the lines of a file are goes on by one more line.
+use Rattle.std.proofs.Common.{◌≡◌, ◌≤◌, ◌<◌, ◌+◌, ◌⊎◌, ℕ, Bool, true, false, cond, not, List, [], ◌∷◌, ◌++◌, length, take, reverse, slice_index, slice_index_or, get_or, eqb, count_by, All, IfSome, Option, Some, None, Vec, nat_eq, ap, sym, refl, subst, ◌∙◌, append_assoc, zero-add, inl, inr, arith}
+use Rattle.std.specs.Cmp.Lexicographic.{pointwise}
+use Rattle.std.specs.List.{cons_option, enumerate_from, filter_map, find, list_all, list_any, position_or_len, slice_set, take_while}
+use Rattle.std.specs.Option.{option_map}
+use Rattle.std.specs.declared.alloc.Global.{Global}
+use Rattle.std.proofs.Math.Nat.{eq-or-lt_of_le}
+use Rattle.std.proofs.Math.Numerals.{one-add}
+use Rattle.std.proofs.Math.Seq.{take-append_seam}
+use Rattle.std.proofs.lemmas.Bool.{cases_Bool, cond-false, cond-true, false≢true, false_from_ne_true, or_parts, not_from_false, not_from_true, true≢false}
+use Rattle.std.proofs.lemmas.Cmp.{nat_list_eq_equiv}
+use Rattle.std.proofs.lemmas.List.Elements.{All-cons, All-head, All-nil, All-push, All-set, All-tail, All-weaker, filter_map-append}
+use Rattle.std.proofs.lemmas.List.FromFn.{get_or-enumerate_from, length-enumerate_from}
+use Rattle.std.proofs.lemmas.List.Quantifiers.{all_pairs_push}
+use Rattle.std.proofs.lemmas.List.Sums.{AllPass-from_list_all, count_by-le-length, sum_by_push, sum_by-take-le, take_while-cons}
+use Rattle.std.proofs.lemmas.List.{append-nil, get_or_append_left, get_or_push, length-append, length-map, length-set, length_push, reverse-append, same_from_push, take-append-le}
+use Rattle.std.proofs.lemmas.Option.{none-some}
+use Rattle.std.proofs.lemmas.Slice.Eq.{bytes_eq-Decides}
+use Rattle.csv_table.proofs.Codes.{code_small}
+use Rattle.csv_table.specs.Forms.{number_of}
+use Rattle.line_split.proofs.Enumerated.{enumerate_from_push}
+use Rattle.line_split.specs.declared.TheConstants.{FULL_SHARE}
+use Rattle.cwr_share.specs.Compiled.{InterestsRise}
+use Rattle.cwr_share.specs.CwrFile.{AreSound, HasTooMany, IsFaultOf, IsFaultOfLine, IsFaultOfShare, IsFirstFault, IsOpening, IsShareRecord, IsSound, StandsIn}
+use Rattle.cwr_share.specs.Fields.{IsShare, field_of, share_of}
+use Rattle.cwr_share.specs.Lines.{before_line, cut_at_line_feeds, lines_of}
+use Rattle.cwr_share.specs.Reading.{AreShareLines, HasInForce, IsOpenWith, IsReadTo, IsTable, works_of}
+use Rattle.cwr_share.specs.Records.{ends_registration, is_share_line, opens_interest, opens_registration, share_fields, type_of}
+use Rattle.cwr_share.specs.Registered.{IsShareLine}
+use Rattle.cwr_share.specs.Registrations.{ShareLine, find_work, registrations_of, share_line_of, share_lines_of, shares_in_force, work_of}
+use Rattle.cwr_share.specs.declared.TheConstants.{MOST_SHARES}
+use Rattle.cwr_share.specs.declared.cwr_fault.CwrFault.TheVariants.{Short, Share, Mark, Land, Party, Work, Many, Accounts, Memory}
+use Rattle.cwr_share.specs.declared.cwr_fault.CwrFault.{CwrFault}
+use Rattle.cwr_share.specs.declared.fields.ShareFields.{ShareFields}
+use Rattle.cwr_share.specs.declared.reading.Open.{Open}
+use Rattle.cwr_share.specs.declared.reading.Reading.{Reading}
+use Rattle.cwr_share.specs.declared.record_type.RecordType.TheVariants.{Registration, Interest, PublisherShare, WriterShare, Closing, Other}
+use Rattle.cwr_share.specs.declared.record_type.RecordType.{RecordType}
+
+-- Lists
+
+-- the front that passes ends at an element that doesn't
+pub take_while_stop : {X : Type 0} (p : X → Bool) (xs : List X) (stop : X) (ys : List X) → p stop ≡ false → take_while p (xs ++ stop ∷ ys) ≡ take_while p xs
+take_while_stop {X} p [] stop ys fails = take_while-cons p stop ys ∙ cond-false (p stop) (stop ∷ take_while p ys) [] fails
+take_while_stop {X} p (x ∷ xs) stop ys fails =
+    take_while-cons p x (xs ++ stop ∷ ys)
+    ∙ (ap (λ (l : List X). cond (p x) (x ∷ l) []) (take_while_stop p xs stop ys fails) ∙ sym (take_while-cons p x xs))
+
+-- a list of which all passes is its own front
+pub take_while_all : {X : Type 0} (p : X → Bool) (xs : List X) → All (λ x. p x ≡ true) xs → take_while p xs ≡ xs
+take_while_all p [] passes = refl
+take_while_all {X} p (x ∷ xs) passes =
+    take_while-cons p x xs
+    ∙ (cond-true (p x) (x ∷ take_while p xs) [] (All-head (λ y. p y ≡ true) x xs passes)
+    ∙ ap (λ (l : List X). x ∷ l) (take_while_all p xs (All-tail (λ y. p y ≡ true) x xs passes)))
+
+-- where not all of a list passes, more behind it leaves its front
+pub take_while_left : {X : Type 0} (p : X → Bool) (xs ys : List X) → list_all p xs ≡ false → take_while p (xs ++ ys) ≡ take_while p xs
+take_while_left p [] ys fails = absurd (true≢false fails)
+take_while_left {X} p (x ∷ xs) ys fails = by (p x) refl (take_while_left p xs ys)
+  where
+    by : (b : Bool) → p x ≡ b → (list_all p xs ≡ false → take_while p (xs ++ ys) ≡ take_while p xs) → take_while p (x ∷ (xs ++ ys)) ≡ take_while p (x ∷ xs)
+    by true e more =
+        take_while-cons p x (xs ++ ys)
+        ∙ (ap (λ (l : List X). cond (p x) (x ∷ l) []) (more (rw e at fails)) ∙ sym (take_while-cons p x xs))
+    by false e _ =
+        take_while-cons p x (xs ++ ys) ∙ (cond-false (p x) (x ∷ take_while p (xs ++ ys)) [] e
+        ∙ sym (take_while-cons p x xs ∙ cond-false (p x) (x ∷ take_while p xs) [] e))
+
+-- a list is empty or has a last element
+pub last_view : {X : Type 0} (xs : List X) → (xs ≡ []) ⊎ ((front : List X) × (last : X) × (xs ≡ front ++ last ∷ []))
+last_view [] = inl refl
+last_view {X} (x ∷ xs) = inr (by (last_view xs))
+  where
+    by : (xs ≡ []) ⊎ ((front : List X) × (last : X) × (xs ≡ front ++ last ∷ [])) → (front : List X) × (last : X) × (x ∷ xs ≡ front ++ last ∷ [])
+    by (inl none) = ([], x, ap (λ (l : List X). x ∷ l) none)
+    by (inr (front, last, is)) = (x ∷ front, last, ap (λ (l : List X). x ∷ l) is)
+
+-- what holds of the empty list and goes on by one more element holds of every list
+pub by_pushes : {X : Type 0} (P : List X → Type 0) → P [] → ((xs : List X) (x : X) → P xs → P (xs ++ x ∷ [])) → (xs : List X) → P xs
+by_pushes {X} P none more xs = onwards [] xs none
+  where
+    onwards : (done left : List X) → P done → P (done ++ left)
+    onwards done [] sofar = subst P (sym (append-nil done)) sofar
+    onwards done (x ∷ left) sofar = subst P (append_assoc done (x ∷ []) left) (onwards (done ++ x ∷ []) left (more done x sofar))
+
+-- what holds of a list with one element more holds of the list and of the element
+All_front : {X : Type 0} (P : X → Type 0) (xs : List X) (x : X) → All P (xs ++ x ∷ []) → All P xs
+All_front P xs x each = λ k d lt. subst P (get_or_append_left xs (x ∷ []) d k lt) (each k d (rw length_push (omega arith)))
+
+All_last : {X : Type 0} (P : X → Type 0) (xs : List X) (x : X) → All P (xs ++ x ∷ []) → P x
+All_last P xs x each = subst P (get_or_push xs x x (length xs) refl) (each (length xs) x (rw length_push (omega arith)))
+
+-- a place in a list with one element more is one of the list or its end
+below_or_at : (n place : ℕ) → place < n + 1 → (place < n) ⊎ (place ≡ n)
+below_or_at n place within = let least : place ≤ n = omega arith in swap (eq-or-lt_of_le least)
+  where
+    swap : (place ≡ n) ⊎ (place < n) → (place < n) ⊎ (place ≡ n)
+    swap (inl same) = inr same
+    swap (inr below) = inl below
+
+-- A list cut into parts: each begins at an element that opens one, and goes on as long as the elements stay in it.
+module _ {X W : Type 0} (opens stays : X → Bool) (name : X → W) where
+  abbrev parts : List X → List (W × List X)
+  parts [] = []
+  parts (x ∷ later) = cond (opens x) ((name x, take_while stays later) ∷ parts later) (parts later)
+
+  -- no part is open at the end
+  abbrev AllClosed : List X → Type 0
+  AllClosed xs = (earlier : List X) (x : X) (body : List X) → xs ≡ earlier ++ x ∷ body → opens x ≡ true → All (λ y. stays y ≡ true) body → ⊥
+
+  module _ (apart : (x : X) → opens x ≡ true → stays x ≡ false) where
+    none_open : (xs : List X) → All (λ y. stays y ≡ true) xs → parts xs ≡ []
+    none_open [] inside = refl
+    none_open (x ∷ xs) inside = by (opens x) refl (none_open xs (All-tail (λ y. stays y ≡ true) x xs inside))
+      where
+        by : (b : Bool) → opens x ≡ b → parts xs ≡ [] → parts (x ∷ xs) ≡ []
+        by true e _ = absurd (true≢false (sym (All-head (λ y. stays y ≡ true) x xs inside) ∙ apart x e))
+        by false e none = cond-false (opens x) ((name x, take_while stays xs) ∷ parts xs) (parts xs) e ∙ none
+
+    parts_open : (xs : List X) (opening : X) (body : List X) → opens opening ≡ true → All (λ y. stays y ≡ true) body
+        → parts (xs ++ opening ∷ body) ≡ parts xs ++ (name opening, body) ∷ []
+    parts_open [] opening body open' inside =
+        cond-true (opens opening) ((name opening, take_while stays body) ∷ parts body) (parts body) open'
+        ∙ (ap (λ (l : List X). (name opening, l) ∷ parts body) (take_while_all stays body inside)
+        ∙ ap (λ (l : List (W × List X)). (name opening, body) ∷ l) (none_open body inside))
+    parts_open (x ∷ xs) opening body open' inside =
+        ap (λ (l : List X). cond (opens x) ((name x, l) ∷ parts (xs ++ opening ∷ body)) (parts (xs ++ opening ∷ body))) (take_while_stop stays xs opening body (apart opening open'))
+        ∙ (ap (λ (l : List (W × List X)). cond (opens x) ((name x, take_while stays xs) ∷ l) l) (parts_open xs opening body open' inside)
+        ∙ by (opens x))
+      where
+        by : (b : Bool) → cond b ((name x, take_while stays xs) ∷ (parts xs ++ (name opening, body) ∷ [])) (parts xs ++ (name opening, body) ∷ [])
+            ≡ cond b ((name x, take_while stays xs) ∷ parts xs) (parts xs) ++ (name opening, body) ∷ []
+        by true = refl
+        by false = refl
+
+  parts_end : (xs : List X) (x : X) → opens x ≡ false → stays x ≡ false → parts (xs ++ x ∷ []) ≡ parts xs
+  parts_end [] x shut ends = cond-false (opens x) ((name x, []) ∷ []) [] shut
+  parts_end (y ∷ xs) x shut ends =
+      ap (λ (l : List X). cond (opens y) ((name y, l) ∷ parts (xs ++ x ∷ [])) (parts (xs ++ x ∷ []))) (take_while_stop stays xs x [] ends)
+      ∙ ap (λ (l : List (W × List X)). cond (opens y) ((name y, take_while stays xs) ∷ l) l) (parts_end xs x shut ends)
+
+  parts_closed : (xs : List X) (x : X) → opens x ≡ false → AllClosed xs → parts (xs ++ x ∷ []) ≡ parts xs
+  parts_closed [] x shut closed = cond-false (opens x) ((name x, []) ∷ []) [] shut
+  parts_closed (y ∷ xs) x shut closed =
+      by (opens y) refl (cases_Bool (list_all stays xs)) (parts_closed xs x shut (λ earlier z body is. closed (y ∷ earlier) z body (ap (λ (l : List X). y ∷ l) is)))
+    where
+      by : (b : Bool) → opens y ≡ b → (list_all stays xs ≡ true) ⊎ (list_all stays xs ≡ false) → parts (xs ++ x ∷ []) ≡ parts xs → parts (y ∷ (xs ++ x ∷ [])) ≡ parts (y ∷ xs)
+      by true e (inl inside) rest = absurd (closed [] y xs refl e (AllPass-from_list_all stays xs inside))
+      by true e (inr left) rest =
+          ap (λ (l : List X). cond (opens y) ((name y, l) ∷ parts (xs ++ x ∷ [])) (parts (xs ++ x ∷ []))) (take_while_left stays xs (x ∷ []) left)
+          ∙ ap (λ (l : List (W × List X)). cond (opens y) ((name y, take_while stays xs) ∷ l) l) rest
+      by false e _ rest =
+          cond-false (opens y) ((name y, take_while stays (xs ++ x ∷ [])) ∷ parts (xs ++ x ∷ [])) (parts (xs ++ x ∷ [])) e
+          ∙ (rest ∙ sym (cond-false (opens y) ((name y, take_while stays xs) ∷ parts xs) (parts xs) e))
+
+-- The types of lines
+
+abbrev type_opens : RecordType → Bool
+type_opens Registration = true
+type_opens _ = false
+
+abbrev type_ends : RecordType → Bool
+type_ends Registration = true
+type_ends Closing = true
+type_ends _ = false
+
+abbrev type_opens_interest : RecordType → Bool
+type_opens_interest Interest = true
+type_opens_interest _ = false
+
+abbrev type_is_share : RecordType → Bool
+type_is_share PublisherShare = true
+type_is_share WriterShare = true
+type_is_share _ = false
+
+-- what a line is by its type
+pub record IsOfType (type : RecordType) (line : List ℕ) : Type 0 where
+  pub opens : opens_registration line ≡ type_opens type
+  pub ends : ends_registration line ≡ type_ends type
+  pub interest : opens_interest line ≡ type_opens_interest type
+  pub share : is_share_line line ≡ type_is_share type
+
+pub of_type : (type : RecordType) (line : List ℕ) → type_of line ≡ type → IsOfType type line
+of_type type line is = record {
+  opens = ap type_opens is;
+  ends = ap type_ends is;
+  interest = ap type_opens_interest is;
+  share = ap type_is_share is;
+}
+
+-- the first line of a registration ends the one before
+pub opens_ends : (line : List ℕ) → opens_registration line ≡ true → ends_registration line ≡ true
+opens_ends line = by (type_of line)
+  where
+    by : (type : RecordType) → type_opens type ≡ true → type_ends type ≡ true
+    by Registration _ = refl
+    by Interest e = absurd (false≢true e)
+    by PublisherShare e = absurd (false≢true e)
+    by WriterShare e = absurd (false≢true e)
+    by Closing _ = refl
+    by Other e = absurd (false≢true e)
+
+-- a line that goes on with a registration begins none
+pub stays_shut : (line : List ℕ) → ends_registration line ≡ false → opens_registration line ≡ false
+stays_shut line stays = false_from_ne_true (opens_registration line) (λ opens. true≢false (sym (opens_ends line opens) ∙ stays))
+
+-- a share line begins neither a registration nor an interest, and ends no registration
+pub share_stays : (line : List ℕ) → is_share_line line ≡ true → (opens_registration line ≡ false) × (ends_registration line ≡ false) × (opens_interest line ≡ false)
+share_stays line = by (type_of line)
+  where
+    by : (type : RecordType) → type_is_share type ≡ true → (type_opens type ≡ false) × (type_ends type ≡ false) × (type_opens_interest type ≡ false)
+    by Registration e = absurd (false≢true e)
+    by Interest e = absurd (false≢true e)
+    by PublisherShare _ = (refl, refl, refl)
+    by WriterShare _ = (refl, refl, refl)
+    by Closing e = absurd (false≢true e)
+    by Other e = absurd (false≢true e)
+
+-- Registrations
+
+abbrev goes_on : List ℕ → Bool
+goes_on line = not (ends_registration line)
+
+as_parts : (lines : List (List ℕ)) → registrations_of lines ≡ parts opens_registration goes_on work_of lines
+unfolding registrations_of
+as_parts [] = refl
+as_parts (line ∷ later) =
+    ap (λ (rest : List (List ℕ × List (List ℕ))). cond (opens_registration line) ((work_of line, take_while goes_on later) ∷ rest) rest) (as_parts later)
+
+go_on : (body : List (List ℕ)) → All (λ line. ends_registration line ≡ false) body → All (λ line. goes_on line ≡ true) body
+go_on body stays = All-weaker (λ line. ends_registration line ≡ false) (λ line. goes_on line ≡ true) (λ line e. not_from_false (ends_registration line) e) body stays
+
+-- a registration with its lines goes last
+pub registrations_open : (before : List (List ℕ)) (opening : List ℕ) (body : List (List ℕ)) → opens_registration opening ≡ true → All (λ line. ends_registration line ≡ false) body
+    → registrations_of (before ++ opening ∷ body) ≡ registrations_of before ++ (work_of opening, body) ∷ []
+registrations_open before opening body opens stays =
+    as_parts (before ++ opening ∷ body)
+    ∙ (parts_open opens_registration goes_on work_of (λ line e. not_from_true (ends_registration line) (opens_ends line e)) before opening body opens (go_on body stays)
+    ∙ ap (λ (l : List (List ℕ × List (List ℕ))). l ++ (work_of opening, body) ∷ []) (sym (as_parts before)))
+
+-- a line that ends a registration and begins none adds none
+pub registrations_end : (before : List (List ℕ)) (line : List ℕ) → opens_registration line ≡ false → ends_registration line ≡ true
+    → registrations_of (before ++ line ∷ []) ≡ registrations_of before
+registrations_end before line shut ends =
+    as_parts (before ++ line ∷ [])
+    ∙ (parts_end opens_registration goes_on work_of before line shut (not_from_true (ends_registration line) ends) ∙ sym (as_parts before))
+
+-- a line outside a registration that begins none adds none
+pub registrations_outside : (before : List (List ℕ)) (line : List ℕ) → opens_registration line ≡ false → ((body : List (List ℕ)) → ¬ StandsIn before body)
+    → registrations_of (before ++ line ∷ []) ≡ registrations_of before
+registrations_outside before line shut outside =
+    as_parts (before ++ line ∷ []) ∙ (parts_closed opens_registration goes_on work_of before line shut closed ∙ sym (as_parts before))
+  where
+    closed : AllClosed opens_registration goes_on work_of before
+    closed earlier opening body split opens inside = outside body record {
+      earlier = earlier;
+      opening = opening;
+      split = split;
+      opens = opens;
+      stays = All-weaker (λ line. goes_on line ≡ true) (λ line. ends_registration line ≡ false) (λ line e. not_true_false (ends_registration line) e) body inside;
+    }
+      where
+        not_true_false : (b : Bool) → not b ≡ true → b ≡ false
+        not_true_false true e = absurd (false≢true e)
+        not_true_false false e = refl
+
+-- The registration that is open
+
+abbrev pub Outside : List (List ℕ) → Type 0
+Outside before = (body : List (List ℕ)) → ¬ StandsIn before body
+
+pub stands_by : (earlier : List (List ℕ)) (opening : List ℕ) (body : List (List ℕ)) → opens_registration opening ≡ true → All (λ line. ends_registration line ≡ false) body
+    → StandsIn (earlier ++ opening ∷ body) body
+stands_by earlier opening body opens stays = record { earlier = earlier; opening = opening; split = refl; opens = opens; stays = stays }
+
+registrations_of_open : (before body : List (List ℕ)) (open' : StandsIn before body) → registrations_of before ≡ registrations_of open'.earlier ++ (work_of open'.opening, body) ∷ []
+registrations_of_open before body open' = ap registrations_of open'.split ∙ registrations_open open'.earlier open'.opening body open'.opens open'.stays
+
+-- it has one list of lines so far
+pub stands_same : (before body body' : List (List ℕ)) → StandsIn before body → StandsIn before body' → body ≡ body'
+stands_same before body body' one other =
+    ap (λ (entry : List ℕ × List (List ℕ)). entry.1)
+    (same_from_push (registrations_of one.earlier) (registrations_of other.earlier) (work_of one.opening, body) (work_of other.opening, body')
+    (sym (registrations_of_open before body one) ∙ registrations_of_open before body' other)).1
+
+-- it begins with no lines
+pub stands_open : (before : List (List ℕ)) (line : List ℕ) → opens_registration line ≡ true → StandsIn (before ++ line ∷ []) []
+stands_open before line opens = stands_by before line [] opens (All-nil (λ other. ends_registration other ≡ false))
+
+-- a line that doesn't end it is one of its lines
+pub stands_on : (before body : List (List ℕ)) (line : List ℕ) → StandsIn before body → ends_registration line ≡ false → StandsIn (before ++ line ∷ []) (body ++ line ∷ [])
+stands_on before body line open' stays = record {
+  earlier = open'.earlier;
+  opening = open'.opening;
+  split = ap (λ (l : List (List ℕ)). l ++ line ∷ []) open'.split ∙ append_assoc open'.earlier (open'.opening ∷ body) (line ∷ []);
+  opens = open'.opens;
+  stays = All-push (λ other. ends_registration other ≡ false) body line open'.stays stays;
+}
+
+-- where one is open after a line, the line begins it, or it was open before
+pub stands_back : (before body : List (List ℕ)) (line : List ℕ) → StandsIn (before ++ line ∷ []) body
+    → ((opens_registration line ≡ true) × (body ≡ [])) ⊎ ((ends_registration line ≡ false) × (front : List (List ℕ)) × (body ≡ front ++ line ∷ []) × StandsIn before front)
+stands_back before body line open' = by (last_view body)
+  where
+    by : (body ≡ []) ⊎ ((front : List (List ℕ)) × (last : List ℕ) × (body ≡ front ++ last ∷ []))
+        → ((opens_registration line ≡ true) × (body ≡ [])) ⊎ ((ends_registration line ≡ false) × (front : List (List ℕ)) × (body ≡ front ++ line ∷ []) × StandsIn before front)
+    by (inl none) =
+        let same = same_from_push before open'.earlier line open'.opening (open'.split ∙ ap (λ (l : List (List ℕ)). open'.earlier ++ open'.opening ∷ l) none) in
+        inl (ap opens_registration same.1 ∙ open'.opens, none)
+    by (inr (front, last, is)) =
+        let same = same_from_push before (open'.earlier ++ open'.opening ∷ front) line last
+            (open'.split ∙ (ap (λ (l : List (List ℕ)). open'.earlier ++ open'.opening ∷ l) is ∙ sym (append_assoc open'.earlier (open'.opening ∷ front) (last ∷ [])))) in
+        let stays = subst (λ (l : List (List ℕ)). All (λ other. ends_registration other ≡ false) l) is open'.stays in
+        inr (
+          ap ends_registration same.1 ∙ All_last (λ other. ends_registration other ≡ false) front last stays,
+          front,
+          is ∙ ap (λ (l : List ℕ). front ++ l ∷ []) (sym same.1),
+          record {
+            earlier = open'.earlier;
+            opening = open'.opening;
+            split = same.0;
+            opens = open'.opens;
+            stays = All_front (λ other. ends_registration other ≡ false) front last stays;
+          },
+        )
+
+-- a line outside a registration that begins none leaves none open
+pub outside_on : (before : List (List ℕ)) (line : List ℕ) → opens_registration line ≡ false → Outside before → Outside (before ++ line ∷ [])
+outside_on before line shut outside body open' = by (stands_back before body line open')
+  where
+    by : ((opens_registration line ≡ true) × (body ≡ [])) ⊎ ((ends_registration line ≡ false) × (front : List (List ℕ)) × (body ≡ front ++ line ∷ []) × StandsIn before front) → ⊥
+    by (inl begins) = true≢false (sym begins.0 ∙ shut)
+    by (inr went_on) = outside went_on.1 went_on.3
+
+-- nor does a line that ends it
+pub outside_end : (before : List (List ℕ)) (line : List ℕ) → opens_registration line ≡ false → ends_registration line ≡ true → Outside (before ++ line ∷ [])
+outside_end before line shut ends body open' = by (stands_back before body line open')
+  where
+    by : ((opens_registration line ≡ true) × (body ≡ [])) ⊎ ((ends_registration line ≡ false) × (front : List (List ℕ)) × (body ≡ front ++ line ∷ []) × StandsIn before front) → ⊥
+    by (inl begins) = true≢false (sym begins.0 ∙ shut)
+    by (inr went_on) = true≢false (sym ends ∙ went_on.0)
+
+-- before the first line none is open
+pub outside_none : Outside []
+outside_none body open' = by open'.earlier open'.split
+  where
+    by : (earlier : List (List ℕ)) → [] ≡ earlier ++ open'.opening ∷ body → ⊥
+    by [] e = cc
+    by (line ∷ later) e = cc
+
+-- Registrations in force
+
+-- what stands beside a work, in a list with one entry more at its end, of which the last counts
+pub find_work_last : {X : Type 0} (work name : List ℕ) (entries : List (List ℕ × X)) (x : X)
+    → find_work work (reverse (entries ++ (name, x) ∷ [])) ≡ cond (pointwise nat_eq name work) (Some x) (find_work work (reverse entries))
+find_work_last {X} work name entries x =
+    ap (λ (l : List (List ℕ × X)). find_work work l) (reverse-append entries ((name, x) ∷ [])) ∙ by (pointwise nat_eq name work)
+  where
+    by : (b : Bool) → option_map (λ (entry : List ℕ × X). entry.1) (cond b (Some (name, x)) (find (λ (entry : List ℕ × X). pointwise nat_eq entry.0 work) (reverse entries)))
+        ≡ cond b (Some x) (find_work work (reverse entries))
+    by true = refl
+    by false = refl
+
+-- the last registration is in force for its work, and leaves the others
+pub in_force_open : (before : List (List ℕ)) (opening : List ℕ) (body : List (List ℕ)) (work : List ℕ) → opens_registration opening ≡ true → All (λ line. ends_registration line ≡ false) body
+    → shares_in_force (before ++ opening ∷ body) work ≡ cond (pointwise nat_eq (work_of opening) work) (Some (share_lines_of body)) (shares_in_force before work)
+in_force_open before opening body work opens stays =
+    ap (λ (l : List (List ℕ × List (List ℕ))). option_map share_lines_of (find_work work (reverse l))) (registrations_open before opening body opens stays)
+    ∙ (ap (λ (found : Option (List (List ℕ))). option_map share_lines_of found) (find_work_last work (work_of opening) (registrations_of before) body)
+    ∙ by (pointwise nat_eq (work_of opening) work))
+  where
+    by : (b : Bool) → option_map share_lines_of (cond b (Some body) (find_work work (reverse (registrations_of before)))) ≡ cond b (Some (share_lines_of body)) (shares_in_force before work)
+    by true = refl
+    by false = refl
+
+pub in_force_whole : (before : List (List ℕ)) (opening : List ℕ) (body : List (List ℕ)) → opens_registration opening ≡ true → All (λ line. ends_registration line ≡ false) body
+    → shares_in_force (before ++ opening ∷ body) (work_of opening) ≡ Some (share_lines_of body)
+in_force_whole before opening body opens stays =
+    in_force_open before opening body (work_of opening) opens stays
+    ∙ cond-true (pointwise nat_eq (work_of opening) (work_of opening)) (Some (share_lines_of body)) (shares_in_force before (work_of opening)) ((bytes_eq-Decides (work_of opening) (work_of opening)).1 refl)
+
+pub in_force_alone : (before : List (List ℕ)) (opening : List ℕ) (body : List (List ℕ)) (work : List ℕ) → opens_registration opening ≡ true → All (λ line. ends_registration line ≡ false) body
+    → ¬ (work ≡ work_of opening) → shares_in_force (before ++ opening ∷ body) work ≡ shares_in_force before work
+in_force_alone before opening body work opens stays other =
+    in_force_open before opening body work opens stays
+    ∙ cond-false (pointwise nat_eq (work_of opening) work) (Some (share_lines_of body)) (shares_in_force before work)
+      (false_from_ne_true (pointwise nat_eq (work_of opening) work) (λ same. other (sym ((bytes_eq-Decides (work_of opening) work).0 same))))
+
+-- lines with the same registrations have the same in force
+pub in_force_same : (before after : List (List ℕ)) (work : List ℕ) → registrations_of after ≡ registrations_of before → shares_in_force after work ≡ shares_in_force before work
+in_force_same before after work same = ap (λ (l : List (List ℕ × List (List ℕ))). option_map share_lines_of (find_work work (reverse l))) same
+
+-- Lines as they have to be
+
+pub sound_none : AreSound []
+sound_none place within = absurd (omega arith)
+
+pub sound_push : (before : List (List ℕ)) (line : List ℕ) → AreSound before → IsSound before line → AreSound (before ++ line ∷ [])
+sound_push before line sound good = λ place within. by place (below_or_at (length before) place (rw length_push at within))
+  where
+    by : (place : ℕ) → (place < length before) ⊎ (place ≡ length before) → IsSound (take place (before ++ line ∷ [])) (slice_index_or (before ++ line ∷ []) place [])
+    by place (inl earlier) = rw (take-append-le place before (line ∷ []) (omega arith), get_or_append_left before (line ∷ []) [] place earlier) (sound place earlier)
+    by place (inr last) = rw (last, take-append_seam before (line ∷ []), get_or_push before line [] (length before) refl) good
+
+-- a line that begins no registration and is no share line may be anything
+pub sound_other : (before : List (List ℕ)) (line : List ℕ) → opens_registration line ≡ false → is_share_line line ≡ false → IsSound before line
+sound_other before line shut other = record {
+  opening = λ opens. absurd (true≢false (sym opens ∙ shut));
+  share = λ body open' share. absurd (true≢false (sym share ∙ other));
+}
+
+-- the first line of a registration
+pub sound_opening : (before : List (List ℕ)) (line : List ℕ) → opens_registration line ≡ true → IsOpening line → IsSound before line
+sound_opening before line opens good = record {
+  opening = λ _. good;
+  share = λ body open' share. absurd (true≢false (sym opens ∙ (share_stays line share).0));
+}
+
+-- a line outside a registration that begins none may be anything
+pub sound_outside : (before : List (List ℕ)) (line : List ℕ) → opens_registration line ≡ false → Outside before → IsSound before line
+sound_outside before line shut outside = record {
+  opening = λ opens. absurd (true≢false (sym opens ∙ shut));
+  share = λ body open' share. absurd (outside body open');
+}
+
+-- Share lines
+
+-- the share line that the line at a place is, where it is one
+abbrev share_at : List (List ℕ) → ℕ × List ℕ → Option ShareLine
+share_at lines e = cond (is_share_line e.1) (Some (share_line_of (count_by opens_interest (take e.0 lines)) (share_fields e.1) e.1)) None
+
+filter_map_agree : {X Y : Type 0} (h g : X → Option Y) (xs : List X) → All (λ x. h x ≡ g x) xs → filter_map h xs ≡ filter_map g xs
+filter_map_agree h g [] same = refl
+filter_map_agree {X} {Y} h g (x ∷ xs) same =
+    ap (λ (o : Option Y). cons_option o (filter_map h xs)) (All-head (λ y. h y ≡ g y) x xs same)
+    ∙ ap (λ (l : List Y). cons_option (g x) l) (filter_map_agree h g xs (All-tail (λ y. h y ≡ g y) x xs same))
+
+All-filter_map : {X Y : Type 0} (P : Y → Type 0) (h : X → Option Y) (xs : List X) → ((x : X) → IfSome (h x) P) → All P (filter_map h xs)
+All-filter_map P h [] each = All-nil P
+All-filter_map {X} {Y} P h (x ∷ xs) each = by (h x) (each x) (All-filter_map P h xs each)
+  where
+    by : (o : Option Y) → IfSome o P → All P (filter_map h xs) → All P (cons_option o (filter_map h xs))
+    by None _ rest = rest
+    by (Some y) here rest = All-cons P y (filter_map h xs) here rest
+
+-- the lines before the last are the share lines that they were
+share_lines_front : (body : List (List ℕ)) (line : List ℕ) → filter_map (share_at (body ++ line ∷ [])) (enumerate_from 0 body) ≡ share_lines_of body
+share_lines_front body line = filter_map_agree (share_at (body ++ line ∷ [])) (share_at body) (enumerate_from 0 body) same
+  where
+    same : All (λ e. share_at (body ++ line ∷ []) e ≡ share_at body e) (enumerate_from 0 body)
+    same k d lt =
+        let within : k < length body = rw length-enumerate_from at lt in
+        let other = get_or body k d.1 in
+        let here : get_or (enumerate_from 0 body) k d ≡ (0 + k, other) = get_or-enumerate_from 0 body k d within in
+        let front : take (0 + k) (body ++ line ∷ []) ≡ take (0 + k) body = take-append-le (0 + k) body (line ∷ []) (omega arith) in
+        ap (share_at (body ++ line ∷ [])) here
+        ∙ (ap (λ (front : List (List ℕ)). cond (is_share_line other) (Some (share_line_of (count_by opens_interest front) (share_fields other) other)) None) front
+        ∙ sym (ap (share_at body) here))
+
+share_lines_push : (body : List (List ℕ)) (line : List ℕ) → share_lines_of (body ++ line ∷ [])
+    ≡ share_lines_of body ++ cons_option (cond (is_share_line line) (Some (share_line_of (count_by opens_interest body) (share_fields line) line)) None) []
+share_lines_push body line =
+    ap (λ (l : List (ℕ × List ℕ)). filter_map (share_at (body ++ line ∷ [])) l) (enumerate_from_push 0 body line)
+    ∙ (filter_map-append (share_at (body ++ line ∷ [])) (enumerate_from 0 body) ((0 + length body, line) ∷ [])
+    ∙ (ap (λ (l : List ShareLine). l ++ cons_option (share_at (body ++ line ∷ []) (0 + length body, line)) []) (share_lines_front body line)
+    ∙ ap (λ (front : List (List ℕ)). share_lines_of body ++ cons_option (cond (is_share_line line) (Some (share_line_of (count_by opens_interest front) (share_fields line) line)) None) []) whole))
+  where
+    whole : take (0 + length body) (body ++ line ∷ []) ≡ body
+    whole = ap (λ (n : ℕ). take n (body ++ line ∷ [])) (zero-add (length body)) ∙ take-append_seam body (line ∷ [])
+
+-- a share line goes last, in the interest that was opened last before it
+pub share_lines_yes : (body : List (List ℕ)) (line : List ℕ) → is_share_line line ≡ true
+    → share_lines_of (body ++ line ∷ []) ≡ share_lines_of body ++ share_line_of (count_by opens_interest body) (share_fields line) line ∷ []
+share_lines_yes body line is =
+    share_lines_push body line
+    ∙ ap (λ (b : Bool). share_lines_of body ++ cons_option (cond b (Some (share_line_of (count_by opens_interest body) (share_fields line) line)) None) []) is
+
+-- another line is none
+pub share_lines_no : (body : List (List ℕ)) (line : List ℕ) → is_share_line line ≡ false → share_lines_of (body ++ line ∷ []) ≡ share_lines_of body
+share_lines_no body line is =
+    share_lines_push body line
+    ∙ (ap (λ (b : Bool). share_lines_of body ++ cons_option (cond b (Some (share_line_of (count_by opens_interest body) (share_fields line) line)) None) []) is
+    ∙ append-nil (share_lines_of body))
+
+pub count_by_yes : {X : Type 0} (p : X → Bool) (xs : List X) (x : X) → p x ≡ true → count_by p (xs ++ x ∷ []) ≡ count_by p xs + 1
+count_by_yes p xs x is = sum_by_push (λ y. cond (p y) 1 0) xs x ∙ ap (λ (b : Bool). count_by p xs + cond b 1 0) is
+
+pub count_by_no : {X : Type 0} (p : X → Bool) (xs : List X) (x : X) → p x ≡ false → count_by p (xs ++ x ∷ []) ≡ count_by p xs
+count_by_no p xs x is = sum_by_push (λ y. cond (p y) 1 0) xs x ∙ (ap (λ (b : Bool). count_by p xs + cond b 1 0) is ∙ omega arith)
+
+-- there are as many as lines of that type
+pub length_share_lines : (body : List (List ℕ)) → length (share_lines_of body) ≡ count_by is_share_line body
+length_share_lines = by_pushes (λ body. length (share_lines_of body) ≡ count_by is_share_line body) refl more
+  where
+    more : (body : List (List ℕ)) (line : List ℕ) → length (share_lines_of body) ≡ count_by is_share_line body
+        → length (share_lines_of (body ++ line ∷ [])) ≡ count_by is_share_line (body ++ line ∷ [])
+    more body line sofar = by (cases_Bool (is_share_line line))
+      where
+        by : (is_share_line line ≡ true) ⊎ (is_share_line line ≡ false) → length (share_lines_of (body ++ line ∷ [])) ≡ count_by is_share_line (body ++ line ∷ [])
+        by (inl is) =
+            ap length (share_lines_yes body line is)
+            ∙ (length_push (share_lines_of body) (share_line_of (count_by opens_interest body) (share_fields line) line)
+            ∙ (ap (λ (n : ℕ). n + 1) sofar ∙ sym (count_by_yes is_share_line body line is)))
+        by (inr is) = ap length (share_lines_no body line is) ∙ (sofar ∙ sym (count_by_no is_share_line body line is))
+
+-- their interests are those that were opened
+pub interests_upto : (body : List (List ℕ)) → All (λ share. share.interest ≤ count_by opens_interest body) (share_lines_of body)
+interests_upto body = All-filter_map (λ share. share.interest ≤ count_by opens_interest body) (share_at body) (enumerate_from 0 body) each
+  where
+    each : (e : ℕ × List ℕ) → IfSome (share_at body e) (λ share. share.interest ≤ count_by opens_interest body)
+    each e = by (is_share_line e.1)
+      where
+        by : (b : Bool) → IfSome (cond b (Some (share_line_of (count_by opens_interest (take e.0 body)) (share_fields e.1) e.1)) None) (λ share. share.interest ≤ count_by opens_interest body)
+        by true = sum_by-take-le (λ line. cond (opens_interest line) 1 0) body e.0
+        by false = tt
+
+-- one more share line, in the interest that was opened last
+pub rise_push : (body : List (List ℕ)) (share : ShareLine) → share.interest ≡ count_by opens_interest body → InterestsRise (share_lines_of body) → InterestsRise (share_lines_of body ++ share ∷ [])
+rise_push body share is rise =
+    all_pairs_push (λ (line later : ShareLine). line.interest ≤ later.interest) (share_lines_of body) share rise
+    (λ k d lt. let upto = interests_upto body k d lt in omega (arith, upto, is))
+
+-- and do not fall
+pub interests_rise : (body : List (List ℕ)) → InterestsRise (share_lines_of body)
+interests_rise = by_pushes (λ body. InterestsRise (share_lines_of body)) none more
+  where
+    none : InterestsRise (share_lines_of [])
+    none i j d before within = absurd (omega arith)
+    more : (body : List (List ℕ)) (line : List ℕ) → InterestsRise (share_lines_of body) → InterestsRise (share_lines_of (body ++ line ∷ []))
+    more body line rise = by (cases_Bool (is_share_line line))
+      where
+        by : (is_share_line line ≡ true) ⊎ (is_share_line line ≡ false) → InterestsRise (share_lines_of (body ++ line ∷ []))
+        by (inl is) =
+            subst (λ (shares : List ShareLine). InterestsRise shares) (sym (share_lines_yes body line is))
+            (rise_push body (share_line_of (count_by opens_interest body) (share_fields line) line) refl rise)
+        by (inr is) = subst (λ (shares : List ShareLine). InterestsRise shares) (sym (share_lines_no body line is)) rise
+
+share_of_small : (field : List ℕ) → IsShare field → share_of field ≤ FULL_SHARE
+share_of_small field (inl blank) = subst (λ (f : List ℕ). share_of f ≤ FULL_SHARE) (sym blank) (omega arith)
+share_of_small field (inr digits) = by (eqb (slice_index field 0) 32)
+  where
+    by : (b : Bool) → cond b 0 (number_of field) ≤ FULL_SHARE
+    by true = omega arith
+    by false = digits.small
+
+-- what a share line with the forms of its fields says is in its limits
+pub share_line_sound : (earlier : ℕ) (fields : ShareFields) (line : List ℕ) (interest : ℕ) → IsShareRecord earlier fields line → IsShareLine (share_line_of interest fields line)
+share_line_sound earlier fields line interest good = record {
+  party = good.party.some;
+  performing = share_of_small (field_of fields.performing line) good.shares.0;
+  mechanical = share_of_small (field_of fields.mechanical line) good.shares.1;
+  synchronisation = share_of_small (field_of fields.synchronisation line) good.shares.2;
+  territory = (good.land.some, (code_small (field_of fields.territory line) good.land).small);
+}
+
+pub share_lines_none : AreShareLines []
+share_lines_none = record { few = omega arith; sound = All-nil IsShareLine; rise = λ i j d before within. absurd (omega arith) }
+
+-- one more, of the last interest
+pub share_lines_more : (shares : List ShareLine) (share : ShareLine) → AreShareLines shares → length shares < MOST_SHARES → IsShareLine share
+    → All (λ other. other.interest ≤ share.interest) shares → AreShareLines (shares ++ share ∷ [])
+share_lines_more shares share sound few good upto = record {
+  few = rw length_push (omega arith);
+  sound = All-push IsShareLine shares share sound.sound good;
+  rise = all_pairs_push (λ (line later : ShareLine). line.interest ≤ later.interest) shares share sound.rise upto;
+}
+
+-- Works with their share lines, as they are kept
+
+-- works are one where their texts are
+abbrev pub is_work : Vec ℕ Global → Vec ℕ Global → Bool
+is_work work other = pointwise nat_eq work.items other.items
+
+same_tests : (a b c : List ℕ) → a ≡ b → pointwise nat_eq a c ≡ pointwise nat_eq b c
+same_tests a b c same = ap (λ (l : List ℕ). pointwise nat_eq l c) same
+
+other_test : (a b c : List ℕ) → pointwise nat_eq a b ≡ false → pointwise nat_eq a c ≡ true → pointwise nat_eq b c ≡ false
+other_test a b c other same =
+    false_from_ne_true (pointwise nat_eq b c)
+    (λ e. true≢false (sym ((bytes_eq-Decides a b).1 ((bytes_eq-Decides a c).0 same ∙ sym ((bytes_eq-Decides b c).0 e))) ∙ other))
+
+-- a work that is not among them has no share lines
+pub find_work_new : (works : List (Vec ℕ Global)) (registrations : List (Vec ShareLine Global)) (work : Vec ℕ Global) → list_any (is_work work) works ≡ false
+    → find_work work.items (works_of works registrations) ≡ None
+find_work_new [] registrations work new = refl
+find_work_new (other ∷ works) [] work new = refl
+find_work_new (other ∷ works) (shares ∷ registrations) work new =
+    let (here, later) = or_parts (is_work work other) (list_any (is_work work) works) new in
+    ap (λ (found : Option (List ℕ × List ShareLine)). option_map (λ (entry : List ℕ × List ShareLine). entry.1) found)
+    (cond-false (pointwise nat_eq other.items work.items) (Some (other.items, shares.items))
+    (find (λ (entry : List ℕ × List ShareLine). pointwise nat_eq entry.0 work.items) (works_of works registrations)) (nat_list_eq_equiv.symm other.items work.items ∙ here))
+    ∙ find_work_new works registrations work later
+
+pub works_of_push : (works : List (Vec ℕ Global)) (registrations : List (Vec ShareLine Global)) (work : Vec ℕ Global) (shares : Vec ShareLine Global) → length works ≡ length registrations
+    → works_of (works ++ work ∷ []) (registrations ++ shares ∷ []) ≡ works_of works registrations ++ (work.items, shares.items) ∷ []
+works_of_push [] [] work shares paired = refl
+works_of_push [] (first ∷ registrations) work shares paired = absurd (omega arith)
+works_of_push (other ∷ works) [] work shares paired = absurd (omega arith)
+works_of_push (other ∷ works) (first ∷ registrations) work shares paired =
+    ap (λ (l : List (List ℕ × List ShareLine)). (other.items, first.items) ∷ l) (works_of_push works registrations work shares (omega arith))
+
+-- an entry more at the end, of a new work
+pub find_work_push : {X : Type 0} (work name : List ℕ) (entries : List (List ℕ × X)) (x : X) → find_work name entries ≡ None
+    → find_work work (entries ++ (name, x) ∷ []) ≡ cond (pointwise nat_eq name work) (Some x) (find_work work entries)
+find_work_push {X} work name [] x new = by (pointwise nat_eq name work)
+  where
+    by : (b : Bool) → option_map (λ (entry : List ℕ × X). entry.1) (cond b (Some (name, x)) None) ≡ cond b (Some x) None
+    by true = refl
+    by false = refl
+find_work_push {X} work name (entry ∷ entries) x new = by (pointwise nat_eq entry.0 name) refl (pointwise nat_eq entry.0 work) refl (find_work_push work name entries x)
+  where
+    by : (b : Bool) → pointwise nat_eq entry.0 name ≡ b → (c : Bool) → pointwise nat_eq entry.0 work ≡ c
+        → (find_work name entries ≡ None → find_work work (entries ++ (name, x) ∷ []) ≡ cond (pointwise nat_eq name work) (Some x) (find_work work entries))
+        → find_work work (entry ∷ (entries ++ (name, x) ∷ [])) ≡ cond (pointwise nat_eq name work) (Some x) (find_work work (entry ∷ entries))
+    by true e c f more = absurd (none-some entry.1 (sym (rw e at new)))
+    by false e true f more = rw (f, other_test entry.0 name work e f) refl
+    by false e false f more = rw f (more (rw e at new))
+
+-- the work is new
+pub find_work_added : (works : List (Vec ℕ Global)) (registrations : List (Vec ShareLine Global)) (name : Vec ℕ Global) (shares : Vec ShareLine Global) (work : List ℕ)
+    → length works ≡ length registrations → list_any (is_work name) works ≡ false
+    → find_work work (works_of (works ++ name ∷ []) (registrations ++ shares ∷ [])) ≡ cond (pointwise nat_eq name.items work) (Some shares.items) (find_work work (works_of works registrations))
+find_work_added works registrations name shares work paired new =
+    ap (λ (entries : List (List ℕ × List ShareLine)). find_work work entries) (works_of_push works registrations name shares paired)
+    ∙ find_work_push work name.items (works_of works registrations) shares.items (find_work_new works registrations name new)
+
+-- the work is among them, and has other share lines now
+pub find_work_replaced : (works : List (Vec ℕ Global)) (registrations : List (Vec ShareLine Global)) (name : Vec ℕ Global) (shares : Vec ShareLine Global) (work : List ℕ)
+    → length works ≡ length registrations → list_any (is_work name) works ≡ true
+    → find_work work (works_of works (slice_set registrations (position_or_len (is_work name) works) shares))
+        ≡ cond (pointwise nat_eq name.items work) (Some shares.items) (find_work work (works_of works registrations))
+find_work_replaced [] registrations name shares work paired known = absurd (false≢true known)
+find_work_replaced (first ∷ works) [] name shares work paired known = absurd (omega arith)
+find_work_replaced (first ∷ works) (old ∷ registrations) name shares work paired known =
+    by (is_work name first) refl (pointwise nat_eq first.items work) refl (find_work_replaced works registrations name shares work (omega arith))
+  where
+    by : (b : Bool) → is_work name first ≡ b → (c : Bool) → pointwise nat_eq first.items work ≡ c
+        → (list_any (is_work name) works ≡ true → find_work work (works_of works (slice_set registrations (position_or_len (is_work name) works) shares))
+            ≡ cond (pointwise nat_eq name.items work) (Some shares.items) (find_work work (works_of works registrations)))
+        → find_work work (works_of (first ∷ works) (slice_set (old ∷ registrations) (position_or_len (is_work name) (first ∷ works)) shares))
+            ≡ cond (pointwise nat_eq name.items work) (Some shares.items) (find_work work (works_of (first ∷ works) (old ∷ registrations)))
+    by true e true f more = rw (e, same_tests name.items first.items work ((bytes_eq-Decides name.items first.items).0 e), f) refl
+    by true e false f more = rw (e, same_tests name.items first.items work ((bytes_eq-Decides name.items first.items).0 e), f) refl
+    by false e true f more =
+        let apart : pointwise nat_eq name.items work ≡ false = other_test first.items name.items work (nat_list_eq_equiv.symm first.items name.items ∙ e) f in
+        rw (e, one-add (position_or_len (is_work name) works), f, apart) refl
+    by false e false f more = rw (e, one-add (position_or_len (is_work name) works), f) (more (rw e at known))
+
+-- What was read
+
+-- what IsReadTo says by the registration that is open
+abbrev pub Stands : List (List ℕ) → Reading → Option Open → Type 0
+Stands lines reading None = HasInForce lines reading × Outside lines
+Stands lines reading (Some registration) = (earlier : List (List ℕ)) × (opening : List ℕ) × (body : List (List ℕ))
+    × (lines ≡ earlier ++ opening ∷ body) × HasInForce earlier reading × IsOpenWith body opening registration
+
+pub read_at : (lines : List (List ℕ)) (reading : Reading) (open' : Option Open) → reading.open ≡ open' → IsReadTo lines reading → Stands lines reading open'
+read_at lines reading open' is read = subst (λ (o : Option Open). Stands lines reading o) is read.1
+
+pub read_as : (lines : List (List ℕ)) (reading : Reading) (open' : Option Open) → reading.open ≡ open' → AreSound lines → Stands lines reading open' → IsReadTo lines reading
+read_as lines reading open' is sound stands = (sound, subst (λ (o : Option Open). Stands lines reading o) (sym is) stands)
+
+-- a reading keeps the same works and share lines as another
+pub record IsAlike (old new : Reading) : Type 0 where
+  pub works : new.works.keys ≡ old.works.keys
+  pub registrations : new.registrations.items ≡ old.registrations.items
+
+pub in_force_alike : (lines : List (List ℕ)) (old new : Reading) → IsAlike old new → HasInForce lines old → HasInForce lines new
+in_force_alike lines old new same forced = record {
+  table = record {
+    paired = ap length same.works ∙ (forced.table.paired ∙ sym (ap length same.registrations));
+    lists = subst (λ (l : List (Vec ShareLine Global)). All (λ lines. AreShareLines lines.items) l) (sym same.registrations) forced.table.lists;
+  };
+  in_force = λ work. ap (λ (works : List (Vec ℕ Global)). find_work work (works_of works new.registrations.items)) same.works
+      ∙ (ap (λ (l : List (Vec ShareLine Global)). find_work work (works_of old.works.keys l)) same.registrations ∙ forced.in_force work);
+}
+
+pub read_table : (lines : List (List ℕ)) (reading : Reading) → IsReadTo lines reading → IsTable reading
+read_table lines reading read = by reading.open read.1
+  where
+    by : (o : Option Open) → Stands lines reading o → IsTable reading
+    by None stands = stands.0.table
+    by (Some registration) stands = stands.4.table
+
+-- before the first line nothing is in force
+pub read_start : (reading : Reading) → reading.open ≡ None → reading.works.keys ≡ [] → reading.registrations.items ≡ [] → IsReadTo [] reading
+unfolding registrations_of
+read_start reading none works registrations = read_as [] reading None none sound_none (forced, outside_none)
+  where
+    forced : HasInForce [] reading
+    forced = record {
+      table = record {
+        paired = ap length works ∙ sym (ap length registrations);
+        lists = subst (λ (l : List (Vec ShareLine Global)). All (λ lines. AreShareLines lines.items) l) (sym registrations) (All-nil (λ (lines : Vec ShareLine Global). AreShareLines lines.items));
+      };
+      in_force = λ work. ap (λ (keys : List (Vec ℕ Global)). find_work work (works_of keys reading.registrations.items)) works;
+    }
+
+-- a line outside a registration that begins none
+pub read_outside : (before : List (List ℕ)) (line : List ℕ) (old new : Reading) → old.open ≡ None → new.open ≡ None → IsAlike old new → opens_registration line ≡ false
+    → IsReadTo before old → IsReadTo (before ++ line ∷ []) new
+read_outside before line old new was is same shut read =
+    let (forced, outside) = read_at before old None was read in
+    let kept = in_force_alike before old new same forced in
+    read_as (before ++ line ∷ []) new None is (sound_push before line read.0 (sound_outside before line shut outside)) (
+      record {
+        table = kept.table;
+        in_force = λ work. kept.in_force work ∙ sym (in_force_same before (before ++ line ∷ []) work (registrations_outside before line shut outside));
+      },
+      outside_on before line shut outside,
+    )
+
+-- a line of the open registration
+pub read_inside : (before : List (List ℕ)) (line : List ℕ) (old new : Reading) (registration next : Open) → old.open ≡ Some registration → new.open ≡ Some next → IsAlike old new
+    → ((opening : List ℕ) (body : List (List ℕ)) → StandsIn before body → IsOpenWith body opening registration → IsSound before line × IsOpenWith (body ++ line ∷ []) opening next)
+    → IsReadTo before old → IsReadTo (before ++ line ∷ []) new
+read_inside before line old new registration next was is same goes read =
+    let (earlier, opening, body, split, forced, with) = read_at before old (Some registration) was read in
+    let open' = subst (λ (l : List (List ℕ)). StandsIn l body) (sym split) (stands_by earlier opening body with.opens with.stays) in
+    let (good, on) = goes opening body open' with in
+    read_as (before ++ line ∷ []) new (Some next) is (sound_push before line read.0 good) (
+      earlier,
+      opening,
+      body ++ line ∷ [],
+      ap (λ (l : List (List ℕ)). l ++ line ∷ []) split ∙ append_assoc earlier (opening ∷ body) (line ∷ []),
+      in_force_alike earlier old new same forced,
+      on,
+    )
+
+-- the first line of a registration, below lines whose registrations have ended
+pub read_opening : (before : List (List ℕ)) (line : List ℕ) (ended new : Reading) (registration : Open) → new.open ≡ Some registration → IsAlike ended new
+    → opens_registration line ≡ true → IsSound before line → registration.work.items ≡ work_of line → registration.shares.items ≡ [] → registration.interest ≡ 0
+    → AreSound before → HasInForce before ended → IsReadTo (before ++ line ∷ []) new
+read_opening before line ended new registration is same opens good work shares interest sound forced =
+    read_as (before ++ line ∷ []) new (Some registration) is (sound_push before line sound good)
+    (before, line, [], refl, in_force_alike before ended new same forced, with)
+  where
+    with : IsOpenWith [] line registration
+    with = record {
+      opens = opens;
+      work = work;
+      stays = All-nil (λ other. ends_registration other ≡ false);
+      shares = shares;
+      sound = subst (λ (l : List ShareLine). AreShareLines l) (sym shares) share_lines_none;
+      interest = interest;
+    }
+
+-- a line that ends it, below lines whose registrations have ended
+pub read_end : (before : List (List ℕ)) (line : List ℕ) (new : Reading) → new.open ≡ None → opens_registration line ≡ false → ends_registration line ≡ true → is_share_line line ≡ false
+    → AreSound before → HasInForce before new → IsReadTo (before ++ line ∷ []) new
+read_end before line new is shut ends other sound forced =
+    read_as (before ++ line ∷ []) new None is (sound_push before line sound (sound_other before line shut other)) (
+      record {
+        table = forced.table;
+        in_force = λ work. forced.in_force work ∙ sym (in_force_same before (before ++ line ∷ []) work (registrations_end before line shut ends));
+      },
+      outside_end before line shut ends,
+    )
+
+-- it has as many share lines as lines of that type
+pub count_of : (body : List (List ℕ)) (opening : List ℕ) (registration : Open) → IsOpenWith body opening registration → length registration.shares.items ≡ count_by is_share_line body
+count_of body opening registration with = ap length with.shares ∙ length_share_lines body
+
+-- the open registration goes on by a line that is neither a share line nor an interest
+pub open_other : (opening : List ℕ) (body : List (List ℕ)) (line : List ℕ) (registration : Open) → ends_registration line ≡ false → is_share_line line ≡ false → opens_interest line ≡ false
+    → IsOpenWith body opening registration → IsOpenWith (body ++ line ∷ []) opening registration
+open_other opening body line registration stays other none with = record {
+  opens = with.opens;
+  work = with.work;
+  stays = All-push (λ other. ends_registration other ≡ false) body line with.stays stays;
+  shares = with.shares ∙ sym (share_lines_no body line other);
+  sound = with.sound;
+  interest = with.interest ∙ sym (count_by_no opens_interest body line none);
+}
+
+-- by an interest
+pub open_interest : (opening : List ℕ) (body : List (List ℕ)) (line : List ℕ) (registration next : Open) → ends_registration line ≡ false → is_share_line line ≡ false → opens_interest line ≡ true
+    → next.work.items ≡ registration.work.items → next.shares.items ≡ registration.shares.items → next.interest ≡ registration.interest + 1
+    → IsOpenWith body opening registration → IsOpenWith (body ++ line ∷ []) opening next
+open_interest opening body line registration next stays other opens work shares interest with = record {
+  opens = with.opens;
+  work = work ∙ with.work;
+  stays = All-push (λ other. ends_registration other ≡ false) body line with.stays stays;
+  shares = shares ∙ (with.shares ∙ sym (share_lines_no body line other));
+  sound = subst (λ (l : List ShareLine). AreShareLines l) (sym shares) with.sound;
+  interest = interest ∙ (ap (λ (n : ℕ). n + 1) with.interest ∙ sym (count_by_yes opens_interest body line opens));
+}
+
+-- by a share line
+pub open_share : (opening : List ℕ) (body : List (List ℕ)) (line : List ℕ) (registration next : Open) → is_share_line line ≡ true
+    → next.work.items ≡ registration.work.items → next.shares.items ≡ registration.shares.items ++ share_line_of registration.interest (share_fields line) line ∷ [] → next.interest ≡ registration.interest
+    → IsShareRecord (length registration.shares.items) (share_fields line) line
+    → IsOpenWith body opening registration → IsOpenWith (body ++ line ∷ []) opening next
+open_share opening body line registration next is work shares interest good with =
+    let (shut, stays, none) = share_stays line is in
+    let share = share_line_of registration.interest (share_fields line) line in
+    record {
+      opens = with.opens;
+      work = work ∙ with.work;
+      stays = All-push (λ other. ends_registration other ≡ false) body line with.stays stays;
+      shares = shares
+          ∙ (ap (λ (l : List ShareLine). l ++ share ∷ []) with.shares
+          ∙ (ap (λ (n : ℕ). share_lines_of body ++ share_line_of n (share_fields line) line ∷ []) with.interest ∙ sym (share_lines_yes body line is)));
+      sound = subst (λ (l : List ShareLine). AreShareLines l) (sym shares) (share_lines_more registration.shares.items share with.sound good.few
+          (share_line_sound (length registration.shares.items) (share_fields line) line registration.interest good)
+          (rw (with.shares, with.interest) (interests_upto body)));
+      interest = interest ∙ (with.interest ∙ sym (count_by_no opens_interest body line none));
+    }
+
+-- a share line of the open registration is as it has to be
+pub sound_share : (before : List (List ℕ)) (line : List ℕ) (opening : List ℕ) (body : List (List ℕ)) (registration : Open) → is_share_line line ≡ true
+    → IsShareRecord (length registration.shares.items) (share_fields line) line → StandsIn before body → IsOpenWith body opening registration → IsSound before line
+sound_share before line opening body registration is good open' with = record {
+  opening = λ opens. absurd (true≢false (sym opens ∙ (share_stays line is).0));
+  share = λ other there _. subst (λ (n : ℕ). IsShareRecord n (share_fields line) line)
+      (count_of body opening registration with ∙ ap (λ (l : List (List ℕ)). count_by is_share_line l) (stands_same before body other open' there)) good;
+}
+
+-- a line that is skipped
+pub read_skipped : (before : List (List ℕ)) (line : List ℕ) (reading : Reading) → IsOfType Other line → IsReadTo before reading → IsReadTo (before ++ line ∷ []) reading
+read_skipped before line reading type = by reading.open refl
+  where
+    by : (o : Option Open) → reading.open ≡ o → IsReadTo before reading → IsReadTo (before ++ line ∷ []) reading
+    by None is = read_outside before line reading reading is is record { works = refl; registrations = refl } type.opens
+    by (Some registration) is =
+        read_inside before line reading reading registration registration is is record { works = refl; registrations = refl }
+        (λ opening body open' with. (sound_other before line type.opens type.share, open_other opening body line registration type.ends type.share type.interest with))
+
+-- a registration that ends is in force in place of an earlier one of its work
+ended_by : (lines : List (List ℕ)) (old new : Reading) (registration : Open) → IsTable new → Stands lines old (Some registration)
+    → ((work : List ℕ) → find_work work (works_of new.works.keys new.registrations.items)
+        ≡ cond (pointwise nat_eq registration.work.items work) (Some registration.shares.items) (find_work work (works_of old.works.keys old.registrations.items)))
+    → HasInForce lines new
+ended_by lines old new registration table (earlier, opening, body, split, forced, with) found = record { table = table; in_force = in_force }
+  where
+    in_force : (work : List ℕ) → find_work work (works_of new.works.keys new.registrations.items) ≡ shares_in_force lines work
+    in_force work =
+        found work
+        ∙ (ap (λ (name : List ℕ). cond (pointwise nat_eq name work) (Some registration.shares.items) (find_work work (works_of old.works.keys old.registrations.items))) with.work
+        ∙ (ap (λ (shares : List ShareLine). cond (pointwise nat_eq (work_of opening) work) (Some shares) (find_work work (works_of old.works.keys old.registrations.items))) with.shares
+        ∙ (ap (λ (before : Option (List ShareLine)). cond (pointwise nat_eq (work_of opening) work) (Some (share_lines_of body)) before) (forced.in_force work)
+        ∙ (sym (in_force_open earlier opening body work with.opens with.stays) ∙ ap (λ (l : List (List ℕ)). shares_in_force l work) (sym split)))))
+
+-- its work is new
+pub ended_new : (lines : List (List ℕ)) (old new : Reading) (registration : Open) → old.open ≡ Some registration → list_any (is_work registration.work) old.works.keys ≡ false
+    → new.works.keys ≡ old.works.keys ++ registration.work ∷ [] → new.registrations.items ≡ old.registrations.items ++ registration.shares ∷ []
+    → IsReadTo lines old → HasInForce lines new
+ended_new lines old new registration was fresh works registrations read =
+    ended_by lines old new registration table stands
+    (λ work. ap (λ (keys : List (Vec ℕ Global)). find_work work (works_of keys new.registrations.items)) works
+    ∙ (ap (λ (l : List (Vec ShareLine Global)). find_work work (works_of (old.works.keys ++ registration.work ∷ []) l)) registrations
+    ∙ find_work_added old.works.keys old.registrations.items registration.work registration.shares work stands.4.table.paired fresh))
+  where
+    stands : Stands lines old (Some registration)
+    stands = read_at lines old (Some registration) was read
+    table : IsTable new
+    table = record {
+      paired = rw (works, registrations, length_push old.works.keys registration.work, length_push old.registrations.items registration.shares, stands.4.table.paired) refl;
+      lists = subst (λ (l : List (Vec ShareLine Global)). All (λ lines. AreShareLines lines.items) l) (sym registrations)
+          (All-push (λ (lines : Vec ShareLine Global). AreShareLines lines.items) old.registrations.items registration.shares stands.4.table.lists stands.5.sound);
+    }
+
+-- its work is known
+pub ended_known : (lines : List (List ℕ)) (old new : Reading) (registration : Open) → old.open ≡ Some registration → list_any (is_work registration.work) old.works.keys ≡ true
+    → new.works.keys ≡ old.works.keys → new.registrations.items ≡ slice_set old.registrations.items (position_or_len (is_work registration.work) old.works.keys) registration.shares
+    → IsReadTo lines old → HasInForce lines new
+ended_known lines old new registration was known works registrations read =
+    ended_by lines old new registration table stands
+    (λ work. ap (λ (keys : List (Vec ℕ Global)). find_work work (works_of keys new.registrations.items)) works
+    ∙ (ap (λ (l : List (Vec ShareLine Global)). find_work work (works_of old.works.keys l)) registrations
+    ∙ find_work_replaced old.works.keys old.registrations.items registration.work registration.shares work stands.4.table.paired known))
+  where
+    stands : Stands lines old (Some registration)
+    stands = read_at lines old (Some registration) was read
+    place : ℕ
+    place = position_or_len (is_work registration.work) old.works.keys
+    table : IsTable new
+    table = record {
+      paired = ap length works ∙ (stands.4.table.paired ∙ (sym (length-set old.registrations.items place registration.shares) ∙ sym (ap length registrations)));
+      lists = subst (λ (l : List (Vec ShareLine Global)). All (λ lines. AreShareLines lines.items) l) (sym registrations)
+          (All-set (λ (lines : Vec ShareLine Global). AreShareLines lines.items) old.registrations.items place registration.shares stands.5.sound stands.4.table.lists);
+    }
+
+-- fewer interests were opened than lines were read
+pub interest_small : (lines : List (List ℕ)) (reading : Reading) → IsReadTo lines reading → IfSome reading.open (λ registration. registration.interest < length lines)
+interest_small lines reading read = by reading.open read.1
+  where
+    by : (o : Option Open) → Stands lines reading o → IfSome o (λ registration. registration.interest < length lines)
+    by None stands = tt
+    by (Some registration) (earlier, opening, body, split, forced, with) =
+        let opened : registration.interest ≤ length body = rw with.interest (count_by-le-length opens_interest body) in
+        rw (split, length-append earlier (opening ∷ body)) (omega arith)
+
+-- what a share line of the open registration is refused for
+pub fault_of_share : (before : List (List ℕ)) (line : List ℕ) (number : ℕ) (reading : Reading) (registration : Open) (fault : CwrFault) → reading.open ≡ Some registration → is_share_line line ≡ true
+    → IsFaultOfShare (length registration.shares.items) (share_fields line) line number fault → IsReadTo before reading → IsFaultOfLine before line number fault
+fault_of_share before line number reading registration fault was is refused read =
+    let (earlier, opening, body, split, forced, with) = read_at before reading (Some registration) was read in
+    inr (
+      is,
+      body,
+      subst (λ (l : List (List ℕ)). StandsIn l body) (sym split) (stands_by earlier opening body with.opens with.stays),
+      subst (λ (n : ℕ). IsFaultOfShare n (share_fields line) line number fault) (count_of body opening registration with) refused,
+    )
+
+-- The lines of a file
+
+length_before_line : (byte : ℕ) (lines : List (List ℕ)) → length (before_line byte lines) ≤ length lines + 1
+length_before_line byte [] = omega arith
+length_before_line byte (line ∷ lines) = omega arith
+
+length_cut : (bytes : List ℕ) → length (cut_at_line_feeds bytes) ≤ length bytes
+unfolding cut_at_line_feeds
+length_cut [] = omega arith
+length_cut (byte ∷ rest) = by (eqb byte 10) (length_cut rest)
+  where
+    by : (b : Bool) → length (cut_at_line_feeds rest) ≤ length rest
+        → length (cond b ([] ∷ cut_at_line_feeds rest) (before_line byte (cut_at_line_feeds rest))) ≤ length (byte ∷ rest)
+    by true few = omega arith
+    by false few = let more = length_before_line byte (cut_at_line_feeds rest) in omega (arith, more)
+
+-- no more lines than bytes
+pub length_lines : (bytes : List ℕ) → length (lines_of bytes) ≤ length bytes
+length_lines bytes = let few = length_cut bytes in rw length-map (omega arith)
+
+-- the lines that were read so far, and those that are left
+pub record Walked (lines left : List (List ℕ)) (number : ℕ) (reading : Reading) : Type 0 where
+  pub before : List (List ℕ)
+  pub split : lines ≡ before ++ left
+  pub read : IsReadTo before reading
+  pub count : length before + 1 ≡ number
+
+pub walked_start : (lines left : List (List ℕ)) (reading : Reading) → left ≡ lines → IsReadTo [] reading → Walked lines left 1 reading
+walked_start lines left reading is read = record { before = []; split = sym is; read = read; count = refl }
+
+pub walked_more : (lines left : List (List ℕ)) (line : List ℕ) (number : ℕ) (old new : Reading) → Walked lines (line ∷ left) number old
+    → ((before : List (List ℕ)) → IsReadTo before old → IsReadTo (before ++ line ∷ []) new) → Walked lines left (number + 1) new
+walked_more lines left line number old new walked goes = record {
+  before = walked.before ++ line ∷ [];
+  split = walked.split ∙ sym (append_assoc walked.before (line ∷ []) left);
+  read = goes walked.before walked.read;
+  count = rw (length_push walked.before line, walked.count) refl;
+}
+
+pub walked_all : (lines left : List (List ℕ)) (number : ℕ) (reading : Reading) → left ≡ [] → Walked lines left number reading → IsReadTo lines reading
+walked_all lines left number reading none walked =
+    subst (λ (l : List (List ℕ)). IsReadTo l reading) (sym (walked.split ∙ (ap (λ (l : List (List ℕ)). walked.before ++ l) none ∙ append-nil walked.before))) walked.read
+
+-- after as many lines as bytes none is left
+pub none_left : (bytes : List ℕ) (left : List (List ℕ)) (number : ℕ) (reading : Reading) → length bytes < number → Walked (lines_of bytes) left number reading → left ≡ []
+none_left bytes [] number reading last walked = refl
+none_left bytes (line ∷ left) number reading last walked =
+    let few = length_lines bytes in
+    let whole = ap length walked.split ∙ length-append walked.before (line ∷ left) in
+    absurd (omega (arith, few, whole, walked.count, last))
+
+first_fault : (lines left : List (List ℕ)) (line : List ℕ) (number : ℕ) (reading : Reading) (fault : CwrFault) → Walked lines (line ∷ left) number reading
+    → ((before : List (List ℕ)) → IsReadTo before reading → IsFaultOfLine before line number fault) → IsFirstFault lines fault
+first_fault lines left line number reading fault walked refused = record {
+  before = walked.before;
+  line = line;
+  after = left;
+  split = walked.split;
+  sound = walked.read.0;
+  refused = subst (λ (n : ℕ). IsFaultOfLine walked.before line n fault) (sym walked.count) (refused walked.before walked.read);
+}
+
+-- the lines are refused for the line at hand
+pub walked_fault : (lines left : List (List ℕ)) (line : List ℕ) (number : ℕ) (reading : Reading) (fault : CwrFault) → Walked lines (line ∷ left) number reading
+    → (fault ≡ Memory) ⊎ ((before : List (List ℕ)) → IsReadTo before reading → IsFaultOfLine before line number fault) → IsFaultOf lines fault
+walked_fault lines left line number reading fault walked (inl memory) = subst (λ (f : CwrFault). IsFaultOf lines f) (sym memory) tt
+walked_fault lines left line number reading fault walked (inr refused) = by fault refused
+  where
+    by : (f : CwrFault) → ((before : List (List ℕ)) → IsReadTo before reading → IsFaultOfLine before line number f) → IsFaultOf lines f
+    by (Short n) refused = first_fault lines left line number reading (Short n) walked refused
+    by (Share n) refused = first_fault lines left line number reading (Share n) walked refused
+    by (Mark n) refused = first_fault lines left line number reading (Mark n) walked refused
+    by (Land n) refused = first_fault lines left line number reading (Land n) walked refused
+    by (Party n) refused = first_fault lines left line number reading (Party n) walked refused
+    by (Work n) refused = first_fault lines left line number reading (Work n) walked refused
+    by (Many n) refused = first_fault lines left line number reading (Many n) walked refused
+    by Accounts refused = absurd (no_line (refused walked.before walked.read))
+      where
+        no_line : IsFaultOfLine walked.before line number Accounts → ⊥
+        no_line (inl opening) = opening.1
+        no_line (inr share) = share.3
+    by Memory refused = tt
+
+-- the lines are refused for their parties
+pub parties_fault : (lines : List (List ℕ)) (reading : Reading) (fault : CwrFault) → IsReadTo lines reading
+    → (fault ≡ Memory) ⊎ ((fault ≡ Accounts) × ((lines : List (List ℕ)) → IsReadTo lines reading → HasTooMany lines)) → IsFaultOf lines fault
+parties_fault lines reading fault read (inl memory) = subst (λ (f : CwrFault). IsFaultOf lines f) (sym memory) tt
+parties_fault lines reading fault read (inr (many, parties)) = subst (λ (f : CwrFault). IsFaultOf lines f) (sym many) (parties lines read)

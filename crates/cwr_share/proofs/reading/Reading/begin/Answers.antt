@@ -1,0 +1,20 @@
+use Rattle.std.proofs.Common.{Some, ap, refl, subst, ◌∙◌}
+use Rattle.cwr_share.specs.CwrFile.{IsOpening}
+use Rattle.cwr_share.specs.Fields.{IsFilled, trimmed}
+use Rattle.cwr_share.specs.declared.reading.Open.{Open}
+use Rattle.cwr_share.specs.declared.reading.Reading.{Reading}
+use Rattle.cwr_share.specs.declared.record_type.RecordType.TheVariants.{Registration}
+use Rattle.cwr_share.proofs.FileLemmas.{of_type, read_opening, sound_opening}
+use Rattle.cwr_share.proofs.reading.Reading.begin.Goals as goal
+
+pub returns-clause-read : goal.returns-clause-read
+returns-clause-read c = λ before read.
+    let line = c.args.line.now in
+    let ended = c.end.new.self in
+    let registration : Open = record { work = c.in_ok-from_slice.field-0; shares = c.new.result; interest = 0 } in
+    let new : Reading = record { works = ended.works; registrations = ended.registrations; «open» = Some registration } in
+    let opens = (of_type Registration line c.requires.opens).opens in
+    let good : IsOpening line = record { long = c.if-line.false; work = subst IsFilled c.of-work.ensures (c.if-not-is_filled.ensures.0 refl) } in
+    let work = c.in_ok-from_slice.ensures.items ∙ (c.trimmed.ensures ∙ ap trimmed c.of-work.ensures) in
+    read_opening before line ended new registration refl record { works = refl; registrations = refl } opens (sound_opening before line opens good) work c.new.ensures.items refl
+    read.0 (c.in_ok-end.ensures.1 before read)

@@ -1,0 +1,59 @@
+use Rattle.std.proofs.Common.{◌≡◌, ◌∙◌, [], ◌-◌, ◌+◌, ◌<◌, Some, true, false, drop, length, get_or, arith, ap, sym, refl}
+use Rattle.std.proofs.lemmas.Bool.{not-false, not-true}
+use Rattle.std.proofs.lemmas.List.{drop_all}
+use Rattle.cwr_share.specs.ClaimsOn.{share_for}
+use Rattle.cwr_share.specs.Compiled.{lines_at}
+use Rattle.cwr_share.specs.Registered.{IsShareLine}
+use Rattle.cwr_share.specs.Registrations.{ShareLine}
+use Rattle.cwr_share.proofs.ClaimLemmas.{Claimed, claimed_apart, claimed_before, claimed_more, claimed_none, length-lines_at, next_alike, next_good, next_line, share_small}
+use Rattle.cwr_share.proofs.registration.Registration.claim.Goals as goal
+use Rattle.cwr_share.proofs.registration.Registration.claim.Goals.{then-ne+then-contains, else-ne, else-ne-via-then-ne+else-contains, else-ne-via-else-ne}
+
+pub loop-count-init : goal.loop-count-init
+loop-count-init c =
+    let places = c.args.places.now in
+    let none : drop (length places - 0) (lines_at c.args.self.now.shares.items places) ≡ [] = drop_all (length places - 0) (lines_at c.args.self.now.shares.items places) (omega (arith, length-lines_at c.args.self.now.shares.items places)) in
+    rw none (claimed_none c.args.tis.now c.args.land c.args.right)
+
+pub overflow_add-claim : goal.overflow_add-claim
+overflow_add-claim c =
+    let some : c.loop-count.count < length c.args.places.now = omega arith in
+    let good = next_good c.args.self.now.shares.items c.args.places.now c.loop-count.count c.index-share.result.now some c.requires.within c.index-share.ensures c.requires.lines in
+    omega (arith, c.loop-count.invariant.small, share_small c.args.right c.index-share.result.now good, c.share_for-claim.ensures, c.requires.few)
+
+pub loop-count-preserved : goal.loop-count-preserved
+loop-count-preserved c =
+    let line = c.index-share.result.now in
+    let lines = c.args.self.now.shares.items in
+    let places = c.args.places.now in
+    let count = c.loop-count.count in
+    let later = drop (length places - count) (lines_at lines places) in
+    let some : count < length places = omega arith in
+    let alike = next_alike lines places count line some c.requires.within c.index-share.ensures c.requires.alike in
+    let good = next_good lines places count line some c.requires.within c.index-share.ensures c.requires.lines in
+    let is = rw (ap (λ (line : ShareLine). line.interest) c.share.view_is) at c.ne.ensures in
+    let territory = ap (λ (line : ShareLine). line.territory) c.share.view_is in
+    let claimed = c.loop-count.invariant in
+    rw (next_line lines places count line some c.requires.within c.index-share.ensures) (elim c.if-ne.branch [
+      | then-ne+then-contains w ↦
+          let new = not-true _ (sym is ∙ w.if-ne.true) in
+          let here = sym (rw territory at w.contains.ensures.worked_out) ∙ w.if-contains.true in
+          let more = claimed_more c.args.tis.now c.args.land c.args.right line later c.loop-count.claim c.loop-count.decided count alike good claimed new here in
+          rw (w.claim-is, w.decided-is, w.share_for-claim.ensures, ap (λ (line : ShareLine). line.interest) c.share.view_is) more
+      | else-ne w ↦ rw (w.claim-is, w.decided-is) (elim w.else-ne.branch [
+        | else-ne-via-then-ne+else-contains w' ↦
+            let apart = sym (rw territory at w'.contains.ensures.worked_out) ∙ w'.if-contains.false in
+            claimed_apart c.args.tis.now c.args.land c.args.right line later c.loop-count.claim c.loop-count.decided count alike good claimed apart
+        | else-ne-via-else-ne w' ↦
+            let old = not-false _ (sym is ∙ w'.if-ne.false) in
+            claimed_before c.args.tis.now c.args.land c.args.right line later c.loop-count.claim c.loop-count.decided count alike good claimed old
+      ])
+    ])
+
+pub returns-clause-claim : goal.returns-clause-claim
+returns-clause-claim c =
+    let whole : length c.args.places.now - c.loop-count.count ≡ 0 = omega arith in
+    rw whole at c.loop-count.invariant.sum
+
+pub returns-clause-small : goal.returns-clause-small
+returns-clause-small c = omega (arith, c.loop-count.invariant.small, c.requires.few)

@@ -1,0 +1,98 @@
+-- The claims of a registry on a usage line.
+use Rattle.std.specs.Prelude.{ℕ, zero, suc, ◌+◌, ◌==◌, ◌&&◌, ◌∷◌, Bool, List, [], drop, filter, map, not, nat_eq, nat_lt, reverse, sum_by, if◌then◌else◌, Option, Some, None}
+use Rattle.std.specs.List.{enumerate_from, find, list_any}
+use Rattle.std.specs.Option.{option_map_or}
+use Rattle.std.specs.Cmp.Lexicographic.{pointwise}
+use Rattle.tis_tree.specs.Territories.{encloses}
+use Rattle.line_split.specs.Claims.{total_of}
+use Rattle.line_split.specs.declared.TheConstants.{MOST_CLAIMED}
+use Rattle.line_split.specs.declared.usage.Line.{Line}
+use Rattle.line_split.specs.declared.usage.Right.{Right}
+use Rattle.line_split.specs.declared.usage.Right.TheVariants.{P, M, S}
+use Rattle.line_split.specs.declared.reason.Reason.{Reason}
+use Rattle.line_split.specs.declared.reason.Reason.TheVariants.{Work, Land, Over}
+use Rattle.cwr_share.specs.Registrations.{ShareLine, find_work}
+use Rattle.cwr_share.specs.Registered.{Registered}
+
+-- two share lines are of one interest and party
+abbrev pub is_alike : ShareLine → ShareLine → Bool
+is_alike line other = (line.interest == other.interest) && pointwise nat_eq line.party other.party
+
+-- the line's share for a right: performing, mechanical or synchronisation; nothing where it excludes
+abbrev pub share_for : Right → ShareLine → ℕ
+share_for right line = if line.includes then by_right right else 0
+  where
+    by_right : Right → ℕ
+    by_right P = line.performing
+    by_right M = line.mechanical
+    by_right S = line.synchronisation
+
+-- the line covers the land: its territory contains it
+abbrev pub covers : List (ℕ × List ℕ) → (land : ℕ) → ShareLine → Bool
+covers table land line = encloses table line.territory land
+
+-- what an interest and party have in a land: the share of the line of theirs that comes last among those which cover the land, and nothing if none does
+abbrev pub share_in : List (ℕ × List ℕ) → (land : ℕ) → Right → List ShareLine → (interest : ℕ) → (party : List ℕ) → ℕ
+share_in table land right lines interest party = option_map_or (share_for right)
+    (find (λ line. (line.interest == interest) && pointwise nat_eq line.party party && covers table land line) (reverse lines)) 0
+
+-- the lines that decide: each covers the land, and no later line of its interest and party does
+unfoldable pub deciding : List (ℕ × List ℕ) → (land : ℕ) → List ShareLine → List ShareLine
+deciding table land [] = []
+deciding table land (line ∷ later) =
+    if covers table land line && not (list_any (λ other. is_alike line other && covers table land other) later)
+    then line ∷ deciding table land later
+    else deciding table land later
+
+-- a party's claim: the shares of its lines that decide, one for each of its interests
+abbrev pub claim_of : List (ℕ × List ℕ) → (land : ℕ) → Right → List ShareLine → (party : List ℕ) → ℕ
+claim_of table land right lines party = sum_by (share_for right) (filter (λ line. pointwise nat_eq line.party party) (deciding table land lines))
+
+-- the sum of a function over the numbers below one
+unfoldable pub sum_below : ℕ → (ℕ → ℕ) → ℕ
+sum_below zero f = 0
+sum_below (suc n) f = sum_below n f + f n
+
+-- a share line with another name of its party
+abbrev pub renamed : (List ℕ → List ℕ) → ShareLine → ShareLine
+renamed name line = record {
+  interest = line.interest;
+  party = name line.party;
+  performing = line.performing;
+  mechanical = line.mechanical;
+  synchronisation = line.synchronisation;
+  includes = line.includes;
+  territory = line.territory;
+}
+
+-- the accounts with a claim to something, each with its claim; accounts count from 1
+abbrev pub claims_among : List (ℕ × List ℕ) → (land : ℕ) → Right → List ShareLine → List (List ℕ) → List (ℕ × ℕ)
+claims_among table land right lines payees = filter (λ claim. not (claim.1 == 0))
+    (map (λ payee. (payee.0, claim_of table land right lines payee.1)) (enumerate_from 1 payees))
+
+-- the claims on a line by the share lines of its work
+abbrev pub claims_by : List (ℕ × List ℕ) → Registered → Line → List ShareLine → List (ℕ × ℕ)
+claims_by table registered line lines = claims_among table line.territory line.right lines (drop 1 registered.parties)
+
+-- the territory has a row in the table
+abbrev pub is_known : List (ℕ × List ℕ) → ℕ → Bool
+is_known table code = list_any (λ row. row.0 == code) table
+
+-- what stands against all claims on a line, if anything does: its work is not registered, or its territory is unknown, or the claims come to more than 100.06 per cent; the first of these
+abbrev pub reason_against : List (ℕ × List ℕ) → Registered → Line → Option Reason
+reason_against table registered line = against (find_work line.work registered.works)
+  where
+    against : Option (List ShareLine) → Option Reason
+    against None = Some Work
+    against (Some lines) =
+        if not (is_known table line.territory) then Some Land
+        else if nat_lt MOST_CLAIMED (total_of (claims_by table registered line lines)) then Some Over
+        else None
+
+-- the claims on a line: none where a reason stands against them
+abbrev pub claims_on : List (ℕ × List ℕ) → Registered → Line → List (ℕ × ℕ)
+claims_on table registered line = unless (reason_against table registered line) (find_work line.work registered.works)
+  where
+    unless : Option Reason → Option (List ShareLine) → List (ℕ × ℕ)
+    unless None (Some lines) = claims_by table registered line lines
+    unless _ _ = []

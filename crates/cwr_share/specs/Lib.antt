@@ -1,0 +1,10 @@
+pub mod Lines
+pub mod Fields
+pub mod Records
+pub mod Registrations
+pub mod Registered
+pub mod ClaimsOn
+pub mod CwrFile
+pub mod Compiled
+pub mod Reading
+pub mod Parties

@@ -1,0 +1,45 @@
+-- The parties of lists of share lines, as they are gathered.
+use Rattle.std.specs.Prelude.{ℕ, ◌≡◌, ◌≤◌, ◌<◌, ◌∷◌, ◌↔◌, ◌⊎◌, List, All, Contains, [], length, map, Some, Vec}
+use Rattle.std.specs.BTreeSet.{BTreeSet}
+use Rattle.std.specs.List.Sorted.{IsStrictlySortedBy}
+use Rattle.std.specs.Cmp.Lexicographic.{slice_cmp}
+use Rattle.std.specs.Ordering.{nat_cmp}
+use Rattle.std.specs.declared.alloc.Global.{Global}
+use Rattle.cwr_share.specs.Registrations.{ShareLine, find_work}
+use Rattle.cwr_share.specs.declared.TheConstants.{MOST_PARTIES}
+
+-- the texts in a set
+abbrev pub texts_of : BTreeSet (Vec ℕ Global) → List (List ℕ)
+texts_of set = map (λ text. text.items) set.keys
+
+-- the texts before with those added are these
+pub record HasAdded (before added texts : List (List ℕ)) : Type 0 where
+  pub exact : (text : List ℕ) → Contains texts text ↔ (Contains before text ⊎ Contains added text)
+
+-- one of the lists has a share line of the party
+abbrev pub IsAmong : List (List ShareLine) → List ℕ → Type 0
+IsAmong lists party = (lines : List ShareLine) × Contains lists lines × Contains (map (λ line. line.party) lines) party
+
+-- the texts are the parties of the lists
+pub record ArePartiesIn (lists : List (List ShareLine)) (texts : List (List ℕ)) : Type 0 where
+  pub exact : (party : List ℕ) → Contains texts party ↔ IsAmong lists party
+
+-- the parties of the lists by account, each once and in rising byte order; the residue's account has no text
+pub record AreAccountsOf (lists : List (List ShareLine)) (parties : List (List ℕ)) : Type 0 where
+  pub payees : List (List ℕ)
+  pub accounts : parties ≡ [] ∷ payees
+  pub rising : IsStrictlySortedBy (slice_cmp nat_cmp) parties
+  pub few : length payees ≤ MOST_PARTIES
+  pub exact : ArePartiesIn lists payees
+
+-- the lists have more than 511 parties
+abbrev pub HasMany : List (List ShareLine) → Type 0
+HasMany lists = (parties : List (List ℕ)) × IsStrictlySortedBy (slice_cmp nat_cmp) parties × All (IsAmong lists) parties × (MOST_PARTIES < length parties)
+
+-- the party of a share line of a work, by what the work finds
+abbrev pub IsPartyFound : List (List ℕ × List ShareLine) → List ℕ → Type 0
+IsPartyFound works party = (work : List ℕ) × (lines : List ShareLine) × (find_work work works ≡ Some lines) × Contains (map (λ line. line.party) lines) party
+
+-- the works have more than 511 parties
+abbrev pub HasManyFound : List (List ℕ × List ShareLine) → Type 0
+HasManyFound works = (parties : List (List ℕ)) × IsStrictlySortedBy (slice_cmp nat_cmp) parties × All (IsPartyFound works) parties × (MOST_PARTIES < length parties)

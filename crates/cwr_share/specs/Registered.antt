@@ -1,0 +1,42 @@
+-- What a registry has: the share lines of the registrations in force, and the accounts of their parties.
+use Rattle.std.specs.Prelude.{ℕ, ◌≡◌, ◌≤◌, ◌<◌, ◌∷◌, ◌↔◌, List, All, Contains, [], length, map}
+use Rattle.std.specs.List.{AllPairs}
+use Rattle.std.specs.List.Sorted.{IsStrictlySortedBy}
+use Rattle.std.specs.Cmp.Lexicographic.{slice_cmp}
+use Rattle.std.specs.Ordering.{nat_cmp}
+use Rattle.line_split.specs.declared.TheConstants.{FULL_SHARE}
+use Rattle.csv_table.specs.declared.forms.TheConstants.{MOST_CODE}
+use Rattle.cwr_share.specs.declared.TheConstants.{MOST_PARTIES, MOST_SHARES}
+use Rattle.cwr_share.specs.Registrations.{ShareLine}
+
+-- the works in any order, each with its share lines in the order of the file; and the parties by account, where the residue has an empty text
+pub record Registered : Type 0 where
+  pub works : List (List ℕ × List ShareLine)
+  pub parties : List (List ℕ)
+
+-- a share line in its limits
+pub record IsShareLine (line : ShareLine) : Type 0 where
+  pub party : 0 < length line.party
+  pub performing : line.performing ≤ FULL_SHARE
+  pub mechanical : line.mechanical ≤ FULL_SHARE
+  pub synchronisation : line.synchronisation ≤ FULL_SHARE
+  pub territory : (0 < line.territory) × (line.territory ≤ MOST_CODE)
+
+-- the party of a share line of one of the works
+abbrev pub IsPartyOf : List (List ℕ × List ShareLine) → List ℕ → Type 0
+IsPartyOf works party = (work : List ℕ) × (lines : List ShareLine) × Contains works (work, lines) × Contains (map (λ line. line.party) lines) party
+
+-- the parties of the works, each once and in rising byte order
+pub record ArePartiesOf (works : List (List ℕ × List ShareLine)) (parties : List (List ℕ)) : Type 0 where
+  pub rising : IsStrictlySortedBy (slice_cmp nat_cmp) parties
+  pub exact : (party : List ℕ) → Contains parties party ↔ IsPartyOf works party
+
+-- what every registry keeps to
+pub record IsRegistered (registered : Registered) : Type 0 where
+  pub once : AllPairs (λ entry later. ¬ (entry.0 ≡ later.0)) registered.works
+  pub few : All (λ entry. length entry.1 ≤ MOST_SHARES) registered.works
+  pub shares : All (λ entry. All IsShareLine entry.1) registered.works
+  pub payees : List (List ℕ)
+  pub accounts : registered.parties ≡ [] ∷ payees
+  pub few_payees : length payees ≤ MOST_PARTIES
+  pub exact : ArePartiesOf registered.works payees

@@ -1,0 +1,59 @@
+//! What the claims of a file keep to. A law has an empty body: its contract is the law.
+
+ghost use Rattle.std.specs.Prelude.{◌≡◌, ◌<◌, ◌++◌, ◌∷◌, [], ℕ, List, All, Some, false, map, true};
+ghost use Rattle.line_split.specs.LargestRemainder.{portions_of};
+ghost use Rattle.line_split.specs.declared.TheConstants.{RESIDUE};
+ghost use Rattle.line_split.specs.declared.usage.Line.{Line};
+ghost use Rattle.line_split.specs.declared.usage.Right.{Right};
+ghost use Rattle.cwr_share.specs.ClaimsOn.{claim_of, claims_among, claims_on, covers, reason_against, renamed, share_for, share_in, sum_below};
+ghost use Rattle.cwr_share.specs.Records.{ends_registration, opens_registration};
+ghost use Rattle.cwr_share.specs.Registered.{Registered};
+ghost use Rattle.cwr_share.specs.Registrations.{ShareLine, find_work, share_lines_of, shares_in_force, work_of};
+
+/// A line that covers the land decides for its interest and party over all lines before it: so an
+/// exclusion takes the land out, and an inclusion after it brings it back.
+pub fn law_the_last_line_decides()
+    ensures decides { (table : List (ℕ × List ℕ)) (land : ℕ) (right : Right) (lines : List ShareLine) (line : ShareLine) → covers table land line ≡ true
+        → share_in table land right (lines ++ line ∷ []) line.interest line.party ≡ share_for right line }
+    ensures out { (table : List (ℕ × List ℕ)) (land : ℕ) (right : Right) (lines : List ShareLine) (line : ShareLine) → covers table land line ≡ true
+        → line.includes ≡ false → share_in table land right (lines ++ line ∷ []) line.interest line.party ≡ 0 }
+    ensures elsewhere { (table : List (ℕ × List ℕ)) (land : ℕ) (right : Right) (lines : List ShareLine) (line : ShareLine) (interest : ℕ) (party : List ℕ)
+        → covers table land line ≡ false → share_in table land right (lines ++ line ∷ []) interest party ≡ share_in table land right lines interest party }
+{}
+
+/// What a party claims is what it has in each of the interests, added up.
+pub fn law_a_claim_is_the_sum_over_the_interests()
+    ensures { (table : List (ℕ × List ℕ)) (land : ℕ) (right : Right) (lines : List ShareLine) (party : List ℕ) (interests : ℕ)
+        → All (λ line. line.interest < interests) lines
+        → claim_of table land right lines party ≡ sum_below interests (λ interest. share_in table land right lines interest party) }
+{}
+
+/// A registration at the end of a file takes the place of what its work had before, and leaves the
+/// other works as they were.
+pub fn law_a_later_registration_replaces()
+    ensures whole { (lines body : List (List ℕ)) (opening : List ℕ) → opens_registration opening ≡ true → All (λ line. ends_registration line ≡ false) body
+        → shares_in_force (lines ++ opening ∷ body) (work_of opening) ≡ Some (share_lines_of body) }
+    ensures alone { (lines body : List (List ℕ)) (opening work : List ℕ) → opens_registration opening ≡ true → All (λ line. ends_registration line ≡ false) body
+        → ¬ (work ≡ work_of opening) → shares_in_force (lines ++ opening ∷ body) work ≡ shares_in_force lines work }
+{}
+
+/// A registration without share lines leaves the whole amount to the residue.
+pub fn law_no_share_lines_leave_all_to_the_residue()
+    ensures { (table : List (ℕ × List ℕ)) (registered : Registered) (line : Line) → find_work line.work registered.works ≡ Some []
+        → portions_of line.amount (claims_on table registered line) ≡ (RESIDUE, line.amount) ∷ [] }
+{}
+
+/// The claims on a line are those of no other work: what is registered for others changes nothing.
+pub fn law_claims_are_of_no_other_work()
+    ensures claims { (table : List (ℕ × List ℕ)) (registered other : Registered) (line : Line) → find_work line.work registered.works ≡ find_work line.work other.works
+        → registered.parties ≡ other.parties → claims_on table registered line ≡ claims_on table other line }
+    ensures reason { (table : List (ℕ × List ℕ)) (registered other : Registered) (line : Line) → find_work line.work registered.works ≡ find_work line.work other.works
+        → registered.parties ≡ other.parties → reason_against table registered line ≡ reason_against table other line }
+{}
+
+/// Parties by other names, each different from the others, have the same claims in the same places.
+pub fn law_names_do_not_matter()
+    ensures { (name : List ℕ → List ℕ) → ((text other : List ℕ) → name text ≡ name other → text ≡ other)
+        → (table : List (ℕ × List ℕ)) (land : ℕ) (right : Right) (lines : List ShareLine) (payees : List (List ℕ))
+        → claims_among table land right (map (renamed name) lines) (map name payees) ≡ claims_among table land right lines payees }
+{}

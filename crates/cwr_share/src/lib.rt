@@ -1,0 +1,30 @@
+//! Registrations of works, as a publisher sends them in a CWR 2.2 file, and the claims that they give
+//! on a usage line.
+//!
+//! `Registry::read` reads a file. Each registration has share lines: who collects which share, in
+//! which territories. `Registry::claims` asks, for the work, the land and the right of a usage line,
+//! what each party's shares come to.
+#![tactic(auto)]
+
+mod cwr_fault;
+pub mod fields;
+pub mod laws;
+mod lines;
+mod parties;
+mod reading;
+mod record_type;
+mod registration;
+mod registry;
+mod share_line;
+#[cfg(test)]
+mod tests;
+
+pub use cwr_fault::CwrFault;
+pub use record_type::RecordType;
+pub use registry::Registry;
+
+/// The most share lines that one registration has.
+pub const MOST_SHARES: usize = 256;
+
+/// The most parties that all registrations in force have.
+pub const MOST_PARTIES: usize = 511;

@@ -1,0 +1,163 @@
+//! The registrations in force, and the claims that they give on a usage line.
+
+ghost use Rattle.std.specs.Prelude.{◌≡◌, ◌≤◌, ◌<◌, ◌↔◌, ◌⊎◌, [], ℕ, Contains, IfOk, IfErr, IfSome, IfNone, true, false, length, map, slice_index_or};
+ghost use Rattle.line_split.specs.declared.TheConstants.{MOST_CLAIMS};
+ghost use Rattle.cwr_share.specs.ClaimsOn.{claims_on, is_known, reason_against};
+ghost use Rattle.cwr_share.specs.Compiled.{AreKept, registered_as};
+ghost use Rattle.cwr_share.specs.CwrFile.{IsFaultOf, IsFileOf};
+ghost use Rattle.cwr_share.specs.Lines.{lines_of};
+ghost use Rattle.cwr_share.specs.Registered.{IsRegistered};
+
+use crate::lines::Lines;
+use crate::parties::account_of;
+use crate::reading::Reading;
+use crate::registration::Registration;
+use crate::CwrFault;
+use indexmap::IndexSet;
+use line_split::{Account, Claims, Line, MOST_CLAIMS, Reason};
+use std::alloc::{AllocError, Global};
+use std::marker::Model;
+use tis_tree::{Code, MOST_ROWS, TisTable};
+
+/// The registrations in force of a file, and the accounts of their parties.
+#[derive(Drop)]
+pub struct Registry {
+    works: IndexSet<Vec<u8>>,
+    /// The registration of each work.
+    registrations: Vec<Registration>,
+    /// The party of each account; the residue's has none.
+    parties: Vec<Vec<u8>>,
+}
+
+impl Model for Registry {
+    ghost use Rattle.std.specs.Prelude.{◌≡◌, All, length, map, zip};
+    ghost use Rattle.cwr_share.specs.Compiled.{AreKept, registered_as};
+    ghost use Rattle.cwr_share.specs.Registered.{IsRegistered, Registered};
+
+    ghost Value = { Registered };
+
+    ghost view = { λ r. registered_as r.works.keys r.registrations.items r.parties.items };
+
+    ghost invariant = { λ r. IsRegistered (registered_as r.works.keys r.registrations.items r.parties.items) × AreKept r.works.keys r.registrations.items r.parties.items };
+}
+
+impl Registry {
+    /// Reads a CWR 2.2 file with line ends of either kind, LF or CR LF. Of several registrations (NWR,
+    /// REV) of a work the last one is in force.
+    pub fn read(alloc: Global, bytes: &[u8]) -> Result<Registry, CwrFault>
+        ensures registrations { IfOk result (IsFileOf (lines_of bytes.now)) }
+        ensures sound { IfOk result IsRegistered }
+        ensures fault { IfErr result (IsFaultOf (lines_of bytes.now)) }
+    {
+        let mut lines = Lines::of(bytes);
+        let mut reading = Reading::new(alloc);
+        for number in 1..=bytes.len() as u64 {
+            let Some(line) = lines.next() else {
+                return reading.finish(alloc);
+            };
+            reading.add(alloc, number, line)?;
+        }
+        reading.finish(alloc)
+    }
+
+    /// The registry of these parts.
+    pub(crate) fn of(
+        works: IndexSet<Vec<u8>>,
+        registrations: Vec<Registration>,
+        parties: Vec<Vec<u8>>,
+    ) -> Registry
+        requires sound { IsRegistered (registered_as works.keys registrations.items parties.items) }
+        requires kept { AreKept works.keys registrations.items parties.items }
+        ensures { result ≡ registered_as works.keys registrations.items parties.items }
+    {
+        Registry {
+            works,
+            registrations,
+            parties,
+        }
+    }
+
+    /// How many accounts there are: one for each party, and the residue's.
+    pub fn accounts(&self) -> u16
+        ensures accounts { result ≡ length self.now.parties }
+        ensures sound { IsRegistered self.now }
+    {
+        self.parties.len() as u16
+    }
+
+    /// The party of each account, by its interested party number. The residue's has none.
+    pub fn parties(&self) -> &[Vec<u8>]
+        ensures { map (λ party. party.items) result.now ≡ self.now.parties }
+    {
+        self.parties.as_slice()
+    }
+
+    /// The interested party number of an account.
+    pub fn party(&self, account: Account) -> &[u8]
+        requires { account < length self.now.parties }
+        ensures { result.now ≡ slice_index_or self.now.parties account [] }
+    {
+        self.parties[account as usize].as_slice()
+    }
+
+    /// The account of a party. No account has an empty text.
+    pub fn account_of(&self, party: &[u8]) -> Option<Account>
+        ensures some { IfSome result (λ account. (0 < account) × (account < length self.now.parties) × (slice_index_or self.now.parties account [] ≡ party.now)) }
+        ensures none { IfNone result ((party.now ≡ []) ⊎ ¬ Contains self.now.parties party.now) }
+    {
+        if party.is_empty() {
+            return None;
+        }
+        account_of(self.parties.as_slice(), party)
+    }
+
+    /// How many works have a registration in force.
+    pub fn works(&self) -> usize
+        ensures works { result ≡ length self.now.works }
+        ensures sound { IsRegistered self.now }
+    {
+        self.registrations.len()
+    }
+
+    /// No claims, with room for those of any line.
+    pub fn scratch(&self, alloc: Global) -> Result<Claims, AllocError>
+        ensures { IfOk result (λ claims. claims ≡ record { list = []; room = MOST_CLAIMS }) }
+    {
+        Claims::room(alloc, MOST_CLAIMS)
+    }
+
+    /// Puts the claims on a usage line into `out`, in hundredths of a per cent; an account that claims
+    /// nothing is left out. Where something stands against all claims, this is the answer, and `out` is
+    /// empty.
+    pub fn claims(&self, tis: &TisTable, line: &Line, out: &mut Claims) -> Option<Reason>
+        requires { MOST_CLAIMS ≤ out.old.room }
+        ensures reason { result ≡ reason_against tis.now self.now line.now }
+        ensures claims { out.new.list ≡ claims_on tis.now self.now line.now }
+        ensures room { out.new.room ≡ out.old.room }
+    {
+        out.clear();
+        let Some(place) = self.works.get_index_of(line.work.as_slice()) else {
+            return Some(Reason::Work);
+        };
+        let Some(land) = land_of(tis, line.territory) else {
+            return Some(Reason::Land);
+        };
+        if self.registrations[place].claims(tis, land, line.right, out) {
+            None
+        } else {
+            Some(Reason::Over)
+        }
+    }
+}
+
+/// The territory with this code, where the table has it.
+fn land_of(tis: &TisTable, code: u16) -> Option<Code>
+    ensures some { IfSome result (λ land. (land ≡ code) × (is_known tis.now code ≡ true)) }
+    ensures none { IfNone result (is_known tis.now code ≡ false) }
+{
+    let Some(land) = Code::of(code) else {
+        prove!(tis.len() <= MOST_ROWS, "no table has a code out of range");
+        return None;
+    };
+    if tis.known(land) { Some(land) } else { None }
+}

@@ -1,0 +1,200 @@
+//! Share lines: who collects which share of a work, in which territory.
+
+ghost use Rattle.std.specs.Prelude.{◌≡◌, ◌↔◌, ◌==◌, ◌⊎◌, IfOk, IfErr, IfSome, IfNone, IsTrue, not, reverse, slice_index};
+ghost use Rattle.csv_table.specs.Forms.{IsCode, number_of};
+ghost use Rattle.cwr_share.specs.CwrFile.{IsFaultOfShare, IsShareRecord};
+ghost use Rattle.cwr_share.specs.Fields.{HasShares, IsFilled, IsMark, IsShare, field_of, share_of, trimmed as trimmed_text, without_spaces_before as from_first_byte};
+ghost use Rattle.cwr_share.specs.Registrations.{share_line_of};
+ghost use Rattle.cwr_share.specs.ClaimsOn.{share_for};
+ghost use Rattle.cwr_share.specs.declared.cwr_fault.CwrFault.TheVariants.{Memory};
+
+use crate::fields::ShareFields;
+use crate::{CwrFault, MOST_SHARES};
+use csv_table::forms::{code, number_up_to};
+use line_split::{FULL_SHARE, Right};
+use std::alloc::Global;
+use std::marker::Model;
+use tis_tree::Code;
+
+/// What a party collects in a territory, in hundredths of a per cent, or that it collects nothing
+/// there.
+#[derive(Drop)]
+pub(crate) struct Share {
+    /// How many interests were opened before it in its registration.
+    pub(crate) interest: usize,
+    /// The interested party number.
+    pub(crate) party: Vec<u8>,
+    pub(crate) shares: Shares,
+    /// Whether the territory is included or excluded.
+    pub(crate) includes: bool,
+    pub(crate) territory: Code,
+}
+
+/// The collection shares of a share line, in hundredths of a per cent.
+#[derive(Clone, Copy, Debug, PartialEq, Eq)]
+pub(crate) struct Shares {
+    pub(crate) performing: u16,
+    pub(crate) mechanical: u16,
+    pub(crate) synchronisation: u16,
+}
+
+impl Model for Share {
+    ghost use Rattle.cwr_share.specs.Registrations.{ShareLine};
+
+    ghost Value = { ShareLine };
+
+    ghost view = { λ s. record {
+        interest = s.interest;
+        party = s.party.items;
+        performing = s.shares.performing;
+        mechanical = s.shares.mechanical;
+        synchronisation = s.shares.synchronisation;
+        includes = s.includes;
+        territory = s.territory;
+    } };
+}
+
+impl Share {
+    /// Reads a share line, which has this number, below so many others of its registration.
+    pub(crate) fn read(
+        alloc: Global,
+        line: &[u8],
+        number: u64,
+        fields: &ShareFields,
+        interest: usize,
+        earlier: usize,
+    ) -> Result<Share, CwrFault>
+        ensures share { IfOk result (λ share. IsShareRecord earlier fields.now line.now × (share ≡ share_line_of interest fields.now line.now)) }
+        ensures fault { IfErr result (λ fault. (fault ≡ Memory) ⊎ IsFaultOfShare earlier fields.now line.now number fault) }
+    {
+        if line.len() < fields.territory.last {
+            return Err(CwrFault::Short(number));
+        }
+        let party = fields.party.of(line);
+        if !is_filled(party) {
+            return Err(CwrFault::Party(number));
+        }
+        let Some(shares) = shares_written(line, fields) else {
+            return Err(CwrFault::Share(number));
+        };
+        let Some(includes) = includes(fields.mark.of(line)) else {
+            return Err(CwrFault::Mark(number));
+        };
+        let Some(territory) = territory(fields.territory.of(line)) else {
+            return Err(CwrFault::Land(number));
+        };
+        if earlier >= MOST_SHARES {
+            return Err(CwrFault::Many(number));
+        }
+        Ok(Share {
+            interest,
+            party: Vec::from_slice(alloc, trimmed(party))?,
+            shares,
+            includes,
+            territory,
+        })
+    }
+
+    /// The share for a right: nothing where the territory is excluded.
+    pub(crate) fn share_for(&self, right: Right) -> u32
+        ensures { result ≡ share_for right self.now }
+    {
+        if !self.includes {
+            return 0;
+        }
+        let share = match right {
+            Right::P => self.shares.performing,
+            Right::M => self.shares.mechanical,
+            Right::S => self.shares.synchronisation,
+        };
+        u32::from(share)
+    }
+}
+
+/// The three shares of a share line, where all of them are shares.
+fn shares_written(line: &[u8], fields: &ShareFields) -> Option<Shares>
+    ensures some { IfSome result (λ shares. HasShares fields.now line.now
+        × (shares.performing ≡ share_of (field_of fields.now.performing line.now))
+        × (shares.mechanical ≡ share_of (field_of fields.now.mechanical line.now))
+        × (shares.synchronisation ≡ share_of (field_of fields.now.synchronisation line.now))) }
+    ensures none { IfNone result (¬ HasShares fields.now line.now) }
+{
+    Some(Shares {
+        performing: share_written(fields.performing.of(line))?,
+        mechanical: share_written(fields.mechanical.of(line))?,
+        synchronisation: share_written(fields.synchronisation.of(line))?,
+    })
+}
+
+/// The share that a field writes: five spaces are 0.
+fn share_written(field: &[u8]) -> Option<u16>
+    ensures some { IfSome result (λ share. IsShare field.now × (share ≡ share_of field.now)) }
+    ensures none { IfNone result (¬ IsShare field.now) }
+{
+    if field == b"     ".as_slice() {
+        return Some(0);
+    }
+    let share = number_up_to(field, u64::from(FULL_SHARE))?;
+    Some(share as u16)
+}
+
+/// Whether an indicator includes or excludes: a blank one includes.
+fn includes(field: &[u8]) -> Option<bool>
+    ensures some { IfSome result (λ includes. IsMark field.now × (includes ≡ not (slice_index field.now 0 == 69))) }
+    ensures none { IfNone result (¬ IsMark field.now) }
+{
+    if field == b"I".as_slice() || field == b" ".as_slice() {
+        Some(true)
+    } else if field == b"E".as_slice() {
+        Some(false)
+    } else {
+        None
+    }
+}
+
+/// Whether a field is printable ASCII and not all spaces.
+pub(crate) fn is_filled(field: &[u8]) -> bool
+    ensures { IsTrue result ↔ IsFilled field.now }
+{
+    field.iter().all(|byte| *byte >= 32 && *byte <= 126) && !trimmed(field).is_empty()
+}
+
+/// The territory that a field names: a code of four digits.
+fn territory(field: &[u8]) -> Option<Code>
+    ensures some { IfSome result (λ territory. IsCode field.now × (territory ≡ number_of field.now)) }
+    ensures none { IfNone result (¬ IsCode field.now) }
+{
+    Code::of(code(field)?)
+}
+
+/// A text without the spaces at both ends.
+pub(crate) fn trimmed(text: &[u8]) -> &[u8]
+    ensures { result.now ≡ trimmed_text text.now }
+{
+    without_spaces_after(without_spaces_before(text))
+}
+
+/// A text without the spaces before it.
+fn without_spaces_before(text: &[u8]) -> &[u8]
+    ensures { result.now ≡ from_first_byte text.now }
+{
+    for place in 0..text.len() {
+        if text[place] != b' ' {
+            return &text[place..];
+        }
+    }
+    b""
+}
+
+/// A text without the spaces after it.
+fn without_spaces_after(text: &[u8]) -> &[u8]
+    ensures { result.now ≡ reverse (from_first_byte (reverse text.now)) }
+{
+    for count in 0..text.len() {
+        let end = text.len() - count;
+        if text[end - 1] != b' ' {
+            return &text[..end];
+        }
+    }
+    b""
+}
