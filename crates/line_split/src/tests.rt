@@ -111,6 +111,30 @@ fn takes_lists_of_every_length(rt: HostRuntime) -> Result<(), Fail> {
 }
 
 #[test]
+fn takes_claims_into_their_room(rt: HostRuntime) -> Result<(), Fail> {
+    let alloc = rt.alloc();
+    let mut claims = Claims::room(alloc, 3)?;
+    assert_eq!(rt; claims.spare(), 3);
+    assert!(rt; claims.list().is_empty());
+    claims.push(1, 5_000);
+    claims.push(4, 10_006);
+    assert_eq!(rt; claims.list(), [(1, 5_000), (4, 10_006)].as_slice());
+    claims.clear();
+    assert!(rt; claims.list().is_empty());
+    assert_eq!(rt; claims.spare(), 3);
+    let given = Claims::of(alloc, &[(2, 7), (1, 5)])?;
+    assert_eq!(rt; given.spare(), 2);
+    let mut most = Claims::room(alloc, MOST_CLAIMS)?;
+    for account in 1..257u16 {
+        assert!(rt; most.list().len() < most.spare());
+        assert!(rt; most.list().iter().all(|claim| claim.0 < account));
+        most.push(account, 39);
+    }
+    assert_eq!(rt; most.list().len(), 256);
+    Ok(())
+}
+
+#[test]
 fn says_what_is_wrong(rt: HostRuntime) -> Result<(), Fail> {
     let alloc = rt.alloc();
     for (fault, want) in [
