@@ -65,7 +65,7 @@ fn refuses_a_table_for_its_first_fault(rt: HostRuntime) -> Result<(), Fail> {
     assert_eq!(rt; refusal(alloc, b""), Some((1, Some(0))));
     assert_eq!(rt; refusal(alloc, b"code\n"), Some((1, Some(0))));
     assert_eq!(rt; refusal(alloc, b"code,groups"), None);
-    let table: [(&[u8], Option<(u8, Option<u64>)>); 17] = [
+    let table: [(&[u8], Option<(u8, Option<u64>)>); 18] = [
         (b"276,2136\n2136,\n", Some((4, Some(1)))),
         (b"2136,\n2136,\n", Some((3, Some(2)))),
         (b"0,\n", Some((2, Some(1)))),
@@ -78,6 +78,7 @@ fn refuses_a_table_for_its_first_fault(rt: HostRuntime) -> Result<(), Fail> {
         (b"2136,\n276, 2136 2136\n", None),
         (b"2136,\n9001,2136\n276,   9001  2136 \n", None),
         (b"2136,\n276,   \n", None),
+        (b"1,\n2,1\n3,\n4,3\n5,\n6,1 2 3 4 5\n", None),
         (b"2136,\n276,2136\t\n", Some((4, Some(2)))),
         (b"2136,\n276,02136\n", Some((4, Some(2)))),
         (b"2136,\n276,2136 0\n", Some((4, Some(2)))),
@@ -104,5 +105,27 @@ fn takes_2048_rows_and_no_more(rt: HostRuntime) -> Result<(), Fail> {
     assert!(rt; contains(&table, 64, 65) && contains(&table, 63, 128) && !contains(&table, 65, 64));
     text.extend_from_slice(b"x\n")?;
     assert_eq!(rt; refusal(alloc, text.as_slice()), Some((5, None)));
+    Ok(())
+}
+
+#[test]
+fn says_what_is_wrong(rt: HostRuntime) -> Result<(), Fail> {
+    let alloc = rt.alloc();
+    for (fault, want) in [
+        (TisFault::Csv(0), "row 0 is not code,groups"),
+        (
+            TisFault::Code(1),
+            "the code of row 1 is not a number from 1 to 9999",
+        ),
+        (TisFault::Twice(2), "the code of row 2 has a row already"),
+        (
+            TisFault::Group(2048),
+            "a group of row 2048 is not the code of an earlier row",
+        ),
+        (TisFault::Rows, "there are more than 2048 rows"),
+        (TisFault::Memory, "memory ran out"),
+    ] {
+        assert_eq!(rt; format!(in alloc; "{fault}")?.as_str(), want);
+    }
     Ok(())
 }
