@@ -61,13 +61,7 @@ impl Registration {
 
     /// Puts the claims in a land under a right into `out`, those that are not 0, by rising account.
     /// Answers whether they come to no more than 100.06 per cent; if not, `out` is empty.
-    pub(crate) fn claims(
-        &self,
-        tis: &TisTable,
-        land: Code,
-        right: Right,
-        out: &mut Claims,
-    ) -> bool
+    pub(crate) fn claims(&self, tis: &TisTable, land: Code, right: Right, out: &mut Claims) -> bool
         requires rising { AllPairs (λ payee later. payee.0 < later.0) (map seen self.now.payees.items) }
         requires accounts { All (λ payee. 0 < payee.0) (map seen self.now.payees.items) }
         requires within { All (λ payee. All (λ place. place < length self.now.shares.items) payee.1) (map seen self.now.payees.items) }
@@ -128,7 +122,9 @@ fn add_place(
     requires { AllPairs (λ payee later. payee.0 < later.0) (map seen payees.old.items) }
     ensures { OnOk result (map seen payees.new.items ≡ with_place account place (map seen payees.old.items)) }
 {
-    let at = payees.as_slice().partition_point(|payee| payee.account < account);
+    let at = payees
+        .as_slice()
+        .partition_point(|payee| payee.account < account);
     if at < payees.len() && payees[at].account == account {
         payees[at].places.push(place)?;
     } else {

@@ -8,11 +8,11 @@ ghost use Rattle.cwr_share.specs.CwrFile.{IsFaultOf, IsFileOf};
 ghost use Rattle.cwr_share.specs.Lines.{lines_of};
 ghost use Rattle.cwr_share.specs.Registered.{IsRegistered};
 
+use crate::CwrFault;
 use crate::lines::Lines;
 use crate::parties::account_of;
 use crate::reading::Reading;
 use crate::registration::Registration;
-use crate::CwrFault;
 use indexmap::IndexSet;
 use line_split::{Account, Claims, Line, MOST_CLAIMS, Reason};
 use std::alloc::{AllocError, Global};

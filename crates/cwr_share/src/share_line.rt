@@ -44,13 +44,13 @@ impl Model for Share {
     ghost Value = { ShareLine };
 
     ghost view = { λ s. record {
-        interest = s.interest;
-        party = s.party.items;
-        performing = s.shares.performing;
-        mechanical = s.shares.mechanical;
-        synchronisation = s.shares.synchronisation;
-        includes = s.includes;
-        territory = s.territory;
+      interest = s.interest;
+      party = s.party.items;
+      performing = s.shares.performing;
+      mechanical = s.shares.mechanical;
+      synchronisation = s.shares.synchronisation;
+      includes = s.includes;
+      territory = s.territory;
     } };
 }
 

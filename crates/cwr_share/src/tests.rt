@@ -10,13 +10,22 @@ use tis_tree::TisTable;
 const TERRITORIES: &[u8] = b"code,groups\n2136,\n9001,2136\n276,9001\n840,2136\n";
 
 /// The lines of a work of two parties: A all over the world but in 840, and B.
-const WORK: &str = "NWR0000000000000000SONG                                                          W1";
-const WORK_2: &str = "NWR0000000000000000SONG                                                          W2";
+const WORK: &str =
+    "NWR0000000000000000SONG                                                          W1";
+
+const WORK_2: &str =
+    "NWR0000000000000000SONG                                                          W2";
+
 const FIRST: &str = "SPU0000000000000001";
+
 const A_WORLD: &str = "SPT0000000000000002A              060000600006000I2136";
+
 const A_NOT_840: &str = "SPT0000000000000003A                             E0840";
+
 const SECOND: &str = "SPU0000000000000004";
+
 const B_WORLD: &str = "SPT0000000000000005B              040000400004000I2136";
+
 const TWO_PARTIES: [&str; 6] = [WORK, FIRST, A_WORLD, A_NOT_840, SECOND, B_WORLD];
 
 /// Several interests, a writer, a revision, and shares over 100.06 per cent.
@@ -128,7 +137,8 @@ fn the_last_line_decides(rt: HostRuntime) -> Result<(), Fail> {
 #[test]
 fn a_revision_replaces(rt: HostRuntime) -> Result<(), Fail> {
     let alloc = rt.alloc();
-    let revision = "REV0000000000000000SONG                                                          W1";
+    let revision =
+        "REV0000000000000000SONG                                                          W1";
     let lines = [WORK, FIRST, A_WORLD, A_NOT_840, SECOND, B_WORLD, revision];
     let registry = Registry::read(alloc, file(alloc, &lines, "\n")?.as_slice())?;
     assert_eq!(rt; registry.accounts(), 1);
@@ -265,10 +275,7 @@ fn refuses_a_first_line_for_its_first_fault(rt: HostRuntime) -> Result<(), Fail>
             Some((6, Some(2))),
         ),
         // a type alone
-        (
-            "NWR",
-            Some((1, Some(2))),
-        ),
+        ("NWR", Some((1, Some(2)))),
         // as if filled with spaces
         (
             "NWR0000000000000000SONG                                                          W",
@@ -314,7 +321,13 @@ fn answers_every_prefix(rt: HostRuntime) -> Result<(), Fail> {
 }
 
 /// The lines of a registration with so many share lines, one for each party from a number on.
-fn add_parties(alloc: Global, text: &mut Vec<u8>, work: &str, first: u16, count: u16) -> Result<(), Fail> {
+fn add_parties(
+    alloc: Global,
+    text: &mut Vec<u8>,
+    work: &str,
+    first: u16,
+    count: u16,
+) -> Result<(), Fail> {
     text.extend_from_slice(work.as_bytes())?;
     text.extend_from_slice(b"\nSPU\n")?;
     for number in 0..count {
