@@ -16,8 +16,6 @@ mod record_type;
 mod registration;
 mod registry;
 mod share_line;
-#[cfg(test)]
-mod tests;
 
 pub use cwr_fault::CwrFault;
 pub use record_type::RecordType;
