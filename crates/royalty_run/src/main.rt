@@ -1,12 +1,15 @@
 //! The distribution run's command line.
 #![tactic(auto)]
 
-mod book;
 mod commands;
 mod failure;
+mod fault;
 mod pair;
 mod pair_fault;
 mod program;
+mod settle;
+#[cfg(test)]
+mod settle_tests;
 mod split_words;
 #[cfg(test)]
 mod tests;
