@@ -3,4 +3,5 @@ pub mod RowLemmas
 pub mod Shifted
 pub mod SplitLemmas
 pub mod Walked
-mod BookLemmas
+pub mod BookLemmas
+pub mod SettleLemmas
