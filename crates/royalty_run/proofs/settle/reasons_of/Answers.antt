@@ -22,10 +22,13 @@ loop-posting-preserved c =
     let is : get_or usage p.0 line ≡ line = get_or_from_slice_get usage p.0 line line c.line-line.ensures.line in
     let here : get_or (map own usage) p.0 Open ≡ unwrap_or c.claims-in-loop-posting.result Open =
     get_or-map own usage p.0 line Open below ∙ (ap own is ∙ ap (λ r. unwrap_or r Open) (sym c.claims-in-loop-posting.ensures.reason)) in
-    record {
+    let owns = map own usage in
+    let done = take i c.args.residue.now in
+    let so_far = c.loop-posting.invariant.reasons in record {
       reasons = rw (take_more c.args.residue.now i (0, 0) c.loop-posting-test.true) (elim c.match-claims.branch [
-        | in-Some w ↦ let h = w.index_mut in let h2 = w.in-Some in ?
-        | in_default w ↦ let h2 = w.in_default in ?
+        | in-Some w ↦ rw w.reasons-is (reason_set owns done c.loop-posting.reasons.items p so_far w.in-Some.reason
+            (omega (arith, below, so_far.whole, length-map usage own)) (sym (here ∙ ap (λ r. unwrap_or r Open) w.in-Some.is)))
+        | in_default w ↦ rw w.reasons-is (reason_left owns done c.loop-posting.reasons.items p so_far (here ∙ ap (λ r. unwrap_or r Open) w.in_default.is))
       ]);
       room = c.claims-in-loop-posting.ensures.room ∙ c.loop-posting.invariant.room;
     }
