@@ -3,5 +3,5 @@ pub mod RowLemmas
 pub mod Shifted
 pub mod SplitLemmas
 pub mod Walked
-pub mod BookLemmas
-pub mod SettleLemmas
+mod BookLemmas
+mod SettleLemmas

@@ -1,16 +1,15 @@
 -- What the statements of a run come to, and the reasons of its residue.
-use Rattle.std.proofs.Common.{◌≡◌, ◌∙◌, ◌+◌, ◌*◌, ◌-◌, ◌<◌, ◌≤◌, ◌++◌, ◌∷◌, ◌⊎◌, [], ℕ, zero, suc, Bool, true, false, List, Option, Some, None, length, map, set, take, drop, get_or, All, ap, sym, subst, refl, inl, inr, arith, filter, codes}
+use Rattle.std.proofs.Common.{◌≡◌, ◌∙◌, ◌+◌, ◌*◌, ◌<◌, ◌++◌, ◌∷◌, ◌⊎◌, [], ℕ, zero, suc, Bool, true, false, List, Option, Some, None, length, map, set, drop, get_or, All, ap, sym, subst, refl, inl, inr, arith, filter, codes}
 use Rattle.std.specs.Prelude.{◌==◌, flat_map, if◌then◌else◌, nat_le, nat_lt, not, sum_by, zip}
 use Rattle.std.specs.List.{AllPairs, enumerate_from}
 use Rattle.std.proofs.lemmas.Bool.{cases_Bool, cases_eq, eq-eqb, ne_eqb}
 use Rattle.std.proofs.lemmas.List.{get_or-map, get_or-set_other, get_or-set_same, length-drop, length-map, length-set}
-use Rattle.std.proofs.lemmas.List.Elements.{All-append, All-filter, All-map, All-nil, All-push, All-tail}
+use Rattle.std.proofs.lemmas.List.Elements.{All-filter, All-map, All-nil, All-push, All-tail}
 use Rattle.std.proofs.lemmas.List.FromFn.{get_or-enumerate_from, length-enumerate_from}
 use Rattle.std.proofs.lemmas.List.Kept.{AllPairs-filter}
 use Rattle.std.proofs.lemmas.List.Quantifiers.{all_pairs_push}
 use Rattle.std.proofs.lemmas.List.Sums.{sum_by-cons}
 use Rattle.line_split.specs.Claims.{total_of}
-use Rattle.line_split.specs.LargestRemainder.{portions_of}
 use Rattle.line_split.specs.declared.TheConstants.{MOST_CLAIMED, RESIDUE}
 use Rattle.line_split.specs.declared.usage.Line.{Line}
 use Rattle.line_split.specs.declared.reason.Reason.{Reason}
@@ -23,7 +22,7 @@ use Rattle.cwr_share.specs.ClaimsOn.{claim_of, claims_by, claims_on, is_known}
 use Rattle.cwr_share.specs.Registered.{IsRegistered, Registered}
 use Rattle.cwr_share.specs.Registrations.{ShareLine, find_work}
 use Rattle.cwr_share.proofs.ClaimLemmas.{against_land, against_nothing, against_over, against_work}
-use Rattle.payee_book.specs.Run.{IsBookOf, portion_of, statement_of}
+use Rattle.payee_book.specs.Run.{IsBookOf, portion_of}
 use Rattle.payee_book.specs.Statement as statement
 use Rattle.payee_book.specs.Text.{payee_rows, posting_row, reason_at, reason_text, residue_rows, rows_of_book, run_row, total_row}
 use Rattle.royalty_run.specs.Settled.{division_by}
@@ -32,7 +31,7 @@ module _ (table : List (ℕ × List ℕ)) (registered : Registered) (line : Line
   abbrev Below : ℕ × ℕ → Type 0
   Below claim = claim.0 < length registered.parties
 
-  -- the accounts of the claims are those of the parties
+  -- the accounts of the claims by share lines are those of the parties
   by_below : (lines : List ShareLine) → All Below (claims_by table registered line lines)
   by_below lines =
       All-filter (λ claim. not (claim.1 == 0)) Below (map (λ (payee : ℕ × List ℕ). (payee.0, claim_of table line.territory line.right lines payee.1)) (enumerate_from 1 (drop 1 registered.parties)))
@@ -207,7 +206,7 @@ module _ (owns : List Reason) (done : List (ℕ × ℕ)) (reasons : List Reason)
     stand = All-push (Stands reasons) done p are.stand (elim (are.either p.0) [ | inl none ↦ none ∙ sym left | inr own ↦ own ]);
   }
 
-  -- another line
+  -- one whose reason is set
   pub reason_set : (reason : Reason) → p.0 < length reasons → reason ≡ get_or owns p.0 Open → AreReasons owns (done ++ p ∷ []) (set reasons p.0 reason)
   reason_set reason within is = record {
     whole = length-set reasons p.0 reason ∙ are.whole;
@@ -247,7 +246,7 @@ rows_same usage owns reasons postings below are =
         ap (λ row. row ∷ map (λ posting. posting_row usage (codes "M") (reason_at reasons posting.0) posting) done) (ap (λ r. posting_row usage (codes "M") r p) first)
         ∙ ap (λ l. posting_row usage (codes "M") (reason_at owns p.0) p ∷ l) rest
 
--- so do those of the book
+-- and with them the rows of the book
 pub book_rows_same : (book : List (List (ℕ × ℕ))) (usage : List Line) (parties : List (List ℕ)) (reasons owns : List Reason)
     → residue_rows usage reasons (get_or book 0 []) ≡ residue_rows usage owns (get_or book 0 []) → rows_of_book book usage parties reasons ≡ rows_of_book book usage parties owns
 book_rows_same book usage parties reasons owns is =

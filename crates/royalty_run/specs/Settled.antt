@@ -1,5 +1,5 @@
 -- What a distribution run answers, over its three inputs.
-use Rattle.std.specs.Prelude.{ℕ, ◌≡◌, ◌≢◌, ◌+◌, List, All, length, map, sum_by, unwrap_or, Option, Some, None, ⊤, slice_index_or, []}
+use Rattle.std.specs.Prelude.{ℕ, ◌≡◌, ◌≢◌, List, length, map, sum_by, unwrap_or, ⊤}
 use Rattle.csv_table.specs.Table.{rows_of}
 use Rattle.csv_table.specs.Written.{text_of}
 use Rattle.tis_tree.specs.TisRows as tis

@@ -1,7 +1,7 @@
-use Rattle.std.proofs.Common.{◌≡◌, ◌∙◌, ◌<◌, [], List, ℕ, length, map, get_or, ap, sym, subst, arith}
+use Rattle.std.proofs.Common.{◌≡◌, ◌∙◌, ◌<◌, [], length, map, get_or, ap, subst, arith}
 use Rattle.csv_table.specs.Written.{text_of}
 use Rattle.payee_book.specs.Text.{residue_rows, rows_of_book}
-use Rattle.royalty_run.specs.Settled.{AreStatementsOf, IsReading, division_by, reason_of}
+use Rattle.royalty_run.specs.Settled.{division_by, reason_of}
 use Rattle.royalty_run.proofs.BookLemmas.{book_lines_below}
 use Rattle.royalty_run.proofs.SettleLemmas.{adds_up, book_rows_same, some_accounts}
 use Rattle.royalty_run.proofs.settle.settle.Goals as goal
