@@ -51,9 +51,9 @@ module _ (table : List (ℕ × List ℕ)) (registered : Registered) (line : Line
       by None is = none (against_work table registered line is).1
       by (Some lines) is = elim (cases_Bool (is_known table line.territory)) [
         | inl known ↦ elim (cases_Bool (nat_le (total_of (claims_by table registered line lines)) MOST_CLAIMED)) [
-            | inl within ↦ subst P (sym (against_nothing table registered line lines is known within).1) (those lines)
-            | inr over ↦ none (against_over table registered line lines is known over).1
-          ]
+          | inl within ↦ subst P (sym (against_nothing table registered line lines is known within).1) (those lines)
+          | inr over ↦ none (against_over table registered line lines is known over).1
+        ]
         | inr unknown ↦ none (against_land table registered line lines is unknown).1
       ]
 
@@ -76,12 +76,13 @@ module _ (table : List (ℕ × List ℕ)) (registered : Registered) (line : Line
       λ k lt. omega (arith, lt, length-map parties claim, length-enumerate_from 1 (drop 1 registered.parties)) in
       let at : (k : ℕ) (d : ℕ × ℕ) → k < length (map claim parties) → (get_or (map claim parties) k d).0 ≡ 1 + k = λ k d lt.
       ap (λ (e : ℕ × ℕ). e.0) (get_or-map claim parties k (0, []) d (omega (arith, lt, length-map parties claim)))
-      ∙ ap (λ (e : ℕ × List ℕ). e.0) (get_or-enumerate_from 1 (drop 1 registered.parties) k (0, []) (inside k lt)) in
-      (AllPairs-filter Differ (λ (c : ℕ × ℕ). not (c.1 == 0)) (map claim parties) (λ i j d before lt same.
-      let first = at i d (omega (arith, before, lt)) in
-      let second = at j d lt in
-      omega (arith, first, second, same, before)),
-      All-filter (λ (c : ℕ × ℕ). not (c.1 == 0)) (λ c. RESIDUE < c.0) (map claim parties) (λ k d lt. let is = at k d lt in omega (arith, is)))
+      ∙ ap (λ (e : ℕ × List ℕ). e.0) (get_or-enumerate_from 1 (drop 1 registered.parties) k (0, []) (inside k lt)) in (
+        AllPairs-filter Differ (λ (c : ℕ × ℕ). not (c.1 == 0)) (map claim parties) (λ i j d before lt same.
+            let first = at i d (omega (arith, before, lt)) in
+            let second = at j d lt in
+            omega (arith, first, second, same, before)),
+        All-filter (λ (c : ℕ × ℕ). not (c.1 == 0)) (λ c. RESIDUE < c.0) (map claim parties) (λ k d lt. let is = at k d lt in omega (arith, is)),
+      )
 
   apart : AreApart (claims_on table registered line)
   apart = on_cases AreApart ((λ i j d before lt. absurd (omega (arith, lt))), All-nil (λ claim. RESIDUE < claim.0)) by_apart
@@ -203,7 +204,7 @@ module _ (owns : List Reason) (done : List (ℕ × ℕ)) (reasons : List Reason)
   reason_left left = record {
     whole = are.whole;
     either = are.either;
-    stand = All-push (Stands reasons) done p are.stand (elim (are.either p.0) [ | inl none ↦ none ∙ sym left | inr own ↦ own ]);
+    stand = All-push (Stands reasons) done p are.stand (elim (are.either p.0) [ inl none ↦ none ∙ sym left | inr own ↦ own ]);
   }
 
   -- one whose reason is set
