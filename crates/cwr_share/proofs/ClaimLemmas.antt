@@ -1,10 +1,10 @@
--- What a party's share lines come to, from the last line back.
+-- What share lines come to: those of a party, from the last one back; those of a registration, payee by payee; and the answer on a usage line.
 use Rattle.std.proofs.Common.{◌≡◌, ◌∙◌, ◌≤◌, ◌<◌, ◌+◌, ◌*◌, ◌-◌, ◌++◌, ◌∷◌, ◌⊎◌, [], ℕ, Bool, true, false, List, Option, Some, None, All, AllPairs, Contains, zero, suc, drop, filter, find, length, take, map, get_or, ltb, nat_eq, nat_le, not, option_map, sum_by, append-nil, ap, sym, refl, subst, inl, inr, arith}
 use Rattle.std.specs.Prelude.{Any, IsTrue, ◌↔◌, ◌==◌, ◌&&◌, if◌then◌else◌}
 use Rattle.std.specs.List.{enumerate_from, list_any, range_with_len}
 use Rattle.std.specs.Option.{option_eq}
 use Rattle.std.specs.Cmp.Lexicographic.{pointwise}
-use Rattle.std.proofs.lemmas.Bool.{cases_Bool, false_from_ne_true, le-leb, le-ltb, leb-false, leb-true, lt-leb, lt-ltb, false≢true, cases_eq, and_parts, and_right, eqb-true, eqb-false, eq-eqb, ne_eqb}
+use Rattle.std.proofs.lemmas.Bool.{cases_Bool, false_from_ne_true, le-leb, le-ltb, leb-false, leb-true, lt-leb, lt-ltb, false≢true, cases_eq, and_parts, and_right, eqb-true, eq-eqb, ne_eqb}
 use Rattle.std.proofs.lemmas.Bool.Decides.{same_from_decides}
 use Rattle.std.proofs.lemmas.List.{get_or-map, get_or_default, length-map, length-drop, length-take-le, drop_more, get_or-drop, get_or-take, same_lists, take_all}
 use Rattle.std.proofs.lemmas.List.Elements.{All-contains, All-filter, All-map, All-tail, filter_more, filter_passes}
@@ -461,8 +461,8 @@ alike_in_party party lines rise = λ i j d before within.
     let kept = filter_passes of_party lines in
     let first = get_or (lines_of_party party lines) i d in
     let second = get_or (lines_of_party party lines) j d in
-    ((bytes_eq-Decides first.party party).0 (kept i d (omega arith)) ∙ sym ((bytes_eq-Decides second.party party).0 (kept j d within)),
-    AllPairs-filter (λ line later. line.interest ≤ later.interest) of_party lines rise i j d before within)
+    let same = (bytes_eq-Decides first.party party).0 (kept i d (omega arith)) ∙ sym ((bytes_eq-Decides second.party party).0 (kept j d within)) in
+    (same, AllPairs-filter (λ line later. line.interest ≤ later.interest) of_party lines rise i j d before within)
 
 -- no party has more places than there are lines
 pub few_places : (party : List ℕ) (lines : List ShareLine) (places : List ℕ) → lines_at lines places ≡ lines_of_party party lines → length places ≤ length lines

@@ -1,5 +1,5 @@
--- How a registration is compiled: the accounts of its parties, and the places of their share lines.
-use Rattle.std.proofs.Common.{◌≡◌, ◌==◌, ◌∙◌, ◌++◌, ◌⊎◌, inl, inr, ◌<◌, ◌≤◌, ◌+◌, ◌∷◌, [], ℕ, zero, suc, List, All, AllPairs, Contains, HoldsAt, IsSortedBy, filter, nat_eq, ltb, true, false, insert, length, map, position, get_or, set, take, drop, ap, sym, refl, append-nil, subst, arith, zero-le, one-add, lt_trans, ⊎_elim, Bool, Vec, Global, Some, None, zip, Ordering, Less, Equal, Greater, is_lt, nat_cmp}
+-- How a registration is compiled, by the accounts of its parties and the places of their share lines; and how a registry finds one.
+use Rattle.std.proofs.Common.{◌≡◌, ◌==◌, ◌∙◌, ◌++◌, ◌⊎◌, inl, inr, ◌<◌, ◌≤◌, ◌+◌, ◌∷◌, [], ℕ, zero, suc, List, All, AllPairs, Contains, HoldsAt, IsSortedBy, nat_eq, ltb, true, false, insert, length, map, position, get_or, set, take, drop, ap, sym, refl, append-nil, subst, arith, zero-le, one-add, lt_trans, ⊎_elim, Bool, Vec, Global, Some, None, zip, Ordering, Less, Equal, Greater, is_lt, nat_cmp}
 use Rattle.std.specs.List.{AllWithin, position_or_len}
 use Rattle.std.specs.List.Sorted.{IsNonDecreasingBy, IsPartitionPoint, IsStrictlySortedBy}
 use Rattle.std.specs.Cmp.Lexicographic.{pointwise, slice_cmp}

@@ -310,7 +310,7 @@ stands_back before body line open' = by (last_view body)
         inl (ap opens_registration same.1 ∙ open'.opens, none)
     by (inr (front, last, is)) =
         let same = same_from_push before (open'.earlier ++ open'.opening ∷ front) line last
-            (open'.split ∙ (ap (λ (l : List (List ℕ)). open'.earlier ++ open'.opening ∷ l) is ∙ sym (append_assoc open'.earlier (open'.opening ∷ front) (last ∷ [])))) in
+        (open'.split ∙ (ap (λ (l : List (List ℕ)). open'.earlier ++ open'.opening ∷ l) is ∙ sym (append_assoc open'.earlier (open'.opening ∷ front) (last ∷ [])))) in
         let stays = subst (λ (l : List (List ℕ)). All (λ other. ends_registration other ≡ false) l) is open'.stays in
         inr (
           ap ends_registration same.1 ∙ All_last (λ other. ends_registration other ≡ false) front last stays,
@@ -385,7 +385,7 @@ pub in_force_alone : (before : List (List ℕ)) (opening : List ℕ) (body : Lis
 in_force_alone before opening body work opens stays other =
     in_force_open before opening body work opens stays
     ∙ cond-false (pointwise nat_eq (work_of opening) work) (Some (share_lines_of body)) (shares_in_force before work)
-      (false_from_ne_true (pointwise nat_eq (work_of opening) work) (λ same. other (sym ((bytes_eq-Decides (work_of opening) work).0 same))))
+    (false_from_ne_true (pointwise nat_eq (work_of opening) work) (λ same. other (sym ((bytes_eq-Decides (work_of opening) work).0 same))))
 
 -- lines with the same registrations have the same in force
 pub in_force_same : (before after : List (List ℕ)) (work : List ℕ) → registrations_of after ≡ registrations_of before → shares_in_force after work ≡ shares_in_force before work
@@ -527,6 +527,7 @@ interests_rise = by_pushes (λ body. InterestsRise (share_lines_of body)) none m
   where
     none : InterestsRise (share_lines_of [])
     none i j d before within = absurd (omega arith)
+
     more : (body : List (List ℕ)) (line : List ℕ) → InterestsRise (share_lines_of body) → InterestsRise (share_lines_of (body ++ line ∷ []))
     more body line rise = by (cases_Bool (is_share_line line))
       where
@@ -629,7 +630,7 @@ find_work_added works registrations name shares work paired new =
 pub find_work_replaced : (works : List (Vec ℕ Global)) (registrations : List (Vec ShareLine Global)) (name : Vec ℕ Global) (shares : Vec ShareLine Global) (work : List ℕ)
     → length works ≡ length registrations → list_any (is_work name) works ≡ true
     → find_work work (works_of works (slice_set registrations (position_or_len (is_work name) works) shares))
-        ≡ cond (pointwise nat_eq name.items work) (Some shares.items) (find_work work (works_of works registrations))
+    ≡ cond (pointwise nat_eq name.items work) (Some shares.items) (find_work work (works_of works registrations))
 find_work_replaced [] registrations name shares work paired known = absurd (false≢true known)
 find_work_replaced (first ∷ works) [] name shares work paired known = absurd (omega arith)
 find_work_replaced (first ∷ works) (old ∷ registrations) name shares work paired known =
@@ -637,9 +638,9 @@ find_work_replaced (first ∷ works) (old ∷ registrations) name shares work pa
   where
     by : (b : Bool) → is_work name first ≡ b → (c : Bool) → pointwise nat_eq first.items work ≡ c
         → (list_any (is_work name) works ≡ true → find_work work (works_of works (slice_set registrations (position_or_len (is_work name) works) shares))
-            ≡ cond (pointwise nat_eq name.items work) (Some shares.items) (find_work work (works_of works registrations)))
+        ≡ cond (pointwise nat_eq name.items work) (Some shares.items) (find_work work (works_of works registrations)))
         → find_work work (works_of (first ∷ works) (slice_set (old ∷ registrations) (position_or_len (is_work name) (first ∷ works)) shares))
-            ≡ cond (pointwise nat_eq name.items work) (Some shares.items) (find_work work (works_of (first ∷ works) (old ∷ registrations)))
+        ≡ cond (pointwise nat_eq name.items work) (Some shares.items) (find_work work (works_of (first ∷ works) (old ∷ registrations)))
     by true e true f more = rw (e, same_tests name.items first.items work ((bytes_eq-Decides name.items first.items).0 e), f) refl
     by true e false f more = rw (e, same_tests name.items first.items work ((bytes_eq-Decides name.items first.items).0 e), f) refl
     by false e true f more =
@@ -830,7 +831,7 @@ read_skipped before line reading type = by reading.open refl
 -- a registration that ends is in force in place of an earlier one of its work
 ended_by : (lines : List (List ℕ)) (old new : Reading) (registration : Open) → IsTable new → Stands lines old (Some registration)
     → ((work : List ℕ) → find_work work (works_of new.works.keys new.registrations.items)
-        ≡ cond (pointwise nat_eq registration.work.items work) (Some registration.shares.items) (find_work work (works_of old.works.keys old.registrations.items)))
+    ≡ cond (pointwise nat_eq registration.work.items work) (Some registration.shares.items) (find_work work (works_of old.works.keys old.registrations.items)))
     → HasInForce lines new
 ended_by lines old new registration table (earlier, opening, body, split, forced, with) found = record { table = table; in_force = in_force }
   where
@@ -854,6 +855,7 @@ ended_new lines old new registration was fresh works registrations read =
   where
     stands : Stands lines old (Some registration)
     stands = read_at lines old (Some registration) was read
+
     table : IsTable new
     table = record {
       paired = rw (works, registrations, length_push old.works.keys registration.work, length_push old.registrations.items registration.shares, stands.4.table.paired) refl;
@@ -873,8 +875,10 @@ ended_known lines old new registration was known works registrations read =
   where
     stands : Stands lines old (Some registration)
     stands = read_at lines old (Some registration) was read
+
     place : ℕ
     place = position_or_len (is_work registration.work) old.works.keys
+
     table : IsTable new
     table = record {
       paired = ap length works ∙ (stands.4.table.paired ∙ (sym (length-set old.registrations.items place registration.shares) ∙ sym (ap length registrations)));

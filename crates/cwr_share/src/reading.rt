@@ -151,12 +151,7 @@ impl Reading {
     {
         let mut reading = self;
         reading.end()?;
-        let Reading {
-            works,
-            registrations,
-            open: _,
-        } = reading;
-        registry_of(alloc, works, registrations)
+        registry_of(alloc, reading.works, reading.registrations)
     }
 }
 

@@ -1,5 +1,4 @@
-use Rattle.std.proofs.Common.{sym, ap, ◌∙◌, ◌≡◌}
-use Rattle.cwr_share.specs.ClaimsOn.{is_known}
+use Rattle.std.proofs.Common.{sym, ◌∙◌}
 use Rattle.cwr_share.proofs.ClaimLemmas.{known_is, out_of_range}
 use Rattle.cwr_share.proofs.registry.land_of.Goals as goal
 

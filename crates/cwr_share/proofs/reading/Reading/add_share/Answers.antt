@@ -45,10 +45,10 @@ returns-clause-read c = λ before.
     let (good, same) = c.in_ok-share.ensures.share in
     let count : c.len.result ≡ length was.shares.items = c.len.ensures ∙ was.shares.ok.0 in
     let sound : IsShareRecord (length was.shares.items) (share_fields line) line =
-        subst (λ (n : ℕ). IsShareRecord n (share_fields line) line) count (subst (λ (f : ShareFields). IsShareRecord c.len.result f line) c.requires.1 good) in
+    subst (λ (n : ℕ). IsShareRecord n (share_fields line) line) count (subst (λ (f : ShareFields). IsShareRecord c.len.result f line) c.requires.1 good) in
     let shares : next.shares.items ≡ was.shares.items ++ share_line_of was.interest (share_fields line) line ∷ [] =
-        c.in_ok-push.ensures.items
-        ∙ ap (λ (share : ShareLine). was.shares.items ++ share ∷ []) (same ∙ ap (λ (f : ShareFields). share_line_of was.interest f line) c.requires.1) in
+    c.in_ok-push.ensures.items
+    ∙ ap (λ (share : ShareLine). was.shares.items ++ share ∷ []) (same ∙ ap (λ (f : ShareFields). share_line_of was.interest f line) c.requires.1) in
     read_inside before line old new was next (sym c.in-Some.ensures.value) refl record { works = refl; registrations = refl }
     (λ opening body open' with. (
       sound_share before line opening body was c.requires.0 sound open' with,

@@ -10,8 +10,7 @@ pub returns-in_ok-push : goal.returns-in_ok-push
 returns-in_ok-push c =
     let old = c.args.self.now in
     let fresh : list_any (is_work c.in-Some.open.work) old.works.keys ≡ false = not-true _ (sym c.in_ok-place.ensures.added ∙ c.if-is_new.true) in
-    let new : Reading = record { works = c.insert_full.new.self; registrations = c.push.new.self; «open» = c.take.new.self } in
-    (
+    let new : Reading = record { works = c.insert_full.new.self; registrations = c.push.new.self; «open» = c.take.new.self } in (
       c.take.ensures.after,
       λ before. ended_new before old new c.in-Some.open (sym c.take.ensures.value ∙ c.in-Some.is) fresh (rw fresh at c.in_ok-place.ensures.keys) c.in_ok-push.ensures.items,
     )
@@ -21,8 +20,7 @@ returns-else-is_new c =
     let old = c.args.self.now in
     let registration = c.in-Some.open in
     let known : list_any (is_work registration.work) old.works.keys ≡ true = not-false _ (sym c.in_ok-place.ensures.added ∙ c.if-is_new.false) in
-    let new : Reading = record { works = c.insert_full.new.self; registrations = with_item old.registrations c.in_ok-place.place registration.shares; «open» = c.take.new.self } in
-    (
+    let new : Reading = record { works = c.insert_full.new.self; registrations = with_item old.registrations c.in_ok-place.place registration.shares; «open» = c.take.new.self } in (
       c.take.ensures.after,
       λ before. ended_known before old new registration (sym c.take.ensures.value ∙ c.in-Some.is) known (rw known at c.in_ok-place.ensures.keys)
           (ap (λ place. slice_set old.registrations.items place registration.shares) c.in_ok-place.ensures.index),

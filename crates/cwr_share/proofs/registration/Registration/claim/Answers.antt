@@ -1,11 +1,9 @@
-use Rattle.std.proofs.Common.{◌≡◌, ◌∙◌, [], ◌-◌, ◌+◌, ◌<◌, Some, true, false, drop, length, get_or, arith, ap, sym, refl}
+use Rattle.std.proofs.Common.{◌≡◌, ◌∙◌, [], ◌-◌, ◌<◌, drop, length, arith, ap, sym}
 use Rattle.std.proofs.lemmas.Bool.{not-false, not-true}
 use Rattle.std.proofs.lemmas.List.{drop_all}
-use Rattle.cwr_share.specs.ClaimsOn.{share_for}
 use Rattle.cwr_share.specs.Compiled.{lines_at}
-use Rattle.cwr_share.specs.Registered.{IsShareLine}
 use Rattle.cwr_share.specs.Registrations.{ShareLine}
-use Rattle.cwr_share.proofs.ClaimLemmas.{Claimed, claimed_apart, claimed_before, claimed_more, claimed_none, length-lines_at, next_alike, next_good, next_line, share_small}
+use Rattle.cwr_share.proofs.ClaimLemmas.{claimed_apart, claimed_before, claimed_more, claimed_none, length-lines_at, next_alike, next_good, next_line, share_small}
 use Rattle.cwr_share.proofs.registration.Registration.claim.Goals as goal
 use Rattle.cwr_share.proofs.registration.Registration.claim.Goals.{then-ne+then-contains, else-ne, else-ne-via-then-ne+else-contains, else-ne-via-else-ne}
 

@@ -1,4 +1,4 @@
-use Rattle.std.proofs.Common.{◌≡◌, ◌∙◌, ◌<◌, List, Global, Vec, ap, arith, get_or, length, map, sym, ℕ}
+use Rattle.std.proofs.Common.{◌≡◌, ◌∙◌, ◌<◌, Global, Vec, ap, arith, length, map, ℕ}
 use Rattle.std.proofs.lemmas.List.{length-map, take_all}
 use Rattle.cwr_share.specs.Compiled.{seen}
 use Rattle.cwr_share.specs.Registrations.{ShareLine}

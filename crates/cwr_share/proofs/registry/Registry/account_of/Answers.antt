@@ -1,4 +1,4 @@
-use Rattle.std.proofs.Common.{◌≡◌, ◌∙◌, Contains, IfNone, None, Option, Some, Global, Vec, ap, inr, map, ℕ}
+use Rattle.std.proofs.Common.{◌∙◌, IfNone, None, Option, Some, Global, Vec, ap, inr, map, ℕ}
 use Rattle.cwr_share.specs.Registered.{Registered}
 use Rattle.cwr_share.proofs.CompiledLemmas.{parties_rise}
 use Rattle.cwr_share.proofs.registry.Registry.account_of.Goals as goal

@@ -16,12 +16,12 @@ read_after : (c : Left-loop-number) → IsReadTo (lines_of c.args.bytes.now) c.l
 read_after c =
     let bytes = c.args.bytes.now in
     elim c.loop-number-test.branch [
-      else-loop-number-test w ↦
+      | else-loop-number-test w ↦
           let none = none_left bytes c.loop-number.lines c.loop-number.number c.loop-number.reading w.loop-number-test.false c.loop-number.invariant in
           subst (IsReadTo (lines_of bytes)) (sym w.reading-is) (walked_all (lines_of bytes) c.loop-number.lines c.loop-number.number c.loop-number.reading none c.loop-number.invariant)
       | then-loop-number-test+in-Some+in_ok-add+else-number-number-end w ↦
           let walked = walked_more (lines_of bytes) w.next.new.self w.in-Some.line.now c.loop-number.number c.loop-number.reading w.add.new.self
-              (rw w.in-Some.ensures.some at c.loop-number.invariant) w.in_ok-add.ensures.read in
+          (rw w.in-Some.ensures.some at c.loop-number.invariant) w.in_ok-add.ensures.read in
           let last : length bytes < c.loop-number.number + 1 = omega arith in
           subst (IsReadTo (lines_of bytes)) (sym w.reading-is)
           (walked_all (lines_of bytes) w.next.new.self (c.loop-number.number + 1) w.add.new.self (none_left bytes w.next.new.self (c.loop-number.number + 1) w.add.new.self last walked) walked)
