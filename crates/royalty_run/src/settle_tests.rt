@@ -10,6 +10,7 @@ use std::test::Fail;
 use tis_tree::TisFault;
 
 const TERRITORIES: &[u8] = b"code,groups\n2136,\n9001,2136\n276,9001\n840,2136\n";
+
 const USES: &[u8] =
     b"usage,work,territory,right,amount\nu1,W1,276,P,100\nu2,W1,840,P,50\nu3,W9,276,P,7\n";
 
@@ -86,7 +87,14 @@ fn settles_no_lines_and_many(rt: HostRuntime) -> Result<(), Fail> {
         want.extend_from_slice(b"L,B,u,40\n")?;
     }
     want.extend_from_slice(b"S,B,65,2600\nT,,0,0\nR,,65,6500\n")?;
-    let text = settle(&rt, alloc, TERRITORIES, cwr.as_slice(), uses.as_slice(), plan)?;
+    let text = settle(
+        &rt,
+        alloc,
+        TERRITORIES,
+        cwr.as_slice(),
+        uses.as_slice(),
+        plan,
+    )?;
     assert_eq!(rt; text.as_slice(), want.as_slice());
     Ok(())
 }
@@ -97,7 +105,14 @@ fn settles_all_reasons_and_names_in_quotes(rt: HostRuntime) -> Result<(), Fail> 
     let [work, first, _, _, second, b_world] = TWO_PARTIES;
     let [world, not_840] = QUOTED;
     let cwr = file(alloc, &[work, first, world, not_840, second, b_world])?;
-    let text = settle(&rt, alloc, TERRITORIES, cwr.as_slice(), USES, one_of_each()?)?;
+    let text = settle(
+        &rt,
+        alloc,
+        TERRITORIES,
+        cwr.as_slice(),
+        USES,
+        one_of_each()?,
+    )?;
     let want = "\
         L,\"A,\"\"1\",u1,60\nS,\"A,\"\"1\",1,60\n\
         L,B,u1,40\nL,B,u2,20\nS,B,2,60\n\
@@ -105,8 +120,16 @@ fn settles_all_reasons_and_names_in_quotes(rt: HostRuntime) -> Result<(), Fail> 
     assert_eq!(rt; text.as_slice(), want.as_bytes());
 
     let over = file(alloc, &[work, b_world, first, b_world, second, b_world])?;
-    let uses = b"usage,work,territory,right,amount\nu1,W1,276,P,100\nu2,W1,9999,P,50\nu3,W9,9999,P,7\nu4,W1,276,P,0\n";
-    let text = settle(&rt, alloc, TERRITORIES, over.as_slice(), uses, one_of_each()?)?;
+    let uses =
+        b"usage,work,territory,right,amount\nu1,W1,276,P,100\nu2,W1,9999,P,50\nu3,W9,9999,P,7\nu4,W1,276,P,0\n";
+    let text = settle(
+        &rt,
+        alloc,
+        TERRITORIES,
+        over.as_slice(),
+        uses,
+        one_of_each()?,
+    )?;
     let want = "M,OVER,u1,100\nM,LAND,u2,50\nM,WORK,u3,7\nT,,3,157\nR,,4,157\n";
     assert_eq!(rt; text.as_slice(), want.as_bytes());
     Ok(())
@@ -117,11 +140,29 @@ fn refuses_the_first_input_at_fault(rt: HostRuntime) -> Result<(), Fail> {
     let alloc = rt.alloc();
     let [work, first, a_world, not_840, second, b_world] = TWO_PARTIES;
     let good = file(alloc, &TWO_PARTIES)?;
-    let short = file(alloc, &[work, first, &a_world[..53], not_840, second, b_world])?;
+    let short = file(
+        alloc,
+        &[work, first, &a_world[..53], not_840, second, b_world],
+    )?;
     let cases: [(&[u8], &[u8], &[u8], Fault); 4] = [
-        (b"code\n", short.as_slice(), b"", Fault::Tis(TisFault::Csv(0))),
-        (TERRITORIES, short.as_slice(), b"", Fault::Cwr(CwrFault::Short(3))),
-        (TERRITORIES, good.as_slice(), b"", Fault::Usage(LineFault::Csv(0))),
+        (
+            b"code\n",
+            short.as_slice(),
+            b"",
+            Fault::Tis(TisFault::Csv(0)),
+        ),
+        (
+            TERRITORIES,
+            short.as_slice(),
+            b"",
+            Fault::Cwr(CwrFault::Short(3)),
+        ),
+        (
+            TERRITORIES,
+            good.as_slice(),
+            b"",
+            Fault::Usage(LineFault::Csv(0)),
+        ),
         (
             TERRITORIES,
             good.as_slice(),
@@ -136,9 +177,24 @@ fn refuses_the_first_input_at_fault(rt: HostRuntime) -> Result<(), Fail> {
         }
     }
     let place = [
-        (Fault::Tis(TisFault::Csv(0)), 1, Some(0), "the territories: row 0 is not code,groups"),
-        (Fault::Cwr(CwrFault::Short(3)), 2, Some(3), "the registrations: line 3 is too short"),
-        (Fault::Usage(LineFault::Lines), 3, None, "the usage lines: there are more than 1000000 lines"),
+        (
+            Fault::Tis(TisFault::Csv(0)),
+            1,
+            Some(0),
+            "the territories: row 0 is not code,groups",
+        ),
+        (
+            Fault::Cwr(CwrFault::Short(3)),
+            2,
+            Some(3),
+            "the registrations: line 3 is too short",
+        ),
+        (
+            Fault::Usage(LineFault::Lines),
+            3,
+            None,
+            "the usage lines: there are more than 1000000 lines",
+        ),
         (Fault::Room, 4, None, "out of room"),
     ];
     for (fault, number, row, text) in place {

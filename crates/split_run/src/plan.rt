@@ -36,7 +36,10 @@ impl Plan {
         ensures none { IfNone result (¬ IsPlan (record { workers = workers; readers = readers; nodes = nodes })) }
     {
         let threads = 1..=MOST_THREADS;
-        if threads.contains(&workers) && threads.contains(&readers) && (1..=MOST_NODES).contains(&nodes) {
+        if threads.contains(&workers)
+            && threads.contains(&readers)
+            && (1..=MOST_NODES).contains(&nodes)
+        {
             Some(Plan {
                 workers,
                 readers,
