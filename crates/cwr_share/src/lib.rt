@@ -16,6 +16,8 @@ mod record_type;
 mod registration;
 mod registry;
 mod share_line;
+#[cfg(test)]
+mod tests;
 
 pub use cwr_fault::CwrFault;
 pub use record_type::RecordType;
