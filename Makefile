@@ -1,11 +1,13 @@
-.PHONY: help build demo test
+.PHONY: help build demo test compare bench
 
 help:
-	@echo 'make demo    prove and build the program, run it on the worked example'
-	@echo 'make build   prove and build the program, leave it as out/royalty_run'
-	@echo 'make test    the gate: prove every crate from nothing, refuse every wrong body, run every test'
-	@echo 'make help    this list'
-	@echo 'All of them need the command rt of the Rattle kit on the path.'
+	@echo 'make demo     prove and build the program, make the statements of the example'
+	@echo 'make build    prove and build the program, leave it as out/royalty_run'
+	@echo 'make test     the gate: prove every crate from nothing, refuse every wrong body, run every test'
+	@echo 'make compare  run the program and a plain Rust one on small made-up inputs, good and bad, and compare'
+	@echo 'make bench    run both on a million usage lines, print times and peak memory'
+	@echo 'make help     this list'
+	@echo 'All need the command rt of the Rattle kit on the path; compare and bench also python3 and cargo.'
 
 build:
 	cd crates/royalty_run && rt run -- --help > /dev/null
@@ -14,6 +16,16 @@ build:
 
 demo: build
 	out/royalty_run split 100 A=3333 B=3333 C=3333
+	out/royalty_run run --tis examples/territories.csv --cwr examples/works.cwr \
+		--usage examples/usage.csv --workers 2 --readers 1 --nodes 16 > out/statements.csv
+	cat out/statements.csv
+	cmp out/statements.csv examples/statements.csv
 
 test:
 	rt ci
+
+compare: build
+	python3 bench/compare.py --program out/royalty_run --cases 2000
+
+bench: build
+	python3 bench/bench.py --program out/royalty_run --lines 1000000 --works 20000 --parties 400 --repeats 5

@@ -1,6 +1,11 @@
 pub mod Words
 pub mod RowLemmas
 pub mod Shifted
+pub mod ValueWords
+pub mod NoHelp
 pub mod SplitLemmas
 pub mod Walked
+pub mod RunLemmas
+pub mod RunWalked
 mod BookLemmas
+mod SettleLemmas

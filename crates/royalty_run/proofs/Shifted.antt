@@ -32,3 +32,10 @@ module _ {X : Type 0} where
       at : (words : List X) → word_at (map f (drop 1 words)) 1 ≡ word_at (map f words) 2
       at [] = refl
       at (first ∷ rest) = refl
+
+    -- the others are the words after the first
+    pub mapped_others : (words : List X) → map f (others words) ≡ drop 1 (map f words)
+    mapped_others words = ap (map f) (are_others words) ∙ after words where
+      after : (words : List X) → map f (drop 1 words) ≡ drop 1 (map f words)
+      after [] = refl
+      after (first ∷ rest) = refl

@@ -25,12 +25,13 @@ use Rattle.clap.proofs.CallerReads.{required_reads}
 use Rattle.clap.proofs.WalkLemmas.{one_text-rows, raw_values-rows}
 use Rattle.royalty_run.specs.Asked.{IsValue, number_in}
 use Rattle.royalty_run.specs.Pair.{word_at}
-use Rattle.royalty_run.specs.SplitCommand.{IsRequiredArg, IsSplitCommand, amount_rule, pairs_rule, split_app}
+use Rattle.royalty_run.specs.RequiredArg.{IsRequiredArg}
+use Rattle.royalty_run.specs.SplitCommand.{IsSplitCommand, amount_rule, pairs_rule, split_app}
 use Rattle.royalty_run.proofs.Walked.{amount_is, kinds_no_help, pairs_are, split_free, split_simple}
 use Rattle.line_split.specs.declared.TheConstants.{MOST_AMOUNT}
 
 -- an argument stays required in the command that it is added to
-required_same : (name : List ℕ) (a b : Arg) → SameRules a b → IsRequiredArg name a → IsRequiredArg name b
+pub required_same : (name : List ℕ) (a b : Arg) → SameRules a b → IsRequiredArg name a → IsRequiredArg name b
 required_same name a b same needed = record {
   id = ap (λ x. x.now) same.id ∙ needed.id;
   value = (
@@ -66,13 +67,13 @@ adds_two start mid c a b args groups globals negates first second amount parser 
     }
 
 -- how `get_one::<u64>` reads a text
-abbrev ReadsU64 : List ℕ → Option ℕ → Type 0
+abbrev pub ReadsU64 : List ℕ → Option ℕ → Type 0
 ReadsU64 = ReadsOne (λ t r. ParsesUnsigned 64 10 t r × ExplainsUnsignedError 10 t r × HasUnsignedDigitsIfOk t r)
 
 -- a text that passed a range reads as a number in it
-unsigned_reads : (low high : ℕ) (t : List ℕ) (r : Option ℕ) → ReadsU64 t r → IsUnsignedIn low high t
-    → IsSome r × IfSome r (λ n. n ≤ high)
-unsigned_reads low high t (Some v) read passed = (refl, rw read.0.1 passed.3)
+pub unsigned_reads : (low high : ℕ) (t : List ℕ) (r : Option ℕ) → ReadsU64 t r → IsUnsignedIn low high t
+    → IsSome r × IfSome r (λ n. low ≤ n) × IfSome r (λ n. n ≤ high)
+unsigned_reads low high t (Some v) read passed = (refl, rw read.0.1 passed.2, rw read.0.1 passed.3)
 unsigned_reads low high t None read passed = absurd (read.1.0 (passed.0, passed.1))
 
 -- an argument with the id of the first of the two is the first
@@ -107,7 +108,8 @@ pub amount_read : (c : Command) (m : ArgMatches) (r : Option ℕ) → IsSplitCom
     → IsSome r × IfSome r (λ n. n ≤ MOST_AMOUNT)
 amount_read c m r s p reads =
     let text = amount_text c m s p in
-    unsigned_reads 0 MOST_AMOUNT text.0 r (reads text.0 text.1) text.2
+    let read = unsigned_reads 0 MOST_AMOUNT text.0 r (reads text.0 text.1) text.2 in
+    (read.0, read.2)
 
 -- an answer that shows the same as some value is some answer
 some_of_map : {X Y Z : Type 0} (f : X → Z) (g : Y → Z) (r : Option X) (o : Option Y)

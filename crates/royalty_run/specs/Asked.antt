@@ -1,10 +1,7 @@
--- What a command line asks for that is a division in its plain form, with no options.
-use Rattle.std.specs.Prelude.{ℕ, ◌≡◌, ◌≢◌, ◌≤◌, List, All, drop, codes, slice_index}
+-- What a command line asks for, in its plain form: a division with no options, or a run with its six.
+use Rattle.std.specs.Prelude.{ℕ, ◌≡◌, ◌≢◌, ◌∷◌, List, [], All, drop, codes, slice_index}
 use Rattle.std.specs.Str.Parse.{digits_value, without_leading_plus}
-use Rattle.line_split.specs.declared.TheConstants.{MOST_AMOUNT}
 use Rattle.royalty_run.specs.Pair.{word_at}
-use Rattle.royalty_run.specs.PairFault.{AreSound}
-use Rattle.royalty_run.specs.Rows.{rows_of}
 
 -- a value, and no option: the word does not begin with `-`
 abbrev pub IsValue : List ℕ → Type 0
@@ -26,8 +23,20 @@ amount_of words = number_in (word_at words 2)
 abbrev pub pairs_of : List (List ℕ) → List (List ℕ)
 pairs_of words = drop 3 words
 
--- the text answers the division that the words ask for, and nothing is wrong with them
-pub record IsAnswerTo (words : List (List ℕ)) (text : List ℕ) : Type 0 where
-  pub in_range : amount_of words ≤ MOST_AMOUNT
-  pub sound : AreSound (pairs_of words)
-  pub rows : text ≡ rows_of (amount_of words) (pairs_of words)
+-- the word `run`, and then its six options in this order, each with a value
+pub record AreRunWords (words : List (List ℕ)) : Type 0 where
+  pub name : List ℕ
+  pub tis : List ℕ
+  pub cwr : List ℕ
+  pub usage : List ℕ
+  pub workers : List ℕ
+  pub readers : List ℕ
+  pub nodes : List ℕ
+  pub form : words ≡ name ∷ codes "--tis" ∷ tis ∷ codes "--cwr" ∷ cwr ∷ codes "--usage" ∷ usage
+      ∷ codes "--workers" ∷ workers ∷ codes "--readers" ∷ readers ∷ codes "--nodes" ∷ nodes ∷ []
+  pub values : All IsValue (tis ∷ cwr ∷ usage ∷ workers ∷ readers ∷ nodes ∷ [])
+
+-- the program's own name, and the words of a run
+pub record IsRun (words : List (List ℕ)) : Type 0 where
+  pub command : word_at words 1 ≡ codes "run"
+  pub options : AreRunWords (drop 1 words)

@@ -1,8 +1,7 @@
 -- What the command of a division asks of its words.
-use Rattle.std.specs.Prelude.{◌≡◌, ◌∷◌, ℕ, List, [], Some, false, true, codes}
-use Rattle.clap.specs.Words.{App, IsPlain, IsPlainArg, Rule, app_of, args_of, new_app, new_rule}
+use Rattle.std.specs.Prelude.{◌≡◌, ◌∷◌, [], Some, false, true, codes}
+use Rattle.clap.specs.Words.{App, IsPlain, Rule, app_of, args_of, new_app, new_rule}
 use Rattle.clap.specs.Words.{with_rule}
-use Rattle.clap.specs.Built.{TakesValue}
 use Rattle.clap.specs.Lexer.{usize_max}
 use Rattle.clap.specs.declared.builder.action.ArgAction.TheVariants.{Set}
 use Rattle.clap.specs.declared.builder.arg.Arg.{Arg}
@@ -10,6 +9,7 @@ use Rattle.clap.specs.declared.builder.command.Command.{Command}
 use Rattle.clap.specs.declared.builder.command.Command.TheViews.{out-Command as fields_of}
 use Rattle.clap.specs.declared.builder.value_parser.ValueParser.TheVariants as vp
 use Rattle.line_split.specs.declared.TheConstants.{MOST_AMOUNT}
+use Rattle.royalty_run.specs.RequiredArg.{IsRequiredArg}
 
 -- what a parse reads of the two arguments, and of the command
 abbrev pub amount_rule : Rule
@@ -28,13 +28,6 @@ pairs_rule = record (new_rule (codes "PARTY=SHARE")) {
 
 abbrev pub split_app : App
 split_app = with_rule (with_rule (new_app (codes "split")) amount_rule) pairs_rule
-
--- a required argument with this id, which takes a value and excludes nothing
-pub record IsRequiredArg (name : List ℕ) (a : Arg) : Type 0 where
-  pub id : a.id.now ≡ name
-  pub value : TakesValue a
-  pub plain : IsPlainArg a
-  pub local : a.global ≡ false
 
 -- the command has two arguments: the amount, a number up to the most, and the words PARTY=SHARE
 pub record IsSplitCommand (c : Command) : Type 0 where

@@ -6,24 +6,30 @@ use Rattle.std.specs.declared.io.ErrorKind as io
 use Rattle.std.specs.declared.io.ErrorKind.TheVariants as io_kind
 use Rattle.royalty_run.specs.Asked.{pairs_of}
 use Rattle.royalty_run.specs.PairFault.{IsFaultOf}
+use Rattle.royalty_run.specs.Settled.{HasFault}
 use Rattle.royalty_run.specs.declared.failure.Failure.{Failure}
-use Rattle.royalty_run.specs.declared.failure.Failure.TheVariants.{Words, NotText, Pairs, Room, Output}
+use Rattle.royalty_run.specs.declared.failure.Failure.TheVariants.{Words, NotText, Pairs, Input, Room, File, Output}
+use Rattle.royalty_run.specs.declared.fault.Fault.{Fault}
+use Rattle.royalty_run.specs.declared.fault.Fault.TheVariants as input
 use Rattle.royalty_run.specs.declared.pair_fault.PairFault.{PairFault}
 use Rattle.royalty_run.specs.declared.pair_fault.PairFault.TheVariants as fault
 
--- 2 for words that are refused, 3 for want of memory, 4 for an output that cannot be written
+-- 1 for an input that is refused, 2 for words that are, 3 for want of memory or of a thread, 4 for a file that cannot be read and for an output that cannot be written
 abbrev pub status_of : Failure → ℕ
 status_of (Words error) = 2
 status_of NotText = 2
 status_of (Pairs fault) = 2
+status_of (Input fault) = 1
 status_of Room = 3
+status_of (File path) = 4
 status_of Output = 4
 
--- words are refused for what is wrong with them: want of memory is a failure of its own, and help is none
+-- words and inputs are refused for what is wrong with them: want of memory is a failure of its own, and help is none; the fault of an input is one of three inputs
 abbrev pub IsRefusal : Failure → Type 0
 IsRefusal (Words error) =
     (kind_of error ≢ kinds.OutOfMemory) × (kind_of error ≢ kinds.DisplayHelp) × (kind_of error ≢ kinds.DisplayVersion)
 IsRefusal (Pairs f) = f ≢ fault.Memory
+IsRefusal (Input f) = (f ≢ input.Room) × HasFault f
 IsRefusal _ = ⊤
 
 -- the fault of the pairs is one of the words PARTY=SHARE
@@ -35,6 +41,11 @@ IsFailureOf words _ = ⊤
 abbrev pub failure_of_fault : PairFault → Failure
 failure_of_fault fault.Memory = Room
 failure_of_fault f = Pairs f
+
+-- want of memory or of a thread is no fault of an input
+abbrev pub failure_of_run : Fault → Failure
+failure_of_run input.Room = Room
+failure_of_run f = Input f
 
 -- an argument that is not UTF-8 is a wrong word, and else memory was refused
 abbrev pub failure_of_kind : io.ErrorKind → Failure

@@ -1,107 +1,49 @@
-//! The command line's grammar, and what its words ask for.
+//! The whole command line, and what its words ask for.
 
-ghost use Rattle.std.specs.Prelude.{◌≡◌, ◌≢◌, ◌≤◌, IfOk, IfErr, Some, All, codes, drop, map, string_bytes};
-ghost use Rattle.clap.specs.Words.{kind_of, rule_of};
+ghost use Rattle.std.specs.Prelude.{◌≡◌, ◌≢◌, ◌⊎◌, IfOk, IfErr, map, string_bytes};
+ghost use Rattle.clap.specs.Words.{kind_of};
 ghost use Rattle.clap.specs.declared.error.kind.ErrorKind.TheVariants as kinds;
-ghost use Rattle.clap.specs.declared.builder.value_parser.ValueParser.TheVariants as vp;
-ghost use Rattle.royalty_run.specs.Asked.{IsDivision, IsValue, amount_of, number_in, pairs_of};
+ghost use Rattle.royalty_run.specs.Asked.{IsDivision, IsRun};
+ghost use Rattle.royalty_run.specs.Answered.{IsDivisionOf, IsInRange, IsNamedBy, IsRunOf};
 ghost use Rattle.royalty_run.specs.Pair.{word_at};
-ghost use Rattle.royalty_run.specs.SplitCommand.{IsRequiredArg, IsSplitCommand, amount_rule, pairs_rule};
-ghost use Rattle.line_split.specs.declared.TheConstants.{MOST_AMOUNT};
 
+use crate::pair::word;
+use crate::run_command::{RunWords, read_run, run_command};
+use crate::split_command::{SplitWords, read_split, split_command};
 use clap::error::ErrorKind;
-use clap::{Arg, ArgAction, Command, Error, value_parser};
+use clap::{Command, Error};
 use std::alloc::{AllocError, Global};
 
-/// What stands below the help of `split`.
-const SPLIT_HELP: &str = "\
-The answer has a row P,party,portion for each party and last M,,portion for the residue, which has
-what nobody claims. Units left by rounding down go to the largest remainders. Shares that come to
-more than 10006 leave the whole amount to the residue.
+/// What stands below the help of the whole program.
+const HELP: &str = "\
+`royalty_run run --help` says what the files of a distribution run have in them, and
+`royalty_run split --help` how an amount is divided.";
 
-Example:
-  royalty_run split 100 A=3333 B=3333 C=3333
-prints
-  P,A,34
-  P,B,33
-  P,C,33
-  M,,0";
-
-/// The words of a division: the amount in minor units, and the words PARTY=SHARE.
+/// What the words of the command line ask for.
 #[derive(Debug, Drop)]
-pub struct SplitWords {
-    pub amount: u64,
-    pub pairs: Vec<String>,
+pub enum Asked {
+    /// The division of one amount.
+    Division(SplitWords),
+    /// A distribution run.
+    Run(RunWords),
 }
 
 /// Reads the words of the command line, the first of which is the program's own name.
-pub fn read_words(alloc: Global, words: &[String]) -> Result<SplitWords, Error>
-    ensures named { IfOk result (λ _. word_at (map string_bytes words.now) 1 ≡ codes "split") }
-    ensures in_range { IfOk result (λ asked. asked.amount ≤ MOST_AMOUNT) }
-    ensures amount { IsDivision (map string_bytes words.now) → IfOk result (λ asked. asked.amount ≡ amount_of (map string_bytes words.now)) }
-    ensures pairs { IsDivision (map string_bytes words.now) → IfOk result (λ asked. map string_bytes asked.pairs.items ≡ pairs_of (map string_bytes words.now)) }
-    ensures no_help { IsDivision (map string_bytes words.now) → IfErr result (λ error. (kind_of error ≢ kinds.DisplayHelp) × (kind_of error ≢ kinds.DisplayVersion)) }
+pub fn read_words(alloc: Global, words: &[String]) -> Result<Asked, Error>
+    ensures named { IfOk result (IsNamedBy (word_at (map string_bytes words.now) 1)) }
+    ensures in_range { IfOk result IsInRange }
+    ensures division { IsDivision (map string_bytes words.now) → IfOk result (IsDivisionOf (map string_bytes words.now)) }
+    ensures run { IsRun (map string_bytes words.now) → IfOk result (IsRunOf (map string_bytes words.now)) }
+    ensures no_help { IsDivision (map string_bytes words.now) ⊎ IsRun (map string_bytes words.now) → IfErr result (λ error. (kind_of error ≢ kinds.DisplayHelp) × (kind_of error ≢ kinds.DisplayVersion)) }
 {
-    if words.len() > 1 && words[1].as_str() == "split" {
-        read_split(alloc, &words[1..])
-    } else {
-        Err(refusal(alloc, words)?)
+    if words.len() < 2 {
+        return Err(refusal(alloc, words)?);
     }
-}
-
-/// Reads the words of a division, the first of which is `split`. They are a command of their own,
-/// since what is proved of a parse that succeeds is proved of the top command's arguments.
-fn read_split(alloc: Global, words: &[String]) -> Result<SplitWords, Error>
-    ensures in_range { IfOk result (λ asked. asked.amount ≤ MOST_AMOUNT) }
-    ensures amount { All IsValue (drop 1 (map string_bytes words.now)) → IfOk result (λ asked. asked.amount ≡ number_in (word_at (map string_bytes words.now) 1)) }
-    ensures pairs { All IsValue (drop 1 (map string_bytes words.now)) → IfOk result (λ asked. map string_bytes asked.pairs.items ≡ drop 2 (map string_bytes words.now)) }
-    ensures no_help { All IsValue (drop 1 (map string_bytes words.now)) → IfErr result (λ error. (kind_of error ≢ kinds.DisplayHelp) × (kind_of error ≢ kinds.DisplayVersion)) }
-{
-    let matches = split_command(alloc)?.try_get_matches_from(words)?;
-    let amount = matches.get_one::<u64>("AMOUNT").unwrap();
-    let mut pairs = Vec::new(alloc);
-    for word in matches.get_strs("PARTY=SHARE").unwrap() {
-        pairs.push(String::from_str(alloc, word)?)?;
+    match word(words, 1) {
+        "split" => Ok(Asked::Division(read_split(alloc, &words[1..])?)),
+        "run" => Ok(Asked::Run(read_run(alloc, &words[1..])?)),
+        _ => Err(refusal(alloc, words)?),
     }
-    Ok(SplitWords { amount, pairs })
-}
-
-fn split_command<'a>(alloc: Global) -> Result<Command<'a>, AllocError>
-    ensures { IfOk result IsSplitCommand }
-{
-    Command::new(alloc, "split")
-        .bin_name("royalty_run split")?
-        .about("Divide an amount among parties by their shares")
-        .after_help(SPLIT_HELP)
-        .arg(amount_arg(alloc))?
-        .arg(pairs_arg(alloc))
-}
-
-/// The amount, whose range clap checks as it parses.
-fn amount_arg<'a>(alloc: Global) -> Arg<'a>
-    ensures needed { IsRequiredArg (codes "AMOUNT") result }
-    ensures in_range { result.value_parser ≡ Some (vp.Unsigned 0 MOST_AMOUNT) }
-    ensures rule { rule_of result ≡ amount_rule }
-{
-    Arg::new(alloc, "AMOUNT")
-        .help("What is divided: a whole number of minor units, as cents, from 0 to 1000000000000")
-        .required(true)
-        .action(ArgAction::Set)
-        .value_parser(value_parser!(u64).range(0..=1_000_000_000_000))
-}
-
-/// The words PARTY=SHARE, one or more.
-fn pairs_arg<'a>(alloc: Global) -> Arg<'a>
-    ensures needed { IsRequiredArg (codes "PARTY=SHARE") result }
-    ensures rule { rule_of result ≡ pairs_rule }
-{
-    Arg::new(alloc, "PARTY=SHARE")
-        .help(
-            "A party (1 to 9 printable characters) and its share in hundredths of a per cent, as A=2500 for 25 per cent; 0 to 10000, at most 256 of them",
-        )
-        .required(true)
-        .action(ArgAction::Set)
-        .num_args(1..)
 }
 
 /// What is wrong with words that name no command, or the help that they ask for.
@@ -109,8 +51,10 @@ fn refusal(alloc: Global, words: &[String]) -> Result<Error, AllocError> {
     let mut whole = Command::new(alloc, "royalty_run")
         .bin_name("royalty_run")?
         .about("Divide the money of music usage among those who are due it")
+        .after_help(HELP)
         .subcommand_required(true)
         .arg_required_else_help(true)
+        .subcommand(run_command(alloc)?)?
         .subcommand(split_command(alloc)?)?;
     match whole.try_get_matches_from_mut(words) {
         Err(error) => Ok(error),

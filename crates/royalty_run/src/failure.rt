@@ -2,6 +2,7 @@
 
 ghost use Rattle.std.specs.Prelude.{◌≡◌};
 
+use crate::fault::Fault;
 use crate::pair_fault::PairFault;
 use std::fmt;
 use std::io::Write;
@@ -16,8 +17,12 @@ pub enum Failure {
     NotText,
     /// The pairs of a division are refused.
     Pairs(PairFault),
-    /// Memory was refused.
+    /// An input of a run is refused.
+    Input(Fault),
+    /// Memory or a thread was refused.
     Room,
+    /// The file of this path cannot be read, or is too large.
+    File(String),
     /// The output refused a write.
     Output,
 }
@@ -27,21 +32,41 @@ impl fmt::Display for Failure {
         match self {
             Failure::Words(error) => write!(f, "{error}"),
             Failure::NotText => f.write_str("royalty_run: an argument is not UTF-8\n"),
-            Failure::Pairs(fault) => {
-                let number = fault.number();
-                match fault.place() {
-                    Some(place) => write!(f, "royalty_run: pair fault {number} at {place}\n"),
-                    None => write!(f, "royalty_run: pair fault {number}\n"),
-                }
+            Failure::Pairs(fault) => write_fault(f, "pair", fault.number(), "", fault.place()),
+            Failure::Input(Fault::Tis(fault)) => {
+                write_fault(f, "tis", fault.number(), "row ", fault.place())
             }
-            Failure::Room => f.write_str("royalty_run: out of room\n"),
+            Failure::Input(Fault::Cwr(fault)) => {
+                write_fault(f, "cwr", fault.number(), "line ", fault.place())
+            }
+            Failure::Input(Fault::Usage(fault)) => {
+                write_fault(f, "usage", fault.number(), "row ", fault.place())
+            }
+            Failure::Input(Fault::Room) | Failure::Room => {
+                f.write_str("royalty_run: out of room\n")
+            }
+            Failure::File(path) => write!(f, "royalty_run: cannot read {path}\n"),
             Failure::Output => f.write_str("royalty_run: cannot write\n"),
         }
     }
 }
 
+/// Says which fault of what there is, and at what place, if it has one.
+fn write_fault<W: fmt::Write>(
+    f: &mut fmt::Formatter<W>,
+    what: &str,
+    number: u8,
+    at: &str,
+    place: Option<u64>,
+) -> fmt::Result {
+    match place {
+        Some(place) => write!(f, "royalty_run: {what} fault {number} at {at}{place}\n"),
+        None => write!(f, "royalty_run: {what} fault {number}\n"),
+    }
+}
+
 impl Failure {
-    ghost use Rattle.royalty_run.specs.Status.{failure_of_fault, status_of};
+    ghost use Rattle.royalty_run.specs.Status.{failure_of_fault, failure_of_run, status_of};
 
     /// What a fault of the pairs is to the program: want of memory is no fault of theirs.
     pub fn of(fault: PairFault) -> Failure
@@ -55,14 +80,25 @@ impl Failure {
         }
     }
 
+    /// What a fault of a run is to the program: want of memory or of a thread is no fault of an input.
+    pub fn of_run(fault: Fault) -> Failure
+        ensures { result ≡ failure_of_run fault }
+    {
+        match fault {
+            Fault::Room => Failure::Room,
+            Fault::Tis(_) | Fault::Cwr(_) | Fault::Usage(_) => Failure::Input(fault),
+        }
+    }
+
     /// The status that the program answers.
     pub fn status(&self) -> u8
         ensures { result ≡ status_of self.now }
     {
         match self {
+            Failure::Input(_) => 1,
             Failure::Words(_) | Failure::NotText | Failure::Pairs(_) => 2,
             Failure::Room => 3,
-            Failure::Output => 4,
+            Failure::File(_) | Failure::Output => 4,
         }
     }
 

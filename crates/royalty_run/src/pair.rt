@@ -1,8 +1,8 @@
 //! One word `PARTY=SHARE` of the command line.
 
-ghost use Rattle.std.specs.Prelude.{◌≡◌, ◌≤◌, ◌<◌, ◌↔◌, length, All, IsTrue};
+ghost use Rattle.std.specs.Prelude.{◌≡◌, ◌≤◌, ◌<◌, ◌↔◌, length, map, All, IsTrue, string_bytes};
 ghost use Rattle.std.specs.Char.{IsAsciiDigit};
-ghost use Rattle.royalty_run.specs.Pair.{IsPair, digits_of as digits_text, party_of as party_text, share_of as share_value};
+ghost use Rattle.royalty_run.specs.Pair.{IsPair, digits_of as digits_text, party_of as party_text, share_of as share_value, word_at};
 
 /// What separates a party from its share: `=`. A party has none, so the first one counts.
 pub const SEPARATOR: u8 = b'=';
@@ -12,6 +12,14 @@ pub const MOST_PARTY_BYTES: usize = 9;
 
 /// The most digits that a share is written with.
 pub const MOST_SHARE_DIGITS: usize = 5;
+
+/// The word at a place of a command line.
+pub fn word(words: &[String], place: usize) -> &str
+    requires { place < length words.now }
+    ensures { result.now ≡ word_at (map string_bytes words.now) place }
+{
+    words[place].as_str()
+}
 
 /// Whether a word is PARTY=SHARE: 1 to 9 printable ASCII bytes, a `=`, and one to five digits.
 pub fn is_pair(word: &str) -> bool

@@ -1,18 +1,22 @@
 //! What the program does with its words, and the status that it answers.
 
-ghost use Rattle.std.specs.Prelude.{◌≡◌, ◌≢◌, ◌⊎◌, ℕ, List, IfOk, IfErr, OnOk, map, string_bytes};
+ghost use Rattle.std.specs.Prelude.{◌≡◌, ◌≢◌, ◌≤◌, ◌⊎◌, ℕ, List, IfOk, IfErr, OnOk, map, string_bytes};
 ghost use Rattle.std.specs.Io.KnownBytes.{Appends};
-ghost use Rattle.royalty_run.specs.Asked.{IsAnswerTo, IsDivision};
+ghost use Rattle.royalty_run.specs.Asked.{IsDivision};
+ghost use Rattle.royalty_run.specs.Answered.{IsAnswered};
 ghost use Rattle.royalty_run.specs.Status.{IsFailureOf, IsRefusal, failure_of_kind};
 
-use crate::commands::read_words;
+use crate::commands::{Asked, read_words};
 use crate::failure::Failure;
+use crate::files::settle_files;
 use crate::split_words::split_words;
 use clap::error::ErrorKind;
 use std::alloc::Global;
 use std::env;
 use std::io::{self, Write};
 use std::rt::{Env, Files};
+use std::sync::Wait;
+use std::thread::Threads;
 
 /// The words of the command line, the first of which is the program's own name.
 pub fn words_of<R: Env + AllocGlobal>(rt: &R) -> Result<Vec<String>, Failure> {
@@ -34,21 +38,21 @@ pub(crate) fn no_words(kind: io::ErrorKind) -> Failure
 
 /// Does what the words ask for, of which the first is the program's own name. The answer goes to
 /// `out`, and what went wrong to `err`. The status is 0 where the answer was printed or help was
-/// asked for, 2 where the words are refused, 3 for want of memory, and 4 where `out` refused a
-/// write.
-pub fn program<R: Files, W: Write, E: Write>(
-    _rt: &R,
+/// asked for, 1 where an input file is refused for what is in it, 2 where the words are refused, 3 for
+/// want of memory or of a thread, and 4 where a file cannot be read or `out` refused a write.
+pub fn program<R: Files + Threads + Wait + Sync, W: Write, E: Write>(
+    rt: &R,
     alloc: Global,
     words: &[String],
     out: &mut W,
     err: &mut E,
 ) -> u8
-    ensures known { (result ≡ 0) ⊎ ((result ≡ 2) ⊎ ((result ≡ 3) ⊎ (result ≡ 4))) }
-    ensures printed { result ≡ 0 → (text : List ℕ) × Appends (W.contents out.old) (W.contents out.new) text × (IsDivision (map string_bytes words.now) → IsAnswerTo (map string_bytes words.now) text) }
+    ensures known { result ≤ 4 }
+    ensures printed { result ≡ 0 → (text : List ℕ) × Appends (W.contents out.old) (W.contents out.new) text × IsAnswered (map string_bytes words.now) text }
     ensures quiet { result ≡ 0 → err.new ≡ err.old }
-    ensures silent { (result ≡ 2) ⊎ (result ≡ 3) → out.new ≡ out.old }
+    ensures silent { (result ≡ 1) ⊎ ((result ≡ 2) ⊎ (result ≡ 3)) → out.new ≡ out.old }
 {
-    match answer(alloc, words) {
+    match answer(rt, alloc, words) {
         Ok(text) => match print(text.as_slice(), out) {
             Ok(()) => 0,
             Err(_) => Failure::Output.report(err),
@@ -57,26 +61,30 @@ pub fn program<R: Files, W: Write, E: Write>(
     }
 }
 
-/// What is to be printed: the rows of a division, or help.
-fn answer(alloc: Global, words: &[String]) -> Result<Vec<u8>, Failure>
-    ensures rows { IsDivision (map string_bytes words.now) → IfOk result (λ text. IsAnswerTo (map string_bytes words.now) text.items) }
+/// What is to be printed: the rows of a division, the statements of a run, or help.
+fn answer<R: Files + Threads + Wait + Sync>(
+    rt: &R,
+    alloc: Global,
+    words: &[String],
+) -> Result<Vec<u8>, Failure>
+    ensures answered { IfOk result (λ text. IsAnswered (map string_bytes words.now) text.items) }
     ensures failure { IfErr result IsRefusal }
     ensures pairs { IsDivision (map string_bytes words.now) → IfErr result (IsFailureOf (map string_bytes words.now)) }
 {
-    let asked = match read_words(alloc, words) {
-        Ok(asked) => asked,
-        Err(error) if error.kind() == ErrorKind::OutOfMemory => return Err(Failure::Room),
-        Err(error) if error.use_stderr() => return Err(Failure::Words(error)),
-        Err(help) => {
-            return match format!(in alloc; "{help}") {
-                Ok(text) => Ok(text.into_bytes()),
-                Err(_) => Err(Failure::Room),
-            };
+    match read_words(alloc, words) {
+        Ok(Asked::Division(asked)) => {
+            match split_words(alloc, asked.amount, asked.pairs.as_slice()) {
+                Ok(text) => Ok(text),
+                Err(fault) => Err(Failure::of(fault)),
+            }
         }
-    };
-    match split_words(alloc, asked.amount, asked.pairs.as_slice()) {
-        Ok(text) => Ok(text),
-        Err(fault) => Err(Failure::of(fault)),
+        Ok(Asked::Run(asked)) => settle_files(rt, alloc, asked),
+        Err(error) if error.kind() == ErrorKind::OutOfMemory => Err(Failure::Room),
+        Err(error) if error.use_stderr() => Err(Failure::Words(error)),
+        Err(help) => match format!(in alloc; "{help}") {
+            Ok(text) => Ok(text.into_bytes()),
+            Err(_) => Err(Failure::Room),
+        },
     }
 }
 

@@ -7,7 +7,7 @@ ghost use Rattle.royalty_run.specs.Pair.{IsPair, claims_of as claims_made, word_
 ghost use Rattle.royalty_run.specs.PairFault.{AreSound, IsFaultOf, IsMalformed, IsNamedBefore};
 ghost use Rattle.royalty_run.specs.Rows.{labels_of, row_of, rows_of, text_of};
 
-use crate::pair::{is_pair, party_of, share_of};
+use crate::pair::{is_pair, party_of, share_of, word};
 use crate::pair_fault::PairFault;
 use csv_table::RowWriter;
 use itoa::Buffer;
@@ -38,14 +38,6 @@ pub fn split_words(alloc: Global, amount: u64, words: &[String]) -> Result<Vec<u
     };
     split(amount, &claims, &mut portions);
     rows(alloc, words, portions.list())
-}
-
-/// The word at a place.
-fn word(words: &[String], place: usize) -> &str
-    requires { place < length words.now }
-    ensures { result.now ≡ word_at (map string_bytes words.now) place }
-{
-    words[place].as_str()
 }
 
 /// The first word that is not PARTY=SHARE.

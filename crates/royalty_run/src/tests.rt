@@ -1,14 +1,15 @@
 //! The worked examples, as words of a command line, and what an output that refuses a write does.
 
-use crate::book::book_of;
 use crate::failure::Failure;
 use crate::pair_fault::PairFault;
 use crate::program::{no_words, program};
 use crate::split_words::split_words;
-use line_split::{Claims, Reason, Usage};
 use std::alloc::Global;
 use std::io::{self, Write};
+use std::rt::Files;
+use std::sync::Wait;
 use std::test::Fail;
+use std::thread::Threads;
 
 /// What a run of the program answers: its status, standard output and standard error.
 #[derive(Drop)]
@@ -26,7 +27,7 @@ fn words(alloc: Global, line: &str) -> Result<Vec<String>, Fail> {
     Ok(words)
 }
 
-fn run(rt: &HostRuntime, line: &str) -> Result<Answer, Fail> {
+fn run<R: Files + AllocGlobal + Threads + Wait + Sync>(rt: &R, line: &str) -> Result<Answer, Fail> {
     let alloc = rt.alloc();
     let words = words(alloc, line)?;
     let mut out = Vec::new(alloc);
@@ -288,29 +289,5 @@ fn an_output_that_refuses_is_status_4(rt: HostRuntime) -> Result<(), Fail> {
         ),
         4
     );
-    Ok(())
-}
-
-#[test]
-fn pays_a_list_of_usage_lines_out(rt: HostRuntime) -> Result<(), Fail> {
-    let alloc = rt.alloc();
-    let usage = Usage::read(
-        alloc,
-        b"usage,work,territory,right,amount\nu1,W1,276,P,100\nu2,W1,840,P,50\nu3,W9,276,P,7\n",
-    )?;
-    let claims = Claims::of(alloc, &[(1, 6000), (2, 4000)])?;
-    assert!(rt; claims.list().iter().all(|claim| claim.0 < 3));
-    let book = book_of(alloc, &usage, &claims, 3)?;
-    let mut parties = Vec::new(alloc);
-    for name in ["", "A", "B"] {
-        parties.push(Vec::from_slice(alloc, name.as_bytes())?)?;
-    }
-    let reasons = [Reason::Open, Reason::Open, Reason::Open];
-    assert!(rt; parties.len() == book.accounts() as usize && reasons.len() == usage.len());
-    let text = book.text(alloc, &usage, parties.as_slice(), &reasons)?;
-    let want = "L,A,u1,60\nL,A,u2,30\nL,A,u3,4\nS,A,3,94\n\
-        L,B,u1,40\nL,B,u2,20\nL,B,u3,3\nS,B,3,63\n\
-        T,,0,0\nR,,3,157\n";
-    assert_eq!(rt; text.as_slice(), want.as_bytes());
     Ok(())
 }

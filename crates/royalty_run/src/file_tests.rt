@@ -1,0 +1,128 @@
+//! The command `run`, over files that the tests make.
+
+use crate::program::program;
+use crate::settle_tests::{SHORT, STATEMENTS, TERRITORIES, TWO_PARTIES, USES};
+use std::env;
+use std::fs::{self, OpenFile};
+use std::rt::{Env, Files};
+use std::sync::Wait;
+use std::test::Fail;
+use std::thread::Threads;
+
+/// The status, the standard output and the standard error of a run of the program.
+fn answer<R: Files + AllocGlobal + Threads + Wait + Sync>(
+    rt: &R,
+    line: &str,
+) -> Result<String, Fail> {
+    let alloc = rt.alloc();
+    let mut words = Vec::new(alloc);
+    for word in line.split(' ') {
+        words.push(String::from_str(alloc, word)?)?;
+    }
+    let (mut out, mut err) = (Vec::new(alloc), Vec::new(alloc));
+    let status = program(rt, alloc, words.as_slice(), &mut out, &mut err);
+    let out = String::from_utf8(out).unwrap_or(String::new(alloc));
+    let err = String::from_utf8(err).unwrap_or(String::new(alloc));
+    Ok(format!(in alloc; "{status}\n{out}{err}")?)
+}
+
+/// The path of a file that a test may make.
+fn path_of<R: Env + AllocGlobal>(rt: &R, name: &str) -> Result<String, Fail> {
+    let folder = env::temp_dir(rt)?;
+    Ok(format!(in rt.alloc(); "{}/royalty_run-{name}", folder.display())?)
+}
+
+/// The answer of a run over three files with these texts, which are made and removed.
+fn answer_over<R: Files + Env + AllocGlobal + Threads + Wait + Sync>(
+    rt: &R,
+    test: &str,
+    inputs: [&str; 3],
+) -> Result<String, Fail> {
+    let alloc = rt.alloc();
+    let [tis, cwr, usage] = inputs;
+    let paths = [
+        path_of(rt, format!(in alloc; "{test}-tis")?.as_str())?,
+        path_of(rt, format!(in alloc; "{test}-cwr")?.as_str())?,
+        path_of(rt, format!(in alloc; "{test}-usage")?.as_str())?,
+    ];
+    fs::write(rt, paths[0].as_str(), tis)?;
+    fs::write(rt, paths[1].as_str(), cwr)?;
+    fs::write(rt, paths[2].as_str(), usage)?;
+    let files = format!(in alloc;
+        "--tis {} --cwr {} --usage {}",
+        paths[0], paths[1], paths[2]
+    )?;
+    let text = answer(
+        rt,
+        format!(in alloc; "r run {files} --workers 2 --readers 1 --nodes 64")?.as_str(),
+    )?;
+    for path in &paths {
+        fs::remove_file(rt, path.as_str())?;
+    }
+    Ok(text)
+}
+
+#[test]
+fn prints_the_statements(rt: HostRuntime) -> Result<(), Fail> {
+    let text = answer_over(&rt, "good", [TERRITORIES, TWO_PARTIES, USES])?;
+    assert_eq!(rt;
+        text.as_str(),
+        format!(in rt.alloc(); "0\n{STATEMENTS}")?.as_str()
+    );
+    Ok(())
+}
+
+#[test]
+fn names_the_fault_of_an_input(rt: HostRuntime) -> Result<(), Fail> {
+    let text = answer_over(&rt, "tis", ["code\n", TWO_PARTIES, USES])?;
+    assert_eq!(rt; text.as_str(), "1\nroyalty_run: tis fault 1 at row 0\n");
+    let text = answer_over(&rt, "cwr", [TERRITORIES, SHORT, USES])?;
+    assert_eq!(rt; text.as_str(), "1\nroyalty_run: cwr fault 1 at line 3\n");
+    let uses = "usage,work,territory,right,amount\nu,W,276,X,1\n";
+    let text = answer_over(&rt, "usage", [TERRITORIES, TWO_PARTIES, uses])?;
+    assert_eq!(rt; text.as_str(), "1\nroyalty_run: usage fault 4 at row 1\n");
+    Ok(())
+}
+
+#[test]
+fn reads_all_files_first(rt: HostRuntime) -> Result<(), Fail> {
+    let tis = path_of(&rt, "only")?;
+    fs::write(&rt, tis.as_str(), "code\n")?;
+    let plan = "--workers 1 --readers 1 --nodes 1";
+    let line = format!(in rt.alloc(); "r run --tis {tis} --cwr {tis} --usage absent {plan}")?;
+    let text = answer(&rt, line.as_str())?;
+    fs::remove_file(&rt, tis.as_str())?;
+    assert_eq!(rt; text.as_str(), "4\nroyalty_run: cannot read absent\n");
+    Ok(())
+}
+
+#[test]
+fn reads_no_file_over_the_limit(rt: HostRuntime) -> Result<(), Fail> {
+    let large = path_of(&rt, "large")?;
+    fs::create(&rt, large.as_str())?.set_len(268_435_457)?;
+    let plan = "--workers 1 --readers 1 --nodes 1";
+    let line = format!(in rt.alloc(); "r run --tis {large} --cwr absent --usage absent {plan}")?;
+    let text = answer(&rt, line.as_str())?;
+    fs::remove_file(&rt, large.as_str())?;
+    assert_eq!(rt;
+        text.as_str(),
+        format!(in rt.alloc(); "4\nroyalty_run: cannot read {large}\n")?.as_str()
+    );
+    Ok(())
+}
+
+#[test]
+fn refuses_numbers_out_of_range(rt: HostRuntime) -> Result<(), Fail> {
+    for plan in [
+        "--workers 0 --readers 1 --nodes 1",
+        "--workers 9 --readers 1 --nodes 1",
+        "--workers 1 --readers 9 --nodes 1",
+        "--workers 1 --readers 1 --nodes 65",
+        "--workers 1 --readers 1",
+    ] {
+        let line = format!(in rt.alloc(); "r run --tis a --cwr a --usage a {plan}")?;
+        let text = answer(&rt, line.as_str())?;
+        assert!(rt; text.as_str().starts_with("2\nerror"), "{plan}");
+    }
+    Ok(())
+}

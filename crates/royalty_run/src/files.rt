@@ -1,0 +1,74 @@
+//! A distribution run over files.
+
+ghost use Rattle.std.specs.Prelude.{IfOk, IfErr};
+ghost use Rattle.royalty_run.specs.Settled.{AreStatements};
+ghost use Rattle.royalty_run.specs.Status.{IsRefusal};
+
+use crate::failure::Failure;
+use crate::run_command::RunWords;
+use crate::settle::settle;
+use std::alloc::Global;
+use std::fs::{self, OpenFile};
+use std::io::{self, ErrorKind, Read};
+use std::rt::Files;
+use std::sync::Wait;
+use std::thread::Threads;
+
+/// The most bytes that a file of a run has.
+pub const MOST_BYTES: u64 = 268_435_456;
+
+/// The statements of a run over three files. All are read, in the order of the fields, before any is
+/// looked into.
+pub fn settle_files<R: Files + Threads + Wait + Sync>(
+    rt: &R,
+    alloc: Global,
+    asked: RunWords,
+) -> Result<Vec<u8>, Failure>
+    ensures statements { IfOk result (λ text. AreStatements text.items) }
+    ensures failure { IfErr result IsRefusal }
+{
+    let RunWords {
+        tis,
+        cwr,
+        usage,
+        plan,
+    } = asked;
+    let tis = read_file(rt, alloc, tis)?;
+    let cwr = read_file(rt, alloc, cwr)?;
+    let usage = read_file(rt, alloc, usage)?;
+    settle(
+        rt,
+        alloc,
+        tis.as_slice(),
+        cwr.as_slice(),
+        usage.as_slice(),
+        plan,
+    )
+    .map_err(Failure::of_run)
+}
+
+/// The bytes of a file, where it can be read and is no larger than the most bytes.
+fn read_file<R: Files>(rt: &R, alloc: Global, path: String) -> Result<Vec<u8>, Failure>
+    ensures { IfErr result IsRefusal }
+{
+    match bytes_of(rt, alloc, path.as_str()) {
+        Ok(bytes) => Ok(bytes),
+        Err(error) if error.kind() == ErrorKind::OutOfMemory => Err(Failure::Room),
+        Err(_) => Err(Failure::File(path)),
+    }
+}
+
+fn bytes_of<R: Files>(rt: &R, alloc: Global, path: &str) -> io::Result<Vec<u8>> {
+    let file = fs::open(rt, path)?;
+    let size = file.metadata()?.len();
+    if size > MOST_BYTES {
+        return Err(io::Error::from(ErrorKind::FileTooLarge));
+    }
+    let mut bytes = Vec::with_capacity(alloc, size as usize + 1)?;
+    // a pipe does not say its size, and a file may grow meanwhile
+    file.take(MOST_BYTES + 1).read_to_end(&mut bytes)?;
+    if bytes.len() as u64 > MOST_BYTES {
+        return Err(io::Error::from(ErrorKind::FileTooLarge));
+    }
+    Ok(bytes)
+}

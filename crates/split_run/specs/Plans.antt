@@ -1,0 +1,14 @@
+-- How a run is shared out.
+use Rattle.std.specs.Prelude.{ℕ, ◌≤◌, ◌<◌}
+use Rattle.split_run.specs.declared.TheConstants.{MOST_NODES, MOST_THREADS}
+
+pub record Planned : Type 0 where
+  pub workers : ℕ
+  pub readers : ℕ
+  pub nodes : ℕ
+
+-- 1 to 8 workers, 1 to 8 readers, 1 to 64 nodes
+pub record IsPlan (planned : Planned) : Type 0 where
+  pub workers : (0 < planned.workers) × (planned.workers ≤ MOST_THREADS)
+  pub readers : (0 < planned.readers) × (planned.readers ≤ MOST_THREADS)
+  pub nodes : (0 < planned.nodes) × (planned.nodes ≤ MOST_NODES)
