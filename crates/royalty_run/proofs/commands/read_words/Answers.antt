@@ -1,4 +1,4 @@
-use Rattle.std.proofs.Common.{◌≡◌, All, map, drop, ap, ◌∙◌}
+use Rattle.std.proofs.Common.{All, map, drop, ap, ◌∙◌}
 use Rattle.std.specs.Prelude.{string_bytes}
 use Rattle.royalty_run.specs.Asked.{AreRunWords, IsValue, number_in}
 use Rattle.royalty_run.specs.Answered.{AreReadFrom}

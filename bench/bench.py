@@ -1,0 +1,119 @@
+#!/usr/bin/env python3
+"""Runs the program and the plain Rust one on the same large data, side by side.
+
+    python3 bench.py --program PATH [--lines 1000000] [--works 20000]
+        [--parties 400] [--seed 1] [--repeats 5] [--phases]
+
+The data are made once. Every repeat runs each program once, so that noise hits both
+alike. Outputs go to a file and have to be the same bytes. Shown are the best wall
+time, the user and system time of that run, and the greatest peak memory.
+"""
+import argparse
+import hashlib
+import os
+import subprocess
+import sys
+import tempfile
+
+HERE = os.path.dirname(os.path.abspath(__file__))
+
+
+def build_plain():
+    """Builds the plain Rust program, and answers its path."""
+    folder = os.path.join(HERE, "plain")
+    subprocess.run(["cargo", "build", "--release", "--offline", "--quiet"], cwd=folder, check=True)
+    return os.path.join(folder, "target", "release", "plain")
+
+
+# A child's peak memory begins with that of its parent, so a small process of its own starts it and
+# waits (what is shown is never below that one's own few MB).
+LAUNCHER = """
+import os, sys, time
+def to(fd, name):
+    # A new file each time: cutting off a large old one would be timed too.
+    if os.path.exists(name):
+        os.remove(name)
+    opened = os.open(name, os.O_WRONLY | os.O_CREAT | os.O_EXCL, 0o600)
+    return (os.POSIX_SPAWN_DUP2, opened, fd)
+files = [(os.POSIX_SPAWN_OPEN, 0, "/dev/null", os.O_RDONLY, 0),
+         to(1, sys.argv[1]), to(2, sys.argv[2])]
+command = sys.argv[3:]
+begin = time.perf_counter()
+pid = os.posix_spawnp(command[0], command, os.environ, file_actions=files)
+_, status, use = os.wait4(pid, 0)
+wall = time.perf_counter() - begin
+print(wall, use.ru_utime + use.ru_stime, use.ru_maxrss, os.waitstatus_to_exitcode(status))
+"""
+
+
+class Row:
+    """One program, and the best of its runs."""
+
+    def __init__(self, name, command):
+        self.name, self.command = name, command
+        self.wall = self.cpu = self.sha = None
+        self.memory = 0
+        self.phases = ""
+
+    def run(self, folder):
+        out, err = (os.path.join(folder, name) for name in ("out", "err"))
+        done = subprocess.run([sys.executable, "-ISc", LAUNCHER, out, err, *self.command],
+                              stdout=subprocess.PIPE, text=True, check=True)
+        wall, cpu, memory, status = map(float, done.stdout.split())
+        with open(err, "rb") as f:
+            text = f.read().decode(errors="replace")
+        if status != 0:
+            sys.exit(f"{self.name}: status {status:g}: {text.strip()[:200]}")
+        with open(out, "rb") as f:
+            sha = hashlib.file_digest(f, "sha256").hexdigest()
+        if self.sha not in (None, sha):
+            sys.exit(f"{self.name}: its own runs differ")
+        self.sha = sha
+        self.memory = max(self.memory, memory / 1024)
+        if self.wall is None or wall < self.wall:
+            self.wall, self.cpu, self.phases = wall, cpu, text
+
+
+def main():
+    parser = argparse.ArgumentParser(formatter_class=argparse.RawDescriptionHelpFormatter,
+                                     description=__doc__)
+    parser.add_argument("--program", required=True)
+    parser.add_argument("--lines", type=int, default=1_000_000)
+    parser.add_argument("--works", type=int, default=20_000)
+    parser.add_argument("--parties", type=int, default=400)
+    parser.add_argument("--seed", type=int, default=1)
+    parser.add_argument("--repeats", type=int, default=5)
+    parser.add_argument("--phases", action="store_true", help="those of the plain program")
+    a = parser.parse_args()
+    plain = build_plain()
+    with tempfile.TemporaryDirectory() as folder:
+        subprocess.run([sys.executable, os.path.join(HERE, "large.py"), folder,
+                        "--lines", str(a.lines), "--works", str(a.works),
+                        "--parties", str(a.parties), "--seed", str(a.seed)], check=True)
+        words = ["run"]
+        for option, name in (("tis", "tis.csv"), ("cwr", "works.cwr"), ("usage", "usage.csv")):
+            words += [f"--{option}", os.path.join(folder, name)]
+        words += ["--workers", "1", "--readers", "1", "--nodes", "64"]
+        ours = Row("program", [os.path.abspath(a.program), *words])
+        theirs = Row("plain", [plain, *words, "--times"])
+        for _ in range(a.repeats):
+            ours.run(folder)
+            theirs.run(folder)
+    print(f"{a.lines} lines, {a.works} works, {a.parties} parties, best of {a.repeats}, "
+          f"{os.cpu_count()} cores, load {os.getloadavg()[0]:.1f}")
+    print(f"{'':<10}{'wall s':>10}{'user+sys':>10}{'MB':>8}")
+    for row in (ours, theirs):
+        print(f"{row.name:<10}{row.wall:>10.3f}{row.cpu:>10.3f}{row.memory:>8.0f}")
+    print(f"program to plain: {ours.wall / theirs.wall:.2f} times the time, "
+          f"{ours.memory / theirs.memory:.2f} times the memory")
+    if a.phases:
+        print(theirs.phases, end="")
+    if ours.sha != theirs.sha:
+        print("the statements differ")
+        return 1
+    print("the statements are the same bytes")
+    return 0
+
+
+if __name__ == "__main__":
+    sys.exit(main())

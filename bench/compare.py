@@ -1,0 +1,142 @@
+#!/usr/bin/env python3
+"""Runs the program and the plain Rust one on small made-up inputs, good and bad,
+and compares statuses, statements and messages.
+
+    python3 compare.py --program PATH [--cases 2000] [--seed 1]
+"""
+import argparse
+import os
+import random
+import subprocess
+import sys
+import tempfile
+
+from bench import build_plain
+
+CODES = [2136, 9001, 9002, 276, 840, 40, 756, 4, 9999]
+PARTIES = ["A", "B", "C", "DD", 'E,"', "F G", "12345678", "ZZZZZZZZZ"]
+WORKS = ["W1", "W2", "W 3", "LONGWORK123456", "W5"]
+OTHERS = ["HDR", "GRH", "GRT", "TRL", "AGR", "ACK", "ISW", "EXC", "ALT", "PWR", "XX", ""]
+
+
+def territories(rng):
+    codes = rng.sample(CODES, rng.randint(0, len(CODES)))
+    rows = ["code,groups"]
+    for place, code in enumerate(codes):
+        groups = rng.choices(codes[:place], k=rng.randint(0, 3)) if place else []
+        space = rng.choice([" ", " ", "  "])
+        rows.append(f"{code:0{rng.choice([1, 1, 4])}d},{space.join(map(str, groups))}")
+    return "\n".join(rows) + rng.choice(["\n", ""])
+
+
+def share(rng):
+    return rng.choice(["     ", "00000", "10000", "05000", "03333", "03334", "02500", "05003"])
+
+
+def share_line(rng, kind):
+    shares = "".join(share(rng) for _ in range(3))
+    mark = rng.choice("IIIE ")
+    code = rng.choice(CODES)
+    gap = " " * 6 if kind == "SPT" else ""
+    return f"{kind}{0:016d}{rng.choice(PARTIES):<9}{gap}{shares}{mark}{code:04d}"
+
+
+def registrations(rng):
+    lines = []
+    for _ in range(rng.randint(0, 25)):
+        kind = rng.choice(["NWR", "REV", "SPU", "SWR", "SPT", "SPT", "SWT", "SWT", "other"])
+        if kind in ("NWR", "REV"):
+            lines.append(f"{kind}{0:016d}{'SONG':<62}{rng.choice(WORKS)}")
+        elif kind in ("SPT", "SWT"):
+            lines.append(share_line(rng, kind))
+        elif kind == "other":
+            lines.append(rng.choice(OTHERS) + "0" * 16)
+        else:
+            lines.append(f"{kind}{0:016d}")
+    end = rng.choice(["\n", "\r\n"])
+    return end.join(lines) + (end if lines and rng.random() < 0.8 else "")
+
+
+def usage(rng):
+    rows = ["usage,work,territory,right,amount"]
+    for n in range(rng.randint(0, 12)):
+        name = rng.choice([f"u{n}", '"a ""b"", c"', "x y", "u" * 64])
+        amount = rng.choice([0, 1, 2, 3, 99, 100, 1001, 98765, 10**12, rng.randrange(10**6)])
+        rows.append(f"{name},{rng.choice(WORKS + ['W9'])},{rng.choice(CODES + [1])},"
+                    f"{rng.choice('PMS')},{amount}")
+    return "\n".join(rows) + rng.choice(["\n", ""])
+
+
+def damaged(rng, data):
+    """The bytes after a few small accidents."""
+    data = bytearray(data)
+    for _ in range(rng.randint(1, 3)):
+        place = rng.randint(0, len(data))
+        accident = rng.randrange(6)
+        if accident == 0:
+            data[place:place] = bytes([rng.choice(b' ,"\r\n09AIEX\x00\x7f\x80\xff')])
+        elif accident == 1:
+            del data[place:place + 1]
+        elif accident == 2 and place < len(data):
+            data[place] = rng.choice(b' ,"\r\n09AIEX\x00\x7f\x80\xff')
+        elif accident == 3:
+            del data[place:]
+        elif accident == 4:
+            lines = data.split(b"\n")
+            rng.shuffle(lines)
+            data = bytearray(b"\n".join(lines))
+        else:
+            lines = data.split(b"\n")
+            lines.insert(rng.randrange(len(lines) + 1), rng.choice(lines))
+            data = bytearray(b"\n".join(lines))
+    return bytes(data)
+
+
+def case(rng):
+    files = [make(rng).encode() for make in (territories, registrations, usage)]
+    if rng.random() < 0.5:
+        place = rng.randrange(3)
+        files[place] = damaged(rng, files[place])
+    return files
+
+
+def run(program, paths, plan):
+    words = [program, "run"]
+    for name, value in zip(("tis", "cwr", "usage", "workers", "readers", "nodes"), [*paths, *plan]):
+        words += [f"--{name}", str(value)]
+    done = subprocess.run(words, capture_output=True)
+    return done.returncode, done.stdout, done.stderr.split(b": ", 1)[-1]
+
+
+def main():
+    parser = argparse.ArgumentParser(description=__doc__)
+    parser.add_argument("--program", required=True)
+    parser.add_argument("--cases", type=int, default=2000)
+    parser.add_argument("--seed", type=int, default=1)
+    a = parser.parse_args()
+    plain, program = build_plain(), os.path.abspath(a.program)
+    statuses, rows, differing = {}, 0, 0
+    with tempfile.TemporaryDirectory() as folder:
+        paths = [os.path.join(folder, name) for name in ("tis", "cwr", "usage")]
+        for n in range(a.cases):
+            rng = random.Random(a.seed * 1_000_003 + n)
+            for path, data in zip(paths, case(rng)):
+                with open(path, "wb") as f:
+                    f.write(data)
+            used = list(paths)
+            if rng.random() < 0.02:
+                used[rng.randrange(3)] = os.path.join(folder, "absent")
+            plan = rng.randint(1, 8), rng.randint(1, 8), rng.randint(1, 64)
+            ours, theirs = run(program, used, plan), run(plain, used, plan)
+            statuses[ours[0]] = statuses.get(ours[0], 0) + 1
+            rows += ours[1].count(b"\n")
+            if ours != theirs:
+                differing += 1
+                print(f"case {n} of seed {a.seed} differs: {ours} and {theirs}")
+    by_status = ", ".join(f"{count} with status {s}" for s, count in sorted(statuses.items()))
+    print(f"{a.cases} cases ({by_status}; {rows} rows): {differing} differ")
+    return 1 if differing else 0
+
+
+if __name__ == "__main__":
+    sys.exit(main())
