@@ -52,6 +52,15 @@ SPU0000000500000003
 SPT0000000500000004B              040060400604006I2136
 ";
 
+/// A work whose fields and the bytes beside them are filled to their ends.
+const FILLED: &str = "\
+NWR0000000000000000SONG........................................................ENABCDEFGHIJKLMNT1234567890
+SPU0000000000000001
+SPT0000000000000002123456789000000010000200003000I2136N001
+SWR0000000000000002
+SWT0000000000000003987654321040000500000500I2136N001
+";
+
 /// The registrations of a file.
 fn read(alloc: Global, file: &str) -> Result<Registry, Fail> {
     Ok(Registry::read(alloc, file.as_bytes())?)
@@ -110,6 +119,17 @@ fn account(alloc: Global, registry: &Registry, party: &str) -> Result<String, Fa
         }
         None => Ok("none".to_string(alloc)?),
     }
+}
+
+/// The parties of a file by account, each in brackets.
+fn parties(alloc: Global, file: &str) -> Result<String, Fail> {
+    let registry = read(alloc, file)?;
+    let mut text = String::new(alloc);
+    for party in registry.parties() {
+        let name = str::from_utf8(party.as_slice()).unwrap_or("?");
+        text.push_str(format!(in alloc; "[{name}]")?.as_str())?;
+    }
+    Ok(text)
 }
 
 /// A file after an edit, `OLD>NEW`: the first OLD in it is replaced by NEW.
@@ -314,6 +334,13 @@ fn names_the_accounts(rt: HostRuntime) -> Result<(), Fail> {
 }
 
 #[test]
+fn lists_the_parties(rt: HostRuntime) -> Result<(), Fail> {
+    let found = parties(rt.alloc(), FIVE_WORKS)?;
+    assert_eq!(rt; found.as_str(), "[][A][B][C]");
+    Ok(())
+}
+
+#[test]
 fn reads_both_line_ends(rt: HostRuntime) -> Result<(), Fail> {
     let alloc = rt.alloc();
     let file = with_returns(alloc, TWO_PARTIES)?;
@@ -382,6 +409,7 @@ I> : accounts 3, works 1
 06000I>01 00I: Share(3)
 A> : Party(3)
 A >A\u{7f}: Party(3)
+A >A\u{1f}: Party(3)
 2136>0000: Land(3)
 2136>21 6: Land(3)
 060000600006000I>100010600006000X: Share(3)
@@ -467,4 +495,50 @@ fn says_what_is_wrong(rt: HostRuntime) -> Result<(), Fail> {
 "
     );
     Ok(())
+}
+
+#[test]
+fn reads_each_field_from_end_to_end(rt: HostRuntime) -> Result<(), Fail> {
+    let alloc = rt.alloc();
+    assert_rows(
+        &rt,
+        alloc,
+        FILLED,
+        Asked::Claims,
+        "\
+ABCDEFGHIJKLMN,276,P: None [(1, 1000), (2, 4000)]
+ABCDEFGHIJKLMN,276,M: None [(1, 2000), (2, 5000)]
+ABCDEFGHIJKLMN,276,S: None [(1, 3000), (2, 500)]
+",
+    )?;
+    assert_rows(
+        &rt,
+        alloc,
+        FILLED,
+        Asked::Account,
+        "123456789: 1 of 123456789\n987654321: 2 of 987654321\n",
+    )
+}
+
+#[test]
+fn each_closing_record_ends_a_registration(rt: HostRuntime) -> Result<(), Fail> {
+    let alloc = rt.alloc();
+    let file = joined(alloc, TWO_PARTIES, "GRT\nSPT0000000\n")?;
+    assert_rows(
+        &rt,
+        alloc,
+        file.as_str(),
+        Asked::Outcome,
+        "\
+GRT>GRT: accounts 3, works 1
+GRT>HDR: accounts 3, works 1
+GRT>GRH: accounts 3, works 1
+GRT>TRL: accounts 3, works 1
+GRT>AGR: accounts 3, works 1
+GRT>ACK: accounts 3, works 1
+GRT>ISW: accounts 3, works 1
+GRT>EXC: accounts 3, works 1
+GRT>OWN: Short(8)
+",
+    )
 }

@@ -83,17 +83,17 @@ fn orders_claims_and_names_faults(rt: HostRuntime) -> Result<(), Fail> {
     assert_eq!(rt; over, Some(ClaimFault::Share(2)));
     let twice = Claims::of(alloc, &[(1, 1), (1, 2)]).err();
     assert_eq!(rt; twice, Some(ClaimFault::Twice(2)));
+    let both = Claims::of(alloc, &[(1, 1), (1, 2), (2, 10_001)]).err();
+    assert_eq!(rt; both, Some(ClaimFault::Share(3)));
     let mut many = Vec::new(alloc);
     for account in 1..258u16 {
-        many.push((account, 1))?;
+        many.push((account, 10_001))?;
     }
     assert!(rt; many.iter().all(|claim| claim.0 > 0));
     assert_eq!(rt;
         Claims::of(alloc, many.as_slice()).err(),
         Some(ClaimFault::Many)
     );
-    assert_eq!(rt; ClaimFault::Twice(2).number(), 2);
-    assert_eq!(rt; ClaimFault::Twice(2).place(), Some(2));
     Ok(())
 }
 
@@ -137,15 +137,23 @@ fn takes_claims_into_their_room(rt: HostRuntime) -> Result<(), Fail> {
 #[test]
 fn says_what_is_wrong(rt: HostRuntime) -> Result<(), Fail> {
     let alloc = rt.alloc();
-    for (fault, want) in [
-        (ClaimFault::Share(3), "claim 3 is over 100.00 per cent"),
+    for (fault, number, place, want) in [
+        (
+            ClaimFault::Share(3),
+            1,
+            Some(3),
+            "claim 3 is over 100.00 per cent",
+        ),
         (
             ClaimFault::Twice(2),
+            2,
+            Some(2),
             "the account of claim 2 has a claim already",
         ),
-        (ClaimFault::Many, "there are more than 256 claims"),
-        (ClaimFault::Memory, "memory ran out"),
+        (ClaimFault::Many, 3, None, "there are more than 256 claims"),
+        (ClaimFault::Memory, 4, None, "memory ran out"),
     ] {
+        assert_eq!(rt; (fault.number(), fault.place()), (number, place));
         assert_eq!(rt; format!(in alloc; "{fault}")?.as_str(), want);
     }
     Ok(())

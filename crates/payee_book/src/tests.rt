@@ -34,6 +34,22 @@ fn keeps_postings_in_order(rt: HostRuntime) -> Result<(), Fail> {
 }
 
 #[test]
+fn keeps_postings_of_one_line_by_amount(rt: HostRuntime) -> Result<(), Fail> {
+    let mut book = Book::open(rt.alloc(), 1)?;
+    for (line, amount) in [(7, 5), (999_999, 1_000_000_000_000), (7, 3), (7, 5), (0, 1)] {
+        assert!(rt; book.accounts() == 1);
+        book.post(0, line, amount)?;
+    }
+    assert!(rt; book.accounts() == 1);
+    assert_eq!(rt;
+        book.lines(0),
+        [(0, 1), (7, 3), (7, 5), (7, 5), (999_999, 1_000_000_000_000)].as_slice()
+    );
+    assert_eq!(rt; book.total(0), 1_000_000_000_014);
+    Ok(())
+}
+
+#[test]
 fn writes_the_statements(rt: HostRuntime) -> Result<(), Fail> {
     let alloc = rt.alloc();
     let usage = Usage::read(
