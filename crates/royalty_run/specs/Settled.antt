@@ -54,7 +54,7 @@ IsFaultOf territories_file registrations_file usage_file (Cwr fault) =
     ((table : List (ℕ × List ℕ)) × tis.IsTableOf (rows_of territories_file) table) × cwr.IsFaultOf (lines_of registrations_file) fault × (fault ≢ cwr_fault.Memory)
 IsFaultOf territories_file registrations_file usage_file (Usage fault) =
     ((table : List (ℕ × List ℕ)) × tis.IsTableOf (rows_of territories_file) table)
-    × ((registered : Registered) × cwr.IsFileOf (lines_of registrations_file) registered)
+    × ((registered : Registered) × cwr.IsFileOf (lines_of registrations_file) registered × IsRegistered registered)
     × usage.IsFaultOf (rows_of usage_file) fault × (fault ≢ line_fault.Memory)
 IsFaultOf territories_file registrations_file usage_file Room = ⊤
 

@@ -85,6 +85,18 @@ fn names_the_fault_of_an_input(rt: HostRuntime) -> Result<(), Fail> {
 }
 
 #[test]
+fn takes_its_options_in_any_order(rt: HostRuntime) -> Result<(), Fail> {
+    let empty = path_of(&rt, "empty")?;
+    fs::write(&rt, empty.as_str(), "")?;
+    let plan = "--nodes=1 --readers 1 --workers=8";
+    let line = format!(in rt.alloc(); "r run {plan} --usage absent --cwr={empty} --tis {empty}")?;
+    let text = answer(&rt, line.as_str())?;
+    fs::remove_file(&rt, empty.as_str())?;
+    assert_eq!(rt; text.as_str(), "4\nroyalty_run: cannot read absent\n");
+    Ok(())
+}
+
+#[test]
 fn reads_all_files_first(rt: HostRuntime) -> Result<(), Fail> {
     let tis = path_of(&rt, "only")?;
     fs::write(&rt, tis.as_str(), "code\n")?;

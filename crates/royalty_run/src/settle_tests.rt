@@ -29,11 +29,14 @@ SPU0000000000000004
 SPT0000000000000005B              040000400004000I2136
 ";
 
-/// The first share line of the two parties is too short.
+/// The same, the first share line without its last byte.
 pub const SHORT: &str = "\
 NWR0000000000000000SONG                                                          W1
 SPU0000000000000001
 SPT0000000000000002A              060000600006000I213
+SPT0000000000000003A                             E0840
+SPU0000000000000004
+SPT0000000000000005B              040000400004000I2136
 ";
 
 pub const STATEMENTS: &str = "\
@@ -72,14 +75,14 @@ fn outcome<R: Threads + Wait + Sync>(
     }
 }
 
-/// Asserts the outcome of a run with one worker, one reader and one node.
+/// Asserts the outcome of a run with three workers, one reader and one node.
 fn assert_outcome<R: Threads + Wait + Sync + Abort>(
     rt: &R,
     alloc: Global,
     inputs: [&str; 3],
     expected: &str,
 ) -> Result<(), Fail> {
-    if let Some(plan) = Plan::new(1, 1, 1) {
+    if let Some(plan) = Plan::new(3, 1, 1) {
         assert_eq!(rt; outcome(rt, alloc, inputs, plan)?.as_str(), expected);
         return Ok(());
     }
@@ -111,11 +114,17 @@ fn many_uses(alloc: Global) -> Result<(String, String), Fail> {
 fn settles_whatever_the_plan(rt: HostRuntime) -> Result<(), Fail> {
     for (workers, readers, nodes) in [
         (1, 1, 1),
-        (2, 1, 64),
-        (8, 8, 1),
+        (1, 1, 64),
+        (1, 8, 1),
         (1, 8, 64),
+        (2, 1, 1),
+        (2, 1, 64),
         (2, 8, 1),
+        (2, 8, 64),
+        (8, 1, 1),
         (8, 1, 64),
+        (8, 8, 1),
+        (8, 8, 64),
     ] {
         if let Some(plan) = Plan::new(workers, readers, nodes) {
             let text = outcome(&rt, rt.alloc(), [TERRITORIES, TWO_PARTIES, USES], plan)?;

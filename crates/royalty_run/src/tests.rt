@@ -1,15 +1,19 @@
 //! The worked examples, as words of a command line, and what an output that refuses a write does.
 
 use crate::failure::Failure;
+use crate::fault::Fault;
 use crate::pair_fault::PairFault;
 use crate::program::{no_words, program};
 use crate::split_words::split_words;
+use cwr_share::CwrFault;
+use line_split::LineFault;
 use std::alloc::Global;
 use std::io::{self, Write};
 use std::rt::Files;
 use std::sync::Wait;
 use std::test::Fail;
 use std::thread::Threads;
+use tis_tree::TisFault;
 
 /// What a run of the program answers: its status, standard output and standard error.
 #[derive(Drop)]
@@ -236,6 +240,19 @@ fn says_what_failed(rt: HostRuntime) -> Result<(), Fail> {
             "royalty_run: an argument is not UTF-8\n",
         ),
         (no_words(io::ErrorKind::Other), "royalty_run: out of room\n"),
+        (
+            Failure::of_run(Fault::Tis(TisFault::Rows)),
+            "royalty_run: tis fault 5\n",
+        ),
+        (
+            Failure::of_run(Fault::Cwr(CwrFault::Accounts)),
+            "royalty_run: cwr fault 8\n",
+        ),
+        (
+            Failure::of_run(Fault::Usage(LineFault::Lines)),
+            "royalty_run: usage fault 6\n",
+        ),
+        (Failure::of_run(Fault::Room), "royalty_run: out of room\n"),
     ] {
         assert_eq!(rt; format!(in alloc; "{failure}")?.as_str(), want);
     }
