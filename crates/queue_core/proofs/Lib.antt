@@ -1,0 +1,5 @@
+pub mod Entries
+pub mod MailboxHolds
+pub mod EventsKeep
+pub mod ReceivedLemmas
+pub mod LeftLemmas

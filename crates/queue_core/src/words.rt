@@ -1,0 +1,52 @@
+//! The words of a node, and how an item and a link are coded in them.
+
+use crate::item::Item;
+
+/// A link to no node.
+pub const NULL: u64 = 0;
+
+/// A node's four words.
+#[derive(Clone, Copy, Debug, PartialEq, Eq)]
+pub struct Node {
+    /// Null, or the next node plus 1.
+    pub next: u64,
+    /// How often the node was given back.
+    pub turn: u64,
+    /// The line plus 1, or 0 for an end mark.
+    pub line: u64,
+    /// The amount, 0 for an end mark.
+    pub amount: u64,
+}
+
+/// The word that is a link to a node.
+pub fn link_to(node: u64) -> u64 {
+    node + 1
+}
+
+/// The line word of an item.
+pub fn line_word(item: Item) -> u64 {
+    match item {
+        Item::Post { line, .. } => line + 1,
+        Item::End => 0,
+    }
+}
+
+/// The amount word of an item.
+pub fn amount_word(item: Item) -> u64 {
+    match item {
+        Item::Post { amount, .. } => amount,
+        Item::End => 0,
+    }
+}
+
+/// The item that the two words are.
+pub fn item_of(line: u64, amount: u64) -> Item {
+    if line == 0 {
+        Item::End
+    } else {
+        Item::Post {
+            line: line - 1,
+            amount,
+        }
+    }
+}
