@@ -126,10 +126,11 @@ fn settles_whatever_the_plan(rt: HostRuntime) -> Result<(), Fail> {
         (8, 8, 1),
         (8, 8, 64),
     ] {
-        if let Some(plan) = Plan::new(workers, readers, nodes) {
-            let text = outcome(&rt, rt.alloc(), [TERRITORIES, TWO_PARTIES, USES], plan)?;
-            assert_eq!(rt; text.as_str(), STATEMENTS);
-        }
+        let Some(plan) = Plan::new(workers, readers, nodes) else {
+            return Err(Fail::new("no plan"));
+        };
+        let text = outcome(&rt, rt.alloc(), [TERRITORIES, TWO_PARTIES, USES], plan)?;
+        assert_eq!(rt; text.as_str(), STATEMENTS);
     }
     Ok(())
 }
