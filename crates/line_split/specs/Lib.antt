@@ -8,3 +8,4 @@ pub mod FairSplit
 pub mod UsageLine
 pub mod UsageLines
 pub mod UsageTable
+pub mod Texts

@@ -133,8 +133,8 @@ fn read_line(alloc: Global, number: u64, rows: &Rows<'_>) -> Result<Line, LineFa
         return Err(LineFault::Amount(number));
     };
     Ok(Line {
-        usage: Text::of(Vec::from_slice(alloc, usage)?),
-        work: Text::of(Vec::from_slice(alloc, work)?),
+        usage: Text::copy_of(alloc, usage)?,
+        work: Text::copy_of(alloc, work)?,
         territory,
         right,
         amount,

@@ -173,3 +173,18 @@ fn says_what_is_wrong_with_a_table(rt: HostRuntime) -> Result<(), Fail> {
     }
     Ok(())
 }
+
+#[test]
+fn keeps_texts_of_any_length(rt: HostRuntime) -> Result<(), Fail> {
+    let alloc = rt.alloc();
+    let bytes = b"0123456789abcdefghij";
+    for length in [0, 1, 15, 16, 17, 20] {
+        let copy = Text::copy_of(alloc, &bytes[..length])?;
+        assert_eq!(rt; copy.as_slice(), &bytes[..length]);
+        assert_eq!(rt; copy.into_bytes(alloc)?.as_slice(), &bytes[..length]);
+        let made = Text::of(Vec::from_slice(alloc, &bytes[..length])?);
+        assert_eq!(rt; made.as_slice(), &bytes[..length]);
+        assert_eq!(rt; made.into_bytes(alloc)?.as_slice(), &bytes[..length]);
+    }
+    Ok(())
+}

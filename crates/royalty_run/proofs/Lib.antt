@@ -1,5 +1,3 @@
-pub mod Words
-pub mod RowLemmas
 pub mod Shifted
 pub mod ValueWords
 pub mod NoHelp
@@ -7,5 +5,3 @@ pub mod SplitLemmas
 pub mod Walked
 pub mod RunLemmas
 pub mod RunWalked
-mod BookLemmas
-mod SettleLemmas

@@ -1,7 +1,7 @@
 -- The words of a command line without the first of them.
 use Rattle.std.proofs.Common.{◌≡◌, ◌∙◌, ℕ, ◌-◌, List, [], ◌∷◌, length, map, take, drop, ap, refl, arith}
 use Rattle.std.proofs.lemmas.List.{take_all, length-drop}
-use Rattle.royalty_run.specs.Pair.{word_at}
+use Rattle.pair_split.specs.Pair.{word_at}
 
 module _ {X : Type 0} where
   -- as the slice `words[1..]` gives them

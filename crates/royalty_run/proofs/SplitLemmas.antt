@@ -24,7 +24,7 @@ use Rattle.clap.proofs.CallerLemmas.{added_plain, present_has_entry, required_pr
 use Rattle.clap.proofs.CallerReads.{required_reads}
 use Rattle.clap.proofs.WalkLemmas.{one_text-rows, raw_values-rows}
 use Rattle.royalty_run.specs.Asked.{IsValue, number_in}
-use Rattle.royalty_run.specs.Pair.{word_at}
+use Rattle.pair_split.specs.Pair.{word_at}
 use Rattle.royalty_run.specs.RequiredArg.{IsRequiredArg}
 use Rattle.royalty_run.specs.SplitCommand.{IsSplitCommand, amount_rule, pairs_rule, split_app}
 use Rattle.royalty_run.proofs.Walked.{amount_is, kinds_no_help, pairs_are, split_free, split_simple}

@@ -12,7 +12,7 @@ use Rattle.clap.specs.declared.error.kind.ErrorKind.{ErrorKind}
 use Rattle.clap.specs.declared.error.kind.ErrorKind.TheVariants as kinds
 use Rattle.line_split.specs.declared.TheConstants.{MOST_AMOUNT}
 use Rattle.royalty_run.specs.Asked.{IsValue}
-use Rattle.royalty_run.specs.Pair.{word_at}
+use Rattle.pair_split.specs.Pair.{word_at}
 use Rattle.royalty_run.specs.SplitCommand.{split_app}
 use Rattle.royalty_run.proofs.NoHelp.{NoHelp, fault_after, in_turn, no_kind, one_kind, range_no_help, values_no_help}
 use Rattle.royalty_run.proofs.ValueWords.{row, turn_step, value_met}

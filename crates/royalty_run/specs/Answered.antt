@@ -2,10 +2,10 @@
 use Rattle.std.specs.Prelude.{ℕ, ◌≡◌, ◌≤◌, List, codes, drop, map, string_bytes, ⊤}
 use Rattle.line_split.specs.declared.TheConstants.{MOST_AMOUNT}
 use Rattle.royalty_run.specs.Asked.{IsDivision, IsRun, amount_of, number_in, pairs_of}
-use Rattle.royalty_run.specs.Pair.{word_at}
-use Rattle.royalty_run.specs.PairFault.{AreSound}
-use Rattle.royalty_run.specs.Rows.{rows_of}
-use Rattle.royalty_run.specs.Settled.{AreStatements}
+use Rattle.pair_split.specs.Pair.{word_at}
+use Rattle.pair_split.specs.PairFault.{AreSound}
+use Rattle.pair_split.specs.Rows.{rows_of}
+use Rattle.settle_run.specs.Settled.{AreStatements}
 use Rattle.royalty_run.specs.declared.commands.Asked.{Asked}
 use Rattle.royalty_run.specs.declared.commands.Asked.TheVariants.{Division, Run}
 use Rattle.royalty_run.specs.declared.run_command.RunWords.{RunWords}

@@ -1,7 +1,7 @@
 -- What a command line asks for, in its plain form: a division with no options, or a run with its six.
 use Rattle.std.specs.Prelude.{ℕ, ◌≡◌, ◌≢◌, ◌∷◌, List, [], All, drop, codes, slice_index}
 use Rattle.std.specs.Str.Parse.{digits_value, without_leading_plus}
-use Rattle.royalty_run.specs.Pair.{word_at}
+use Rattle.pair_split.specs.Pair.{word_at}
 
 -- a value, and no option: the word does not begin with `-`
 abbrev pub IsValue : List ℕ → Type 0

@@ -1,11 +1,6 @@
 pub mod Answered
 pub mod Asked
-pub mod Faults
-pub mod Pair
-pub mod PairFault
 pub mod RequiredArg
-pub mod Rows
 pub mod RunCommand
-pub mod Settled
 pub mod SplitCommand
 pub mod Status

@@ -5,14 +5,14 @@ use Rattle.clap.specs.declared.error.kind.ErrorKind.TheVariants as kinds
 use Rattle.std.specs.declared.io.ErrorKind as io
 use Rattle.std.specs.declared.io.ErrorKind.TheVariants as io_kind
 use Rattle.royalty_run.specs.Asked.{pairs_of}
-use Rattle.royalty_run.specs.PairFault.{IsFaultOf}
-use Rattle.royalty_run.specs.Settled.{HasFault}
+use Rattle.pair_split.specs.PairFault.{IsFaultOf}
+use Rattle.settle_run.specs.Settled.{HasFault}
 use Rattle.royalty_run.specs.declared.failure.Failure.{Failure}
 use Rattle.royalty_run.specs.declared.failure.Failure.TheVariants.{Words, NotText, Pairs, Input, Room, File, Output}
-use Rattle.royalty_run.specs.declared.fault.Fault.{Fault}
-use Rattle.royalty_run.specs.declared.fault.Fault.TheVariants as input
-use Rattle.royalty_run.specs.declared.pair_fault.PairFault.{PairFault}
-use Rattle.royalty_run.specs.declared.pair_fault.PairFault.TheVariants as fault
+use Rattle.settle_run.specs.declared.fault.Fault.{Fault}
+use Rattle.settle_run.specs.declared.fault.Fault.TheVariants as input
+use Rattle.pair_split.specs.declared.pair_fault.PairFault.{PairFault}
+use Rattle.pair_split.specs.declared.pair_fault.PairFault.TheVariants as fault
 
 -- 1 for an input that is refused, 2 for words that are, 3 for want of memory or of a thread, 4 for a file that cannot be read and for an output that cannot be written
 abbrev pub status_of : Failure → ℕ

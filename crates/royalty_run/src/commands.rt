@@ -5,13 +5,13 @@ ghost use Rattle.clap.specs.Words.{kind_of};
 ghost use Rattle.clap.specs.declared.error.kind.ErrorKind.TheVariants as kinds;
 ghost use Rattle.royalty_run.specs.Asked.{IsDivision, IsRun};
 ghost use Rattle.royalty_run.specs.Answered.{IsDivisionOf, IsInRange, IsNamedBy, IsRunOf};
-ghost use Rattle.royalty_run.specs.Pair.{word_at};
+ghost use Rattle.pair_split.specs.Pair.{word_at};
 
-use crate::pair::word;
 use crate::run_command::{RunWords, read_run, run_command};
 use crate::split_command::{SplitWords, read_split, split_command};
 use clap::error::ErrorKind;
 use clap::{Command, Error};
+use pair_split::word;
 use std::alloc::{AllocError, Global};
 
 /// What stands below the help of the whole program.

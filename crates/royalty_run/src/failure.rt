@@ -2,8 +2,8 @@
 
 ghost use Rattle.std.specs.Prelude.{◌≡◌};
 
-use crate::fault::Fault;
-use crate::pair_fault::PairFault;
+use pair_split::PairFault;
+use settle_run::Fault;
 use std::fmt;
 use std::io::Write;
 

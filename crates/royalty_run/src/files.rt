@@ -1,12 +1,12 @@
 //! A distribution run over files.
 
 ghost use Rattle.std.specs.Prelude.{IfOk, IfErr};
-ghost use Rattle.royalty_run.specs.Settled.{AreStatements};
+ghost use Rattle.settle_run.specs.Settled.{AreStatements};
 ghost use Rattle.royalty_run.specs.Status.{IsRefusal};
 
 use crate::failure::Failure;
 use crate::run_command::RunWords;
-use crate::settle::settle;
+use settle_run::settle_and_free;
 use std::alloc::Global;
 use std::fs::{self, OpenFile};
 use std::io::{self, ErrorKind, Read};
@@ -36,15 +36,7 @@ pub fn settle_files<R: Files + Threads + Wait + Sync>(
     let tis = read_file(rt, alloc, tis)?;
     let cwr = read_file(rt, alloc, cwr)?;
     let usage = read_file(rt, alloc, usage)?;
-    settle(
-        rt,
-        alloc,
-        tis.as_slice(),
-        cwr.as_slice(),
-        usage.as_slice(),
-        plan,
-    )
-    .map_err(Failure::of_run)
+    settle_and_free(rt, alloc, tis, cwr, usage, plan).map_err(Failure::of_run)
 }
 
 /// The bytes of a file, where it can be read and is no larger than the most bytes.

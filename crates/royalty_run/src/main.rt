@@ -3,19 +3,12 @@
 
 mod commands;
 mod failure;
-mod fault;
 #[cfg(test)]
 mod file_tests;
 mod files;
-mod pair;
-mod pair_fault;
 mod program;
 mod run_command;
-mod settle;
-#[cfg(test)]
-mod settle_tests;
 mod split_command;
-mod split_words;
 #[cfg(test)]
 mod tests;
 

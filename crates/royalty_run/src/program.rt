@@ -9,8 +9,8 @@ ghost use Rattle.royalty_run.specs.Status.{IsFailureOf, IsRefusal, failure_of_ki
 use crate::commands::{Asked, read_words};
 use crate::failure::Failure;
 use crate::files::settle_files;
-use crate::split_words::split_words;
 use clap::error::ErrorKind;
+use pair_split::split_words;
 use std::alloc::Global;
 use std::env;
 use std::io::{self, Write};

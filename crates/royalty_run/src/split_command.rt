@@ -5,7 +5,7 @@ ghost use Rattle.clap.specs.Words.{kind_of, rule_of};
 ghost use Rattle.clap.specs.declared.error.kind.ErrorKind.TheVariants as kinds;
 ghost use Rattle.clap.specs.declared.builder.value_parser.ValueParser.TheVariants as vp;
 ghost use Rattle.royalty_run.specs.Asked.{IsValue, number_in};
-ghost use Rattle.royalty_run.specs.Pair.{word_at};
+ghost use Rattle.pair_split.specs.Pair.{word_at};
 ghost use Rattle.royalty_run.specs.RequiredArg.{IsRequiredArg};
 ghost use Rattle.royalty_run.specs.SplitCommand.{IsSplitCommand, amount_rule, pairs_rule};
 ghost use Rattle.line_split.specs.declared.TheConstants.{MOST_AMOUNT};

@@ -1,12 +1,11 @@
 //! The worked examples, as words of a command line, and what an output that refuses a write does.
 
 use crate::failure::Failure;
-use crate::fault::Fault;
-use crate::pair_fault::PairFault;
 use crate::program::{no_words, program};
-use crate::split_words::split_words;
 use cwr_share::CwrFault;
 use line_split::LineFault;
+use pair_split::PairFault;
+use settle_run::Fault;
 use std::alloc::Global;
 use std::io::{self, Write};
 use std::rt::Files;
@@ -164,29 +163,6 @@ fn refuses_words_and_shows_help(rt: HostRuntime) -> Result<(), Fail> {
 }
 
 #[test]
-fn names_the_fault_of_words(rt: HostRuntime) -> Result<(), Fail> {
-    let alloc = rt.alloc();
-    let named_twice = words(alloc, "A=1 A=2")?;
-    assert_eq!(rt;
-        split_words(alloc, 5, named_twice.as_slice()).err(),
-        Some(PairFault::Name(2))
-    );
-    let none = split_words(alloc, 5, &[])?;
-    assert_eq!(rt; none.as_slice(), b"M,,5\n".as_slice());
-    let mut many = Vec::new(alloc);
-    for n in 0..257u32 {
-        many.push(format!(in alloc; "{n}=1")?)?;
-    }
-    assert_eq!(rt;
-        split_words(alloc, 5, many.as_slice()).err(),
-        Some(PairFault::Many)
-    );
-    many.truncate(256);
-    assert!(rt; split_words(alloc, 5, many.as_slice()).is_ok());
-    Ok(())
-}
-
-#[test]
 fn divides_among_the_most_parties(rt: HostRuntime) -> Result<(), Fail> {
     let alloc = rt.alloc();
     let mut most = words(alloc, "r split 256")?;
@@ -255,18 +231,6 @@ fn says_what_failed(rt: HostRuntime) -> Result<(), Fail> {
         (Failure::of_run(Fault::Room), "royalty_run: out of room\n"),
     ] {
         assert_eq!(rt; format!(in alloc; "{failure}")?.as_str(), want);
-    }
-    for (fault, want) in [
-        (PairFault::Pair(1), "word 1 is not PARTY=SHARE"),
-        (PairFault::Name(2), "the party of word 2 was named before"),
-        (
-            PairFault::Share(3),
-            "the share of word 3 is over 10000, which is 100.00 per cent",
-        ),
-        (PairFault::Many, "there are more than 256 pairs"),
-        (PairFault::Memory, "memory ran out"),
-    ] {
-        assert_eq!(rt; format!(in alloc; "{fault}")?.as_str(), want);
     }
     Ok(())
 }

@@ -1,10 +1,10 @@
 use Rattle.std.proofs.Common.{◌≡◌, ℕ, List, map, inl, inr, false, true, rules}
 use Rattle.std.specs.Prelude.{string_bytes}
 use Rattle.royalty_run.specs.Asked.{pairs_of}
-use Rattle.royalty_run.specs.PairFault.{IsFaultOf}
+use Rattle.pair_split.specs.PairFault.{IsFaultOf}
 use Rattle.royalty_run.specs.Status.{IsFailureOf, failure_of_fault}
-use Rattle.royalty_run.specs.declared.pair_fault.PairFault.{PairFault}
-use Rattle.royalty_run.specs.declared.pair_fault.PairFault.TheVariants.{Pair, Name, Share, Many, Memory}
+use Rattle.pair_split.specs.declared.pair_fault.PairFault.{PairFault}
+use Rattle.pair_split.specs.declared.pair_fault.PairFault.TheVariants.{Pair, Name, Share, Many, Memory}
 use Rattle.royalty_run.proofs.program.answer.Goals as goal
 
 fault_stands : (words : List (List ℕ)) (f : PairFault) → IsFaultOf (pairs_of words) f → IsFailureOf words (failure_of_fault f)

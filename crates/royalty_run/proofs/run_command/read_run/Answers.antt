@@ -4,7 +4,7 @@ use Rattle.clap.specs.declared.error.kind.ErrorKind.TheVariants as kinds
 use Rattle.clap.proofs.TakesLemmas.{passed_up}
 use Rattle.clap.proofs.CallerLemmas.{some_of_text}
 use Rattle.royalty_run.specs.Asked.{number_in}
-use Rattle.royalty_run.specs.Pair.{word_at}
+use Rattle.pair_split.specs.Pair.{word_at}
 use Rattle.royalty_run.proofs.RunLemmas.{has_cwr, has_tis, has_usage, memory_given, nodes_read, number_given, path_given, readers_read, rows_are, run_error_given, same_plan, some_by, workers_read}
 use Rattle.royalty_run.proofs.run_command.read_run.Goals as goal
 

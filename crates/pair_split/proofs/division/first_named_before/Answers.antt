@@ -1,0 +1,22 @@
+use Rattle.std.proofs.Common.{length, map, arith}
+use Rattle.std.proofs.lemmas.Bool.{iff_false}
+use Rattle.std.proofs.lemmas.List.{length-map}
+use Rattle.std.specs.Prelude.{string_bytes}
+use Rattle.line_split.proofs.FirstPlaces.{first_here, none_more, none_all}
+use Rattle.pair_split.specs.PairFault.{IsNamedBefore}
+use Rattle.pair_split.proofs.division.first_named_before.Goals as goal
+
+pub returns-then-is_named_before-clause-found : goal.returns-then-is_named_before-clause-found
+returns-then-is_named_before-clause-found c = (
+  c.loop-place-test.true,
+  first_here (IsNamedBefore (map string_bytes c.args.words.now)) c.loop-place.place c.loop-place.invariant (c.is_named_before.ensures.0 c.if-is_named_before.true),
+)
+
+pub loop-place-preserved : goal.loop-place-preserved
+loop-place-preserved c =
+    none_more (IsNamedBefore (map string_bytes c.args.words.now)) c.loop-place.place c.loop-place.invariant (iff_false c.is_named_before.ensures c.if-is_named_before.false)
+
+pub returns-clause-none : goal.returns-clause-none
+returns-clause-none c =
+    none_all (IsNamedBefore (map string_bytes c.args.words.now)) c.loop-place.place c.loop-place.invariant (length c.args.words.now) c.loop-place-test.false
+    (λ i holds. let here = holds.0 in omega (arith, here, length-map c.args.words.now string_bytes))

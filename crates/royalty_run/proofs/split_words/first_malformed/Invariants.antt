@@ -1,8 +1,0 @@
-use Rattle.std.proofs.Common.{ℕ, ◌<◌, map}
-use Rattle.std.specs.Prelude.{string_bytes}
-use Rattle.royalty_run.specs.Pair.{IsPair, word_at}
-use Rattle.royalty_run.proofs.split_words.first_malformed.Given as goal
-
--- the words so far are pairs
-abbrev pub invariant-loop-place : goal.invariant-loop-place
-invariant-loop-place l = (i : ℕ) → i < l.place → IsPair (word_at (map string_bytes l.words) i)

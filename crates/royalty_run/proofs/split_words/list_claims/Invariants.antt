@@ -1,8 +1,0 @@
-use Rattle.std.proofs.Common.{◌≡◌, map, take}
-use Rattle.std.specs.Prelude.{string_bytes}
-use Rattle.royalty_run.specs.Pair.{claims_of}
-use Rattle.royalty_run.proofs.split_words.list_claims.Given as goal
-
--- the claims of the words so far
-abbrev pub invariant-loop-place : goal.invariant-loop-place
-invariant-loop-place l = l.list.items ≡ claims_of (take l.place (map string_bytes l.words))

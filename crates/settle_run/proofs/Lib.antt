@@ -1,0 +1,2 @@
+mod BookLemmas
+mod SettleLemmas

@@ -1,0 +1,254 @@
+-- What the statements of a run come to, and the reasons of its residue.
+use Rattle.std.proofs.Common.{◌≡◌, ◌∙◌, ◌+◌, ◌*◌, ◌<◌, ◌++◌, ◌∷◌, ◌⊎◌, [], ℕ, zero, suc, Bool, true, false, List, Option, Some, None, length, map, set, drop, get_or, All, ap, sym, subst, refl, inl, inr, arith, filter, codes}
+use Rattle.std.specs.Prelude.{◌==◌, flat_map, if◌then◌else◌, nat_le, nat_lt, not, sum_by, zip}
+use Rattle.std.specs.List.{AllPairs, enumerate_from}
+use Rattle.std.proofs.lemmas.Bool.{cases_Bool, cases_eq, eq-eqb, ne_eqb}
+use Rattle.std.proofs.lemmas.List.{get_or-map, get_or-set_other, get_or-set_same, length-drop, length-map, length-set}
+use Rattle.std.proofs.lemmas.List.Elements.{All-filter, All-map, All-nil, All-push, All-tail}
+use Rattle.std.proofs.lemmas.List.FromFn.{get_or-enumerate_from, length-enumerate_from}
+use Rattle.std.proofs.lemmas.List.Kept.{AllPairs-filter}
+use Rattle.std.proofs.lemmas.List.Quantifiers.{all_pairs_push}
+use Rattle.std.proofs.lemmas.List.Sums.{sum_by-cons}
+use Rattle.line_split.specs.Claims.{total_of}
+use Rattle.line_split.specs.declared.TheConstants.{MOST_CLAIMED, RESIDUE}
+use Rattle.line_split.specs.declared.usage.Line.{Line}
+use Rattle.line_split.specs.declared.reason.Reason.{Reason}
+use Rattle.line_split.specs.declared.reason.Reason.TheVariants.{Open}
+use Rattle.line_split.proofs.ByAccount.{account_at}
+use Rattle.line_split.proofs.Fair.{portions_are_fair}
+use Rattle.line_split.proofs.PortionAccounts.{portion_accounts, portions_below}
+use Rattle.line_split.proofs.SumBelow.{same_sums, sum_below, sum_below-add, sum_below-constant, sum_by-places}
+use Rattle.cwr_share.specs.ClaimsOn.{claim_of, claims_by, claims_on, is_known}
+use Rattle.cwr_share.specs.Registered.{IsRegistered, Registered}
+use Rattle.cwr_share.specs.Registrations.{ShareLine, find_work}
+use Rattle.cwr_share.proofs.ClaimLemmas.{against_land, against_nothing, against_over, against_work}
+use Rattle.payee_book.specs.Run.{IsBookOf, portion_of}
+use Rattle.payee_book.specs.Statement as statement
+use Rattle.payee_book.specs.Text.{payee_rows, posting_row, reason_at, reason_text, residue_rows, rows_of_book, run_row, total_row}
+use Rattle.settle_run.specs.Settled.{division_by}
+
+module _ (table : List (ℕ × List ℕ)) (registered : Registered) (line : Line) where
+  abbrev Below : ℕ × ℕ → Type 0
+  Below claim = claim.0 < length registered.parties
+
+  -- the accounts of the claims by share lines are those of the parties
+  by_below : (lines : List ShareLine) → All Below (claims_by table registered line lines)
+  by_below lines =
+      All-filter (λ claim. not (claim.1 == 0)) Below (map (λ (payee : ℕ × List ℕ). (payee.0, claim_of table line.territory line.right lines payee.1)) (enumerate_from 1 (drop 1 registered.parties)))
+      (All-map Below (λ (payee : ℕ × List ℕ). (payee.0, claim_of table line.territory line.right lines payee.1)) (enumerate_from 1 (drop 1 registered.parties)) (λ k d lt.
+      let inside : k < length (drop 1 registered.parties) = omega (arith, lt, length-enumerate_from 1 (drop 1 registered.parties)) in
+      let at : (get_or (enumerate_from 1 (drop 1 registered.parties)) k d).0 ≡ 1 + k = ap (λ (e : ℕ × List ℕ). e.0) (get_or-enumerate_from 1 (drop 1 registered.parties) k d inside) in
+      omega (arith, at, inside, length-drop 1 registered.parties)))
+
+  -- what holds of no claims and of those of a work holds of the claims on a line
+  on_cases : (P : List (ℕ × ℕ) → Type 0) → P [] → ((lines : List ShareLine) → P (claims_by table registered line lines)) → P (claims_on table registered line)
+  on_cases P empty those = by (find_work line.work registered.works) refl
+    where
+      none : claims_on table registered line ≡ [] → P (claims_on table registered line)
+      none is = subst P (sym is) empty
+
+      by : (found : Option (List ShareLine)) → find_work line.work registered.works ≡ found → P (claims_on table registered line)
+      by None is = none (against_work table registered line is).1
+      by (Some lines) is = elim (cases_Bool (is_known table line.territory)) [
+        | inl known ↦ elim (cases_Bool (nat_le (total_of (claims_by table registered line lines)) MOST_CLAIMED)) [
+          | inl within ↦ subst P (sym (against_nothing table registered line lines is known within).1) (those lines)
+          | inr over ↦ none (against_over table registered line lines is known over).1
+        ]
+        | inr unknown ↦ none (against_land table registered line lines is unknown).1
+      ]
+
+  -- so are those of the claims on a line
+  pub claims_below : All Below (claims_on table registered line)
+  claims_below = on_cases (All Below) (All-nil Below) by_below
+
+  abbrev Differ : ℕ × ℕ → ℕ × ℕ → Type 0
+  Differ claim other = ¬ (claim.0 ≡ other.0)
+
+  -- no account has two claims, and the residue's has none
+  abbrev AreApart : List (ℕ × ℕ) → Type 0
+  AreApart claims = AllPairs Differ claims × All (λ claim. RESIDUE < claim.0) claims
+
+  by_apart : (lines : List ShareLine) → AreApart (claims_by table registered line lines)
+  by_apart lines =
+      let parties = enumerate_from 1 (drop 1 registered.parties) in
+      let claim : ℕ × List ℕ → ℕ × ℕ = λ payee. (payee.0, claim_of table line.territory line.right lines payee.1) in
+      let inside : (k : ℕ) → k < length (map claim parties) → k < length (drop 1 registered.parties) =
+      λ k lt. omega (arith, lt, length-map parties claim, length-enumerate_from 1 (drop 1 registered.parties)) in
+      let at : (k : ℕ) (d : ℕ × ℕ) → k < length (map claim parties) → (get_or (map claim parties) k d).0 ≡ 1 + k = λ k d lt.
+      ap (λ (e : ℕ × ℕ). e.0) (get_or-map claim parties k (0, []) d (omega (arith, lt, length-map parties claim)))
+      ∙ ap (λ (e : ℕ × List ℕ). e.0) (get_or-enumerate_from 1 (drop 1 registered.parties) k (0, []) (inside k lt)) in (
+        AllPairs-filter Differ (λ (c : ℕ × ℕ). not (c.1 == 0)) (map claim parties) (λ i j d before lt same.
+            let first = at i d (omega (arith, before, lt)) in
+            let second = at j d lt in
+            omega (arith, first, second, same, before)),
+        All-filter (λ (c : ℕ × ℕ). not (c.1 == 0)) (λ c. RESIDUE < c.0) (map claim parties) (λ k d lt. let is = at k d lt in omega (arith, is)),
+      )
+
+  apart : AreApart (claims_on table registered line)
+  apart = on_cases AreApart ((λ i j d before lt. absurd (omega (arith, lt))), All-nil (λ claim. RESIDUE < claim.0)) by_apart
+
+  -- so no account has two portions
+  pub division_once : AllPairs (λ x y. ¬ (x ≡ y)) (map (λ portion. portion.0) (division_by table registered line))
+  division_once =
+      let claims = claims_on table registered line in
+      let accounts = map (λ (claim : ℕ × ℕ). claim.0) claims in
+      subst (AllPairs (λ x y. ¬ (x ≡ y))) (sym (portion_accounts line.amount claims))
+      (all_pairs_push (λ x y. ¬ (x ≡ y)) accounts RESIDUE (λ i j d before lt same.
+      let inside : j < length claims = omega (arith, lt, length-map claims (λ (claim : ℕ × ℕ). claim.0)) in
+      let first = account_at claims i d (0, 0) (omega (arith, before, inside)) in
+      let second = account_at claims j d (0, 0) inside in
+      apart.0 i j (0, 0) before inside (sym first ∙ (same ∙ second)))
+      (λ k d lt is.
+      let payee = All-map (λ account. RESIDUE < account) (λ (claim : ℕ × ℕ). claim.0) claims apart.1 k d lt in
+      omega (arith, payee, is)))
+
+-- there is an account, the residue's
+pub some_accounts : (registered : Registered) → IsRegistered registered → 0 < length registered.parties
+some_accounts registered is = omega (arith, ap (λ (l : List (List ℕ)). length l) is.accounts)
+
+-- a number at one place
+sum_at : (n a v : ℕ) → a < n → sum_below n (λ i. if a == i then v else 0) ≡ v
+sum_at zero a v lt = absurd (omega (arith, lt))
+sum_at (suc n) zero v lt =
+    let rest : sum_below n (λ i. if zero == suc i then v else 0) ≡ n * 0 =
+    same_sums n (λ i. if zero == suc i then v else 0) (λ i. 0) (λ i lt. rw (ne_eqb zero (suc i) (λ is. absurd (omega (arith, is)))) refl) ∙ sum_below-constant n 0 in
+    omega (arith, rest)
+sum_at (suc n) (suc a) v lt =
+    let rest : sum_below n (λ i. if suc a == suc i then v else 0) ≡ v =
+    same_sums n (λ i. if suc a == suc i then v else 0) (λ i. if a == i then v else 0) (λ i lt. elim (cases_eq a i) [
+      | inl same ↦ rw (eq-eqb (suc a) (suc i) (ap suc same), eq-eqb a i same) refl
+      | inr other ↦ rw (ne_eqb (suc a) (suc i) (λ is. other (omega (arith, is))), ne_eqb a i other) refl
+    ]) ∙ sum_at n a v (omega (arith, lt)) in
+    let first : (if suc a == 0 then v else 0) ≡ 0 = rw (ne_eqb (suc a) 0 (λ is. absurd (omega (arith, is)))) refl in
+    omega (arith, first, rest)
+
+-- the first portion of a division, and the others
+portion_first : (account : ℕ) (p : ℕ × ℕ) (division : List (ℕ × ℕ)) → portion_of account (p ∷ division) ≡ (if p.0 == account then p.1 else 0) + portion_of account division
+portion_first account p division = by (p.0 == account)
+  where
+    by : (b : Bool) → sum_by (λ (e : ℕ × ℕ). e.1) (if b then p ∷ filter (λ e. e.0 == account) division else filter (λ e. e.0 == account) division)
+        ≡ (if b then p.1 else 0) + portion_of account division
+    by true = sum_by-cons (λ (e : ℕ × ℕ). e.1) p (filter (λ e. e.0 == account) division)
+    by false = omega arith
+
+-- the portions of all accounts are all portions
+all_portions : (n : ℕ) (division : List (ℕ × ℕ)) → All (λ account. account < n) (map (λ portion. portion.0) division)
+    → sum_below n (λ account. portion_of account division) ≡ sum_by (λ portion. portion.1) division
+all_portions n [] below = sum_below-constant n 0 ∙ omega arith
+all_portions n (p ∷ division) below =
+    let first : p.0 < n = below 0 0 (omega arith) in
+    let rest = all_portions n division (All-tail (λ account. account < n) p.0 (map (λ portion. portion.0) division) below) in
+    same_sums n (λ account. portion_of account (p ∷ division)) (λ account. (if p.0 == account then p.1 else 0) + portion_of account division) (λ account lt. portion_first account p division)
+    ∙ (sum_below-add n (λ account. if p.0 == account then p.1 else 0) (λ account. portion_of account division)
+    ∙ (ap (λ (s : ℕ). s + sum_below n (λ account. portion_of account division)) (sum_at n p.0 p.1 first)
+    ∙ (ap (λ (s : ℕ). p.1 + s) rest
+    ∙ sym (sum_by-cons (λ (e : ℕ × ℕ). e.1) p division))))
+
+-- the postings of nothing left out
+total_from : (f : Line → ℕ) (n : ℕ) (usage : List Line)
+    → sum_by (λ (posting : ℕ × ℕ). posting.1) (filter (λ posting. nat_lt 0 posting.1) (map (λ e. (e.0, f e.1)) (enumerate_from n usage))) ≡ sum_by f usage
+total_from f n [] = refl
+total_from f n (line ∷ usage) =
+    by (nat_lt 0 (f line)) refl ∙ (ap (λ (s : ℕ). f line + s) (total_from f (n + 1) usage) ∙ sym (sum_by-cons f line usage))
+  where
+    rest : List (ℕ × ℕ)
+    rest = filter (λ posting. nat_lt 0 posting.1) (map (λ e. (e.0, f e.1)) (enumerate_from (n + 1) usage))
+
+    by : (b : Bool) → nat_lt 0 (f line) ≡ b → sum_by (λ (posting : ℕ × ℕ). posting.1) (if b then (n, f line) ∷ rest else rest) ≡ f line + sum_by (λ (posting : ℕ × ℕ). posting.1) rest
+    by true is = sum_by-cons (λ (posting : ℕ × ℕ). posting.1) (n, f line) rest
+    by false is = let nothing : f line ≡ 0 = grind (arith, is) in omega (arith, nothing)
+
+-- sums in either order
+exchanged : (n : ℕ) (f : ℕ → Line → ℕ) (usage : List Line) → sum_below n (λ i. sum_by (f i) usage) ≡ sum_by (λ line. sum_below n (λ i. f i line)) usage
+exchanged n f [] = sum_below-constant n 0 ∙ omega arith
+exchanged n f (line ∷ usage) =
+    same_sums n (λ i. sum_by (f i) (line ∷ usage)) (λ i. f i line + sum_by (f i) usage) (λ i lt. sum_by-cons (f i) line usage)
+    ∙ (sum_below-add n (λ i. f i line) (λ i. sum_by (f i) usage)
+    ∙ (ap (λ (s : ℕ). sum_below n (λ i. f i line) + s) (exchanged n f usage)
+    ∙ sym (sum_by-cons (λ line. sum_below n (λ i. f i line)) line usage)))
+
+-- sums of what is the same of each
+sum_by_same : (f g : Line → ℕ) → ((line : Line) → f line ≡ g line) → (usage : List Line) → sum_by f usage ≡ sum_by g usage
+sum_by_same f g same [] = refl
+sum_by_same f g same (line ∷ usage) =
+    sum_by-cons f line usage ∙ (ap (λ (s : ℕ). s + sum_by f usage) (same line) ∙ (ap (λ (s : ℕ). g line + s) (sum_by_same f g same usage) ∙ sym (sum_by-cons g line usage)))
+
+-- the statements of a book come to the amounts of its lines
+pub adds_up : (table : List (ℕ × List ℕ)) (registered : Registered) (usage : List Line) (book : List (List (ℕ × ℕ))) → IsRegistered registered
+    → IsBookOf (division_by table registered) usage (length registered.parties) book → sum_by statement.total_of book ≡ sum_by (λ line. line.amount) usage
+adds_up table registered usage book is of_book =
+    let n = length registered.parties in
+    let division = division_by table registered in
+    let places : sum_by statement.total_of book ≡ sum_below n (λ i. statement.total_of (get_or book i [])) =
+    sum_by-places statement.total_of book [] ∙ ap (λ (k : ℕ). sum_below k (λ i. statement.total_of (get_or book i []))) of_book.whole in
+    places
+    ∙ (same_sums n (λ i. statement.total_of (get_or book i [])) (λ i. sum_by (λ line. portion_of i (division line)) usage) (λ i lt.
+    ap statement.total_of (of_book.each i lt) ∙ total_from (λ line. portion_of i (division line)) 0 usage)
+    ∙ (exchanged n (λ i line. portion_of i (division line)) usage
+    ∙ sum_by_same (λ line. sum_below n (λ i. portion_of i (division line))) (λ line. line.amount) (λ line.
+    all_portions n (division line) (portions_below line.amount n (claims_on table registered line) (some_accounts registered is) (claims_below table registered line))
+    ∙ (portions_are_fair line.amount (claims_on table registered line)).adds_up) usage))
+
+-- the reasons of the lines of those postings that are done; at any place there is the line's own reason, or none is set
+pub record AreReasons (owns : List Reason) (done : List (ℕ × ℕ)) (reasons : List Reason) : Type 0 where
+  pub whole : length reasons ≡ length owns
+  pub either : (k : ℕ) → (get_or reasons k Open ≡ Open) ⊎ (get_or reasons k Open ≡ get_or owns k Open)
+  pub stand : All (λ posting. get_or reasons posting.0 Open ≡ get_or owns posting.0 Open) done
+
+module _ (owns : List Reason) (done : List (ℕ × ℕ)) (reasons : List Reason) (p : ℕ × ℕ) (are : AreReasons owns done reasons) where
+  abbrev Stands : List Reason → ℕ × ℕ → Type 0
+  Stands list posting = get_or list posting.0 Open ≡ get_or owns posting.0 Open
+
+  -- a line whose reason is that its claims leave something open
+  pub reason_left : get_or owns p.0 Open ≡ Open → AreReasons owns (done ++ p ∷ []) reasons
+  reason_left left = record {
+    whole = are.whole;
+    either = are.either;
+    stand = All-push (Stands reasons) done p are.stand (elim (are.either p.0) [ inl none ↦ none ∙ sym left | inr own ↦ own ]);
+  }
+
+  -- one whose reason is set
+  pub reason_set : (reason : Reason) → p.0 < length reasons → reason ≡ get_or owns p.0 Open → AreReasons owns (done ++ p ∷ []) (set reasons p.0 reason)
+  reason_set reason within is = record {
+    whole = length-set reasons p.0 reason ∙ are.whole;
+    either = λ k. elim (cases_eq k p.0) [
+      | inl same ↦ inr (rw same here)
+      | inr other ↦ rw (there k other) (are.either k)
+    ];
+    stand = All-push (Stands (set reasons p.0 reason)) done p (λ k d lt. elim (cases_eq (get_or done k d).0 p.0) [
+      | inl same ↦ rw same here
+      | inr other ↦ there (get_or done k d).0 other ∙ are.stand k d lt
+    ]) here;
+  }
+    where
+      here : get_or (set reasons p.0 reason) p.0 Open ≡ get_or owns p.0 Open
+      here = get_or-set_same reasons p.0 reason Open within ∙ is
+
+      there : (k : ℕ) → ¬ (k ≡ p.0) → get_or (set reasons p.0 reason) k Open ≡ get_or reasons k Open
+      there k other = get_or-set_other reasons p.0 k reason Open other
+
+-- the rows of the residue depend on the reasons of its postings alone
+pub rows_same : (usage : List Line) (owns reasons : List Reason) (statement : List (ℕ × ℕ)) → All (λ posting. posting.0 < length owns) statement
+    → AreReasons owns statement reasons → residue_rows usage reasons statement ≡ residue_rows usage owns statement
+rows_same usage owns reasons postings below are =
+    ap (λ l. l ++ total_row (codes "T") [] postings ∷ []) (same postings (λ k d lt. texts (get_or postings k d) (below k d lt) (are.stand k d lt)))
+  where
+    texts : (p : ℕ × ℕ) → p.0 < length owns → get_or reasons p.0 Open ≡ get_or owns p.0 Open → reason_at reasons p.0 ≡ reason_at owns p.0
+    texts p lt is =
+        get_or-map reason_text reasons p.0 Open [] (omega (arith, lt, are.whole)) ∙ (ap reason_text is ∙ sym (get_or-map reason_text owns p.0 Open [] lt))
+
+    same : (done : List (ℕ × ℕ)) → All (λ posting. reason_at reasons posting.0 ≡ reason_at owns posting.0) done
+        → map (λ posting. posting_row usage (codes "M") (reason_at reasons posting.0) posting) done
+        ≡ map (λ posting. posting_row usage (codes "M") (reason_at owns posting.0) posting) done
+    same [] each = refl
+    same (p ∷ done) each =
+        let first : reason_at reasons p.0 ≡ reason_at owns p.0 = each 0 p (omega arith) in
+        let rest = same done (All-tail (λ posting. reason_at reasons posting.0 ≡ reason_at owns posting.0) p done each) in
+        ap (λ row. row ∷ map (λ posting. posting_row usage (codes "M") (reason_at reasons posting.0) posting) done) (ap (λ r. posting_row usage (codes "M") r p) first)
+        ∙ ap (λ l. posting_row usage (codes "M") (reason_at owns p.0) p ∷ l) rest
+
+-- and with them the rows of the book
+pub book_rows_same : (book : List (List (ℕ × ℕ))) (usage : List Line) (parties : List (List ℕ)) (reasons owns : List Reason)
+    → residue_rows usage reasons (get_or book 0 []) ≡ residue_rows usage owns (get_or book 0 []) → rows_of_book book usage parties reasons ≡ rows_of_book book usage parties owns
+book_rows_same book usage parties reasons owns is =
+    ap (λ (l : List (List (List ℕ))). flat_map (λ e. payee_rows usage e.0 e.1) (zip (drop 1 parties) (drop 1 book)) ++ (l ++ run_row usage ∷ [])) is

@@ -1,0 +1,137 @@
+//! A distribution run: three files in, the statements of all payees and of the residue out.
+
+ghost use Rattle.std.specs.Prelude.{◌≡◌, ◌<◌, ◌≤◌, ◌++◌, ℕ, All, IfErr, IfOk, OnOk, [], length, map, slice_index_or};
+ghost use Rattle.std.specs.List.{AllPairs};
+ghost use Rattle.cwr_share.specs.Registered.{IsRegistered};
+ghost use Rattle.line_split.specs.declared.TheConstants.{MOST_AMOUNT};
+ghost use Rattle.payee_book.specs.Run.{IsBookOf, portion_of, posting_of};
+ghost use Rattle.payee_book.specs.Text.{residue_rows};
+ghost use Rattle.settle_run.specs.Settled.{AreStatementsFor, AreStatementsOf, IsFaultOf, division_by, reason_of};
+
+use crate::fault::Fault;
+use cwr_share::Registry;
+use line_split::{Account, MOST_CLAIMS, Portions, RESIDUE, Reason, Usage, split};
+use payee_book::Book;
+use split_run::Plan;
+use std::alloc::{AllocError, Global};
+use std::sync::Wait;
+use std::thread::Threads;
+use tis_tree::TisTable;
+
+/// The statements, as CSV, of a table of territories, a CWR file and a table of usage lines. The
+/// inputs are read in this order, and the first that is refused is the answer. The plan has no
+/// bearing on the statements.
+pub fn settle<R: Threads + Wait + Sync>(
+    _rt: &R,
+    alloc: Global,
+    tis: &[u8],
+    cwr: &[u8],
+    usage: &[u8],
+    _plan: Plan,
+) -> Result<Vec<u8>, Fault>
+    ensures statements { IfOk result (λ text. AreStatementsOf tis.now cwr.now usage.now text.items) }
+    ensures fault { IfErr result (IsFaultOf tis.now cwr.now usage.now) }
+{
+    let territories = TisTable::read(alloc, tis)?;
+    let registry = Registry::read(alloc, cwr)?;
+    let lines = Usage::read(alloc, usage)?;
+    Ok(statements(alloc, &territories, &registry, &lines)?)
+}
+
+/// The same of inputs that are no longer needed: each is freed as soon as it is read.
+pub fn settle_and_free<R: Threads + Wait + Sync>(
+    _rt: &R,
+    alloc: Global,
+    tis: Vec<u8>,
+    cwr: Vec<u8>,
+    usage: Vec<u8>,
+    _plan: Plan,
+) -> Result<Vec<u8>, Fault>
+    ensures statements { IfOk result (λ text. AreStatementsOf tis.items cwr.items usage.items text.items) }
+    ensures fault { IfErr result (IsFaultOf tis.items cwr.items usage.items) }
+{
+    let territories = TisTable::read(alloc, tis.as_slice())?;
+    drop(tis);
+    let registry = Registry::read(alloc, cwr.as_slice())?;
+    drop(cwr);
+    let lines = Usage::read(alloc, usage.as_slice())?;
+    drop(usage);
+    Ok(statements(alloc, &territories, &registry, &lines)?)
+}
+
+/// The statements of usage lines by these territories and registrations.
+fn statements(
+    alloc: Global,
+    tis: &TisTable,
+    registry: &Registry,
+    usage: &Usage,
+) -> Result<Vec<u8>, AllocError>
+    requires sound { IsRegistered registry.now }
+    ensures { IfOk result (λ text. AreStatementsFor tis.now registry.now usage.now text.items) }
+{
+    let book = book_of(alloc, tis, registry, usage)?;
+    let reasons = reasons_of(alloc, tis, registry, usage, book.lines(RESIDUE))?;
+    book.text(alloc, usage, registry.parties(), reasons.as_slice())
+}
+
+/// The book of all usage lines: each is divided by the claims on it, and each portion that is not 0 is
+/// posted.
+fn book_of(
+    alloc: Global,
+    tis: &TisTable,
+    registry: &Registry,
+    usage: &Usage,
+) -> Result<Book, AllocError>
+    ensures { IfOk result (IsBookOf (division_by tis.now registry.now) usage.now (length registry.now.parties)) }
+{
+    let mut book = Book::open(alloc, registry.accounts())?;
+    let mut claims = registry.scratch(alloc)?;
+    let mut portions = Portions::room(alloc, MOST_CLAIMS + 1)?;
+    for place in 0..usage.len() {
+        let line = usage.line(place);
+        let _ = registry.claims(tis, line, &mut claims);
+        split(line.amount, &claims, &mut portions);
+        post_line(&mut book, place as u64, portions.list())?;
+    }
+    Ok(book)
+}
+
+/// Posts those portions of a line that are not 0.
+fn post_line(book: &mut Book, line: u64, portions: &[(Account, u64)]) -> Result<(), AllocError>
+    requires accounts { All (λ account. account < length book.old) (map (λ portion. portion.0) portions.now) }
+    requires once { AllPairs (λ account other. ¬ (account ≡ other)) (map (λ portion. portion.0) portions.now) }
+    requires small { All (λ portion. portion.1 ≤ MOST_AMOUNT) portions.now }
+    requires later { All (All (λ posting. posting.0 < line)) book.old }
+    ensures whole { OnOk result (length book.new ≡ length book.old) }
+    ensures each { OnOk result ((account : ℕ) → account < length book.old → slice_index_or book.new account [] ≡ slice_index_or book.old account [] ++ posting_of line (portion_of account portions.now)) }
+{
+    for portion in portions {
+        if portion.1 > 0 {
+            book.post(portion.0, line, portion.1)?;
+        }
+    }
+    Ok(())
+}
+
+/// The reason of each usage line that has a posting of the residue; of the others it is never asked.
+fn reasons_of(
+    alloc: Global,
+    tis: &TisTable,
+    registry: &Registry,
+    usage: &Usage,
+    residue: &[(u64, u64)],
+) -> Result<Vec<Reason>, AllocError>
+    requires { All (λ posting. posting.0 < length usage.now) residue.now }
+    ensures each { IfOk result (λ reasons. length reasons.items ≡ length usage.now) }
+    ensures rows { IfOk result (λ reasons. residue_rows usage.now reasons.items residue.now ≡ residue_rows usage.now (map (reason_of tis.now registry.now) usage.now) residue.now) }
+{
+    let mut claims = registry.scratch(alloc)?;
+    let mut reasons = vec![in alloc; Reason::Open; usage.len()]?;
+    for posting in residue {
+        let line = usage.line(posting.0 as usize);
+        if let Some(reason) = registry.claims(tis, line, &mut claims) {
+            reasons[posting.0 as usize] = reason;
+        }
+    }
+    Ok(reasons)
+}

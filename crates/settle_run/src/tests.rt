@@ -1,0 +1,219 @@
+//! Runs over three small inputs. As texts go in and come out of helpers without contracts, the prover
+//! has little to follow in a test.
+
+use super::*;
+use split_run::Plan;
+use std::alloc::Global;
+use std::process::Abort;
+use std::sync::Wait;
+use std::test::Fail;
+use std::thread::Threads;
+
+/// 9001 is a code of the examples' own.
+const TERRITORIES: &str = "code,groups\n2136,\n9001,2136\n276,9001\n840,2136\n";
+
+const USES: &str = "\
+usage,work,territory,right,amount
+u1,W1,276,P,100
+u2,W1,840,P,50
+u3,W9,276,P,7
+";
+
+/// A work of two parties: A all over the world but in 840, and B.
+const TWO_PARTIES: &str = "\
+NWR0000000000000000SONG                                                          W1
+SPU0000000000000001
+SPT0000000000000002A              060000600006000I2136
+SPT0000000000000003A                             E0840
+SPU0000000000000004
+SPT0000000000000005B              040000400004000I2136
+";
+
+/// The same, the first share line without its last byte.
+const SHORT: &str = "\
+NWR0000000000000000SONG                                                          W1
+SPU0000000000000001
+SPT0000000000000002A              060000600006000I213
+SPT0000000000000003A                             E0840
+SPU0000000000000004
+SPT0000000000000005B              040000400004000I2136
+";
+
+const STATEMENTS: &str = "\
+L,A,u1,60
+S,A,1,60
+L,B,u1,40
+L,B,u2,20
+S,B,2,60
+M,OPEN,u2,30
+M,WORK,u3,7
+T,,2,37
+R,,3,157
+";
+
+/// The statements of a run, or what it is refused for.
+fn outcome<R: Threads + Wait + Sync>(
+    rt: &R,
+    alloc: Global,
+    inputs: [&str; 3],
+    plan: Plan,
+) -> Result<String, Fail> {
+    let [tis, cwr, usage] = inputs;
+    match settle(
+        rt,
+        alloc,
+        tis.as_bytes(),
+        cwr.as_bytes(),
+        usage.as_bytes(),
+        plan,
+    ) {
+        Ok(text) => Ok(String::from_utf8(text).unwrap_or(String::new(alloc))),
+        Err(fault) => {
+            let (number, place) = (fault.number(), fault.place());
+            Ok(format!(in alloc; "{number} {place:?} {fault}")?)
+        }
+    }
+}
+
+/// Asserts the outcome of a run with three workers, one reader and one node.
+fn assert_outcome<R: Threads + Wait + Sync + Abort>(
+    rt: &R,
+    alloc: Global,
+    inputs: [&str; 3],
+    expected: &str,
+) -> Result<(), Fail> {
+    if let Some(plan) = Plan::new(3, 1, 1) {
+        assert_eq!(rt; outcome(rt, alloc, inputs, plan)?.as_str(), expected);
+        return Ok(());
+    }
+    Err(Fail::new("no plan"))
+}
+
+/// The bytes of `row`, so many times.
+fn repeated(alloc: Global, row: &str, times: usize) -> Result<String, Fail> {
+    let mut text = String::new(alloc);
+    for _ in 0..times {
+        text.push_str(row)?;
+    }
+    Ok(text)
+}
+
+/// 65 lines of the first work, and the statements that they come to.
+fn many_uses(alloc: Global) -> Result<(String, String), Fail> {
+    let lines = repeated(alloc, "u,W1,276,P,100\n", 65)?;
+    let uses = format!(in alloc; "usage,work,territory,right,amount\n{lines}")?;
+    let (first, second) = (
+        repeated(alloc, "L,A,u,60\n", 65)?,
+        repeated(alloc, "L,B,u,40\n", 65)?,
+    );
+    let rows = format!(in alloc; "{first}S,A,65,3900\n{second}S,B,65,2600\nT,,0,0\nR,,65,6500\n")?;
+    Ok((uses, rows))
+}
+
+#[test]
+fn settles_whatever_the_plan(rt: HostRuntime) -> Result<(), Fail> {
+    for (workers, readers, nodes) in [
+        (1, 1, 1),
+        (1, 1, 64),
+        (1, 8, 1),
+        (1, 8, 64),
+        (2, 1, 1),
+        (2, 1, 64),
+        (2, 8, 1),
+        (2, 8, 64),
+        (8, 1, 1),
+        (8, 1, 64),
+        (8, 8, 1),
+        (8, 8, 64),
+    ] {
+        let Some(plan) = Plan::new(workers, readers, nodes) else {
+            return Err(Fail::new("no plan"));
+        };
+        let text = outcome(&rt, rt.alloc(), [TERRITORIES, TWO_PARTIES, USES], plan)?;
+        assert_eq!(rt; text.as_str(), STATEMENTS);
+    }
+    Ok(())
+}
+
+#[test]
+fn settles_no_lines(rt: HostRuntime) -> Result<(), Fail> {
+    let header = "usage,work,territory,right,amount\n";
+    let inputs = [TERRITORIES, TWO_PARTIES, header];
+    assert_outcome(&rt, rt.alloc(), inputs, "T,,0,0\nR,,0,0\n")
+}
+
+#[test]
+fn settles_many_lines(rt: HostRuntime) -> Result<(), Fail> {
+    let (uses, rows) = many_uses(rt.alloc())?;
+    let inputs = [TERRITORIES, TWO_PARTIES, uses.as_str()];
+    assert_outcome(&rt, rt.alloc(), inputs, rows.as_str())
+}
+
+#[test]
+fn quotes_a_party(rt: HostRuntime) -> Result<(), Fail> {
+    let cwr = "\
+NWR0000000000000000SONG                                                          W1
+SPU0000000000000001
+SPT0000000000000002A,\"1           060000600006000I2136
+SPT0000000000000003A,\"1                          E0840
+SPU0000000000000004
+SPT0000000000000005B              040000400004000I2136
+";
+    let rows = "\
+L,\"A,\"\"1\",u1,60
+S,\"A,\"\"1\",1,60
+L,B,u1,40
+L,B,u2,20
+S,B,2,60
+M,OPEN,u2,30
+M,WORK,u3,7
+T,,2,37
+R,,3,157
+";
+    assert_outcome(&rt, rt.alloc(), [TERRITORIES, cwr, USES], rows)
+}
+
+#[test]
+fn names_every_reason(rt: HostRuntime) -> Result<(), Fail> {
+    let cwr = "\
+NWR0000000000000000SONG                                                          W1
+SPU0000000000000001
+SPT0000000000000002A              060000600006000I2136
+SPU0000000000000003
+SPT0000000000000004B              060000600006000I2136
+";
+    let uses = "\
+usage,work,territory,right,amount
+u1,W1,276,P,100
+u2,W1,9999,P,50
+u3,W9,9999,P,7
+u4,W1,276,P,0
+";
+    let rows = "\
+M,OVER,u1,100
+M,LAND,u2,50
+M,WORK,u3,7
+T,,3,157
+R,,4,157
+";
+    assert_outcome(&rt, rt.alloc(), [TERRITORIES, cwr, uses], rows)
+}
+
+#[test]
+fn refuses_the_territories_first(rt: HostRuntime) -> Result<(), Fail> {
+    let fault = "1 Some(0) the territories: row 0 is not code,groups";
+    assert_outcome(&rt, rt.alloc(), ["code\n", SHORT, ""], fault)
+}
+
+#[test]
+fn refuses_the_registrations_next(rt: HostRuntime) -> Result<(), Fail> {
+    let fault = "2 Some(3) the registrations: line 3 is too short";
+    assert_outcome(&rt, rt.alloc(), [TERRITORIES, SHORT, ""], fault)
+}
+
+#[test]
+fn refuses_the_usage_lines_last(rt: HostRuntime) -> Result<(), Fail> {
+    let uses = "usage,work,territory,right,amount\nu,W,276,X,1\n";
+    let fault = "3 Some(1) the usage lines: the right of row 1 is not P, M or S";
+    assert_outcome(&rt, rt.alloc(), [TERRITORIES, TWO_PARTIES, uses], fault)
+}
