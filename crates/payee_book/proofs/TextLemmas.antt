@@ -2,7 +2,8 @@
 use Rattle.std.proofs.Common.{◌≡◌, ◌∙◌, ◌-◌, ◌+◌, ◌<◌, ◌≤◌, ◌++◌, ◌∷◌, [], ℕ, Bool, true, false, List, length, map, take, drop, get_or, codes, ap, sym, subst, refl, arith, append_assoc, suc, All}
 use Rattle.std.specs.Prelude.{◌==◌, flat_map, if◌then◌else◌, zip}
 use Rattle.std.proofs.lemmas.Grind.{flat_map-append, get_or_after_one}
-use Rattle.std.proofs.lemmas.List.{flat_map_more, length-drop, take_all, take_more}
+use Rattle.std.proofs.Math.Seq.{take-add}
+use Rattle.std.proofs.lemmas.List.{flat_map_more, length-drop, map-append, take_all, take_more}
 use Rattle.std.proofs.lemmas.List.Elements.{All-append, All-cons, All-map, All-nil}
 use Rattle.std.proofs.lemmas.Slice.Zip.{get_or-zip, length-zip}
 use Rattle.csv.specs.Reading.{default_config, records, strip_bom}
@@ -135,3 +136,16 @@ module _ (usage : List Line) where
       (All-flat_map HasLetter (rows_for usage parties book) (accounts usage parties book) (λ e. payee_letters e.0 e.1))
       (All-append HasLetter residue (run_row usage ∷ []) (residue_letters reasons (get_or book 0 []))
       (All-cons HasLetter (run_row usage) [] (82, _, refl, refl, refl) (All-nil HasLetter))))
+
+-- the postings up to a place, and those from there up to a later one
+pub postings_more : {X : Type 0} (row : X → List (List ℕ)) (before now after : List ℕ) (postings : List X) (i j : ℕ) → i ≤ j
+    → now ≡ before ++ text_of (map row (take i postings))
+    → after ≡ now ++ text_of (map row (take (j - i) (drop i postings)))
+    → after ≡ before ++ text_of (map row (take j postings))
+postings_more row before now after postings i j le first next =
+    next
+    ∙ ap (λ text. text ++ text_of (map row (take (j - i) (drop i postings)))) first
+    ∙ append_assoc before _ _
+    ∙ ap (λ text. before ++ text) (sym (flat_map-append text_of_row (map row (take i postings)) (map row (take (j - i) (drop i postings))))
+    ∙ ap text_of (sym (map-append row (take i postings) (take (j - i) (drop i postings)))
+    ∙ ap (map row) (sym (take-add i (j - i) postings) ∙ ap (λ n. take n postings) (omega (arith, le)))))

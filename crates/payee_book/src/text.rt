@@ -1,10 +1,11 @@
 //! The statements as CSV.
 
-ghost use Rattle.std.specs.Prelude.{◌≡◌, ◌≤◌, ◌<◌, ◌++◌, ◌∷◌, [], All, OnOk, IfOk, decimal, length, map, sum_by};
+ghost use Rattle.std.specs.Prelude.{◌≡◌, ◌≤◌, ◌<◌, ◌++◌, ◌∷◌, [], All, OnOk, IfOk, codes, decimal, length, map, sum_by};
 ghost use Rattle.csv_table.specs.Table.{rows_of};
 ghost use Rattle.csv_table.specs.Written.{text_of, text_of_row};
 ghost use Rattle.line_split.specs.declared.TheConstants.{MOST_AMOUNT};
-ghost use Rattle.payee_book.specs.Text.{payee_rows, reason_text, residue_rows, rows_of_book, run_row, total_row, usage_at};
+ghost use Rattle.payee_book.specs.declared.text.TheConstants.{LOOKED_UP_AT_ONCE};
+ghost use Rattle.payee_book.specs.Text.{payee_rows, posting_row, reason_text, residue_rows, rows_of_book, run_row, total_row, usage_at};
 
 use crate::Book;
 use crate::book::sum;
@@ -42,6 +43,10 @@ impl Book {
     }
 }
 
+/// How many usage lines are looked up before their rows are written. They lie far apart in memory, and
+/// look-ups that follow one another do not wait for each other.
+const LOOKED_UP_AT_ONCE: usize = 16;
+
 /// A payee's statement, where it has a posting.
 fn write_payee(
     out: &mut RowWriter,
@@ -56,11 +61,34 @@ fn write_payee(
     if statement.is_empty() {
         return Ok(());
     }
-    for posting in statement {
-        let name = usage_of(usage, posting.0);
-        write_posting(out, "L", party, name, posting.1)?;
+    let mut written = 0;
+    while written < statement.len() {
+        let end = statement.len().min(written + LOOKED_UP_AT_ONCE);
+        write_postings(out, usage, party, &statement[written..end])?;
+        written = end;
     }
     write_total(out, "S", party, statement)
+}
+
+/// Some of a payee's postings, as many as are looked up at once.
+fn write_postings(
+    out: &mut RowWriter,
+    usage: &Usage,
+    party: &[u8],
+    postings: &[(u64, u64)],
+) -> Result<(), AllocError>
+    requires lines { All (λ posting. posting.0 < length usage.now) postings.now }
+    requires few { length postings.now ≤ LOOKED_UP_AT_ONCE }
+    ensures { OnOk result (out.new ≡ out.old ++ text_of (map (posting_row usage.now (codes "L") party.now) postings.now)) }
+{
+    let mut names: [&[u8]; LOOKED_UP_AT_ONCE] = [b""; LOOKED_UP_AT_ONCE];
+    for place in 0..postings.len() {
+        names[place] = usage_of(usage, postings[place].0);
+    }
+    for place in 0..postings.len() {
+        write_posting(out, "L", party, names[place], postings[place].1)?;
+    }
+    Ok(())
 }
 
 /// The residue's statement.

@@ -1,8 +1,14 @@
-use Rattle.std.proofs.Common.{◌≡◌, ◌++◌, codes, map, take}
+use Rattle.std.proofs.Common.{◌≡◌, ◌≤◌, ◌-◌, ◌++◌, codes, length, map, take, ℕ}
 use Rattle.csv_table.specs.Written.{text_of}
 use Rattle.payee_book.specs.Text.{posting_row}
 use Rattle.payee_book.proofs.text.write_payee.Given as goal
 
 -- the postings so far are written
-abbrev pub invariant-loop-posting : goal.invariant-loop-posting
-invariant-loop-posting l = l.out ≡ l.fn.out ++ text_of (map (posting_row l.usage (codes "L") l.party) (take l.posting-index l.statement))
+abbrev pub invariant-loop-written : goal.invariant-loop-written
+invariant-loop-written l = record {
+  within : l.written ≤ length l.statement;
+  rows : l.out ≡ l.fn.out ++ text_of (map (posting_row l.usage (codes "L") l.party) (take l.written l.statement))
+}
+
+abbrev pub decreases-loop-written : goal.decreases-loop-written
+decreases-loop-written l = length l.statement - l.written
