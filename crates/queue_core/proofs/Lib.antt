@@ -1,0 +1,7 @@
+pub mod Entries
+pub mod MailboxHolds
+pub mod EventsKeep
+pub mod ReceivedLemmas
+pub mod LeftLemmas
+pub mod StepLemmas
+pub mod StepsKeep

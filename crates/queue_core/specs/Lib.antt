@@ -1,0 +1,6 @@
+pub mod Events
+pub mod Items
+pub mod Linked
+pub mod Mailbox
+pub mod Received
+pub mod Steps

@@ -1,0 +1,10 @@
+//! What holds of every run of a mailbox. Each law is a function with nothing to do; its contract is the law.
+
+ghost use Rattle.queue_core.specs.Received.{AllAreReceivedInOrder};
+
+/// After every list of events from the opening on, what was received of each sender is the first of what it
+/// sent, an end mark comes once and last, and no item that is held shares its node with one that was filled
+/// later.
+pub fn law_abstract_runs()
+    ensures { AllAreReceivedInOrder }
+{}

@@ -1,0 +1,58 @@
+//! A line of a schedule.
+
+use queue_core::Step;
+
+/// The numbers in a text, divided by commas; 0 where there are fewer.
+fn numbers(text: &str) -> [u64; 3] {
+    let mut found = [0; 3];
+    for (place, word) in text.split(',').enumerate() {
+        if place < 3 {
+            found[place] = word.parse().unwrap_or(0);
+        }
+    }
+    found
+}
+
+/// The step of a text like `LoadTurn(0,5,10)` or `LoadNext`.
+pub fn step(text: &str) -> Option<Step> {
+    let (name, rest) = text.split_once('(').unwrap_or((text, ""));
+    let [first, line, amount] = numbers(rest.strip_suffix(')').unwrap_or(rest));
+    match name {
+        "LoadTurn" => Some(Step::LoadTurn(first, line, amount)),
+        "StoreLine" => Some(Step::StoreLine(first)),
+        "EndLine" => Some(Step::EndLine(first)),
+        "StoreAmount" => Some(Step::StoreAmount(first)),
+        "StoreNull" => Some(Step::StoreNull(first)),
+        "SwapHead" => Some(Step::SwapHead(first)),
+        "StoreLink" => Some(Step::StoreLink(first)),
+        _ => reader_step(name, first),
+    }
+}
+
+fn reader_step(name: &str, node: u64) -> Option<Step> {
+    match name {
+        "LoadNext" => Some(Step::LoadNext),
+        "LoadHead" => Some(Step::LoadHead),
+        "StubNull" => Some(Step::StubNull),
+        "StubSwap" => Some(Step::StubSwap),
+        "StubLink" => Some(Step::StubLink),
+        "LoadLine" => Some(Step::LoadLine(node)),
+        "LoadAmount" => Some(Step::LoadAmount(node)),
+        "GiveBack" => Some(Step::GiveBack(node)),
+        _ => None,
+    }
+}
+
+/// The sender whose step it is.
+pub fn sender(step: Step) -> Option<u64> {
+    match step {
+        Step::LoadTurn(p, ..)
+        | Step::StoreLine(p)
+        | Step::EndLine(p)
+        | Step::StoreAmount(p)
+        | Step::StoreNull(p)
+        | Step::SwapHead(p)
+        | Step::StoreLink(p) => Some(p),
+        _ => None,
+    }
+}
