@@ -1,4 +1,4 @@
-.PHONY: help build demo test compare bench
+.PHONY: help build demo test compare bench explore
 
 help:
 	@echo 'make demo     prove and build the program, make the statements of the example'
@@ -6,8 +6,10 @@ help:
 	@echo 'make test     the gate: prove every crate from nothing, refuse every wrong body, run every test'
 	@echo 'make compare  run the program and a plain Rust one on small made-up inputs, good and bad, and compare'
 	@echo 'make bench    run both on a million usage lines, print times and peak memory'
+	@echo 'make explore  go through every state of a small mailbox, with the model in Python'
 	@echo 'make help     this list'
-	@echo 'All need the command rt of the Rattle kit on the path; compare and bench also python3 and cargo.'
+	@echo 'All but explore need the command rt of the Rattle kit on the path; compare, bench and explore also python3,'
+	@echo 'and compare and bench cargo.'
 
 build:
 	cd crates/royalty_run && rt run -- --help > /dev/null
@@ -29,3 +31,6 @@ compare: build
 
 bench: build
 	python3 bench/bench.py --program out/royalty_run --lines 1000000 --works 20000 --parties 400 --repeats 5
+
+explore:
+	python3 model/explore.py 2 1 1

@@ -4,3 +4,4 @@ pub mod Linked
 pub mod Mailbox
 pub mod Received
 pub mod Steps
+pub mod Shows
