@@ -1,5 +1,6 @@
 -- What a failure stands for, and the status that the program answers.
-use Rattle.std.specs.Prelude.{ℕ, ◌≢◌, ⊤, List}
+use Rattle.std.specs.Prelude.{ℕ, ◌≡◌, ◌≢◌, ◌⊎◌, ⊤, List, String}
+use Rattle.std.specs.declared.alloc.Global.{Global}
 use Rattle.clap.specs.Words.{kind_of}
 use Rattle.clap.specs.declared.error.kind.ErrorKind.TheVariants as kinds
 use Rattle.std.specs.declared.io.ErrorKind as io
@@ -7,6 +8,7 @@ use Rattle.std.specs.declared.io.ErrorKind.TheVariants as io_kind
 use Rattle.royalty_run.specs.Asked.{pairs_of}
 use Rattle.pair_split.specs.PairFault.{IsFaultOf}
 use Rattle.settle_run.specs.Settled.{HasFault}
+use Rattle.royalty_run.specs.declared.run_command.RunWords.{RunWords}
 use Rattle.royalty_run.specs.declared.failure.Failure.{Failure}
 use Rattle.royalty_run.specs.declared.failure.Failure.TheVariants.{Words, NotText, Pairs, Input, Room, File, Output}
 use Rattle.settle_run.specs.declared.fault.Fault.{Fault}
@@ -31,6 +33,17 @@ IsRefusal (Words error) =
 IsRefusal (Pairs f) = f ≢ fault.Memory
 IsRefusal (Input f) = (f ≢ input.Room) × HasFault f
 IsRefusal _ = ⊤
+
+-- a file fails for want of memory or by its own name
+abbrev pub IsOfFile : String Global → Failure → Type 0
+IsOfFile path Room = ⊤
+IsOfFile path (File name) = name ≡ path
+IsOfFile path _ = ⊥
+
+-- a file that cannot be read is one of the run's three
+abbrev pub IsOfFiles : RunWords → Failure → Type 0
+IsOfFiles asked (File name) = (name ≡ asked.tis) ⊎ ((name ≡ asked.cwr) ⊎ (name ≡ asked.usage))
+IsOfFiles asked _ = ⊤
 
 -- the fault of the pairs is one of the words PARTY=SHARE
 abbrev pub IsFailureOf : List (List ℕ) → Failure → Type 0

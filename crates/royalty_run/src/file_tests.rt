@@ -165,6 +165,32 @@ fn reads_no_file_over_the_limit(rt: HostRuntime) -> Result<(), Fail> {
 }
 
 #[test]
+fn reads_a_file_of_the_most_bytes(rt: HostRuntime) -> Result<(), Fail> {
+    let (tis, most) = (path_of(&rt, "header")?, path_of(&rt, "most")?);
+    fs::write(&rt, tis.as_str(), "code\n")?;
+    fs::create(&rt, most.as_str())?.set_len(268_435_456)?;
+    let plan = "--workers 1 --readers 1 --nodes 1";
+    let line = format!(in rt.alloc(); "r run --tis {tis} --cwr {tis} --usage {most} {plan}")?;
+    let text = answer(&rt, line.as_str())?;
+    fs::remove_file(&rt, most.as_str())?;
+    fs::remove_file(&rt, tis.as_str())?;
+    assert_eq!(rt; text.as_str(), "1\nroyalty_run: tis fault 1 at row 0\n");
+    Ok(())
+}
+
+#[test]
+fn reads_registrations_before_usage_lines(rt: HostRuntime) -> Result<(), Fail> {
+    let tis = path_of(&rt, "first")?;
+    fs::write(&rt, tis.as_str(), "code\n")?;
+    let plan = "--workers 1 --readers 1 --nodes 1";
+    let line = format!(in rt.alloc(); "r run --tis {tis} --usage absent --cwr missing {plan}")?;
+    let text = answer(&rt, line.as_str())?;
+    fs::remove_file(&rt, tis.as_str())?;
+    assert_eq!(rt; text.as_str(), "4\nroyalty_run: cannot read missing\n");
+    Ok(())
+}
+
+#[test]
 fn refuses_numbers_out_of_range(rt: HostRuntime) -> Result<(), Fail> {
     for plan in [
         "--workers 0 --readers 1 --nodes 1",

@@ -1,8 +1,9 @@
 //! A distribution run over files.
 
-ghost use Rattle.std.specs.Prelude.{IfOk, IfErr};
+ghost use Rattle.std.specs.Prelude.{◌≤◌, IfOk, IfErr, length};
 ghost use Rattle.settle_run.specs.Settled.{AreStatements};
-ghost use Rattle.royalty_run.specs.Status.{IsRefusal};
+ghost use Rattle.royalty_run.specs.declared.files.TheConstants.{MOST_BYTES};
+ghost use Rattle.royalty_run.specs.Status.{IsOfFile, IsOfFiles, IsRefusal};
 
 use crate::failure::Failure;
 use crate::run_command::RunWords;
@@ -26,6 +27,7 @@ pub fn settle_files<R: Files + Threads + Wait + Sync>(
 ) -> Result<Vec<u8>, Failure>
     ensures statements { IfOk result (λ text. AreStatements text.items) }
     ensures failure { IfErr result IsRefusal }
+    ensures file { IfErr result (IsOfFiles asked) }
 {
     let RunWords {
         tis,
@@ -41,7 +43,8 @@ pub fn settle_files<R: Files + Threads + Wait + Sync>(
 
 /// The bytes of a file, where it can be read and is no larger than the most bytes.
 fn read_file<R: Files>(rt: &R, alloc: Global, path: String) -> Result<Vec<u8>, Failure>
-    ensures { IfErr result IsRefusal }
+    ensures few { IfOk result (λ bytes. length bytes.items ≤ MOST_BYTES) }
+    ensures failure { IfErr result (IsOfFile path) }
 {
     match bytes_of(rt, alloc, path.as_str()) {
         Ok(bytes) => Ok(bytes),
@@ -50,7 +53,9 @@ fn read_file<R: Files>(rt: &R, alloc: Global, path: String) -> Result<Vec<u8>, F
     }
 }
 
-fn bytes_of<R: Files>(rt: &R, alloc: Global, path: &str) -> io::Result<Vec<u8>> {
+fn bytes_of<R: Files>(rt: &R, alloc: Global, path: &str) -> io::Result<Vec<u8>>
+    ensures { IfOk result (λ bytes. length bytes.items ≤ MOST_BYTES) }
+{
     let file = fs::open(rt, path)?;
     let size = file.metadata()?.len();
     if size > MOST_BYTES {
