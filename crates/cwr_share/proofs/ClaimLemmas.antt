@@ -22,16 +22,17 @@ use Rattle.line_split.specs.declared.reason.Reason.TheVariants.{Land, Over, Work
 use Rattle.line_split.specs.declared.usage.Line.{Line}
 use Rattle.line_split.specs.declared.usage.Right.{Right}
 use Rattle.line_split.specs.declared.usage.Right.TheVariants.{P, M, S}
-use Rattle.cwr_share.specs.ClaimsOn.{claim_of, claims_among, claims_by, claims_on, covers, deciding, is_alike, is_known, reason_against, share_for}
-use Rattle.cwr_share.specs.Compiled.{InterestsRise, IsCompiled, claims_of_payees, lines_at, lines_of_party, seen}
+use Rattle.cwr_share.specs.ClaimsOn.{claim_of, claims_among, claims_by, claims_on, covers, deciding, is_alike, is_known, reason_against, renamed, share_for}
+use Rattle.cwr_share.specs.Compiled.{InterestsRise, IsCompiled, IsSmall, claims_of_payees, kept_lines, line_by, lines_at, lines_of_party, nameless, payees_of, seen}
 use Rattle.cwr_share.specs.declared.registration.Payee.{Payee}
 use Rattle.cwr_share.specs.declared.registration.Registration.{Registration}
+use Rattle.cwr_share.specs.declared.share_line.KeptShare.{KeptShare}
 use Rattle.cwr_share.specs.Registered.{IsShareLine, Registered}
 use Rattle.cwr_share.specs.Registrations.{ShareLine, find_work}
 use Rattle.cwr_share.proofs.CompiledLemmas.{LookedUp, AllPairs-head, AllPairs-tail, contains_cases, lines_of_party_none, same_text}
 
 -- no share is over 100.00 per cent
-pub share_small : (right : Right) (line : ShareLine) → IsShareLine line → share_for right line ≤ FULL_SHARE
+pub share_small : (right : Right) (line : ShareLine) → IsSmall line → share_for right line ≤ FULL_SHARE
 share_small right line good = elim (cases_Bool line.includes) [
   | inl includes ↦ rw includes (by right)
   | inr excludes ↦ rw excludes (omega arith)
@@ -92,7 +93,7 @@ module _ (table : List (ℕ × List ℕ)) (land : ℕ) where
   claimed_none right = record { sum = refl; small = omega arith; first = refl }
 
   module _ (right : Right) (line : ShareLine) (later : List ShareLine) (claim : ℕ) (decided : Option ℕ) (count : ℕ) (alike : AllPairs IsAlike (line ∷ later))
-      (good : IsShareLine line) (claimed : Claimed right later claim decided count) where
+      (good : IsSmall line) (claimed : Claimed right later claim decided count) where
     -- whether a line after it decides
     tells : option_eq nat_eq decided (Some line.interest) ≡ has_later line later
     tells = rw claimed.first (decided_tells line later (AllPairs-head IsAlike line later alike) (AllPairs-tail IsAlike line later alike))
@@ -152,11 +153,11 @@ module _ (lines : List ShareLine) (places : List ℕ) (count : ℕ) (line : Shar
   next_alike alike = rw next_line at (AllPairs-drop IsAlike (length places - (count + 1)) (lines_at lines places) alike)
 
   -- it is in its limits
-  pub next_good : All IsShareLine lines → IsShareLine line
+  pub next_good : All IsSmall lines → IsSmall line
   next_good all =
       let place = length places - 1 - count in
       let inside : place < length places = omega arith in
-      subst IsShareLine (sym is) (all (get_or places place 0) line (within place 0 inside))
+      subst IsSmall (sym is) (all (get_or places place 0) line (within place 0 inside))
 
 -- whether a claim is not 0
 abbrev pub counts : ℕ × ℕ → Bool
@@ -214,43 +215,43 @@ module _ (all : List (ℕ × ℕ)) where
     gathered_over over = lt-leb (total_of all) MOST_CLAIMED (omega (arith, next_sum, sum_by-take-le (λ (claim : ℕ × ℕ). claim.1) all (n + 1), over))
 
 -- the payee at a place, as it is seen
-pub seen_at : (payees : List Payee) (k : ℕ) (payee : Payee) → k < length payees → payee ≡ get_or payees k payee → get_or (map seen payees) k (seen payee) ≡ seen payee
-seen_at payees k payee within is = get_or-map seen payees k payee (seen payee) within ∙ ap seen (sym is)
+pub seen_at : (places : List ℕ) (payees : List Payee) (k : ℕ) (payee : Payee) → k < length payees → payee ≡ get_or payees k payee → get_or (map (seen places) payees) k (seen places payee) ≡ seen places payee
+seen_at places payees k payee within is = get_or-map (seen places) payees k payee (seen places payee) within ∙ ap (seen places) (sym is)
 
 -- what holds of each payee holds of it
-pub at_payee : (Holds : ℕ × List ℕ → Type 0) (payees : List Payee) (k : ℕ) (payee : Payee) → All Holds (map seen payees) → k < length payees → payee ≡ get_or payees k payee → Holds (seen payee)
-at_payee Holds payees k payee all within is = subst Holds (seen_at payees k payee within is) (all k (seen payee) (omega (arith, within, length-map payees seen)))
+pub at_payee : (Holds : ℕ × List ℕ → Type 0) (places : List ℕ) (payees : List Payee) (k : ℕ) (payee : Payee) → All Holds (map (seen places) payees) → k < length payees → payee ≡ get_or payees k payee → Holds (seen places payee)
+at_payee Holds places payees k payee all within is = subst Holds (seen_at places payees k payee within is) (all k (seen places payee) (omega (arith, within, length-map payees (seen places))))
 
-module _ (table : List (ℕ × List ℕ)) (land : ℕ) (right : Right) (lines : List ShareLine) where
+module _ (table : List (ℕ × List ℕ)) (land : ℕ) (right : Right) (lines : List ShareLine) (places : List ℕ) where
   -- as many claims as payees
-  pub length-claims : (payees : List Payee) → length (claims_of_payees table land right lines (map seen payees)) ≡ length payees
-  length-claims payees = length-map (map seen payees) _ ∙ length-map payees seen
+  pub length-claims : (payees : List Payee) → length (claims_of_payees table land right lines (map (seen places) payees)) ≡ length payees
+  length-claims payees = length-map (map (seen places) payees) _ ∙ length-map payees (seen places)
 
   module _ (payees : List Payee) (k : ℕ) (payee : Payee) (within : k < length payees) (is : payee ≡ get_or payees k payee) where
-    inside : k < length (map seen payees)
-    inside = omega (arith, within, length-map payees seen)
+    inside : k < length (map (seen places) payees)
+    inside = omega (arith, within, length-map payees (seen places))
 
     -- the claim of a payee
-    pub claim_at : (claim : ℕ) → claim ≡ sum_by (share_for right) (deciding table land (lines_at lines payee.places.items))
-        → get_or (claims_of_payees table land right lines (map seen payees)) k (payee.account, claim) ≡ (payee.account, claim)
+    pub claim_at : (claim : ℕ) → claim ≡ sum_by (share_for right) (deciding table land (lines_at lines (seen places payee).1))
+        → get_or (claims_of_payees table land right lines (map (seen places) payees)) k (payee.account, claim) ≡ (payee.account, claim)
     claim_at claim sum =
-        get_or-map _ (map seen payees) k (seen payee) (payee.account, claim) inside
-        ∙ (ap (λ (p : ℕ × List ℕ). (p.0, sum_by (share_for right) (deciding table land (lines_at lines p.1)))) (seen_at payees k payee within is)
+        get_or-map _ (map (seen places) payees) k (seen places payee) (payee.account, claim) inside
+        ∙ (ap (λ (p : ℕ × List ℕ). (p.0, sum_by (share_for right) (deciding table land (lines_at lines p.1)))) (seen_at places payees k payee within is)
         ∙ ap (λ n. (payee.account, n)) (sym sum))
 
     -- it is behind those of lower accounts
-    pub lower_accounts : AllPairs (λ payee later. payee.0 < later.0) (map seen payees)
-        → All (λ other. other.0 < payee.account) (filter counts (take k (claims_of_payees table land right lines (map seen payees))))
+    pub lower_accounts : AllPairs (λ payee later. payee.0 < later.0) (map (seen places) payees)
+        → All (λ other. other.0 < payee.account) (filter counts (take k (claims_of_payees table land right lines (map (seen places) payees))))
     lower_accounts rising =
-        let all = claims_of_payees table land right lines (map seen payees) in
+        let all = claims_of_payees table land right lines (map (seen places) payees) in
         All-filter counts (λ other. other.0 < payee.account) (take k all)
         (λ j d kept.
         let before : j < k = omega (arith, kept, length-take-le k all (omega (arith, within, length-claims payees))) in
         let this : get_or (take k all) j d ≡ get_or all j d = get_or-take k all j d before in
-        let there : j < length (map seen payees) = omega (arith, before, inside) in
-        let other : (get_or all j d).0 ≡ (get_or (map seen payees) j (seen payee)).0 = ap (λ (p : ℕ × ℕ). p.0) (get_or-map _ (map seen payees) j (seen payee) d there) in
-        let lower = rising j k (seen payee) before inside in
-        omega (arith, lower, ap (λ (p : ℕ × ℕ). p.0) this, other, ap (λ (p : ℕ × List ℕ). p.0) (seen_at payees k payee within is)))
+        let there : j < length (map (seen places) payees) = omega (arith, before, inside) in
+        let other : (get_or all j d).0 ≡ (get_or (map (seen places) payees) j (seen places payee)).0 = ap (λ (p : ℕ × ℕ). p.0) (get_or-map _ (map (seen places) payees) j (seen places payee) d there) in
+        let lower = rising j k (seen places payee) before inside in
+        omega (arith, lower, ap (λ (p : ℕ × ℕ). p.0) this, other, ap (λ (p : ℕ × List ℕ). p.0) (seen_at places payees k payee within is)))
 
 -- a test that only lines of a party pass, finds one among them
 list_any-filter : {X : Type 0} (test keep : X → Bool) → ((x : X) → test x ≡ true → keep x ≡ true) → (xs : List X) → list_any test (filter keep xs) ≡ list_any test xs
@@ -470,24 +471,120 @@ few_places party lines places is =
     let of_party : ShareLine → Bool = λ line. pointwise nat_eq line.party party in
     omega (arith, length-lines_at lines places, ap (λ (l : List ShareLine). length l) is, length-filter of_party lines, count_by-le-length of_party lines)
 
+-- a share line without its party
+abbrev unnamed : ShareLine → ShareLine
+unnamed line = renamed (λ text. []) line
+
+-- an element of what a list is mapped to
+get_or_mapped : {X Y : Type 0} (f : X → Y) (xs : List X) (k : ℕ) (d : X) → get_or (map f xs) k (f d) ≡ f (get_or xs k d)
+get_or_mapped f [] k d = refl
+get_or_mapped f (x ∷ xs) zero d = refl
+get_or_mapped f (x ∷ xs) (suc k) d = get_or_mapped f xs k d
+
+-- the nameless lines are the lines without their parties
+pub nameless_lines : (parties : List (List ℕ)) (registration : Registration) → nameless registration ≡ map unnamed (kept_lines parties registration)
+nameless_lines parties registration = sym (map_twice (line_by parties) unnamed registration.shares.items)
+
+lines_at_unnamed : (lines : List ShareLine) (places : List ℕ) → lines_at (map unnamed lines) places ≡ map unnamed (lines_at lines places)
+lines_at_unnamed lines [] = refl
+lines_at_unnamed lines (place ∷ places) =
+    ap (λ (l : ShareLine). l ∷ lines_at (map unnamed lines) places) (get_or_mapped unnamed lines place none)
+    ∙ ap (λ (l : List ShareLine). unnamed (get_or lines place none) ∷ l) (lines_at_unnamed lines places)
+  where
+    none : ShareLine
+    none = record { interest = 0; party = []; performing = 0; mechanical = 0; synchronisation = 0; includes = false; territory = 0 }
+
+-- lines that are alike are so without their party
+alike_unnamed : (lines : List ShareLine) → AllPairs IsAlike lines → AllPairs IsAlike (map unnamed lines)
+alike_unnamed lines alike = λ i j d before within.
+    let inside : j < length lines = omega (arith, within, length-map lines unnamed) in
+    rw (get_or-map unnamed lines i d d (omega (arith, before, inside)), get_or-map unnamed lines j d d inside) (refl, (alike i j d before inside).1)
+
+share_unnamed : (right : Right) (line : ShareLine) → share_for right (unnamed line) ≡ share_for right line
+share_unnamed P line = refl
+share_unnamed M line = refl
+share_unnamed S line = refl
+
+module _ (table : List (ℕ × List ℕ)) (land : ℕ) where
+  later_unnamed : (line : ShareLine) (later : List ShareLine) → All (IsAlike line) later → has_later table land (unnamed line) (map unnamed later) ≡ has_later table land line later
+  later_unnamed line [] alike = refl
+  later_unnamed line (other ∷ later) alike =
+      rw (same_text line.party other.party (alike 0 other (omega arith)).0, later_unnamed line later (All-tail (IsAlike line) other later alike)) refl
+
+  -- what the lines of a party come to without their party
+  sum_unnamed : (right : Right) (lines : List ShareLine) → AllPairs IsAlike lines → sum_by (share_for right) (deciding table land (map unnamed lines)) ≡ sum_by (share_for right) (deciding table land lines)
+  unfolding deciding
+  sum_unnamed right [] alike = refl
+  sum_unnamed right (line ∷ later) alike =
+      let same = later_unnamed line later (AllPairs-head IsAlike line later alike) in
+      let rest = sum_unnamed right later (AllPairs-tail IsAlike line later alike) in
+      rw same (elim (cases_Bool (covers table land line && not (has_later table land line later))) [
+        | inl decides ↦
+            rw decides
+            (omega (arith, rest, share_unnamed right line, sum_by-cons (share_for right) (unnamed line) (deciding table land (map unnamed later)), sum_by-cons (share_for right) line (deciding table land later)))
+        | inr not_it ↦ rw not_it rest
+      ])
+
+module _ (parties : List (List ℕ)) (registration : Registration) (compiled : IsCompiled parties (kept_lines parties registration) (payees_of registration))
+    (rise : InterestsRise (kept_lines parties registration)) where
+  -- the lines of a payee
+  at_places : (places : List ℕ) → lines_at (nameless registration) places ≡ map unnamed (lines_at (kept_lines parties registration) places)
+  at_places places = ap (λ l. lines_at l places) (nameless_lines parties registration) ∙ lines_at_unnamed (kept_lines parties registration) places
+
+  alike_named : All (λ payee. AllPairs IsAlike (lines_at (kept_lines parties registration) payee.1)) (payees_of registration)
+  alike_named = λ k d within. rw (compiled.exact k d within) (alike_in_party _ (kept_lines parties registration) rise)
+
+  pub alike_nameless : All (λ payee. AllPairs IsAlike (lines_at (nameless registration) payee.1)) (payees_of registration)
+  alike_nameless = λ k d within.
+      let places = (get_or (payees_of registration) k d).1 in
+      subst (AllPairs IsAlike) (sym (at_places places)) (alike_unnamed (lines_at (kept_lines parties registration) places) (alike_named k d within))
+
+  -- the claims of the payees without the parties
+  pub same_nameless : (table : List (ℕ × List ℕ)) (land : ℕ) (right : Right)
+      → claims_of_payees table land right (nameless registration) (payees_of registration) ≡ claims_of_payees table land right (kept_lines parties registration) (payees_of registration)
+  same_nameless table land right =
+      map_agree (λ (payee : ℕ × List ℕ). (payee.0, sum_by (share_for right) (deciding table land (lines_at (nameless registration) payee.1))))
+      (λ payee. (payee.0, sum_by (share_for right) (deciding table land (lines_at (kept_lines parties registration) payee.1)))) (payees_of registration)
+      (λ k d within.
+      let payee = get_or (payees_of registration) k d in
+      ap (λ (n : ℕ). (payee.0, n))
+      (ap (λ l. sum_by (share_for right) (deciding table land l)) (at_places payee.1) ∙ sum_unnamed table land right (lines_at (kept_lines parties registration) payee.1) (alike_named k d within)))
+
+-- its shares are not over 100.00 per cent
+pub small_nameless : (parties : List (List ℕ)) (registration : Registration) → All IsShareLine (kept_lines parties registration) → All IsSmall (nameless registration)
+small_nameless parties registration good =
+    subst (All IsSmall) (sym (nameless_lines parties registration))
+    (All-map IsSmall unnamed (kept_lines parties registration) (λ k d within. let line = good k d within in record { performing = line.performing; mechanical = line.mechanical; synchronisation = line.synchronisation }))
+
+-- a kept line at its place
+pub line_at : (parties : List (List ℕ)) (shares : List KeptShare) (place : ℕ) (share : KeptShare) → place < length shares → share ≡ get_or shares place share
+    → line_by parties share ≡ get_or (map (line_by parties) shares) place (line_by parties share)
+line_at parties shares place share within is = sym (get_or-map (line_by parties) shares place share (line_by parties share) within ∙ ap (line_by parties) (sym is))
+
+-- places among the kept lines are places among the lines
+pub within_lines : (parties : List (List ℕ)) (shares : List KeptShare) (places : List ℕ) → All (λ place. place < length shares) places → All (λ place. place < length (map (line_by parties) shares)) places
+within_lines parties shares places within = λ k d inside. omega (arith, within k d inside, length-map shares (line_by parties))
+
 module _ (table : List (ℕ × List ℕ)) (registered : Registered) (line : Line) (registration : Registration) (land : ℕ) (up : LookedUp registered line.work registration)
     (same : land ≡ line.territory) (known : is_known table line.territory ≡ true) where
   -- the claims of its payees
   abbrev of_payees : List (ℕ × ℕ)
-  of_payees = claims_of_payees table land line.right registration.shares.items (map seen registration.payees.items)
+  of_payees = claims_of_payees table land line.right (nameless registration) (payees_of registration)
 
-  these : filter counts of_payees ≡ claims_by table registered line registration.shares.items
-  these = rw same (same_claims table line.territory line.right registered.parties registration.shares.items (map seen registration.payees.items) up.compiled)
+  these : filter counts of_payees ≡ claims_by table registered line (kept_lines registered.parties registration)
+  these =
+      rw same (ap (filter counts) (same_nameless registered.parties registration up.kept.compiled up.rise table line.territory line.right)
+      ∙ same_claims table line.territory line.right registered.parties (kept_lines registered.parties registration) (payees_of registration) up.kept.compiled)
 
-  total : total_of (claims_by table registered line registration.shares.items) ≡ total_of of_payees
+  total : total_of (claims_by table registered line (kept_lines registered.parties registration)) ≡ total_of of_payees
   total = ap total_of (sym these) ∙ total-counts of_payees
 
   -- what a claim of too much comes to
   pub answered_over : nat_le (total_of of_payees) MOST_CLAIMED ≡ false → (reason_against table registered line ≡ Some Over) × (claims_on table registered line ≡ [])
-  answered_over over = against_over table registered line registration.shares.items up.works known (ap (λ n. nat_le n MOST_CLAIMED) total ∙ over)
+  answered_over over = against_over table registered line (kept_lines registered.parties registration) up.works known (ap (λ n. nat_le n MOST_CLAIMED) total ∙ over)
 
   -- and one of no more
   pub answered : nat_le (total_of of_payees) MOST_CLAIMED ≡ true → (reason_against table registered line ≡ None) × (claims_on table registered line ≡ filter counts of_payees)
   answered within =
-      let (reason, claims) = against_nothing table registered line registration.shares.items up.works known (ap (λ n. nat_le n MOST_CLAIMED) total ∙ within) in
+      let (reason, claims) = against_nothing table registered line (kept_lines registered.parties registration) up.works known (ap (λ n. nat_le n MOST_CLAIMED) total ∙ within) in
       (reason, claims ∙ sym these)

@@ -6,19 +6,22 @@ use Rattle.std.specs.Cmp.Lexicographic.{pointwise, slice_cmp}
 use Rattle.std.specs.Ordering.{ordering_index, ordering_reverse}
 use Rattle.std.proofs.lemmas.Bool.{cases_Bool, cases_lt, cases_order, eq-eqb, le-ltb, lt-ltb, ltb-false, ltb-true, ne_eqb, false_from_ne_true}
 use Rattle.std.proofs.lemmas.Cmp.{nat_list_cmp_total, nat_list_eq_equiv, tied_itself}
-use Rattle.std.proofs.lemmas.List.{get_or_default, get_or-map, drop-map, get_or_append_left, get_or_push, length-map, length-take-le, length_push, map_push, map-append, map-set, take-map, take_more}
+use Rattle.std.proofs.lemmas.List.{get_or_default, get_or-map, drop-map, get_or_append_left, get_or_push, drop-append-le, drop_all, length-append, length-drop, length-map, length-take-le, length_push, map_push, map-append, map-set, take-append-le, take-map, take_all, take_more}
 use Rattle.std.proofs.lemmas.List.Elements.{All-cons, All-contains, All-map, Contains-get_or, recursion_from_All, All-head, All-nil, All-push, All-tail, Contains-push_cases, filter-append}
 use Rattle.std.proofs.lemmas.List.Kept.{AllPairs-cons}
+use Rattle.std.proofs.lemmas.List.Sums.{sum_by-cons, sum_by-take-le, sum_by_push}
 use Rattle.std.proofs.lemmas.List.Sorted.{searchable_from_sorted}
 use Rattle.std.proofs.lemmas.Map.Keys.{Less-from_sorted}
 use Rattle.std.proofs.lemmas.Map.Lookups.{exact_bytes}
 use Rattle.std.proofs.lemmas.Option.{cond_some, none-some}
 use Rattle.std.proofs.lemmas.Slice.Eq.{bytes_eq-Decides}
-use Rattle.cwr_share.specs.Compiled.{AreKept, InterestsRise, IsCompiled, lines_at, lines_of_party, registered_as, seen, with_place}
+use Rattle.cwr_share.specs.Compiled.{AreInside, AreKept, InterestsRise, IsCompiled, IsKept, gathered, kept_lines, line_by, lines_at, lines_of_party, places_in, registered_as, seen, with_place}
 use Rattle.cwr_share.specs.Registered.{IsRegistered, IsShareLine, Registered}
 use Rattle.cwr_share.specs.Registrations.{ShareLine, find_work}
 use Rattle.cwr_share.specs.declared.registration.Registration.{Registration}
+use Rattle.cwr_share.specs.declared.share_line.KeptShare.{KeptShare}
 use Rattle.cwr_share.specs.declared.TheConstants.{MOST_SHARES}
+use Rattle.cwr_share.specs.declared.registration.AccountPlaces.{AccountPlaces}
 use Rattle.cwr_share.specs.declared.registration.Payee.{Payee}
 
 -- what holds of the text of an item at a place
@@ -62,14 +65,14 @@ module _ {X : Type 0} (text : X → List ℕ) (xs : List X) (rising : IsStrictly
       by (inr high) = let no = here Greater (λ d. gap.1 k d high inside) in cc
 
 -- accounts that rise do not fall
-pub accounts_rise : (payees : List Payee) → AllPairs (λ payee later. payee.0 < later.0) (map seen payees) → IsNonDecreasingBy (λ payee. payee.account) payees
+pub accounts_rise : (payees : List AccountPlaces) → AllPairs (λ payee later. payee.0 < later.0) (map gathered payees) → IsNonDecreasingBy (λ payee. payee.account) payees
 accounts_rise payees rising = λ i j d low within. by i j d within (cases_lt i j) low
   where
-    by : (i j : ℕ) (d : Payee) → j < length payees → (i < j) ⊎ (j ≤ i) → i ≤ j → (get_or payees i d).account ≤ (get_or payees j d).account
+    by : (i j : ℕ) (d : AccountPlaces) → j < length payees → (i < j) ⊎ (j ≤ i) → i ≤ j → (get_or payees i d).account ≤ (get_or payees j d).account
     by i j d within (inl before) low =
-        let less = rising i j (0, []) before (omega (arith, length-map payees seen)) in
-        let first = get_or-map seen payees i d (0, []) (omega arith) in
-        let second = get_or-map seen payees j d (0, []) within in
+        let less = rising i j (0, []) before (omega (arith, length-map payees gathered)) in
+        let first = get_or-map gathered payees i d (0, []) (omega arith) in
+        let second = get_or-map gathered payees j d (0, []) within in
         omega (arith, ap (λ (p : ℕ × List ℕ). p.0) first, ap (λ (p : ℕ × List ℕ). p.0) second)
     by i j d within (inr not_before) low = let same : i ≡ j = omega arith in rw same (omega arith)
 
@@ -107,48 +110,48 @@ module _ (account place : ℕ) where
       let rest = placed_new later at d (omega arith) (λ k lt. before (suc k) (omega arith)) (λ lt. after (omega arith)) in
       behind_lower payee later (insert later at (account, place ∷ [])) (before 0 (omega arith)) rest
 
-module _ (payees : List Payee) (at account : ℕ) (split : IsPartitionPoint (λ payee. ltb payee.account account ≡ true) (λ payee. ltb payee.account account ≡ false) payees at) where
+module _ (payees : List AccountPlaces) (at account : ℕ) (split : IsPartitionPoint (λ payee. ltb payee.account account ≡ true) (λ payee. ltb payee.account account ≡ false) payees at) where
   -- the accounts before the place are lower
-  lower : at ≤ length payees → (k : ℕ) → k < at → (get_or (map seen payees) k (0, [])).0 < account
+  lower : at ≤ length payees → (k : ℕ) → k < at → (get_or (map gathered payees) k (0, [])).0 < account
   lower within k before = by payees within k before split.0
     where
-      by : (payees : List Payee) → at ≤ length payees → (k : ℕ) → k < at → AllWithin (λ payee. ltb payee.account account ≡ true) payees 0 at → (get_or (map seen payees) k (0, [])).0 < account
+      by : (payees : List AccountPlaces) → at ≤ length payees → (k : ℕ) → k < at → AllWithin (λ payee. ltb payee.account account ≡ true) payees 0 at → (get_or (map gathered payees) k (0, [])).0 < account
       by [] within k before low = absurd (omega arith)
       by (payee ∷ later) within k before low =
           let here = ltb-true (get_or (payee ∷ later) k payee).account account (low k payee zero-le before) in
-          let same = get_or-map seen (payee ∷ later) k payee (0, []) (omega arith) in
+          let same = get_or-map gathered (payee ∷ later) k payee (0, []) (omega arith) in
           omega (arith, here, ap (λ (p : ℕ × List ℕ). p.0) same)
 
   -- where the payee at the place has the account, the place goes to it
-  pub place_added : (place : ℕ) (old new : Payee) → at < length payees → old ≡ get_or payees at old → old.account ≡ account → new.account ≡ account
-      → new.places.items ≡ old.places.items ++ place ∷ [] → map seen (set payees at new) ≡ with_place account place (map seen payees)
+  pub place_added : (place : ℕ) (old new : AccountPlaces) → at < length payees → old ≡ get_or payees at old → old.account ≡ account → new.account ≡ account
+      → new.places.items ≡ old.places.items ++ place ∷ [] → map gathered (set payees at new) ≡ with_place account place (map gathered payees)
   place_added place old new within is whose still more =
-      let same : seen new ≡ (account, old.places.items ++ place ∷ []) = cc in
-      let at_place : get_or (map seen payees) at (0, []) ≡ (account, old.places.items) = get_or-map seen payees at old (0, []) within ∙ (ap seen (sym is) ∙ ap (λ (a : ℕ). (a, old.places.items)) whose) in
-      map-set seen payees at new
-      ∙ (ap (set (map seen payees) at) same
-      ∙ placed_at account place (map seen payees) at old.places.items (0, []) (omega (arith, length-map payees seen)) (lower (omega arith)) at_place)
+      let same : gathered new ≡ (account, old.places.items ++ place ∷ []) = cc in
+      let at_place : get_or (map gathered payees) at (0, []) ≡ (account, old.places.items) = get_or-map gathered payees at old (0, []) within ∙ (ap gathered (sym is) ∙ ap (λ (a : ℕ). (a, old.places.items)) whose) in
+      map-set gathered payees at new
+      ∙ (ap (set (map gathered payees) at) same
+      ∙ placed_at account place (map gathered payees) at old.places.items (0, []) (omega (arith, length-map payees gathered)) (lower (omega arith)) at_place)
 
   -- where none has it, a payee goes in there
-  pub payee_added : (place : ℕ) (new : Payee) → at ≤ length payees → (at < length payees → (old : Payee) → ¬ ((get_or payees at old).account ≡ account)) → new.account ≡ account
-      → new.places.items ≡ place ∷ [] → map seen (insert payees at new) ≡ with_place account place (map seen payees)
+  pub payee_added : (place : ℕ) (new : AccountPlaces) → at ≤ length payees → (at < length payees → (old : AccountPlaces) → ¬ ((get_or payees at old).account ≡ account)) → new.account ≡ account
+      → new.places.items ≡ place ∷ [] → map gathered (insert payees at new) ≡ with_place account place (map gathered payees)
   payee_added place new within other whose only =
-      let same : seen new ≡ (account, place ∷ []) = cc in
-      map-append seen (take at payees) (new ∷ drop at payees)
-      ∙ (ap (λ l. l ++ seen new ∷ map seen (drop at payees)) (sym (take-map seen at payees))
-      ∙ (ap (λ l. take at (map seen payees) ++ seen new ∷ l) (sym (drop-map seen at payees))
-      ∙ (ap (insert (map seen payees) at) same
-      ∙ placed_new account place (map seen payees) at (0, []) (omega (arith, length-map payees seen)) (lower within) higher)))
+      let same : gathered new ≡ (account, place ∷ []) = cc in
+      map-append gathered (take at payees) (new ∷ drop at payees)
+      ∙ (ap (λ l. l ++ gathered new ∷ map gathered (drop at payees)) (sym (take-map gathered at payees))
+      ∙ (ap (λ l. take at (map gathered payees) ++ gathered new ∷ l) (sym (drop-map gathered at payees))
+      ∙ (ap (insert (map gathered payees) at) same
+      ∙ placed_new account place (map gathered payees) at (0, []) (omega (arith, length-map payees gathered)) (lower within) higher)))
     where
-      higher : at < length (map seen payees) → account < (get_or (map seen payees) at (0, [])).0
-      higher inside = by payees (omega (arith, inside, length-map payees seen)) split.1 other
+      higher : at < length (map gathered payees) → account < (get_or (map gathered payees) at (0, [])).0
+      higher inside = by payees (omega (arith, inside, length-map payees gathered)) split.1 other
         where
-          by : (payees : List Payee) → at < length payees → AllWithin (λ payee. ltb payee.account account ≡ false) payees at (length payees)
-              → (at < length payees → (old : Payee) → ¬ ((get_or payees at old).account ≡ account)) → account < (get_or (map seen payees) at (0, [])).0
+          by : (payees : List AccountPlaces) → at < length payees → AllWithin (λ payee. ltb payee.account account ≡ false) payees at (length payees)
+              → (at < length payees → (old : AccountPlaces) → ¬ ((get_or payees at old).account ≡ account)) → account < (get_or (map gathered payees) at (0, [])).0
           by [] inside high other = absurd (omega arith)
           by (payee ∷ later) inside high other =
               let here = ltb-false (get_or (payee ∷ later) at payee).account account (high at payee (omega arith) inside) in
-              let same = get_or-map seen (payee ∷ later) at payee (0, []) inside in
+              let same = get_or-map gathered (payee ∷ later) at payee (0, []) inside in
               let apart = other inside payee in
               omega (arith, here, apart, ap (λ (p : ℕ × List ℕ). p.0) same)
 
@@ -241,6 +244,19 @@ module _ (account place : ℕ) where
     | inr (inr (greater, is)) ↦ rw is (omega (arith, few_with_place later))
   ]
 
+  -- one place more
+  places_with_place : (payees : List (ℕ × List ℕ)) → places_in (with_place account place payees) ≡ places_in payees + 1
+  places_with_place [] = refl
+  places_with_place (payee ∷ later) =
+      let count = λ (payee : ℕ × List ℕ). length payee.1 in
+      elim (place_goes payee later) [
+        | inl (less, is) ↦ rw is (omega (arith, sum_by-cons count (account, place ∷ []) (payee ∷ later)))
+        | inr (inl (equal, is)) ↦
+            rw is (omega (arith, sum_by-cons count (account, payee.1 ++ place ∷ []) later, sum_by-cons count payee later, length_push payee.1 place))
+        | inr (inr (greater, is)) ↦
+            rw is (omega (arith, sum_by-cons count payee (with_place account place later), sum_by-cons count payee later, places_with_place later))
+      ]
+
   -- each account that had a payee has one
   still_there : (payees : List (ℕ × List ℕ)) (other : ℕ) → Contains (map (λ payee. payee.0) payees) other → Contains (map (λ payee. payee.0) (with_place account place payees)) other
   still_there [] other has = absurd (omega (arith, has.1))
@@ -314,6 +330,7 @@ account_is parties account other rising within inside same = elim (cases_order a
 pub compiled_none : (parties : List (List ℕ)) → IsCompiled parties [] []
 compiled_none parties = record {
   few = omega arith;
+  total = refl;
   rising = λ i j d before within. absurd (omega arith);
   accounts = λ k d within. absurd (omega arith);
   within = λ k d within. absurd (omega arith);
@@ -365,6 +382,7 @@ module _ (parties : List (List ℕ)) (lines : List ShareLine) (payees : List (�
   pub compiled_more : IsCompiled parties (lines ++ line ∷ []) (with_place account (length lines) payees)
   compiled_more = record {
     few = omega (arith, few_with_place account (length lines) payees, compiled.few, length_push lines line);
+    total = omega (arith, places_with_place account (length lines) payees, compiled.total, length_push lines line);
     rising = rising_with_place account (length lines) payees compiled.rising;
     accounts = each_with_place account (length lines) (λ payee. (0 < payee.0) × (payee.0 < length parties)) (λ payee. (0 < payee.0) × (payee.0 < length parties))
         (λ payee known other. known) (λ payee known same. (some, inside)) payees (λ none. (some, inside)) compiled.rising compiled.accounts;
@@ -408,9 +426,62 @@ compiled_next parties lines place line account payees more rising residue filled
     (subst (λ n. IsCompiled parties (take place lines ++ line ∷ []) (with_place account n payees)) front
     (compiled_more parties (take place lines) payees line account rising some inside whose compiled))
 
+-- The payees of some accounts, with one account more behind them.
+module _ (places : List ℕ) (payees : List Payee) (inside : AreInside places payees) (account : ℕ) (these : List ℕ) where
+  -- its places come last
+  abbrev pub flat : Payee
+  flat = record { account = account; first = length places; count = length these }
+
+  its_own : take (length these) (drop (length places) (places ++ these)) ≡ these
+  its_own = rw (drop-append-le (length places) places these (omega arith), drop_all (length places) places (omega arith)) (take_all (length these) these (omega arith))
+
+  as_before : (payees : List Payee) → AreInside places payees → map (seen (places ++ these)) payees ≡ map (seen places) payees
+  as_before [] inside = refl
+  as_before (payee ∷ later) inside =
+      let here : payee.first + payee.count ≤ length places = inside 0 payee (omega arith) in
+      let first : drop payee.first (places ++ these) ≡ drop payee.first places ++ these = drop-append-le payee.first places these (omega (arith, here)) in
+      let left : payee.count ≤ length (drop payee.first places) = omega (arith, here, length-drop payee.first places) in
+      let taken : take payee.count (drop payee.first (places ++ these)) ≡ take payee.count (drop payee.first places) = ap (take payee.count) first ∙ take-append-le payee.count (drop payee.first places) these left in
+      ap (λ (l : List ℕ). (payee.account, l) ∷ map (seen (places ++ these)) later) taken
+      ∙ ap (λ (l : List (ℕ × List ℕ)). seen places payee ∷ l) (as_before later (All-tail (λ payee. payee.first + payee.count ≤ length places) payee later inside))
+
+  pub flat_more : map (seen (places ++ these)) (payees ++ flat ∷ []) ≡ map (seen places) payees ++ (account, these) ∷ []
+  flat_more =
+      map_push (seen (places ++ these)) payees flat
+      ∙ (ap (λ (l : List (ℕ × List ℕ)). l ++ seen (places ++ these) flat ∷ []) (as_before payees inside)
+      ∙ ap (λ (l : List ℕ). map (seen places) payees ++ (account, l) ∷ []) its_own)
+
+  pub flat_inside : AreInside (places ++ these) (payees ++ flat ∷ [])
+  flat_inside =
+      All-push (λ payee. payee.first + payee.count ≤ length (places ++ these)) payees flat
+      (λ k d within. omega (arith, inside k d within, length-append places these)) (omega (arith, length-append places these))
+
+-- the accounts up to one more, and their places
+module _ (accounts : List AccountPlaces) (n : ℕ) (next : AccountPlaces) (within : n < length accounts) (is : next ≡ get_or accounts n next) where
+  pub gathered_more : map gathered (take (n + 1) accounts) ≡ map gathered (take n accounts) ++ gathered next ∷ []
+  gathered_more =
+      ap (map gathered) (take_more accounts n next within ∙ ap (λ (a : AccountPlaces). take n accounts ++ a ∷ []) (sym is))
+      ∙ map_push gathered (take n accounts) next
+
+  pub places_more : places_in (map gathered (take (n + 1) accounts)) ≡ places_in (map gathered (take n accounts)) + length next.places.items
+  places_more = ap places_in gathered_more ∙ sum_by_push (λ (payee : ℕ × List ℕ). length payee.1) (map gathered (take n accounts)) (gathered next)
+
+  pub gathered_places : places_in (map gathered (take n accounts)) + length next.places.items ≤ places_in (map gathered accounts)
+  gathered_places =
+      omega (arith, places_more, sum_by-take-le (λ (payee : ℕ × List ℕ). length payee.1) (map gathered accounts) (n + 1), ap places_in (sym (take-map gathered (n + 1) accounts)))
+
+-- the line at the next place is kept
+pub kept_next : (parties : List (List ℕ)) (lines : List ShareLine) (place : ℕ) (line : ShareLine) (kept : List KeptShare) (share : KeptShare)
+    → place < length lines → line ≡ get_or lines place line → map (line_by parties) kept ≡ take place lines → line_by parties share ≡ line
+    → map (line_by parties) (kept ++ share ∷ []) ≡ take (place + 1) lines
+kept_next parties lines place line kept share within is before same =
+    map_push (line_by parties) kept share
+    ∙ (ap (λ (l : List ShareLine). l ++ line_by parties share ∷ []) before
+    ∙ (ap (λ (l : ShareLine). take place lines ++ l ∷ []) (same ∙ is) ∙ sym (take_more lines place line within)))
+
 -- works beside their share lines
-abbrev pub entries : List (Vec ℕ Global) → List Registration → List (List ℕ × List ShareLine)
-entries works registrations = map (λ entry. (entry.0.items, entry.1.shares.items)) (zip works registrations)
+abbrev pub entries : List (List ℕ) → List (Vec ℕ Global) → List Registration → List (List ℕ × List ShareLine)
+entries parties works registrations = map (λ entry. (entry.0.items, kept_lines parties entry.1)) (zip works registrations)
 
 module _ (work : List ℕ) where
   abbrev pub is_work : Vec ℕ Global → Bool
@@ -420,58 +491,59 @@ module _ (work : List ℕ) where
   turned : (key : Vec ℕ Global) → pointwise nat_eq key.items work ≡ is_work key
   turned key = nat_list_eq_equiv.symm key.items work
 
-  -- a work that is found stands beside its registration
-  pub found_work : (works : List (Vec ℕ Global)) (registrations : List Registration) (place : ℕ) (registration : Registration) → length works ≡ length registrations
-      → position_or_len is_work works ≡ place → place < length works → registration ≡ get_or registrations place registration
-      → find_work work (entries works registrations) ≡ Some registration.shares.items
-  found_work [] registrations place registration paired at within is = absurd (omega arith)
-  found_work (key ∷ works) [] place registration paired at within is = absurd (omega arith)
-  found_work (key ∷ works) (first ∷ registrations) place registration paired at within is = elim (cases_Bool (is_work key)) [
-    | inl its ↦
-        let here : place ≡ 0 = sym (rw its at at) in
-        let same : registration ≡ first = subst (λ p. registration ≡ get_or (first ∷ registrations) p registration) here is in
-        rw (turned key, its) (ap (λ (r : Registration). Some r.shares.items) (sym same))
-    | inr other ↦
+  module _ (parties : List (List ℕ)) where
+    -- a work that is found stands beside its registration
+    pub found_work : (works : List (Vec ℕ Global)) (registrations : List Registration) (place : ℕ) (registration : Registration) → length works ≡ length registrations
+        → position_or_len is_work works ≡ place → place < length works → registration ≡ get_or registrations place registration
+        → find_work work (entries parties works registrations) ≡ Some (kept_lines parties registration)
+    found_work [] registrations place registration paired at within is = absurd (omega arith)
+    found_work (key ∷ works) [] place registration paired at within is = absurd (omega arith)
+    found_work (key ∷ works) (first ∷ registrations) place registration paired at within is = elim (cases_Bool (is_work key)) [
+      | inl its ↦
+          let here : place ≡ 0 = sym (rw its at at) in
+          let same : registration ≡ first = subst (λ p. registration ≡ get_or (first ∷ registrations) p registration) here is in
+          rw (turned key, its) (ap (λ (r : Registration). Some (kept_lines parties r)) (sym same))
+      | inr other ↦
+          let n = position_or_len is_work works in
+          let after : place ≡ suc n = sym (rw other at at) ∙ one-add n in
+          let rest : registration ≡ get_or registrations n registration = subst (λ p. registration ≡ get_or (first ∷ registrations) p registration) after is in
+          rw (turned key, other) (found_work works registrations n registration (omega (arith, paired)) refl (omega (arith, within, after)) rest)
+    ]
+
+    -- a work that is not found has none
+    pub no_work : (works : List (Vec ℕ Global)) (registrations : List Registration) → length works ≤ position_or_len is_work works → find_work work (entries parties works registrations) ≡ None
+    no_work [] registrations past = refl
+    no_work (key ∷ works) [] past = refl
+    no_work (key ∷ works) (first ∷ registrations) past = elim (cases_Bool (is_work key)) [
+      | inl its ↦ absurd (omega (arith, rw its at past))
+      | inr other ↦ rw (turned key, other) (no_work works registrations (omega (arith, rw other at past)))
+    ]
+
+    -- what a look-up by the index says
+    pub found_at : (works : List (Vec ℕ Global)) (registrations : List Registration) (place : ℕ) (registration : Registration) → length works ≡ length registrations
+        → Some place ≡ position is_work works → registration ≡ get_or registrations place registration → find_work work (entries parties works registrations) ≡ Some (kept_lines parties registration)
+    found_at works registrations place registration paired index is =
         let n = position_or_len is_work works in
-        let after : place ≡ suc n = sym (rw other at at) ∙ one-add n in
-        let rest : registration ≡ get_or registrations n registration = subst (λ p. registration ≡ get_or (first ∷ registrations) p registration) after is in
-        rw (turned key, other) (found_work works registrations n registration (omega (arith, paired)) refl (omega (arith, within, after)) rest)
-  ]
+        let (inside, at) = cond_some (ltb n (length works)) n place (sym index) in
+        found_work works registrations place registration paired at (omega (arith, ltb-true n (length works) inside, at)) is
 
-  -- a work that is not found has none
-  pub no_work : (works : List (Vec ℕ Global)) (registrations : List Registration) → length works ≤ position_or_len is_work works → find_work work (entries works registrations) ≡ None
-  no_work [] registrations past = refl
-  no_work (key ∷ works) [] past = refl
-  no_work (key ∷ works) (first ∷ registrations) past = elim (cases_Bool (is_work key)) [
-    | inl its ↦ absurd (omega (arith, rw its at past))
-    | inr other ↦ rw (turned key, other) (no_work works registrations (omega (arith, rw other at past)))
-  ]
-
-  -- what a look-up by the index says
-  pub found_at : (works : List (Vec ℕ Global)) (registrations : List Registration) (place : ℕ) (registration : Registration) → length works ≡ length registrations
-      → Some place ≡ position is_work works → registration ≡ get_or registrations place registration → find_work work (entries works registrations) ≡ Some registration.shares.items
-  found_at works registrations place registration paired index is =
-      let n = position_or_len is_work works in
-      let (inside, at) = cond_some (ltb n (length works)) n place (sym index) in
-      found_work works registrations place registration paired at (omega (arith, ltb-true n (length works) inside, at)) is
-
-  pub found_nowhere : (works : List (Vec ℕ Global)) (registrations : List Registration) → None ≡ position is_work works → find_work work (entries works registrations) ≡ None
-  found_nowhere works registrations index =
-      let n = position_or_len is_work works in
-      no_work works registrations (elim (cases_Bool (ltb n (length works))) [
-        | inr past ↦ ltb-false n (length works) past
-        | inl inside ↦ absurd (none-some n (index ∙ rw inside refl))
-      ])
+    pub found_nowhere : (works : List (Vec ℕ Global)) (registrations : List Registration) → None ≡ position is_work works → find_work work (entries parties works registrations) ≡ None
+    found_nowhere works registrations index =
+        let n = position_or_len is_work works in
+        no_work works registrations (elim (cases_Bool (ltb n (length works))) [
+          | inr past ↦ ltb-false n (length works) past
+          | inl inside ↦ absurd (none-some n (index ∙ rw inside refl))
+        ])
 
 -- what holds of the share lines of each work holds of those of a registration
-pub entry_at : (Holds : List ShareLine → Type 0) (works : List (Vec ℕ Global)) (registrations : List Registration) (place : ℕ) (registration : Registration) → length works ≡ length registrations
-    → place < length registrations → registration ≡ get_or registrations place registration → All (λ (entry : List ℕ × List ShareLine). Holds entry.1) (entries works registrations) → Holds registration.shares.items
-entry_at Holds [] registrations place registration paired within is all = absurd (omega arith)
-entry_at Holds (key ∷ works) [] place registration paired within is all = absurd (omega arith)
-entry_at Holds (key ∷ works) (first ∷ registrations) zero registration paired within is all = subst (λ (r : Registration). Holds r.shares.items) (sym is) (all 0 (key.items, first.shares.items) (omega arith))
-entry_at Holds (key ∷ works) (first ∷ registrations) (suc place) registration paired within is all =
-    entry_at Holds works registrations place registration (omega (arith, paired)) (omega (arith, within)) is
-    (All-tail (λ (entry : List ℕ × List ShareLine). Holds entry.1) (key.items, first.shares.items) (entries works registrations) all)
+pub entry_at : (parties : List (List ℕ)) (Holds : List ShareLine → Type 0) (works : List (Vec ℕ Global)) (registrations : List Registration) (place : ℕ) (registration : Registration) → length works ≡ length registrations
+    → place < length registrations → registration ≡ get_or registrations place registration → All (λ (entry : List ℕ × List ShareLine). Holds entry.1) (entries parties works registrations) → Holds (kept_lines parties registration)
+entry_at parties Holds [] registrations place registration paired within is all = absurd (omega arith)
+entry_at parties Holds (key ∷ works) [] place registration paired within is all = absurd (omega arith)
+entry_at parties Holds (key ∷ works) (first ∷ registrations) zero registration paired within is all = subst (λ (r : Registration). Holds (kept_lines parties r)) (sym is) (all 0 (key.items, kept_lines parties first) (omega arith))
+entry_at parties Holds (key ∷ works) (first ∷ registrations) (suc place) registration paired within is all =
+    entry_at parties Holds works registrations place registration (omega (arith, paired)) (omega (arith, within)) is
+    (All-tail (λ (entry : List ℕ × List ShareLine). Holds entry.1) (key.items, kept_lines parties first) (entries parties works registrations) all)
 
 -- the parties of a registry rise, the residue's too
 pub parties_rise : (registered : Registered) → IsRegistered registered → IsStrictlySortedBy (slice_cmp nat_cmp) registered.parties
@@ -490,24 +562,25 @@ parties_rise registered sound =
 
 -- A registry has this registration of a work.
 pub record LookedUp (registered : Registered) (work : List ℕ) (registration : Registration) : Type 0 where
-  pub works : find_work work registered.works ≡ Some registration.shares.items
-  pub compiled : IsCompiled registered.parties registration.shares.items (map seen registration.payees.items)
-  pub rise : InterestsRise registration.shares.items
-  pub good : All IsShareLine registration.shares.items
-  pub few : length registration.shares.items ≤ MOST_SHARES
+  pub works : find_work work registered.works ≡ Some (kept_lines registered.parties registration)
+  pub kept : IsKept registered.parties registration
+  pub rise : InterestsRise (kept_lines registered.parties registration)
+  pub good : All IsShareLine (kept_lines registered.parties registration)
+  pub few : length (kept_lines registered.parties registration) ≤ MOST_SHARES
 
 -- what a look-up by the index finds
 pub looked_up : (works : List (Vec ℕ Global)) (registrations : List Registration) (parties : List (Vec ℕ Global)) (registered : Registered) (work : List ℕ) (place : ℕ) (registration : Registration)
     → IsRegistered (registered_as works registrations parties) → AreKept works registrations parties → registered_as works registrations parties ≡ registered
     → Some place ≡ position (is_work work) works → place < length works → registration ≡ get_or registrations place registration → LookedUp registered work registration
 looked_up works registrations parties registered work place registration sound kept view index within is =
+    let texts = map (λ (party : Vec ℕ Global). party.items) parties in
     let inside : place < length registrations = omega (arith, within, kept.paired) in
     subst (λ r. LookedUp r work registration) view (record {
-      works = found_at work works registrations place registration kept.paired index is;
-      compiled = subst (λ (r : Registration). IsCompiled (map (λ party. party.items) parties) r.shares.items (map seen r.payees.items)) (sym is) (kept.compiled place registration inside);
-      rise = subst (λ (r : Registration). InterestsRise r.shares.items) (sym is) (kept.rise place registration inside);
-      good = entry_at (All IsShareLine) works registrations place registration kept.paired inside is sound.shares;
-      few = entry_at (λ lines. length lines ≤ MOST_SHARES) works registrations place registration kept.paired inside is sound.few;
+      works = found_at work texts works registrations place registration kept.paired index is;
+      kept = subst (IsKept (map (λ party. party.items) parties)) (sym is) (kept.kept place registration inside);
+      rise = subst (λ (r : Registration). InterestsRise (kept_lines texts r)) (sym is) (kept.rise place registration inside);
+      good = entry_at texts (All IsShareLine) works registrations place registration kept.paired inside is sound.shares;
+      few = entry_at texts (λ lines. length lines ≤ MOST_SHARES) works registrations place registration kept.paired inside is sound.few;
     })
 
 -- there is a registration at a place

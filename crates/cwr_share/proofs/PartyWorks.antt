@@ -8,10 +8,10 @@ use Rattle.std.proofs.lemmas.Bool.{false_from_ne_true, false≢true}
 use Rattle.std.proofs.lemmas.Map.Keys.{apart_from_distinct, sorted_tail}
 use Rattle.std.proofs.lemmas.Slice.Eq.{bytes_eq-Decides}
 use Rattle.std.proofs.lemmas.Slice.Zip.{get_or-zip, length-zip}
-use Rattle.std.proofs.lemmas.List.Elements.{All-map, All-push, All-weaker}
+use Rattle.std.proofs.lemmas.List.Elements.{All-map, All-weaker}
 use Rattle.std.proofs.lemmas.List.{get_or-map, get_or_default, length-map, map_push}
 use Rattle.cwr_share.specs.Parties.{AreAccountsOf, HasMany, HasManyFound, IsAmong, IsPartyFound}
-use Rattle.cwr_share.specs.Compiled.{AreKept, InterestsRise, IsCompiled, registered_as, seen}
+use Rattle.cwr_share.specs.Compiled.{AreKept, InterestsRise, IsKept, kept_lines, registered_as}
 use Rattle.cwr_share.specs.Reading.{AreShareLines, works_of}
 use Rattle.cwr_share.specs.declared.registration.Registration.{Registration}
 use Rattle.cwr_share.specs.declared.TheConstants.{MOST_SHARES}
@@ -95,9 +95,9 @@ items_of vectors = map (λ vector. vector.items) vectors
 
 -- a registry's works, where each registration has the share lines of its work
 pub registered_works : (works : List (Vec ℕ Global)) (lists : List (Vec ShareLine Global)) (registrations : List Registration) (parties : List (Vec ℕ Global))
-    → map (λ registration. registration.shares.items) registrations ≡ items_of lists → (registered_as works registrations parties).works ≡ works_of works lists
+    → map (kept_lines (items_of parties)) registrations ≡ items_of lists → (registered_as works registrations parties).works ≡ works_of works lists
 registered_works works lists registrations parties same =
-    map-zip (λ (work : Vec ℕ Global). work.items) (λ (registration : Registration). registration.shares.items) works registrations
+    map-zip (λ (work : Vec ℕ Global). work.items) (kept_lines (items_of parties)) works registrations
     ∙ ap (zip (items_of works)) same
     ∙ sym (map-zip (λ (work : Vec ℕ Global). work.items) (λ (lines : Vec ShareLine Global). lines.items) works lists)
 
@@ -127,7 +127,7 @@ module _ (works : List (Vec ℕ Global)) (lists : List (Vec ShareLine Global)) (
 
   -- what is read is a registry's
   pub registered : (registrations : List Registration) (parties : List (Vec ℕ Global)) → All (λ lines. AreShareLines lines.items) lists
-      → map (λ registration. registration.shares.items) registrations ≡ items_of lists → AreAccountsOf (items_of lists) (items_of parties)
+      → map (kept_lines (items_of parties)) registrations ≡ items_of lists → AreAccountsOf (items_of lists) (items_of parties)
       → IsRegistered (registered_as works registrations parties)
   registered registrations parties sound same accounts =
       subst (λ (registered : List (List ℕ × List ShareLine)). IsRegistered (record { works = registered; parties = items_of parties })) (sym (registered_works works lists registrations parties same))
@@ -146,36 +146,30 @@ module _ (works : List (Vec ℕ Global)) (lists : List (Vec ShareLine Global)) (
 
 -- and it is kept for its claims
 pub kept_for_claims : (works : List (Vec ℕ Global)) (lists : List (Vec ShareLine Global)) (registrations : List Registration) (parties : List (Vec ℕ Global)) → length works ≡ length lists
-    → All (λ lines. AreShareLines lines.items) lists → map (λ registration. registration.shares.items) registrations ≡ items_of lists
-    → All (λ registration. IsCompiled (items_of parties) registration.shares.items (map seen registration.payees.items)) registrations
+    → All (λ lines. AreShareLines lines.items) lists → map (kept_lines (items_of parties)) registrations ≡ items_of lists
+    → All (IsKept (items_of parties)) registrations
     → AreKept works registrations parties
-kept_for_claims works lists registrations parties paired sound same compiled = record {
-  paired = paired ∙ sym (length-map lists (λ (lines : Vec ShareLine Global). lines.items)) ∙ sym (ap length same) ∙ length-map registrations (λ (registration : Registration). registration.shares.items);
-  compiled = compiled;
+kept_for_claims works lists registrations parties paired sound same kept = record {
+  paired = paired ∙ sym (length-map lists (λ (lines : Vec ShareLine Global). lines.items)) ∙ sym (ap length same) ∙ length-map registrations (kept_lines (items_of parties));
+  kept = kept;
   rise = rise;
 }
   where
-    rise : All (λ registration. InterestsRise registration.shares.items) registrations
+    rise : All (λ registration. InterestsRise (kept_lines (items_of parties) registration)) registrations
     rise k d within =
-        subst InterestsRise (get_or-map (λ (registration : Registration). registration.shares.items) registrations k d [] within)
+        subst InterestsRise (get_or-map (kept_lines (items_of parties)) registrations k d [] within)
         (subst (All InterestsRise) (sym same) (All-map InterestsRise (λ (lines : Vec ShareLine Global). lines.items) lists (λ j e inside. (sound j e inside).rise))
-        k [] (omega (arith, within, length-map registrations (λ (registration : Registration). registration.shares.items))))
+        k [] (omega (arith, within, length-map registrations (kept_lines (items_of parties)))))
 
 -- one registration more
 module _ (parties : List (List ℕ)) (registrations : List Registration) (registration : Registration) (yielded : List (Vec ShareLine Global)) (lines : Vec ShareLine Global)
-    (is : registration.shares.items ≡ lines.items) where
-  pub lists_next : map (λ registration. registration.shares.items) registrations ≡ items_of yielded
-      → map (λ registration. registration.shares.items) (registrations ++ registration ∷ []) ≡ items_of (yielded ++ lines ∷ [])
+    (is : kept_lines parties registration ≡ lines.items) where
+  pub lists_next : map (kept_lines parties) registrations ≡ items_of yielded
+      → map (kept_lines parties) (registrations ++ registration ∷ []) ≡ items_of (yielded ++ lines ∷ [])
   lists_next same =
-      map_push (λ (registration : Registration). registration.shares.items) registrations registration
+      map_push (kept_lines parties) registrations registration
       ∙ cc (same, is)
       ∙ sym (map_push (λ (lines : Vec ShareLine Global). lines.items) yielded lines)
-
-  pub compiled_next : All (λ registration. IsCompiled parties registration.shares.items (map seen registration.payees.items)) registrations → IsCompiled parties lines.items (map seen registration.payees.items)
-      → All (λ registration. IsCompiled parties registration.shares.items (map seen registration.payees.items)) (registrations ++ registration ∷ [])
-  compiled_next all compiled =
-      All-push (λ registration. IsCompiled parties registration.shares.items (map seen registration.payees.items)) registrations registration all
-      (subst (λ (lines : List ShareLine). IsCompiled parties lines (map seen registration.payees.items)) (sym is) compiled)
 
 -- the parties of each list have accounts
 pub known_in : (lists : List (Vec ShareLine Global)) (parties : List (List ℕ)) (lines : Vec ShareLine Global) → Contains lists lines → AreAccountsOf (items_of lists) parties

@@ -1,13 +1,42 @@
 -- How a registration is kept, so that its claims take one look at each of its share lines.
-use Rattle.std.specs.Prelude.{ℕ, ◌++◌, ◌==◌, nat_lt, if◌then◌else◌, ◌≡◌, ◌≤◌, ◌<◌, ◌+◌, ◌∷◌, List, All, AllPairs, Contains, [], filter, length, map, nat_eq, slice_index_or, sum_by, zip, false, Vec}
+use Rattle.std.specs.Prelude.{ℕ, ◌++◌, ◌==◌, nat_lt, if◌then◌else◌, ◌≡◌, ◌≤◌, ◌<◌, ◌+◌, ◌∷◌, List, All, AllPairs, Contains, [], drop, filter, length, map, nat_eq, slice_index_or, sum_by, take, zip, false, Vec}
 use Rattle.std.specs.Cmp.Lexicographic.{pointwise}
+use Rattle.line_split.specs.declared.TheConstants.{FULL_SHARE}
 use Rattle.line_split.specs.declared.usage.Right.{Right}
 use Rattle.cwr_share.specs.ClaimsOn.{deciding, share_for}
 use Rattle.cwr_share.specs.Registrations.{ShareLine}
+use Rattle.cwr_share.specs.declared.registration.AccountPlaces.{AccountPlaces}
 use Rattle.cwr_share.specs.declared.registration.Payee.{Payee}
 use Rattle.cwr_share.specs.declared.registration.Registration.{Registration}
+use Rattle.cwr_share.specs.declared.share_line.KeptShare.{KeptShare}
 use Rattle.cwr_share.specs.Registered.{Registered}
 use Rattle.std.specs.declared.alloc.Global.{Global}
+
+-- a kept share line, where these are the parties of the accounts
+abbrev pub line_by : List (List ℕ) → KeptShare → ShareLine
+line_by parties share = record {
+  interest = share.interest;
+  party = slice_index_or parties share.account [];
+  performing = share.shares.performing;
+  mechanical = share.shares.mechanical;
+  synchronisation = share.shares.synchronisation;
+  includes = share.includes;
+  territory = share.territory;
+}
+
+-- the share lines of a registration
+abbrev pub kept_lines : List (List ℕ) → Registration → List ShareLine
+kept_lines parties registration = map (line_by parties) registration.shares.items
+
+-- without their parties, which do not matter to what each of them claims
+abbrev pub nameless : Registration → List ShareLine
+nameless registration = kept_lines [] registration
+
+-- no share of the line is over 100.00 per cent
+pub record IsSmall (line : ShareLine) : Type 0 where
+  pub performing : line.performing ≤ FULL_SHARE
+  pub mechanical : line.mechanical ≤ FULL_SHARE
+  pub synchronisation : line.synchronisation ≤ FULL_SHARE
 
 -- the share lines at these places
 abbrev pub lines_at : List ShareLine → List ℕ → List ShareLine
@@ -20,13 +49,30 @@ lines_at lines places = map (λ place. slice_index_or lines place nothing) place
 abbrev pub lines_of_party : List ℕ → List ShareLine → List ShareLine
 lines_of_party party lines = filter (λ line. pointwise nat_eq line.party party) lines
 
--- an account with the places of its share lines
-abbrev pub seen : Payee → ℕ × List ℕ
-seen payee = (payee.account, payee.places.items)
+-- an account with the places of its share lines, while they are gathered
+abbrev pub gathered : AccountPlaces → ℕ × List ℕ
+gathered account = (account.account, account.places.items)
+
+-- and in a registration with these places
+abbrev pub seen : List ℕ → Payee → ℕ × List ℕ
+seen places payee = (payee.account, take payee.count (drop payee.first places))
+
+-- the payees of a registration
+abbrev pub payees_of : Registration → List (ℕ × List ℕ)
+payees_of registration = map (seen registration.places.items) registration.payees.items
+
+-- what the payees have is among these places
+abbrev pub AreInside : List ℕ → List Payee → Type 0
+AreInside places payees = All (λ payee. payee.first + payee.count ≤ length places) payees
+
+-- how many places there are
+abbrev pub places_in : List (ℕ × List ℕ) → ℕ
+places_in payees = sum_by (λ payee. length payee.1) payees
 
 -- For each party that has a share line its account and the places of its lines, by rising account; the party of an account stands at its place among the parties.
 pub record IsCompiled (parties : List (List ℕ)) (lines : List ShareLine) (payees : List (ℕ × List ℕ)) : Type 0 where
   pub few : length payees ≤ length lines
+  pub total : places_in payees ≡ length lines
   pub rising : AllPairs (λ payee later. payee.0 < later.0) payees
   pub accounts : All (λ payee. (0 < payee.0) × (payee.0 < length parties)) payees
   pub within : All (λ payee. All (λ place. place < length lines) payee.1) payees
@@ -54,12 +100,17 @@ claims_of_payees table land right lines payees =
 -- what a registry keeps: each work with its share lines, and the parties
 abbrev pub registered_as : List (Vec ℕ Global) → List Registration → List (Vec ℕ Global) → Registered
 registered_as works registrations parties = record {
-  works = map (λ entry. (entry.0.items, entry.1.shares.items)) (zip works registrations);
+  works = map (λ entry. (entry.0.items, kept_lines (map (λ party. party.items) parties) entry.1)) (zip works registrations);
   parties = map (λ party. party.items) parties;
 }
+
+-- a registration is kept for its claims
+pub record IsKept (parties : List (List ℕ)) (registration : Registration) : Type 0 where
+  pub compiled : IsCompiled parties (kept_lines parties registration) (payees_of registration)
+  pub inside : AreInside registration.places.items registration.payees.items
 
 -- each work has one registration, which is kept for its claims
 pub record AreKept (works : List (Vec ℕ Global)) (registrations : List Registration) (parties : List (Vec ℕ Global)) : Type 0 where
   pub paired : length works ≡ length registrations
-  pub compiled : All (λ registration. IsCompiled (map (λ party. party.items) parties) registration.shares.items (map seen registration.payees.items)) registrations
-  pub rise : All (λ registration. InterestsRise registration.shares.items) registrations
+  pub kept : All (IsKept (map (λ party. party.items) parties)) registrations
+  pub rise : All (λ registration. InterestsRise (kept_lines (map (λ party. party.items) parties) registration)) registrations

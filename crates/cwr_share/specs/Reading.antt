@@ -1,5 +1,5 @@
 -- What the lines so far came to, while a file is read.
-use Rattle.std.specs.Prelude.{ℕ, ◌≡◌, ◌≤◌, ◌++◌, ◌∷◌, List, All, [], count_by, length, map, zip, Option, Some, None, Vec, false, true}
+use Rattle.std.specs.Prelude.{ℕ, ◌≡◌, ◌≤◌, ◌++◌, ◌∷◌, List, All, count_by, length, map, zip, Option, Some, None, Vec, false, true}
 use Rattle.std.specs.declared.alloc.Global.{Global}
 use Rattle.cwr_share.specs.Compiled.{InterestsRise}
 use Rattle.cwr_share.specs.CwrFile.{AreSound, StandsIn}

@@ -168,8 +168,8 @@ fn registry_of(
 {
     let mut registrations = Vec::with_capacity(alloc, works.len())?;
     let parties = parties_of(alloc, lists.as_slice())?;
-    for shares in lists {
-        registrations.push(Registration::of(alloc, shares, parties.as_slice())?)?;
+    for shares in &lists {
+        registrations.push(Registration::of(alloc, shares.as_slice(), parties.as_slice())?)?;
     }
     Ok(Registry::of(works, registrations, parties))
 }

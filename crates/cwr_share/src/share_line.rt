@@ -1,17 +1,18 @@
 //! Share lines: who collects which share of a work, in which territory.
 
-ghost use Rattle.std.specs.Prelude.{◌≡◌, ◌↔◌, ◌==◌, ◌⊎◌, IfOk, IfErr, IfSome, IfNone, IsTrue, not, reverse, slice_index};
+ghost use Rattle.std.specs.Prelude.{◌≡◌, ◌↔◌, ◌==◌, ◌⊎◌, [], ℕ, List, IfOk, IfErr, IfSome, IfNone, IsTrue, not, reverse, slice_index, slice_index_or};
 ghost use Rattle.csv_table.specs.Forms.{IsCode, number_of};
 ghost use Rattle.cwr_share.specs.CwrFile.{IsFaultOfShare, IsShareRecord};
 ghost use Rattle.cwr_share.specs.Fields.{HasShares, IsFilled, IsMark, IsShare, field_of, share_of, trimmed as trimmed_text, without_spaces_before as from_first_byte};
 ghost use Rattle.cwr_share.specs.Registrations.{share_line_of};
 ghost use Rattle.cwr_share.specs.ClaimsOn.{share_for};
+ghost use Rattle.cwr_share.specs.Compiled.{line_by};
 ghost use Rattle.cwr_share.specs.declared.cwr_fault.CwrFault.TheVariants.{Memory};
 
 use crate::fields::ShareFields;
 use crate::{CwrFault, MOST_SHARES};
 use csv_table::forms::{code, number_up_to};
-use line_split::{FULL_SHARE, Right};
+use line_split::{Account, FULL_SHARE, Right};
 use std::alloc::Global;
 use std::marker::Model;
 use tis_tree::Code;
@@ -26,6 +27,16 @@ pub(crate) struct Share {
     pub(crate) party: Vec<u8>,
     pub(crate) shares: Shares,
     /// Whether the territory is included or excluded.
+    pub(crate) includes: bool,
+    pub(crate) territory: Code,
+}
+
+/// A share line as a registration keeps it: with the account of its party.
+#[derive(Clone, Copy)]
+pub(crate) struct KeptShare {
+    pub(crate) interest: usize,
+    pub(crate) account: Account,
+    pub(crate) shares: Shares,
     pub(crate) includes: bool,
     pub(crate) territory: Code,
 }
@@ -95,9 +106,24 @@ impl Share {
         })
     }
 
+    /// What is kept of it, where its party has this account.
+    pub(crate) fn kept(&self, account: Account) -> KeptShare
+        ensures { (parties : List (List ℕ)) → slice_index_or parties account [] ≡ self.now.party → line_by parties result ≡ self.now }
+    {
+        KeptShare {
+            interest: self.interest,
+            account,
+            shares: self.shares,
+            includes: self.includes,
+            territory: self.territory,
+        }
+    }
+}
+
+impl KeptShare {
     /// The share for a right: nothing where the territory is excluded.
     pub(crate) fn share_for(&self, right: Right) -> u32
-        ensures { result ≡ share_for right self.now }
+        ensures { result ≡ share_for right (line_by [] self.now) }
     {
         if !self.includes {
             return 0;

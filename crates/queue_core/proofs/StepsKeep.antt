@@ -154,7 +154,7 @@ module _ (l : Linked) (ok : IsLinked l) (m : Linked) where
       let gone = leaves_node l ok (goes_to reads.NodeHead l) (keeps_goes l ok reads.NodeHead tt) in
       elim point as (λ q. next_at q l ≡ Some m → IsLinked m) [
         | reads.Rest ↦ λ e. chosen_some IsLinked (is_at_stub l) _ _ m e (leaves_stub l ok) gone
-        | reads.Second ↦ λ e. some_is IsLinked _ m e gone
+        | reads.Second ↦ λ e. subst IsLinked (passed _ _ m e).1 gone
         | reads.Last ↦ λ e. some_is IsLinked _ m e (leaves_node l ok (answers took.Busy l) (keeps_answers l ok took.Busy))
         | _ ↦ λ e. cc
       ]

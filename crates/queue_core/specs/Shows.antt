@@ -1,5 +1,6 @@
 -- How a linked core shows an abstract mailbox: what its words and its program points are where the mailbox has come so far. Each clause names the steps that rest on it.
-use Rattle.std.specs.Prelude.{ℕ, ◌≡◌, ◌<◌, ◌≤◌, ◌==◌, ◌+◌, ◌-◌, ◌↔◌, ◌++◌, Bool, false, true, not, List, [], ◌∷◌, AllPairs, Option, None, Some, length, filter, slice_index_or, if◌then◌else◌, ⊤}
+use Rattle.std.specs.Prelude.{ℕ, ◌≡◌, ◌<◌, ◌≤◌, ◌==◌, ◌+◌, ◌-◌, ◌↔◌, Bool, false, true, not, [], AllPairs, length, filter, slice_index_or, if◌then◌else◌, ⊤}
+use Rattle.queue_core.specs.declared.TheConstants.{MOST_NODES, MOST_SENDERS}
 use Rattle.queue_core.specs.declared.item.Item.{Item}
 use Rattle.queue_core.specs.declared.item.Item.TheVariants.{End}
 use Rattle.queue_core.specs.declared.sender.SenderPoint.{SenderPoint}
@@ -7,10 +8,10 @@ use Rattle.queue_core.specs.declared.sender.SenderPoint.TheVariants as sends
 use Rattle.queue_core.specs.declared.reader.ReaderPoint.{ReaderPoint}
 use Rattle.queue_core.specs.declared.reader.ReaderPoint.TheVariants as reads
 use Rattle.queue_core.specs.Items.{is_end}
-use Rattle.queue_core.specs.Mailbox.{Entry, IsHeld, Mailbox, is_among, item_at, left_entries, sent}
+use Rattle.queue_core.specs.Mailbox.{Entry, IsHeld, Mailbox, is_among, item_at, left_entries, opening, sent}
 use Rattle.queue_core.specs.Mailbox.Entry.{Of, Stub}
 use Rattle.queue_core.specs.Events.{slot_at}
-use Rattle.queue_core.specs.Linked.{Linked, amount_word, first_node, is_held, line_word, link_to, node_at, null, sender_at, stub_of}
+use Rattle.queue_core.specs.Linked.{Linked, amount_word, first_node, is_held, line_word, link_to, node_at, null, opening_core, sender_at, stub_of}
 
 -- the node that an entry stands in
 abbrev pub node_for : Linked → Mailbox → Entry → ℕ
@@ -135,3 +136,7 @@ pub record Shows (l : Linked) (m : Mailbox) : Type 0 where
   pub kept : (p k : ℕ) → is_among (Of p k) m.order ≡ true → is_among (Of p k) m.given ≡ false → HoldsItem l (node_for l m (Of p k)) (item_at m p k)
   -- LoadTurn fills a node only where all that stood in it was given back
   pub turns : (n : ℕ) → n < length l.nodes → (node_at l n).turn ≡ times_given l m n
+
+-- a mailbox that was just opened shows the one in which nothing has happened
+abbrev pub OpeningShows : Type 0
+OpeningShows = (senders ring : ℕ) → 0 < senders → senders ≤ MOST_SENDERS → 0 < ring → ring ≤ MOST_NODES → Shows (opening_core senders ring) opening

@@ -128,7 +128,7 @@ abbrev pub next_at : ReaderPoint → Linked → Option Linked
 next_at reads.Rest l =
     if is_at_stub l then Some (if has_next l then goes_to reads.Second (passes l) else goes_to reads.StubHead l)
     else Some (if has_next l then takes l else goes_to reads.NodeHead l)
-next_at reads.Second l = Some (if has_next l then takes l else goes_to reads.NodeHead l)
+next_at reads.Second l = if not (is_at_stub l) then Some (if has_next l then takes l else goes_to reads.NodeHead l) else None
 next_at reads.Last l = Some (if has_next l then takes l else answers took.Busy l)
 next_at _ l = None
 

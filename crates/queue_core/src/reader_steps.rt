@@ -125,7 +125,12 @@ impl State {
                     self.leave_node();
                 }
             }
-            ReaderPoint::Second => self.leave_node(),
+            ReaderPoint::Second => {
+                if self.is_at_stub() {
+                    return Stepped::NotNow;
+                }
+                self.leave_node();
+            }
             ReaderPoint::Last => self.leave_last(),
             ReaderPoint::StubHead
             | ReaderPoint::NodeHead

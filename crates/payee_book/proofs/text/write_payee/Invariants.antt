@@ -7,7 +7,7 @@ use Rattle.payee_book.proofs.text.write_payee.Given as goal
 abbrev pub invariant-loop-written : goal.invariant-loop-written
 invariant-loop-written l = record {
   within : l.written ≤ length l.statement;
-  rows : l.out ≡ l.fn.out ++ text_of (map (posting_row l.usage (codes "L") l.party) (take l.written l.statement))
+  rows : l.out ≡ l.fn.out ++ text_of (map (posting_row l.usage (codes "L") l.party) (take l.written l.statement));
 }
 
 abbrev pub decreases-loop-written : goal.decreases-loop-written

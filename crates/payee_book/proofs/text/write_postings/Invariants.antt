@@ -9,7 +9,7 @@ use Rattle.payee_book.proofs.text.write_postings.Given as goal
 abbrev pub invariant-loop-place : goal.invariant-loop-place
 invariant-loop-place l = record {
   enough : length l.names ≡ LOOKED_UP_AT_ONCE;
-  names : (k : ℕ) → k < l.place → slice_index_or (map (λ name. name.now) l.names) k [] ≡ usage_at l.usage (slice_index_or l.postings k (0, 0)).0
+  names : (k : ℕ) → k < l.place → slice_index_or (map (λ name. name.now) l.names) k [] ≡ usage_at l.usage (slice_index_or l.postings k (0, 0)).0;
 }
 
 -- the postings so far are written
