@@ -1,4 +1,4 @@
-use Rattle.std.proofs.Common.{◌≡◌, ◌≤◌, codes, arith}
+use Rattle.std.proofs.Common.{◌≤◌, codes, arith}
 use Rattle.payee_book.specs.Text.{posting_row}
 use Rattle.payee_book.proofs.TextLemmas.{postings_more}
 use Rattle.payee_book.proofs.text.write_payee.Goals as goal

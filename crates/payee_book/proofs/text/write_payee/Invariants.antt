@@ -1,4 +1,4 @@
-use Rattle.std.proofs.Common.{◌≡◌, ◌≤◌, ◌-◌, ◌++◌, codes, length, map, take, ℕ}
+use Rattle.std.proofs.Common.{◌≡◌, ◌≤◌, ◌-◌, ◌++◌, codes, length, map, take}
 use Rattle.csv_table.specs.Written.{text_of}
 use Rattle.payee_book.specs.Text.{posting_row}
 use Rattle.payee_book.proofs.text.write_payee.Given as goal
