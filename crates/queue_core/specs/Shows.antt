@@ -33,8 +33,8 @@ abbrev pub last_of : Mailbox → ℕ → ℕ
 last_of m p = length (m.items p) - 1
 
 -- The entry was exchanged in right after one that is left and stands in the node.
-abbrev pub Follows : Linked → Mailbox → Entry → (before : ℕ) → Type 0
-Follows l m entry before =
+abbrev pub ComesAfter : Linked → Mailbox → Entry → (before : ℕ) → Type 0
+ComesAfter l m entry before =
     (i : ℕ) × (m.passed ≤ i) × (i + 1 < length m.order) × (order_at m (i + 1) ≡ entry) × (node_for l m (order_at m i) ≡ before)
 
 -- ---- what is left is a chain from the tail to the head
@@ -61,13 +61,13 @@ pub record IsChain (l : Linked) (m : Mailbox) : Type 0 where
 -- An item of the sender is in flight just where the sender is about to store its link, and the node that gets it is the one before it: StoreLink.
 abbrev pub IsOwedBySender : Linked → Mailbox → ℕ → SenderPoint → Type 0
 IsOwedBySender l m p (sends.Link item before) =
-    (0 < length (m.items p)) × (item_at m p (last_of m p) ≡ item) × (is_in_flight m (Of p (last_of m p)) ≡ true) × Follows l m (Of p (last_of m p)) before
+    (0 < length (m.items p)) × (item_at m p (last_of m p) ≡ item) × (is_in_flight m (Of p (last_of m p)) ≡ true) × ComesAfter l m (Of p (last_of m p)) before
     × ((k : ℕ) → k < last_of m p → is_in_flight m (Of p k) ≡ false)
 IsOwedBySender l m p _ = (k : ℕ) → is_in_flight m (Of p k) ≡ false
 
 -- And so with the stub and the reader: StubLink.
 abbrev pub IsOwedByReader : Linked → Mailbox → ReaderPoint → Type 0
-IsOwedByReader l m (reads.Link before) = (is_in_flight m Stub ≡ true) × Follows l m Stub before
+IsOwedByReader l m (reads.Link before) = (is_in_flight m Stub ≡ true) × ComesAfter l m Stub before
 IsOwedByReader l m _ = is_in_flight m Stub ≡ false
 
 -- ---- words of items, and generations

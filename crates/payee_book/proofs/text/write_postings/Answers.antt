@@ -1,17 +1,18 @@
-use Rattle.std.proofs.Common.{◌≡◌, ◌∙◌, ◌<◌, ◌+◌, ℕ, zero, suc, [], ◌∷◌, length, map, slice_index_or, slice_set, arith, List}
-use Rattle.std.proofs.lemmas.List.{length-set}
+use Rattle.std.proofs.Common.{◌≡◌, ◌∙◌, ◌<◌, ◌+◌, ℕ, [], List, length, map, slice_index_or, slice_set, ap, sym, ⊎_elim, arith}
+use Rattle.std.proofs.lemmas.Bool.{cases_lt}
+use Rattle.std.proofs.lemmas.Grind.{get_or-set_at}
+use Rattle.std.proofs.lemmas.List.{get_or-set_other, length-map, length-set, map-set}
 use Rattle.payee_book.proofs.text.write_postings.Goals as goal
 
 -- a list whose elements below a place show what they should, with one more put at that place
 put : {X : Type 0} (f : X → List ℕ) (xs : List X) (i : ℕ) (x : X) (shown : ℕ → List ℕ) → i < length xs
     → ((k : ℕ) → k < i → slice_index_or (map f xs) k [] ≡ shown k) → f x ≡ shown i
     → (k : ℕ) → k < i + 1 → slice_index_or (map f (slice_set xs i x)) k [] ≡ shown k
-put f [] i x shown within before here k below = absurd (omega arith)
-put f (y ∷ ys) zero x shown within before here zero below = here
-put f (y ∷ ys) zero x shown within before here (suc k) below = absurd (omega arith)
-put f (y ∷ ys) (suc i) x shown within before here zero below = before zero (omega arith)
-put f (y ∷ ys) (suc i) x shown within before here (suc k) below =
-    put f ys i x (λ j. shown (suc j)) (omega arith) (λ j. λ lower. before (suc j) (omega arith)) here k (omega arith)
+put f xs i x shown within before here k below =
+    ap (λ shows. slice_index_or shows k []) (map-set f xs i x)
+    ∙ ⊎_elim (λ earlier. get_or-set_other (map f xs) i k (f x) [] (omega (arith, earlier)) ∙ before k earlier)
+    (λ late. let same : k ≡ i = omega (arith, late, below) in get_or-set_at (map f xs) i k (f x) [] same (omega (arith, within, length-map xs f)) ∙ (here ∙ ap shown (sym same)))
+    (cases_lt k i)
 
 pub loop-place-preserved : goal.loop-place-preserved
 loop-place-preserved c = record {
