@@ -40,10 +40,12 @@ IsOfFile path Room = ⊤
 IsOfFile path (File name) = name ≡ path
 IsOfFile path _ = ⊥
 
--- a file that cannot be read is one of the run's three
+-- a run fails for what is in an input, for want of memory, or for one of its three files
 abbrev pub IsOfFiles : RunWords → Failure → Type 0
+IsOfFiles asked (Input fault) = ⊤
+IsOfFiles asked Room = ⊤
 IsOfFiles asked (File name) = (name ≡ asked.tis) ⊎ ((name ≡ asked.cwr) ⊎ (name ≡ asked.usage))
-IsOfFiles asked _ = ⊤
+IsOfFiles asked _ = ⊥
 
 -- the fault of the pairs is one of the words PARTY=SHARE
 abbrev pub IsFailureOf : List (List ℕ) → Failure → Type 0
