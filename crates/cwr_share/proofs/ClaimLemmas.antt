@@ -23,9 +23,8 @@ use Rattle.line_split.specs.declared.usage.Line.{Line}
 use Rattle.line_split.specs.declared.usage.Right.{Right}
 use Rattle.line_split.specs.declared.usage.Right.TheVariants.{P, M, S}
 use Rattle.cwr_share.specs.ClaimsOn.{claim_of, claims_among, claims_by, claims_on, covers, deciding, is_alike, is_known, reason_against, renamed, share_for}
-use Rattle.cwr_share.specs.Compiled.{InterestsRise, IsCompiled, IsSmall, claims_of_payees, kept_lines, line_by, lines_at, lines_of_party, nameless, payees_of, seen}
+use Rattle.cwr_share.specs.Compiled.{InterestsRise, IsCompiled, IsSmall, Kept, claims_of_payees, kept_lines, line_by, lines_at, lines_of_party, nameless, payees_of, seen}
 use Rattle.cwr_share.specs.declared.registration.Payee.{Payee}
-use Rattle.cwr_share.specs.declared.registration.Registration.{Registration}
 use Rattle.cwr_share.specs.declared.share_line.KeptShare.{KeptShare}
 use Rattle.cwr_share.specs.Registered.{IsShareLine, Registered}
 use Rattle.cwr_share.specs.Registrations.{ShareLine, find_work}
@@ -482,8 +481,8 @@ get_or_mapped f (x ∷ xs) zero d = refl
 get_or_mapped f (x ∷ xs) (suc k) d = get_or_mapped f xs k d
 
 -- the nameless lines are the lines without their parties
-pub nameless_lines : (parties : List (List ℕ)) (registration : Registration) → nameless registration ≡ map unnamed (kept_lines parties registration)
-nameless_lines parties registration = sym (map_twice (line_by parties) unnamed registration.shares.items)
+pub nameless_lines : (parties : List (List ℕ)) (registration : Kept) → nameless registration ≡ map unnamed (kept_lines parties registration)
+nameless_lines parties registration = sym (map_twice (line_by parties) unnamed registration.shares)
 
 lines_at_unnamed : (lines : List ShareLine) (places : List ℕ) → lines_at (map unnamed lines) places ≡ map unnamed (lines_at lines places)
 lines_at_unnamed lines [] = refl
@@ -525,7 +524,7 @@ module _ (table : List (ℕ × List ℕ)) (land : ℕ) where
         | inr not_it ↦ rw not_it rest
       ])
 
-module _ (parties : List (List ℕ)) (registration : Registration) (compiled : IsCompiled parties (kept_lines parties registration) (payees_of registration))
+module _ (parties : List (List ℕ)) (registration : Kept) (compiled : IsCompiled parties (kept_lines parties registration) (payees_of registration))
     (rise : InterestsRise (kept_lines parties registration)) where
   -- the lines of a payee
   at_places : (places : List ℕ) → lines_at (nameless registration) places ≡ map unnamed (lines_at (kept_lines parties registration) places)
@@ -551,7 +550,7 @@ module _ (parties : List (List ℕ)) (registration : Registration) (compiled : I
       (ap (λ l. sum_by (share_for right) (deciding table land l)) (at_places payee.1) ∙ sum_unnamed table land right (lines_at (kept_lines parties registration) payee.1) (alike_named k d within)))
 
 -- its shares are not over 100.00 per cent
-pub small_nameless : (parties : List (List ℕ)) (registration : Registration) → All IsShareLine (kept_lines parties registration) → All IsSmall (nameless registration)
+pub small_nameless : (parties : List (List ℕ)) (registration : Kept) → All IsShareLine (kept_lines parties registration) → All IsSmall (nameless registration)
 small_nameless parties registration good =
     subst (All IsSmall) (sym (nameless_lines parties registration))
     (All-map IsSmall unnamed (kept_lines parties registration) (λ k d within. let line = good k d within in record { performing = line.performing; mechanical = line.mechanical; synchronisation = line.synchronisation }))
@@ -565,7 +564,7 @@ line_at parties shares place share within is = sym (get_or-map (line_by parties)
 pub within_lines : (parties : List (List ℕ)) (shares : List KeptShare) (places : List ℕ) → All (λ place. place < length shares) places → All (λ place. place < length (map (line_by parties) shares)) places
 within_lines parties shares places within = λ k d inside. omega (arith, within k d inside, length-map shares (line_by parties))
 
-module _ (table : List (ℕ × List ℕ)) (registered : Registered) (line : Line) (registration : Registration) (land : ℕ) (up : LookedUp registered line.work registration)
+module _ (table : List (ℕ × List ℕ)) (registered : Registered) (line : Line) (registration : Kept) (land : ℕ) (up : LookedUp registered line.work registration)
     (same : land ≡ line.territory) (known : is_known table line.territory ≡ true) where
   -- the claims of its payees
   abbrev of_payees : List (ℕ × ℕ)

@@ -15,14 +15,14 @@ use Rattle.std.proofs.lemmas.Map.Keys.{Less-from_sorted}
 use Rattle.std.proofs.lemmas.Map.Lookups.{exact_bytes}
 use Rattle.std.proofs.lemmas.Option.{cond_some, none-some}
 use Rattle.std.proofs.lemmas.Slice.Eq.{bytes_eq-Decides}
-use Rattle.cwr_share.specs.Compiled.{AreInside, AreKept, InterestsRise, IsCompiled, IsKept, gathered, kept_lines, line_by, lines_at, lines_of_party, places_in, registered_as, seen, with_place}
+use Rattle.cwr_share.specs.Compiled.{AreInside, AreKept, InterestsRise, IsCompiled, IsExtent, IsKept, Kept, WorkNumber, gathered, kept_lines, line_by, lines_at, lines_of_party, part, places_in, registered_as, seen, with_place}
 use Rattle.cwr_share.specs.Registered.{IsRegistered, IsShareLine, Registered}
 use Rattle.cwr_share.specs.Registrations.{ShareLine, find_work}
-use Rattle.cwr_share.specs.declared.registration.Registration.{Registration}
 use Rattle.cwr_share.specs.declared.share_line.KeptShare.{KeptShare}
 use Rattle.cwr_share.specs.declared.TheConstants.{MOST_SHARES}
 use Rattle.cwr_share.specs.declared.registration.AccountPlaces.{AccountPlaces}
 use Rattle.cwr_share.specs.declared.registration.Payee.{Payee}
+use Rattle.cwr_share.specs.declared.registrations.Extent.{Extent}
 
 -- what holds of the text of an item at a place
 text_at : {X : Type 0} (text : X → List ℕ) (P : List ℕ → Type 0) (xs : List X) (place : ℕ) → place < length xs → HoldsAt (λ x. P (text x)) xs place → P (get_or (map text xs) place [])
@@ -426,30 +426,33 @@ compiled_next parties lines place line account payees more rising residue filled
     (subst (λ n. IsCompiled parties (take place lines ++ line ∷ []) (with_place account n payees)) front
     (compiled_more parties (take place lines) payees line account rising some inside whose compiled))
 
+-- What lies within a list stays where more comes behind it, and what comes behind it is what comes.
+module _ {X : Type 0} (xs ys : List X) where
+  pub part_stays : (first count : ℕ) → first + count ≤ length xs → take count (drop first (xs ++ ys)) ≡ take count (drop first xs)
+  part_stays first count within =
+      let front : drop first (xs ++ ys) ≡ drop first xs ++ ys = drop-append-le first xs ys (omega (arith, within)) in
+      ap (take count) front ∙ take-append-le count (drop first xs) ys (omega (arith, within, length-drop first xs))
+
+  pub part_added : take (length ys) (drop (length xs) (xs ++ ys)) ≡ ys
+  part_added = rw (drop-append-le (length xs) xs ys (omega arith), drop_all (length xs) xs (omega arith)) (take_all (length ys) ys (omega arith))
+
 -- The payees of some accounts, with one account more behind them.
 module _ (places : List ℕ) (payees : List Payee) (inside : AreInside places payees) (account : ℕ) (these : List ℕ) where
   -- its places come last
   abbrev pub flat : Payee
   flat = record { account = account; first = length places; count = length these }
 
-  its_own : take (length these) (drop (length places) (places ++ these)) ≡ these
-  its_own = rw (drop-append-le (length places) places these (omega arith), drop_all (length places) places (omega arith)) (take_all (length these) these (omega arith))
-
   as_before : (payees : List Payee) → AreInside places payees → map (seen (places ++ these)) payees ≡ map (seen places) payees
   as_before [] inside = refl
   as_before (payee ∷ later) inside =
-      let here : payee.first + payee.count ≤ length places = inside 0 payee (omega arith) in
-      let first : drop payee.first (places ++ these) ≡ drop payee.first places ++ these = drop-append-le payee.first places these (omega (arith, here)) in
-      let left : payee.count ≤ length (drop payee.first places) = omega (arith, here, length-drop payee.first places) in
-      let taken : take payee.count (drop payee.first (places ++ these)) ≡ take payee.count (drop payee.first places) = ap (take payee.count) first ∙ take-append-le payee.count (drop payee.first places) these left in
-      ap (λ (l : List ℕ). (payee.account, l) ∷ map (seen (places ++ these)) later) taken
+      ap (λ (l : List ℕ). (payee.account, l) ∷ map (seen (places ++ these)) later) (part_stays places these payee.first payee.count (inside 0 payee (omega arith)))
       ∙ ap (λ (l : List (ℕ × List ℕ)). seen places payee ∷ l) (as_before later (All-tail (λ payee. payee.first + payee.count ≤ length places) payee later inside))
 
   pub flat_more : map (seen (places ++ these)) (payees ++ flat ∷ []) ≡ map (seen places) payees ++ (account, these) ∷ []
   flat_more =
       map_push (seen (places ++ these)) payees flat
       ∙ (ap (λ (l : List (ℕ × List ℕ)). l ++ seen (places ++ these) flat ∷ []) (as_before payees inside)
-      ∙ ap (λ (l : List ℕ). map (seen places) payees ++ (account, l) ∷ []) its_own)
+      ∙ ap (λ (l : List ℕ). map (seen places) payees ++ (account, l) ∷ []) (part_added places these))
 
   pub flat_inside : AreInside (places ++ these) (payees ++ flat ∷ [])
   flat_inside =
@@ -479,21 +482,55 @@ kept_next parties lines place line kept share within is before same =
     ∙ (ap (λ (l : List ShareLine). l ++ line_by parties share ∷ []) before
     ∙ (ap (λ (l : ShareLine). take place lines ++ l ∷ []) (same ∙ is) ∙ sym (take_more lines place line within)))
 
+-- Registrations side by side, with one more behind them.
+module _ (shares these : List KeptShare) (places theirs : List ℕ) (payees whose : List Payee) (paired : length places ≡ length shares) (equal : length theirs ≡ length these) where
+  -- its part of each list
+  abbrev pub extent_of_it : Extent
+  extent_of_it = record { first_share = length shares; first_payee = length payees; shares = length these; payees = length whose }
+
+  part_as_before : (extent : Extent) → IsExtent shares payees extent → part (shares ++ these) (places ++ theirs) (payees ++ whose) extent ≡ part shares places payees extent
+  part_as_before extent within =
+      cc (
+        part_stays shares these extent.first_share extent.shares within.in_shares,
+        part_stays places theirs extent.first_share extent.shares (omega (arith, within.in_shares, paired)),
+        part_stays payees whose extent.first_payee extent.payees within.in_payees,
+      )
+
+  parts_as_before : (extents : List Extent) → All (IsExtent shares payees) extents → map (part (shares ++ these) (places ++ theirs) (payees ++ whose)) extents ≡ map (part shares places payees) extents
+  parts_as_before [] within = refl
+  parts_as_before (extent ∷ later) within =
+      cc (part_as_before extent (within 0 extent (omega arith)), parts_as_before later (All-tail (IsExtent shares payees) extent later within))
+
+  part_of_it : part (shares ++ these) (places ++ theirs) (payees ++ whose) extent_of_it ≡ record { shares = these; places = theirs; payees = whose }
+  part_of_it = cc (part_added shares these, rw (paired, equal) at (part_added {X = ℕ} places theirs), part_added payees whose)
+
+  pub parts_more : (extents : List Extent) → All (IsExtent shares payees) extents
+      → map (part (shares ++ these) (places ++ theirs) (payees ++ whose)) (extents ++ extent_of_it ∷ []) ≡ map (part shares places payees) extents ++ record { shares = these; places = theirs; payees = whose } ∷ []
+  parts_more extents within =
+      map_push (part (shares ++ these) (places ++ theirs) (payees ++ whose)) extents extent_of_it
+      ∙ cc (parts_as_before extents within, part_of_it)
+
+  pub extents_more : (extents : List Extent) → All (IsExtent shares payees) extents → All (IsExtent (shares ++ these) (payees ++ whose)) (extents ++ extent_of_it ∷ [])
+  extents_more extents within =
+      All-push (IsExtent (shares ++ these) (payees ++ whose)) extents extent_of_it
+      (λ k d inside. record { in_shares = omega (arith, (within k d inside).in_shares, length-append shares these); in_payees = omega (arith, (within k d inside).in_payees, length-append payees whose) })
+      (record { in_shares = omega (arith, length-append shares these); in_payees = omega (arith, length-append payees whose) })
+
 -- works beside their share lines
-abbrev pub entries : List (List ℕ) → List (Vec ℕ Global) → List Registration → List (List ℕ × List ShareLine)
+abbrev pub entries : List (List ℕ) → List WorkNumber → List Kept → List (List ℕ × List ShareLine)
 entries parties works registrations = map (λ entry. (entry.0.items, kept_lines parties entry.1)) (zip works registrations)
 
 module _ (work : List ℕ) where
-  abbrev pub is_work : Vec ℕ Global → Bool
+  abbrev pub is_work : WorkNumber → Bool
   is_work key = pointwise nat_eq work key.items
 
   -- the test of a work either way round
-  turned : (key : Vec ℕ Global) → pointwise nat_eq key.items work ≡ is_work key
+  turned : (key : WorkNumber) → pointwise nat_eq key.items work ≡ is_work key
   turned key = nat_list_eq_equiv.symm key.items work
 
   module _ (parties : List (List ℕ)) where
     -- a work that is found stands beside its registration
-    pub found_work : (works : List (Vec ℕ Global)) (registrations : List Registration) (place : ℕ) (registration : Registration) → length works ≡ length registrations
+    pub found_work : (works : List WorkNumber) (registrations : List Kept) (place : ℕ) (registration : Kept) → length works ≡ length registrations
         → position_or_len is_work works ≡ place → place < length works → registration ≡ get_or registrations place registration
         → find_work work (entries parties works registrations) ≡ Some (kept_lines parties registration)
     found_work [] registrations place registration paired at within is = absurd (omega arith)
@@ -502,7 +539,7 @@ module _ (work : List ℕ) where
       | inl its ↦
           let here : place ≡ 0 = sym (rw its at at) in
           let same : registration ≡ first = subst (λ p. registration ≡ get_or (first ∷ registrations) p registration) here is in
-          rw (turned key, its) (ap (λ (r : Registration). Some (kept_lines parties r)) (sym same))
+          rw (turned key, its) (ap (λ (r : Kept). Some (kept_lines parties r)) (sym same))
       | inr other ↦
           let n = position_or_len is_work works in
           let after : place ≡ suc n = sym (rw other at at) ∙ one-add n in
@@ -511,7 +548,7 @@ module _ (work : List ℕ) where
     ]
 
     -- a work that is not found has none
-    pub no_work : (works : List (Vec ℕ Global)) (registrations : List Registration) → length works ≤ position_or_len is_work works → find_work work (entries parties works registrations) ≡ None
+    pub no_work : (works : List WorkNumber) (registrations : List Kept) → length works ≤ position_or_len is_work works → find_work work (entries parties works registrations) ≡ None
     no_work [] registrations past = refl
     no_work (key ∷ works) [] past = refl
     no_work (key ∷ works) (first ∷ registrations) past = elim (cases_Bool (is_work key)) [
@@ -520,14 +557,14 @@ module _ (work : List ℕ) where
     ]
 
     -- what a look-up by the index says
-    pub found_at : (works : List (Vec ℕ Global)) (registrations : List Registration) (place : ℕ) (registration : Registration) → length works ≡ length registrations
+    pub found_at : (works : List WorkNumber) (registrations : List Kept) (place : ℕ) (registration : Kept) → length works ≡ length registrations
         → Some place ≡ position is_work works → registration ≡ get_or registrations place registration → find_work work (entries parties works registrations) ≡ Some (kept_lines parties registration)
     found_at works registrations place registration paired index is =
         let n = position_or_len is_work works in
         let (inside, at) = cond_some (ltb n (length works)) n place (sym index) in
         found_work works registrations place registration paired at (omega (arith, ltb-true n (length works) inside, at)) is
 
-    pub found_nowhere : (works : List (Vec ℕ Global)) (registrations : List Registration) → None ≡ position is_work works → find_work work (entries parties works registrations) ≡ None
+    pub found_nowhere : (works : List WorkNumber) (registrations : List Kept) → None ≡ position is_work works → find_work work (entries parties works registrations) ≡ None
     found_nowhere works registrations index =
         let n = position_or_len is_work works in
         no_work works registrations (elim (cases_Bool (ltb n (length works))) [
@@ -536,11 +573,11 @@ module _ (work : List ℕ) where
         ])
 
 -- what holds of the share lines of each work holds of those of a registration
-pub entry_at : (parties : List (List ℕ)) (Holds : List ShareLine → Type 0) (works : List (Vec ℕ Global)) (registrations : List Registration) (place : ℕ) (registration : Registration) → length works ≡ length registrations
+pub entry_at : (parties : List (List ℕ)) (Holds : List ShareLine → Type 0) (works : List WorkNumber) (registrations : List Kept) (place : ℕ) (registration : Kept) → length works ≡ length registrations
     → place < length registrations → registration ≡ get_or registrations place registration → All (λ (entry : List ℕ × List ShareLine). Holds entry.1) (entries parties works registrations) → Holds (kept_lines parties registration)
 entry_at parties Holds [] registrations place registration paired within is all = absurd (omega arith)
 entry_at parties Holds (key ∷ works) [] place registration paired within is all = absurd (omega arith)
-entry_at parties Holds (key ∷ works) (first ∷ registrations) zero registration paired within is all = subst (λ (r : Registration). Holds (kept_lines parties r)) (sym is) (all 0 (key.items, kept_lines parties first) (omega arith))
+entry_at parties Holds (key ∷ works) (first ∷ registrations) zero registration paired within is all = subst (λ (r : Kept). Holds (kept_lines parties r)) (sym is) (all 0 (key.items, kept_lines parties first) (omega arith))
 entry_at parties Holds (key ∷ works) (first ∷ registrations) (suc place) registration paired within is all =
     entry_at parties Holds works registrations place registration (omega (arith, paired)) (omega (arith, within)) is
     (All-tail (λ (entry : List ℕ × List ShareLine). Holds entry.1) (key.items, kept_lines parties first) (entries parties works registrations) all)
@@ -561,7 +598,7 @@ parties_rise registered sound =
     above (byte ∷ rest) some = refl
 
 -- A registry has this registration of a work.
-pub record LookedUp (registered : Registered) (work : List ℕ) (registration : Registration) : Type 0 where
+pub record LookedUp (registered : Registered) (work : List ℕ) (registration : Kept) : Type 0 where
   pub works : find_work work registered.works ≡ Some (kept_lines registered.parties registration)
   pub kept : IsKept registered.parties registration
   pub rise : InterestsRise (kept_lines registered.parties registration)
@@ -569,7 +606,7 @@ pub record LookedUp (registered : Registered) (work : List ℕ) (registration : 
   pub few : length (kept_lines registered.parties registration) ≤ MOST_SHARES
 
 -- what a look-up by the index finds
-pub looked_up : (works : List (Vec ℕ Global)) (registrations : List Registration) (parties : List (Vec ℕ Global)) (registered : Registered) (work : List ℕ) (place : ℕ) (registration : Registration)
+pub looked_up : (works : List WorkNumber) (registrations : List Kept) (parties : List (Vec ℕ Global)) (registered : Registered) (work : List ℕ) (place : ℕ) (registration : Kept)
     → IsRegistered (registered_as works registrations parties) → AreKept works registrations parties → registered_as works registrations parties ≡ registered
     → Some place ≡ position (is_work work) works → place < length works → registration ≡ get_or registrations place registration → LookedUp registered work registration
 looked_up works registrations parties registered work place registration sound kept view index within is =
@@ -578,13 +615,13 @@ looked_up works registrations parties registered work place registration sound k
     subst (λ r. LookedUp r work registration) view (record {
       works = found_at work texts works registrations place registration kept.paired index is;
       kept = subst (IsKept (map (λ party. party.items) parties)) (sym is) (kept.kept place registration inside);
-      rise = subst (λ (r : Registration). InterestsRise (kept_lines texts r)) (sym is) (kept.rise place registration inside);
+      rise = subst (λ (r : Kept). InterestsRise (kept_lines texts r)) (sym is) (kept.rise place registration inside);
       good = entry_at texts (All IsShareLine) works registrations place registration kept.paired inside is sound.shares;
       few = entry_at texts (λ lines. length lines ≤ MOST_SHARES) works registrations place registration kept.paired inside is sound.few;
     })
 
 -- there is a registration at a place
-pub registration_at : (registrations : List Registration) (place : ℕ) → place < length registrations → (registration : Registration) × (registration ≡ get_or registrations place registration)
+pub registration_at : (registrations : List Kept) (place : ℕ) → place < length registrations → (registration : Kept) × (registration ≡ get_or registrations place registration)
 registration_at [] place within = absurd (omega arith)
 registration_at (first ∷ registrations) place within =
     (get_or (first ∷ registrations) place first, get_or_default (first ∷ registrations) place first (get_or (first ∷ registrations) place first) within)

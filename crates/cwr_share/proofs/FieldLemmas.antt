@@ -1,10 +1,10 @@
 -- Texts without the spaces at their ends.
-use Rattle.std.proofs.Common.{◌≡◌, ◌≢◌, ◌<◌, ◌≤◌, ◌-◌, ℕ, zero, suc, List, [], ◌∷◌, ◌++◌, length, take, drop, ap, refl, sym, ◌∙◌, arith}
+use Rattle.std.proofs.Common.{◌≡◌, ◌≢◌, ◌<◌, ◌≤◌, ◌-◌, ℕ, zero, suc, List, [], ◌∷◌, ◌++◌, length, take, drop, ap, refl, sym, ◌∙◌, arith, ◌==◌, Bool, true, false, cond}
 use Rattle.std.specs.Prelude.{reverse, slice_index}
 use Rattle.std.proofs.lemmas.Bool.{ne_eqb}
 use Rattle.std.proofs.Math.Seq.{drop-append_seam}
 use Rattle.std.proofs.lemmas.List.{get_or-reverse, length-drop, length-reverse, reverse-append, reverse-reverse, take-append-drop}
-use Rattle.cwr_share.specs.Fields.{without_spaces_before}
+use Rattle.cwr_share.specs.Fields.{trimmed, without_spaces_before}
 
 -- nothing is left of an empty text
 no_text : without_spaces_before [] ≡ []
@@ -45,6 +45,21 @@ reverse-drop_reverse text n within =
     ∙ ap (λ (k : ℕ). reverse (drop k (reverse back ++ reverse front))) (sym count)
     ∙ ap reverse (drop-append_seam (reverse back) (reverse front))
     ∙ reverse-reverse front
+
+-- a text gets no longer
+before_no_longer : (text : List ℕ) → length (without_spaces_before text) ≤ length text
+unfolding without_spaces_before
+before_no_longer [] = omega arith
+before_no_longer (byte ∷ rest) = by (byte == 32) (before_no_longer rest)
+  where
+    by : (space : Bool) → length (without_spaces_before rest) ≤ length rest → length (cond space (without_spaces_before rest) (byte ∷ rest)) ≤ length (byte ∷ rest)
+    by true shorter = omega (arith, shorter)
+    by false shorter = omega arith
+
+pub trimmed_no_longer : (text : List ℕ) → length (trimmed text) ≤ length text
+trimmed_no_longer text =
+    let front = without_spaces_before text in
+    omega (arith, length-reverse (without_spaces_before (reverse front)), before_no_longer (reverse front), length-reverse front, before_no_longer text)
 
 -- what stays before the spaces at the end
 pub last_spaces_go : (text : List ℕ) (n : ℕ) → n < length text → ((k : ℕ) → k < n → slice_index (reverse text) k ≡ 32) → slice_index text (length text - n - 1) ≢ 32

@@ -20,7 +20,7 @@ use Rattle.csv_table.proofs.Codes.{code_small}
 use Rattle.csv_table.specs.Forms.{number_of}
 use Rattle.line_split.proofs.Enumerated.{enumerate_from_push}
 use Rattle.line_split.specs.declared.TheConstants.{FULL_SHARE}
-use Rattle.cwr_share.specs.Compiled.{InterestsRise}
+use Rattle.cwr_share.specs.Compiled.{InterestsRise, WorkNumber}
 use Rattle.cwr_share.specs.CwrFile.{AreSound, HasTooMany, IsFaultOf, IsFaultOfLine, IsFaultOfShare, IsFirstFault, IsOpening, IsShareRecord, IsSound, StandsIn}
 use Rattle.cwr_share.specs.Fields.{IsShare, field_of, share_of}
 use Rattle.cwr_share.specs.Lines.{before_line, cut_at_line_feeds, lines_of}
@@ -570,7 +570,7 @@ share_lines_more shares share sound few good upto = record {
 -- Works with their share lines, as they are kept
 
 -- works are one where their texts are
-abbrev pub is_work : Vec ℕ Global → Vec ℕ Global → Bool
+abbrev pub is_work : WorkNumber → WorkNumber → Bool
 is_work work other = pointwise nat_eq work.items other.items
 
 same_tests : (a b c : List ℕ) → a ≡ b → pointwise nat_eq a c ≡ pointwise nat_eq b c
@@ -582,7 +582,7 @@ other_test a b c other same =
     (λ e. true≢false (sym ((bytes_eq-Decides a b).1 ((bytes_eq-Decides a c).0 same ∙ sym ((bytes_eq-Decides b c).0 e))) ∙ other))
 
 -- a work that is not among them has no share lines
-pub find_work_new : (works : List (Vec ℕ Global)) (registrations : List (Vec ShareLine Global)) (work : Vec ℕ Global) → list_any (is_work work) works ≡ false
+pub find_work_new : (works : List WorkNumber) (registrations : List (Vec ShareLine Global)) (work : WorkNumber) → list_any (is_work work) works ≡ false
     → find_work work.items (works_of works registrations) ≡ None
 find_work_new [] registrations work new = refl
 find_work_new (other ∷ works) [] work new = refl
@@ -593,7 +593,7 @@ find_work_new (other ∷ works) (shares ∷ registrations) work new =
     (find (λ (entry : List ℕ × List ShareLine). pointwise nat_eq entry.0 work.items) (works_of works registrations)) (nat_list_eq_equiv.symm other.items work.items ∙ here))
     ∙ find_work_new works registrations work later
 
-pub works_of_push : (works : List (Vec ℕ Global)) (registrations : List (Vec ShareLine Global)) (work : Vec ℕ Global) (shares : Vec ShareLine Global) → length works ≡ length registrations
+pub works_of_push : (works : List WorkNumber) (registrations : List (Vec ShareLine Global)) (work : WorkNumber) (shares : Vec ShareLine Global) → length works ≡ length registrations
     → works_of (works ++ work ∷ []) (registrations ++ shares ∷ []) ≡ works_of works registrations ++ (work.items, shares.items) ∷ []
 works_of_push [] [] work shares paired = refl
 works_of_push [] (first ∷ registrations) work shares paired = absurd (omega arith)
@@ -619,7 +619,7 @@ find_work_push {X} work name (entry ∷ entries) x new = by (pointwise nat_eq en
     by false e false f more = rw f (more (rw e at new))
 
 -- the work is new
-pub find_work_added : (works : List (Vec ℕ Global)) (registrations : List (Vec ShareLine Global)) (name : Vec ℕ Global) (shares : Vec ShareLine Global) (work : List ℕ)
+pub find_work_added : (works : List WorkNumber) (registrations : List (Vec ShareLine Global)) (name : WorkNumber) (shares : Vec ShareLine Global) (work : List ℕ)
     → length works ≡ length registrations → list_any (is_work name) works ≡ false
     → find_work work (works_of (works ++ name ∷ []) (registrations ++ shares ∷ [])) ≡ cond (pointwise nat_eq name.items work) (Some shares.items) (find_work work (works_of works registrations))
 find_work_added works registrations name shares work paired new =
@@ -627,7 +627,7 @@ find_work_added works registrations name shares work paired new =
     ∙ find_work_push work name.items (works_of works registrations) shares.items (find_work_new works registrations name new)
 
 -- the work is among them, and has other share lines now
-pub find_work_replaced : (works : List (Vec ℕ Global)) (registrations : List (Vec ShareLine Global)) (name : Vec ℕ Global) (shares : Vec ShareLine Global) (work : List ℕ)
+pub find_work_replaced : (works : List WorkNumber) (registrations : List (Vec ShareLine Global)) (name : WorkNumber) (shares : Vec ShareLine Global) (work : List ℕ)
     → length works ≡ length registrations → list_any (is_work name) works ≡ true
     → find_work work (works_of works (slice_set registrations (position_or_len (is_work name) works) shares))
     ≡ cond (pointwise nat_eq name.items work) (Some shares.items) (find_work work (works_of works registrations))
@@ -673,7 +673,7 @@ in_force_alike lines old new same forced = record {
     paired = ap length same.works ∙ (forced.table.paired ∙ sym (ap length same.registrations));
     lists = subst (λ (l : List (Vec ShareLine Global)). All (λ lines. AreShareLines lines.items) l) (sym same.registrations) forced.table.lists;
   };
-  in_force = λ work. ap (λ (works : List (Vec ℕ Global)). find_work work (works_of works new.registrations.items)) same.works
+  in_force = λ work. ap (λ (works : List WorkNumber). find_work work (works_of works new.registrations.items)) same.works
       ∙ (ap (λ (l : List (Vec ShareLine Global)). find_work work (works_of old.works.keys l)) same.registrations ∙ forced.in_force work);
 }
 
@@ -695,7 +695,7 @@ read_start reading none works registrations = read_as [] reading None none sound
         paired = ap length works ∙ sym (ap length registrations);
         lists = subst (λ (l : List (Vec ShareLine Global)). All (λ lines. AreShareLines lines.items) l) (sym registrations) (All-nil (λ (lines : Vec ShareLine Global). AreShareLines lines.items));
       };
-      in_force = λ work. ap (λ (keys : List (Vec ℕ Global)). find_work work (works_of keys reading.registrations.items)) works;
+      in_force = λ work. ap (λ (keys : List WorkNumber). find_work work (works_of keys reading.registrations.items)) works;
     }
 
 -- a line outside a registration that begins none
@@ -849,7 +849,7 @@ pub ended_new : (lines : List (List ℕ)) (old new : Reading) (registration : Op
     → IsReadTo lines old → HasInForce lines new
 ended_new lines old new registration was fresh works registrations read =
     ended_by lines old new registration table stands
-    (λ work. ap (λ (keys : List (Vec ℕ Global)). find_work work (works_of keys new.registrations.items)) works
+    (λ work. ap (λ (keys : List WorkNumber). find_work work (works_of keys new.registrations.items)) works
     ∙ (ap (λ (l : List (Vec ShareLine Global)). find_work work (works_of (old.works.keys ++ registration.work ∷ []) l)) registrations
     ∙ find_work_added old.works.keys old.registrations.items registration.work registration.shares work stands.4.table.paired fresh))
   where
@@ -869,7 +869,7 @@ pub ended_known : (lines : List (List ℕ)) (old new : Reading) (registration : 
     → IsReadTo lines old → HasInForce lines new
 ended_known lines old new registration was known works registrations read =
     ended_by lines old new registration table stands
-    (λ work. ap (λ (keys : List (Vec ℕ Global)). find_work work (works_of keys new.registrations.items)) works
+    (λ work. ap (λ (keys : List WorkNumber). find_work work (works_of keys new.registrations.items)) works
     ∙ (ap (λ (l : List (Vec ShareLine Global)). find_work work (works_of old.works.keys l)) registrations
     ∙ find_work_replaced old.works.keys old.registrations.items registration.work registration.shares work stands.4.table.paired known))
   where

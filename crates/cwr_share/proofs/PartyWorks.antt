@@ -11,9 +11,8 @@ use Rattle.std.proofs.lemmas.Slice.Zip.{get_or-zip, length-zip}
 use Rattle.std.proofs.lemmas.List.Elements.{All-map, All-weaker}
 use Rattle.std.proofs.lemmas.List.{get_or-map, get_or_default, length-map, map_push}
 use Rattle.cwr_share.specs.Parties.{AreAccountsOf, HasMany, HasManyFound, IsAmong, IsPartyFound}
-use Rattle.cwr_share.specs.Compiled.{AreKept, InterestsRise, IsKept, kept_lines, registered_as}
+use Rattle.cwr_share.specs.Compiled.{AreKept, InterestsRise, IsKept, Kept, WorkNumber, kept_lines, registered_as}
 use Rattle.cwr_share.specs.Reading.{AreShareLines, works_of}
-use Rattle.cwr_share.specs.declared.registration.Registration.{Registration}
 use Rattle.cwr_share.specs.declared.TheConstants.{MOST_SHARES}
 use Rattle.cwr_share.specs.declared.cwr_fault.CwrFault.{CwrFault}
 use Rattle.cwr_share.specs.declared.cwr_fault.CwrFault.TheVariants.{Accounts, Memory}
@@ -93,30 +92,33 @@ find_once (first ∷ works) work lines once (suc k, within, is) =
 abbrev items_of : {X : Type 0} → List (Vec X Global) → List (List X)
 items_of vectors = map (λ vector. vector.items) vectors
 
+abbrev numbers_of : List WorkNumber → List (List ℕ)
+numbers_of works = map (λ work. work.items) works
+
 -- a registry's works, where each registration has the share lines of its work
-pub registered_works : (works : List (Vec ℕ Global)) (lists : List (Vec ShareLine Global)) (registrations : List Registration) (parties : List (Vec ℕ Global))
+pub registered_works : (works : List WorkNumber) (lists : List (Vec ShareLine Global)) (registrations : List Kept) (parties : List (Vec ℕ Global))
     → map (kept_lines (items_of parties)) registrations ≡ items_of lists → (registered_as works registrations parties).works ≡ works_of works lists
 registered_works works lists registrations parties same =
-    map-zip (λ (work : Vec ℕ Global). work.items) (kept_lines (items_of parties)) works registrations
-    ∙ ap (zip (items_of works)) same
-    ∙ sym (map-zip (λ (work : Vec ℕ Global). work.items) (λ (lines : Vec ShareLine Global). lines.items) works lists)
+    map-zip (λ (work : WorkNumber). work.items) (kept_lines (items_of parties)) works registrations
+    ∙ ap (zip (numbers_of works)) same
+    ∙ sym (map-zip (λ (work : WorkNumber). work.items) (λ (lines : Vec ShareLine Global). lines.items) works lists)
 
-module _ (works : List (Vec ℕ Global)) (lists : List (Vec ShareLine Global)) (paired : length works ≡ length lists)
-    (once : IsDistinct (λ (work other : Vec ℕ Global). pointwise nat_eq work.items other.items) works) where
-  zipped : works_of works lists ≡ zip (items_of works) (items_of lists)
-  zipped = map-zip (λ (work : Vec ℕ Global). work.items) (λ (lines : Vec ShareLine Global). lines.items) works lists
+module _ (works : List WorkNumber) (lists : List (Vec ShareLine Global)) (paired : length works ≡ length lists)
+    (once : IsDistinct (λ (work other : WorkNumber). pointwise nat_eq work.items other.items) works) where
+  zipped : works_of works lists ≡ zip (numbers_of works) (items_of lists)
+  zipped = map-zip (λ (work : WorkNumber). work.items) (λ (lines : Vec ShareLine Global). lines.items) works lists
 
-  beside_items : length (items_of works) ≡ length (items_of lists)
-  beside_items = length-map works (λ (work : Vec ℕ Global). work.items) ∙ paired ∙ sym (length-map lists (λ (lines : Vec ShareLine Global). lines.items))
+  beside_items : length (numbers_of works) ≡ length (items_of lists)
+  beside_items = length-map works (λ (work : WorkNumber). work.items) ∙ paired ∙ sym (length-map lists (λ (lines : Vec ShareLine Global). lines.items))
 
   once_works : AllPairs (λ entry later. ¬ (entry.0 ≡ later.0)) (works_of works lists)
-  once_works = subst (AllPairs (λ entry later. ¬ (entry.0 ≡ later.0))) (sym zipped) (zip_once (items_of works) (items_of lists) beside_items (once_texts (λ (work : Vec ℕ Global). work.items) works once))
+  once_works = subst (AllPairs (λ entry later. ¬ (entry.0 ≡ later.0))) (sym zipped) (zip_once (numbers_of works) (items_of lists) beside_items (once_texts (λ (work : WorkNumber). work.items) works once))
 
   each_work : (P : List ShareLine → Type 0) → All (λ lines. P lines.items) lists → All (λ entry. P entry.1) (works_of works lists)
-  each_work P each = subst (All (λ entry. P entry.1)) (sym zipped) (zip_each (items_of works) (items_of lists) beside_items P (All-map P (λ (lines : Vec ShareLine Global). lines.items) lists each))
+  each_work P each = subst (All (λ entry. P entry.1)) (sym zipped) (zip_each (numbers_of works) (items_of lists) beside_items P (All-map P (λ (lines : Vec ShareLine Global). lines.items) lists each))
 
   among_works : (party : List ℕ) → IsAmong (items_of lists) party ↔ IsPartyOf (works_of works lists) party
-  among_works party = subst (λ (works : List (List ℕ × List ShareLine)). IsAmong (items_of lists) party ↔ IsPartyOf works party) (sym zipped) (parties_of_works (items_of works) (items_of lists) beside_items party)
+  among_works party = subst (λ (works : List (List ℕ × List ShareLine)). IsAmong (items_of lists) party ↔ IsPartyOf works party) (sym zipped) (parties_of_works (numbers_of works) (items_of lists) beside_items party)
 
   -- what many parties of the lists are for the works
   pub many_found : HasMany (items_of lists) → HasManyFound (works_of works lists)
@@ -126,7 +128,7 @@ module _ (works : List (Vec ℕ Global)) (lists : List (Vec ShareLine Global)) (
       found party (work, lines, inside, at) = (work, lines, find_once (works_of works lists) work lines once_works inside, at)
 
   -- what is read is a registry's
-  pub registered : (registrations : List Registration) (parties : List (Vec ℕ Global)) → All (λ lines. AreShareLines lines.items) lists
+  pub registered : (registrations : List Kept) (parties : List (Vec ℕ Global)) → All (λ lines. AreShareLines lines.items) lists
       → map (kept_lines (items_of parties)) registrations ≡ items_of lists → AreAccountsOf (items_of lists) (items_of parties)
       → IsRegistered (registered_as works registrations parties)
   registered registrations parties sound same accounts =
@@ -145,7 +147,7 @@ module _ (works : List (Vec ℕ Global)) (lists : List (Vec ShareLine Global)) (
       })
 
 -- and it is kept for its claims
-pub kept_for_claims : (works : List (Vec ℕ Global)) (lists : List (Vec ShareLine Global)) (registrations : List Registration) (parties : List (Vec ℕ Global)) → length works ≡ length lists
+pub kept_for_claims : (works : List WorkNumber) (lists : List (Vec ShareLine Global)) (registrations : List Kept) (parties : List (Vec ℕ Global)) → length works ≡ length lists
     → All (λ lines. AreShareLines lines.items) lists → map (kept_lines (items_of parties)) registrations ≡ items_of lists
     → All (IsKept (items_of parties)) registrations
     → AreKept works registrations parties
@@ -162,7 +164,7 @@ kept_for_claims works lists registrations parties paired sound same kept = recor
         k [] (omega (arith, within, length-map registrations (kept_lines (items_of parties)))))
 
 -- one registration more
-module _ (parties : List (List ℕ)) (registrations : List Registration) (registration : Registration) (yielded : List (Vec ShareLine Global)) (lines : Vec ShareLine Global)
+module _ (parties : List (List ℕ)) (registrations : List Kept) (registration : Kept) (yielded : List (Vec ShareLine Global)) (lines : Vec ShareLine Global)
     (is : kept_lines parties registration ≡ lines.items) where
   pub lists_next : map (kept_lines parties) registrations ≡ items_of yielded
       → map (kept_lines parties) (registrations ++ registration ∷ []) ≡ items_of (yielded ++ lines ∷ [])
@@ -188,8 +190,8 @@ known_in lists parties lines (place, within, is) accounts k d inside =
     at = get_or-map (λ (line : ShareLine). line.party) lines.items k d party inside
 
 -- what the lists are refused for, the works are refused for
-pub many_works : (works : List (Vec ℕ Global)) (lists : List (Vec ShareLine Global)) (fault : CwrFault) → length works ≡ length lists
-    → IsDistinct (λ (work other : Vec ℕ Global). pointwise nat_eq work.items other.items) works
+pub many_works : (works : List WorkNumber) (lists : List (Vec ShareLine Global)) (fault : CwrFault) → length works ≡ length lists
+    → IsDistinct (λ (work other : WorkNumber). pointwise nat_eq work.items other.items) works
     → (fault ≡ Memory) ⊎ ((fault ≡ Accounts) × HasMany (items_of lists)) → (fault ≡ Memory) ⊎ ((fault ≡ Accounts) × HasManyFound (works_of works lists))
 many_works works lists fault paired once (inl memory) = inl memory
 many_works works lists fault paired once (inr (accounts, many)) = inr (accounts, many_found works lists paired once many)

@@ -7,10 +7,17 @@ use Rattle.cwr_share.specs.ClaimsOn.{deciding, share_for}
 use Rattle.cwr_share.specs.Registrations.{ShareLine}
 use Rattle.cwr_share.specs.declared.registration.AccountPlaces.{AccountPlaces}
 use Rattle.cwr_share.specs.declared.registration.Payee.{Payee}
+use Rattle.cwr_share.specs.declared.kept.KeptRegistration.{KeptRegistration}
 use Rattle.cwr_share.specs.declared.registration.Registration.{Registration}
+use Rattle.cwr_share.specs.declared.registrations.Extent.{Extent}
 use Rattle.cwr_share.specs.declared.share_line.KeptShare.{KeptShare}
 use Rattle.cwr_share.specs.Registered.{Registered}
 use Rattle.std.specs.declared.alloc.Global.{Global}
+use Rattle.arrayvec.specs.ArrayVec.{ArrayVec}
+
+-- the work number that a registration is found by
+abbrev pub WorkNumber : Type 0
+WorkNumber = ArrayVec ℕ
 
 -- a kept share line, where these are the parties of the accounts
 abbrev pub line_by : List (List ℕ) → KeptShare → ShareLine
@@ -24,13 +31,40 @@ line_by parties share = record {
   territory = share.territory;
 }
 
--- the share lines of a registration
-abbrev pub kept_lines : List (List ℕ) → Registration → List ShareLine
-kept_lines parties registration = map (line_by parties) registration.shares.items
+-- a registration as it is kept: its share lines, in the order of the file; the places of those of each payee, one payee's after another's; and whose they are, by rising account
+pub record Kept : Type 0 where
+  pub shares : List KeptShare
+  pub places : List ℕ
+  pub payees : List Payee
+
+-- one that stands alone
+abbrev pub whole : Registration → Kept
+whole registration = record { shares = registration.shares.items; places = registration.places.items; payees = registration.payees.items }
+
+-- one that stands among others
+abbrev pub lent : KeptRegistration → Kept
+lent registration = record { shares = registration.shares.now; places = registration.places.now; payees = registration.payees.now }
+
+-- and what an extent says of it
+abbrev pub part : List KeptShare → List ℕ → List Payee → Extent → Kept
+part shares places payees extent = record {
+  shares = take extent.shares (drop extent.first_share shares);
+  places = take extent.shares (drop extent.first_share places);
+  payees = take extent.payees (drop extent.first_payee payees);
+}
+
+-- the extent lies within the lists
+pub record IsExtent (shares : List KeptShare) (payees : List Payee) (extent : Extent) : Type 0 where
+  pub in_shares : extent.first_share + extent.shares ≤ length shares
+  pub in_payees : extent.first_payee + extent.payees ≤ length payees
+
+-- its share lines, with their parties
+abbrev pub kept_lines : List (List ℕ) → Kept → List ShareLine
+kept_lines parties kept = map (line_by parties) kept.shares
 
 -- without their parties, which do not matter to what each of them claims
-abbrev pub nameless : Registration → List ShareLine
-nameless registration = kept_lines [] registration
+abbrev pub nameless : Kept → List ShareLine
+nameless kept = kept_lines [] kept
 
 -- no share of the line is over 100.00 per cent
 pub record IsSmall (line : ShareLine) : Type 0 where
@@ -58,8 +92,8 @@ abbrev pub seen : List ℕ → Payee → ℕ × List ℕ
 seen places payee = (payee.account, take payee.count (drop payee.first places))
 
 -- the payees of a registration
-abbrev pub payees_of : Registration → List (ℕ × List ℕ)
-payees_of registration = map (seen registration.places.items) registration.payees.items
+abbrev pub payees_of : Kept → List (ℕ × List ℕ)
+payees_of kept = map (seen kept.places) kept.payees
 
 -- what the payees have is among these places
 abbrev pub AreInside : List ℕ → List Payee → Type 0
@@ -98,19 +132,20 @@ claims_of_payees table land right lines payees =
     map (λ payee. (payee.0, sum_by (share_for right) (deciding table land (lines_at lines payee.1)))) payees
 
 -- what a registry keeps: each work with its share lines, and the parties
-abbrev pub registered_as : List (Vec ℕ Global) → List Registration → List (Vec ℕ Global) → Registered
+abbrev pub registered_as : List WorkNumber → List Kept → List (Vec ℕ Global) → Registered
 registered_as works registrations parties = record {
   works = map (λ entry. (entry.0.items, kept_lines (map (λ party. party.items) parties) entry.1)) (zip works registrations);
   parties = map (λ party. party.items) parties;
 }
 
 -- a registration is kept for its claims
-pub record IsKept (parties : List (List ℕ)) (registration : Registration) : Type 0 where
-  pub compiled : IsCompiled parties (kept_lines parties registration) (payees_of registration)
-  pub inside : AreInside registration.places.items registration.payees.items
+pub record IsKept (parties : List (List ℕ)) (kept : Kept) : Type 0 where
+  pub compiled : IsCompiled parties (kept_lines parties kept) (payees_of kept)
+  pub inside : AreInside kept.places kept.payees
+  pub paired : length kept.places ≡ length kept.shares
 
 -- each work has one registration, which is kept for its claims
-pub record AreKept (works : List (Vec ℕ Global)) (registrations : List Registration) (parties : List (Vec ℕ Global)) : Type 0 where
+pub record AreKept (works : List WorkNumber) (registrations : List Kept) (parties : List (Vec ℕ Global)) : Type 0 where
   pub paired : length works ≡ length registrations
   pub kept : All (IsKept (map (λ party. party.items) parties)) registrations
   pub rise : All (λ registration. InterestsRise (kept_lines (map (λ party. party.items) parties) registration)) registrations

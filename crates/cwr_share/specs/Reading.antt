@@ -1,7 +1,7 @@
 -- What the lines so far came to, while a file is read.
 use Rattle.std.specs.Prelude.{ℕ, ◌≡◌, ◌≤◌, ◌++◌, ◌∷◌, List, All, count_by, length, map, zip, Option, Some, None, Vec, false, true}
 use Rattle.std.specs.declared.alloc.Global.{Global}
-use Rattle.cwr_share.specs.Compiled.{InterestsRise}
+use Rattle.cwr_share.specs.Compiled.{InterestsRise, WorkNumber}
 use Rattle.cwr_share.specs.CwrFile.{AreSound, StandsIn}
 use Rattle.cwr_share.specs.Records.{ends_registration, opens_interest, opens_registration}
 use Rattle.cwr_share.specs.Registered.{IsShareLine}
@@ -11,7 +11,7 @@ use Rattle.cwr_share.specs.declared.reading.Reading.{Reading}
 use Rattle.cwr_share.specs.declared.reading.Open.{Open}
 
 -- each work with its share lines
-abbrev pub works_of : List (Vec ℕ Global) → List (Vec ShareLine Global) → List (List ℕ × List ShareLine)
+abbrev pub works_of : List WorkNumber → List (Vec ShareLine Global) → List (List ℕ × List ShareLine)
 works_of works registrations = map (λ entry. (entry.0.items, entry.1.items)) (zip works registrations)
 
 -- the share lines of one registration

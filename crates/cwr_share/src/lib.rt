@@ -8,16 +8,19 @@
 
 mod cwr_fault;
 pub mod fields;
+mod kept;
 pub mod laws;
 mod lines;
 mod parties;
 mod reading;
 mod record_type;
 mod registration;
+mod registrations;
 mod registry;
 mod share_line;
 #[cfg(test)]
 mod tests;
+mod work_number;
 
 pub use cwr_fault::CwrFault;
 pub use record_type::RecordType;

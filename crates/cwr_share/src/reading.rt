@@ -12,7 +12,9 @@ use crate::fields::{SPT, SWT, ShareFields, WORK};
 use crate::parties::parties_of;
 use crate::record_type::record_type;
 use crate::registration::Registration;
+use crate::registrations::Registrations;
 use crate::share_line::{Share, is_filled, trimmed};
+use crate::work_number::{WorkNumber, work_number};
 use crate::{CwrFault, RecordType, Registry};
 use indexmap::IndexSet;
 use std::alloc::{AllocError, Global};
@@ -20,7 +22,7 @@ use std::alloc::{AllocError, Global};
 /// What the lines so far came to: the registrations in force that have ended, and the open one.
 #[derive(Drop)]
 pub(crate) struct Reading {
-    works: IndexSet<Vec<u8>>,
+    works: IndexSet<WorkNumber>,
     /// The share lines of each work.
     registrations: Vec<Vec<Share>>,
     open: Option<Open>,
@@ -29,7 +31,7 @@ pub(crate) struct Reading {
 /// A registration that has not ended.
 #[derive(Drop)]
 struct Open {
-    work: Vec<u8>,
+    work: WorkNumber,
     shares: Vec<Share>,
     /// How many interests were opened in it.
     interest: usize,
@@ -82,7 +84,7 @@ impl Reading {
         }
         self.end()?;
         self.open = Some(Open {
-            work: Vec::from_slice(alloc, trimmed(work))?,
+            work: work_number(trimmed(work)),
             shares: Vec::new(alloc),
             interest: 0,
         });
@@ -158,7 +160,7 @@ impl Reading {
 /// The registry of these works with their share lines.
 fn registry_of(
     alloc: Global,
-    works: IndexSet<Vec<u8>>,
+    works: IndexSet<WorkNumber>,
     lists: Vec<Vec<Share>>,
 ) -> Result<Registry, CwrFault>
     requires paired { length works.keys ≡ length lists.items }
@@ -166,10 +168,11 @@ fn registry_of(
     ensures works { IfOk result (λ registry. registry.works ≡ works_of works.keys lists.items) }
     ensures fault { IfErr result (λ fault. (fault ≡ Memory) ⊎ ((fault ≡ Accounts) × HasManyFound (works_of works.keys lists.items))) }
 {
-    let mut registrations = Vec::with_capacity(alloc, works.len())?;
+    let mut registrations = Registrations::room(alloc, works.len())?;
     let parties = parties_of(alloc, lists.as_slice())?;
     for shares in &lists {
-        registrations.push(Registration::of(alloc, shares.as_slice(), parties.as_slice())?)?;
+        let registration = Registration::of(alloc, shares.as_slice(), parties.as_slice())?;
+        registrations = registrations.and(&registration)?;
     }
     Ok(Registry::of(works, registrations, parties))
 }

@@ -12,7 +12,8 @@ use crate::CwrFault;
 use crate::lines::Lines;
 use crate::parties::account_of;
 use crate::reading::Reading;
-use crate::registration::Registration;
+use crate::registrations::Registrations;
+use crate::work_number::{Sought, WorkNumber};
 use indexmap::IndexSet;
 use line_split::{Account, Claims, Line, MOST_CLAIMS, Reason};
 use std::alloc::{AllocError, Global};
@@ -22,9 +23,9 @@ use tis_tree::{Code, MOST_ROWS, TisTable};
 /// The registrations in force of a file, and the accounts of their parties.
 #[derive(Drop)]
 pub struct Registry {
-    works: IndexSet<Vec<u8>>,
+    works: IndexSet<WorkNumber>,
     /// The registration of each work.
-    registrations: Vec<Registration>,
+    registrations: Registrations,
     /// The party of each account; the residue's has none.
     parties: Vec<Vec<u8>>,
 }
@@ -36,9 +37,9 @@ impl Model for Registry {
 
     ghost Value = { Registered };
 
-    ghost view = { λ r. registered_as r.works.keys r.registrations.items r.parties.items };
+    ghost view = { λ r. registered_as r.works.keys r.registrations r.parties.items };
 
-    ghost invariant = { λ r. IsRegistered (registered_as r.works.keys r.registrations.items r.parties.items) × AreKept r.works.keys r.registrations.items r.parties.items };
+    ghost invariant = { λ r. IsRegistered (registered_as r.works.keys r.registrations r.parties.items) × AreKept r.works.keys r.registrations r.parties.items };
 }
 
 impl Registry {
@@ -62,13 +63,13 @@ impl Registry {
 
     /// The registry of these parts.
     pub(crate) fn of(
-        works: IndexSet<Vec<u8>>,
-        registrations: Vec<Registration>,
+        works: IndexSet<WorkNumber>,
+        registrations: Registrations,
         parties: Vec<Vec<u8>>,
     ) -> Registry
-        requires sound { IsRegistered (registered_as works.keys registrations.items parties.items) }
-        requires kept { AreKept works.keys registrations.items parties.items }
-        ensures { result ≡ registered_as works.keys registrations.items parties.items }
+        requires sound { IsRegistered (registered_as works.keys registrations parties.items) }
+        requires kept { AreKept works.keys registrations parties.items }
+        ensures { result ≡ registered_as works.keys registrations parties.items }
     {
         Registry {
             works,
@@ -136,13 +137,14 @@ impl Registry {
         ensures room { out.new.room ≡ out.old.room }
     {
         out.clear();
-        let Some(place) = self.works.get_index_of(line.work.as_slice()) else {
+        let Some(place) = self.works.get_index_of(Sought(line.work.as_slice())) else {
             return Some(Reason::Work);
         };
         let Some(land) = land_of(tis, line.territory) else {
             return Some(Reason::Land);
         };
-        if self.registrations[place].claims(tis, land, line.right, out) {
+        let registration = self.registrations.at(place);
+        if registration.claims(tis, land, line.right, out) {
             None
         } else {
             Some(Reason::Over)

@@ -1,6 +1,6 @@
 use Rattle.std.proofs.Common.{◌≡◌, ◌∙◌, ◌<◌, Global, Vec, ap, arith, length, map, refl, subst, sym, ℕ}
 use Rattle.std.proofs.lemmas.List.{length-map, take_all}
-use Rattle.cwr_share.specs.Compiled.{IsCompiled, gathered}
+use Rattle.cwr_share.specs.Compiled.{IsCompiled, gathered, line_by}
 use Rattle.cwr_share.specs.Registrations.{ShareLine}
 use Rattle.cwr_share.proofs.CompiledLemmas.{compiled_next, compiled_none, kept_next}
 use Rattle.cwr_share.proofs.registration.Registration.of.Goals as goal
@@ -44,7 +44,13 @@ pub returns-clause-kept : goal.returns-clause-kept
 returns-clause-kept c =
     let compiled = subst (λ lines. IsCompiled (map (λ (party : Vec ℕ Global). party.items) c.args.parties.now) lines (map gathered c.loop-place.accounts.items))
     (sym c.loop-place.invariant.kept) c.loop-place.invariant.compiled in
-    record { compiled = rw (c.in_ok-places.ensures.payees, c.as_slice-2.ensures.value) compiled; inside = c.in_ok-places.ensures.inside }
+    let long = rw c.as_slice-2.ensures.value at c.in_ok-places.ensures.long in
+    let kept = length-map c.loop-place.kept.items (line_by (map (λ (party : Vec ℕ Global). party.items) c.args.parties.now)) in
+    record {
+      compiled = rw (c.in_ok-places.ensures.payees, c.as_slice-2.ensures.value) compiled;
+      inside = c.in_ok-places.ensures.inside;
+      paired = omega (arith, long, compiled.total, kept);
+    }
 
 pub returns-clause-shares : goal.returns-clause-shares
 returns-clause-shares c = c.loop-place.invariant.kept ∙ take_all c.loop-place.place c.args.shares.now (omega arith)

@@ -8,7 +8,7 @@ use Rattle.cwr_share.proofs.registry.Registry.works.Goals as goal
 pub returns-clause-works : goal.returns-clause-works
 returns-clause-works c =
     let works = c.self.inside.works.keys in
-    let registrations = c.self.inside.registrations.items in
+    let registrations = c.self.inside.registrations in
     let seen = ap (λ (r : Registered). length r.works) c.self.view_is in
     let long : length (entries (map (λ (party : Vec ℕ Global). party.items) c.self.inside.parties.items) works registrations) ≡ length (zip works registrations) = length-map (zip works registrations) _ in
-    omega (arith, seen, long, length-zip works registrations, c.self.invariant.1.paired, c.self.inside.registrations.ok.0, c.len.ensures)
+    omega (arith, seen, long, length-zip works registrations, c.self.invariant.1.paired, c.len.ensures)

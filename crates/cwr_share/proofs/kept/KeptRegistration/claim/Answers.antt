@@ -1,38 +1,46 @@
 use Rattle.std.proofs.Common.{◌≡◌, ◌∙◌, [], ◌-◌, ◌<◌, drop, length, arith, get_or, sym}
 use Rattle.std.proofs.lemmas.Bool.{not-false, not-true}
-use Rattle.std.proofs.lemmas.List.{drop_all}
-use Rattle.cwr_share.specs.Compiled.{line_by, lines_at, nameless}
+use Rattle.std.proofs.lemmas.List.{drop_all, get_or_default}
+use Rattle.cwr_share.specs.Compiled.{lent, line_by, lines_at, nameless}
 use Rattle.cwr_share.proofs.ClaimLemmas.{claimed_apart, claimed_before, claimed_more, claimed_none, length-lines_at, line_at, next_alike, next_good, next_line, share_small, within_lines}
-use Rattle.cwr_share.proofs.registration.Registration.claim.Goals as goal
-use Rattle.cwr_share.proofs.registration.Registration.claim.Goals.{then-ne+then-contains, else-ne, else-ne-via-then-ne+else-contains, else-ne-via-else-ne}
+use Rattle.cwr_share.proofs.kept.KeptRegistration.claim.Goals as goal
+use Rattle.cwr_share.proofs.kept.KeptRegistration.claim.Goals.{then-ne+then-contains, else-ne, else-ne-via-then-ne+else-contains, else-ne-via-else-ne}
 
 pub loop-count-init : goal.loop-count-init
 loop-count-init c =
     let places = c.args.places.now in
-    let none : drop (length places - 0) (lines_at (nameless c.args.self.now) places) ≡ [] = drop_all (length places - 0) (lines_at (nameless c.args.self.now) places) (omega (arith, length-lines_at (nameless c.args.self.now) places)) in
+    let none : drop (length places - 0) (lines_at (nameless (lent c.args.self.now)) places) ≡ [] = drop_all (length places - 0) (lines_at (nameless (lent c.args.self.now)) places) (omega (arith, length-lines_at (nameless (lent c.args.self.now)) places)) in
     rw none (claimed_none c.args.tis.now c.args.land c.args.right)
 
 pub overflow_add-claim : goal.overflow_add-claim
 overflow_add-claim c =
-    let share = c.index-share.result.now in
+    let shares = c.args.self.now.shares.now in
     let places = c.args.places.now in
     let some : c.loop-count.count < length places = omega arith in
-    let within = within_lines [] c.args.self.now.shares.items places c.requires.within in
-    let is = line_at [] c.args.self.now.shares.items (get_or places (length places - 1 - c.loop-count.count) 0) share (c.requires.within (length places - 1 - c.loop-count.count) 0 (omega arith)) c.index-share.ensures in
-    let good = next_good (nameless c.args.self.now) places c.loop-count.count (line_by [] share) some within is c.requires.lines in
+    let place = get_or places (length places - 1 - c.loop-count.count) 0 in
+    let inside : place < length shares = c.requires.within (length places - 1 - c.loop-count.count) 0 (omega arith) in
+    let share = get_or shares place c.index-self-places.result in
+    let itself : share ≡ get_or shares place share = get_or_default shares place c.index-self-places.result share inside in
+    let within = within_lines [] c.args.self.now.shares.now places c.requires.within in
+    let is = line_at [] shares place share inside itself in
+    let good = next_good (nameless (lent c.args.self.now)) places c.loop-count.count (line_by [] share) some within is c.requires.lines in
     omega (arith, c.loop-count.invariant.small, share_small c.args.right (line_by [] share) good, c.share_for-claim.ensures, c.requires.few)
 
 pub loop-count-preserved : goal.loop-count-preserved
 loop-count-preserved c =
-    let share = c.index-share.result.now in
-    let line = line_by [] share in
-    let lines = nameless c.args.self.now in
+    let shares = c.args.self.now.shares.now in
+    let lines = nameless (lent c.args.self.now) in
     let places = c.args.places.now in
     let count = c.loop-count.count in
-    let within = within_lines [] c.args.self.now.shares.items places c.requires.within in
-    let its = line_at [] c.args.self.now.shares.items (get_or places (length places - 1 - count) 0) share (c.requires.within (length places - 1 - count) 0 (omega arith)) c.index-share.ensures in
-    let later = drop (length places - count) (lines_at lines places) in
     let some : count < length places = omega arith in
+    let place = get_or places (length places - 1 - count) 0 in
+    let inside : place < length shares = c.requires.within (length places - 1 - count) 0 (omega arith) in
+    let share = get_or shares place c.index-self-places.result in
+    let itself : share ≡ get_or shares place share = get_or_default shares place c.index-self-places.result share inside in
+    let line = line_by [] share in
+    let within = within_lines [] c.args.self.now.shares.now places c.requires.within in
+    let its = line_at [] shares place share inside itself in
+    let later = drop (length places - count) (lines_at lines places) in
     let alike = next_alike lines places count line some within its c.requires.alike in
     let good = next_good lines places count line some within its c.requires.lines in
     let is = c.ne.ensures in
