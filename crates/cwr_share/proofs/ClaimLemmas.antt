@@ -4,17 +4,19 @@ use Rattle.std.specs.Prelude.{Any, IsTrue, ◌↔◌, ◌==◌, ◌&&◌, if◌t
 use Rattle.std.specs.List.{enumerate_from, list_any, range_with_len}
 use Rattle.std.specs.Option.{option_eq}
 use Rattle.std.specs.Cmp.Lexicographic.{pointwise}
-use Rattle.std.proofs.lemmas.Bool.{cases_Bool, false_from_ne_true, le-leb, le-ltb, leb-false, leb-true, lt-leb, lt-ltb, false≢true, cases_eq, and_parts, and_right, eqb-true, eq-eqb, ne_eqb}
+use Rattle.std.proofs.lemmas.Bool.{cases_Bool, false_from_ne_true, le-leb, le-ltb, leb-false, leb-true, lt-leb, lt-ltb, false≢true, cases_eq, cases_lt, and_parts, and_right, eqb-true, eq-eqb, ne_eqb}
 use Rattle.std.proofs.lemmas.Bool.Decides.{same_from_decides}
-use Rattle.std.proofs.lemmas.List.{get_or-map, get_or_default, length-map, length-drop, length-take-le, drop_more, get_or-drop, get_or-take, same_lists, take_all}
-use Rattle.std.proofs.lemmas.List.Elements.{All-contains, All-filter, All-map, All-tail, filter_more, filter_passes}
+use Rattle.std.proofs.lemmas.List.{append_assoc, drop_all, drop-drop, get_or-append_right, get_or-map, length-append, get_or_append_left, get_or_default, length-map, length_push, length-drop, length-take-le, drop_more, get_or-drop, get_or-take, same_lists, take_all}
+use Rattle.std.proofs.lemmas.List.Elements.{All-append, All-contains, All-filter, All-push, All-map, All-tail, filter_more, filter_passes}
 use Rattle.std.proofs.lemmas.List.Kept.{AllPairs-filter}
 use Rattle.std.proofs.lemmas.List.Folds.{Any-from_list_any, list_any_at, list_any_none}
 use Rattle.std.proofs.lemmas.List.FromFn.{get_or-enumerate_from, get_or-map-range_with_len, length-enumerate_from, length-map-range_with_len}
 use Rattle.std.proofs.lemmas.List.Sums.{count_by-le-length, length-filter, sum_by-cons, sum_by-take-le, sum_by_more}
 use Rattle.std.proofs.lemmas.Slice.Eq.{bytes_eq-Decides}
+use Rattle.std.proofs.lemmas.Grind.{flat_map-append}
+use Rattle.std.proofs.Math.Seq.{drop-append_seam, get_or-append_seam}
 use Rattle.csv_table.specs.declared.forms.TheConstants.{MOST_CODE}
-use Rattle.tis_tree.specs.Territories.{AreTerritories, IsKnown, row_at}
+use Rattle.tis_tree.specs.Territories.{AreTerritories, IsKnown, encloses, row_at}
 use Rattle.tis_tree.proofs.Enclosing.{at_known, known_at}
 use Rattle.line_split.specs.Claims.{total_of}
 use Rattle.line_split.specs.declared.TheConstants.{FULL_SHARE, MOST_CLAIMED}
@@ -23,140 +25,243 @@ use Rattle.line_split.specs.declared.usage.Line.{Line}
 use Rattle.line_split.specs.declared.usage.Right.{Right}
 use Rattle.line_split.specs.declared.usage.Right.TheVariants.{P, M, S}
 use Rattle.cwr_share.specs.ClaimsOn.{claim_of, claims_among, claims_by, claims_on, covers, deciding, is_alike, is_known, reason_against, renamed, share_for}
-use Rattle.cwr_share.specs.Compiled.{InterestsRise, IsCompiled, IsSmall, Kept, claims_of_payees, kept_lines, line_by, lines_at, lines_of_party, nameless, payees_of, seen}
-use Rattle.cwr_share.specs.declared.registration.Payee.{Payee}
+use Rattle.cwr_share.specs.Compiled.{AreClaimLines, InterestsRise, IsCompiled, Kept, begins_interest, claim_line, claim_lines, claims_of_payees, kept_lines, line_by, lines_at, lines_of_party, lines_of_payees, nameless, places_in, share_under}
+use Rattle.cwr_share.specs.declared.claim_line.ClaimLine.{ClaimLine}
 use Rattle.cwr_share.specs.declared.share_line.KeptShare.{KeptShare}
 use Rattle.cwr_share.specs.Registered.{IsShareLine, Registered}
 use Rattle.cwr_share.specs.Registrations.{ShareLine, find_work}
 use Rattle.cwr_share.proofs.CompiledLemmas.{LookedUp, AllPairs-head, AllPairs-tail, contains_cases, lines_of_party_none, same_text}
-
--- no share is over 100.00 per cent
-pub share_small : (right : Right) (line : ShareLine) → IsSmall line → share_for right line ≤ FULL_SHARE
-share_small right line good = elim (cases_Bool line.includes) [
-  | inl includes ↦ rw includes (by right)
-  | inr excludes ↦ rw excludes (omega arith)
-]
-  where
-    by : (right : Right) → share_for right (record line { includes = true }) ≤ FULL_SHARE
-    by P = good.performing
-    by M = good.mechanical
-    by S = good.synchronisation
 
 -- two lines of one party, of which the later has no lower interest
 abbrev pub IsAlike : ShareLine → ShareLine → Type 0
 IsAlike line later = (line.party ≡ later.party) × (line.interest ≤ later.interest)
 
 module _ (table : List (ℕ × List ℕ)) (land : ℕ) where
-  -- the interest of the first line whose territory contains the land
-  abbrev pub decided_by : List ShareLine → Option ℕ
-  decided_by lines = option_map (λ line. line.interest) (find (covers table land) lines)
-
   -- a later line of the interest and party whose territory contains the land
   abbrev pub has_later : ShareLine → List ShareLine → Bool
   has_later line later = list_any (λ other. is_alike line other && covers table land other) later
 
-  -- among the lines of a party the first one that contains the land tells
-  pub decided_tells : (line : ShareLine) (later : List ShareLine) → All (IsAlike line) later → AllPairs IsAlike later → option_eq nat_eq (decided_by later) (Some line.interest) ≡ has_later line later
-  decided_tells line [] alike pairs = refl
-  decided_tells line (other ∷ later) alike pairs =
-      let (party, low) = alike 0 other (omega arith) in
-      let above : All (IsAlike other) later = AllPairs-head IsAlike other later pairs in
-      let rest = decided_tells line later (All-tail (IsAlike line) other later alike) (AllPairs-tail IsAlike other later pairs) in
-      elim (cases_Bool (covers table land other)) [
-        | inr apart ↦ rw (apart, and_right (is_alike line other) false refl) rest
-        | inl here ↦ elim (cases_eq line.interest other.interest) [
-          | inl same ↦
-              let first : (other.interest == line.interest) ≡ true = eq-eqb other.interest line.interest (sym same) in
-              let second : (line.interest == other.interest) ≡ true = eq-eqb line.interest other.interest same in
-              rw (here, first, second, same_text line.party other.party party) refl
-          | inr different ↦
-              let first : (other.interest == line.interest) ≡ false = ne_eqb other.interest line.interest (λ same. different (sym same)) in
-              let second : (line.interest == other.interest) ≡ false = ne_eqb line.interest other.interest different in
-              let none : has_later line later ≡ false = list_any_none (λ other. is_alike line other && covers table land other) later
-              (λ k d within.
-              let apart : (line.interest == (get_or later k d).interest) ≡ false =
-              ne_eqb line.interest (get_or later k d).interest (λ same. different (let high = (above k d within).1 in omega (arith, high, low, same))) in
-              rw apart refl) in
-              rw (here, first, second, none) refl
-        ]
+  -- among lines that are alike, one of the interest of the first contains the land
+  abbrev pub is_decided : List ShareLine → Bool
+  is_decided [] = false
+  is_decided (line ∷ later) = has_later line (line ∷ later)
+
+  -- what tells of the first of the lines after it tells of a line of the same interest, and nothing of another
+  pub before_tells : (line : ShareLine) (later : List ShareLine) → AllPairs IsAlike (line ∷ later) → (not (begins_interest line later) && is_decided later) ≡ has_later line later
+  before_tells line [] alike = refl
+  before_tells line (next ∷ later) alike =
+      let (party, low) = AllPairs-head IsAlike line (next ∷ later) alike 0 next (omega arith) in
+      let above : All (IsAlike next) later = AllPairs-head IsAlike next later (AllPairs-tail IsAlike line (next ∷ later) alike) in
+      elim (cases_eq next.interest line.interest) [
+        | inl same ↦
+            let one : (next.interest, next.party) ≡ (line.interest, line.party) = cc (same, party) in
+            rw (eq-eqb next.interest line.interest same)
+            (ap (λ (of : ℕ × List ℕ). list_any (λ other. ((of.0 == other.interest) && pointwise nat_eq of.1 other.party) && covers table land other) (next ∷ later)) one)
+        | inr different ↦
+            let none : has_later line (next ∷ later) ≡ false = list_any_none (λ other. is_alike line other && covers table land other) (next ∷ later)
+            (λ k d within.
+            let apart : (line.interest == (get_or (next ∷ later) k d).interest) ≡ false =
+            ne_eqb line.interest (get_or (next ∷ later) k d).interest (λ same. different (not_lower k d within low above same)) in
+            rw apart refl) in
+            rw (ne_eqb next.interest line.interest different) (sym none)
       ]
+    where
+      not_lower : (k : ℕ) (d : ShareLine) → k < length (next ∷ later) → line.interest ≤ next.interest → All (IsAlike next) later → line.interest ≡ (get_or (next ∷ later) k d).interest → next.interest ≡ line.interest
+      not_lower zero d within low above same = sym same
+      not_lower (suc k) d within low above same = let high = (above k d (omega (arith, within))).1 in omega (arith, high, low, same)
 
-  -- what some lines come to, and the interest of the first of them whose territory contains the land
-  pub record Claimed (right : Right) (lines : List ShareLine) (claim : ℕ) (decided : Option ℕ) (count : ℕ) : Type 0 where
+  -- what some lines come to, and whether the interest of the first is decided
+  pub record Claimed (right : Right) (lines : List ShareLine) (claim : ℕ) (decided : Bool) : Type 0 where
     pub sum : claim ≡ sum_by (share_for right) (deciding table land lines)
-    pub small : claim ≤ count * FULL_SHARE
-    pub first : decided ≡ decided_by lines
+    pub first : decided ≡ is_decided lines
 
-  pub claimed_none : (right : Right) → Claimed right [] 0 None 0
+  pub claimed_none : (right : Right) → Claimed right [] 0 false
   unfolding deciding
-  claimed_none right = record { sum = refl; small = omega arith; first = refl }
+  claimed_none right = record { sum = refl; first = refl }
 
-  module _ (right : Right) (line : ShareLine) (later : List ShareLine) (claim : ℕ) (decided : Option ℕ) (count : ℕ) (alike : AllPairs IsAlike (line ∷ later))
-      (good : IsSmall line) (claimed : Claimed right later claim decided count) where
+  module _ (right : Right) (line : ShareLine) (later : List ShareLine) (claim : ℕ) (decided : Bool) (alike : AllPairs IsAlike (line ∷ later))
+      (claimed : Claimed right later claim decided) (covered : Bool) (is : covers table land line ≡ covered) where
     -- whether a line after it decides
-    tells : option_eq nat_eq decided (Some line.interest) ≡ has_later line later
-    tells = rw claimed.first (decided_tells line later (AllPairs-head IsAlike line later alike) (AllPairs-tail IsAlike line later alike))
+    tells : (not (begins_interest line later) && decided) ≡ has_later line later
+    tells = rw claimed.first (before_tells line later alike)
+
+    itself : is_alike line line ≡ true
+    itself = rw (eq-eqb line.interest line.interest refl, same_text line.party line.party refl) refl
 
     -- the line decides
-    pub claimed_more : option_eq nat_eq decided (Some line.interest) ≡ false → covers table land line ≡ true → Claimed right (line ∷ later) (claim + share_for right line) (Some line.interest) (count + 1)
+    pub claimed_more : (not (begins_interest line later) && decided) ≡ false → covered ≡ true → Claimed right (line ∷ later) (claim + share_for right line) true
     unfolding deciding
     claimed_more new here =
         let none : has_later line later ≡ false = sym tells ∙ new in
+        let covers_it : covers table land line ≡ true = is ∙ here in
         record {
-          sum = rw (here, none) (omega (arith, claimed.sum, sum_by-cons (share_for right) line (deciding table land later)));
-          small = omega (arith, claimed.small, share_small right line good);
-          first = rw here refl;
+          sum = rw (covers_it, none) (omega (arith, claimed.sum, sum_by-cons (share_for right) line (deciding table land later)));
+          first = rw (itself, covers_it) refl;
         }
 
-    -- its territory does not contain the land
-    pub claimed_apart : covers table land line ≡ false → Claimed right (line ∷ later) claim decided (count + 1)
+    -- it does not, where its territory does not contain the land
+    pub claimed_apart : (not (begins_interest line later) && decided) ≡ false → covered ≡ false → Claimed right (line ∷ later) claim false
     unfolding deciding
-    claimed_apart apart = record { sum = rw apart claimed.sum; small = omega (arith, claimed.small); first = rw apart claimed.first }
+    claimed_apart new apart =
+        let none : has_later line later ≡ false = sym tells ∙ new in
+        let covers_none : covers table land line ≡ false = is ∙ apart in
+        record { sum = rw covers_none claimed.sum; first = rw (covers_none, and_right (is_alike line line) false refl) (sym none) }
 
-    -- a later line decides
-    pub claimed_before : option_eq nat_eq decided (Some line.interest) ≡ true → Claimed right (line ∷ later) claim decided (count + 1)
+    -- nor where a later line does
+    pub claimed_before : (not (begins_interest line later) && decided) ≡ true → Claimed right (line ∷ later) claim true
     unfolding deciding
-    claimed_before old = elim (cases_Bool (covers table land line)) [
-      | inr apart ↦ claimed_apart apart
-      | inl here ↦
-          let some : has_later line later ≡ true = sym tells ∙ old in
-          record { sum = rw (here, some) claimed.sum; small = omega (arith, claimed.small); first = rw here (same_option decided line.interest old) }
-    ]
-      where
-        same_option : (decided : Option ℕ) (interest : ℕ) → option_eq nat_eq decided (Some interest) ≡ true → decided ≡ Some interest
-        same_option None interest told = absurd (false≢true told)
-        same_option (Some other) interest told = ap Some (eqb-true other interest told)
+    claimed_before old =
+        let some : has_later line later ≡ true = sym tells ∙ old in
+        record {
+          sum = elim (cases_Bool (covers table land line)) [ inr apart ↦ rw apart claimed.sum | inl here ↦ rw (here, some) claimed.sum ];
+          first = elim (cases_Bool (covers table land line)) [ inr apart ↦ rw (apart, and_right (is_alike line line) false refl) (sym some) | inl here ↦ rw (itself, here) refl ];
+        }
 
--- as many lines as places
-pub length-lines_at : (lines : List ShareLine) (places : List ℕ) → length (lines_at lines places) ≡ length places
-length-lines_at lines places = length-map places _
+-- The share lines of an account as claims are worked out: the last one first.
+
+-- one line more before the others comes last
+pub claim_lines_more : (account : ℕ) (line : ShareLine) (later : List ShareLine) → claim_lines account (line ∷ later) ≡ claim_lines account later ++ claim_line account (begins_interest line later) line ∷ []
+unfolding claim_lines
+claim_lines_more account line later = refl
+
+pub claim_lines_none : (account : ℕ) → claim_lines account [] ≡ []
+unfolding claim_lines
+claim_lines_none account = refl
+
+pub length-claim_lines : (account : ℕ) (lines : List ShareLine) → length (claim_lines account lines) ≡ length lines
+unfolding claim_lines
+length-claim_lines account [] = refl
+length-claim_lines account (line ∷ later) = omega (arith, length-claim_lines account later, length_push (claim_lines account later) (claim_line account (begins_interest line later) line))
+
+pub of_its_account : (account : ℕ) (lines : List ShareLine) → All (λ line. line.account ≡ account) (claim_lines account lines)
+unfolding claim_lines
+of_its_account account [] = λ k d within. absurd (omega arith)
+of_its_account account (line ∷ later) = All-push (λ line. line.account ≡ account) (claim_lines account later) (claim_line account (begins_interest line later) line) (of_its_account account later) refl
+
+-- the one at a place from the front is the one at that place from the back
+pub claim_line_at : (account : ℕ) (lines : List ShareLine) (others : List ClaimLine) (count : ℕ) (d : ClaimLine) (e : ShareLine) → count < length lines
+    → get_or (claim_lines account lines ++ others) count d
+    ≡ claim_line account (begins_interest (get_or lines (length lines - 1 - count) e) (drop (length lines - count) lines)) (get_or lines (length lines - 1 - count) e)
+unfolding claim_lines
+claim_line_at account [] others count d e within = absurd (omega (arith, within))
+claim_line_at account (line ∷ later) others count d e within = by (cases_lt count (length later)) (claim_line_at account later (this ∷ others) count d e)
+  where
+    this : ClaimLine
+    this = claim_line account (begins_interest line later) line
+
+    together : (claim_lines account later ++ this ∷ []) ++ others ≡ claim_lines account later ++ this ∷ others
+    together = append_assoc (claim_lines account later) (this ∷ []) others
+
+    by : (count < length later) ⊎ (length later ≤ count)
+        → (count < length later → get_or (claim_lines account later ++ this ∷ others) count d
+        ≡ claim_line account (begins_interest (get_or later (length later - 1 - count) e) (drop (length later - count) later)) (get_or later (length later - 1 - count) e))
+        → get_or ((claim_lines account later ++ this ∷ []) ++ others) count d
+        ≡ claim_line account (begins_interest (get_or (line ∷ later) (length (line ∷ later) - 1 - count) e) (drop (length (line ∷ later) - count) (line ∷ later))) (get_or (line ∷ later) (length (line ∷ later) - 1 - count) e)
+    by (inl inside) rest =
+        let first : length (line ∷ later) - 1 - count ≡ suc (length later - 1 - count) = omega arith in
+        let second : length (line ∷ later) - count ≡ suc (length later - count) = omega arith in
+        rw (together, first, second) (rest inside)
+    by (inr last) rest =
+        let its : count ≡ length (claim_lines account later) = omega (arith, within, last, length-claim_lines account later) in
+        let first : length (line ∷ later) - 1 - count ≡ 0 = omega arith in
+        let second : length (line ∷ later) - count ≡ 1 = omega arith in
+        rw (together, first, second) (ap (λ n. get_or (claim_lines account later ++ this ∷ others) n d) its ∙ get_or-append_seam (claim_lines account later) this others d)
 
 -- what is left of a list whose pairs are related
 AllPairs-drop : {X : Type 0} (R : X → X → Type 0) (n : ℕ) (xs : List X) → AllPairs R xs → AllPairs R (drop n xs)
 AllPairs-drop R n xs pairs = λ i j d before within. rw (get_or-drop n xs i d, get_or-drop n xs j d) (pairs (n + i) (n + j) d (omega (arith, before)) (omega (arith, within, length-drop n xs)))
 
-module _ (lines : List ShareLine) (places : List ℕ) (count : ℕ) (line : ShareLine) (some : count < length places) (within : All (λ place. place < length lines) places)
-    (is : line ≡ get_or lines (get_or places (length places - 1 - count) 0) line) where
-  -- one line more from the last one back
-  pub next_line : drop (length places - (count + 1)) (lines_at lines places) ≡ line ∷ drop (length places - count) (lines_at lines places)
+-- one line more from the last one back
+module _ (lines : List ShareLine) (count : ℕ) (e : ShareLine) (some : count < length lines) where
+  pub next_line : drop (length lines - (count + 1)) lines ≡ get_or lines (length lines - 1 - count) e ∷ drop (length lines - count) lines
   next_line =
-      let place = length places - 1 - count in
-      let inside : place < length places = omega arith in
-      let here : get_or (lines_at lines places) place line ≡ line = get_or-map _ places place 0 line inside ∙ (get_or_default lines (get_or places place 0) _ line (within place 0 inside) ∙ sym is) in
-      let first : length places - (count + 1) ≡ place = omega arith in
-      let second : place + 1 ≡ length places - count = omega arith in
-      rw (first, sym second) (drop_more (lines_at lines places) place line (omega (arith, length-lines_at lines places)) ∙ ap (λ l. l ∷ drop (place + 1) (lines_at lines places)) here)
+      let place = length lines - 1 - count in
+      let first : length lines - (count + 1) ≡ place = omega arith in
+      let second : place + 1 ≡ length lines - count = omega arith in
+      rw (first, sym second) (drop_more lines place e (omega arith))
 
   -- it is alike with those after it
-  pub next_alike : AllPairs IsAlike (lines_at lines places) → AllPairs IsAlike (line ∷ drop (length places - count) (lines_at lines places))
-  next_alike alike = rw next_line at (AllPairs-drop IsAlike (length places - (count + 1)) (lines_at lines places) alike)
+  pub next_alike : AllPairs IsAlike lines → AllPairs IsAlike (get_or lines (length lines - 1 - count) e ∷ drop (length lines - count) lines)
+  next_alike alike = rw next_line at (AllPairs-drop IsAlike (length lines - (count + 1)) lines alike)
 
-  -- it is in its limits
-  pub next_good : All IsSmall lines → IsSmall line
-  next_good all =
-      let place = length places - 1 - count in
-      let inside : place < length places = omega arith in
-      subst IsSmall (sym is) (all (get_or places place 0) line (within place 0 inside))
+-- as many lines as places
+pub length-lines_at : (lines : List ShareLine) (places : List ℕ) → length (lines_at lines places) ≡ length places
+length-lines_at lines places = length-map places _
+
+-- what a line gives is what its share line gives
+share_same : (right : Right) (account : ℕ) (begins : Bool) (line : ShareLine) → share_under right (claim_line account begins line) ≡ share_for right line
+share_same P account begins line = refl
+share_same M account begins line = refl
+share_same S account begins line = refl
+
+abbrev no_line : ShareLine
+no_line = record { interest = 0; party = []; performing = 0; mechanical = 0; synchronisation = 0; includes = false; territory = 0 }
+
+-- The next line of the account whose lines come first.
+module _ (table : List (ℕ × List ℕ)) (land : ℕ) (right : Right) (lines : List ClaimLine) (count : ℕ) (line : ClaimLine) (is : line ≡ get_or lines count line) (claim : ℕ) (decided : Bool)
+    (account : ℕ) (first : List ShareLine) (others : List ClaimLine) (split : lines ≡ claim_lines account first ++ others) (alike : AllPairs IsAlike first) (some : count < length first)
+    (claimed : Claimed table land right (drop (length first - count) first) claim decided) where
+  abbrev its_line : ShareLine
+  its_line = get_or first (length first - 1 - count) no_line
+
+  abbrev after_it : List ShareLine
+  after_it = drop (length first - count) first
+
+  same_line : line ≡ claim_line account (begins_interest its_line after_it) its_line
+  same_line = is ∙ (ap (λ (l : List ClaimLine). get_or l count line) split ∙ claim_line_at account first others count line no_line some)
+
+  begins : line.begins ≡ begins_interest its_line after_it
+  begins = ap (λ (l : ClaimLine). l.begins) same_line
+
+  territory : line.territory ≡ its_line.territory
+  territory = ap (λ (l : ClaimLine). l.territory) same_line
+
+  share : share_under right line ≡ share_for right its_line
+  share = ap (share_under right) same_line ∙ share_same right account (begins_interest its_line after_it) its_line
+
+  one_more : drop (length first - (count + 1)) first ≡ its_line ∷ after_it
+  one_more = next_line first count no_line some
+
+  alike_here : AllPairs IsAlike (its_line ∷ after_it)
+  alike_here = next_alike first count no_line some alike
+
+  -- it decides
+  pub step_more : (not line.begins && decided) ≡ false → encloses table line.territory land ≡ true → Claimed table land right (drop (length first - (count + 1)) first) (claim + share_under right line) true
+  step_more new here =
+      rw (one_more, share) (claimed_more table land right its_line after_it claim decided alike_here claimed true (rw territory at here) (rw begins at new) refl)
+
+  -- its territory does not contain the land
+  pub step_apart : (not line.begins && decided) ≡ false → encloses table line.territory land ≡ false → Claimed table land right (drop (length first - (count + 1)) first) claim false
+  step_apart new apart = rw one_more (claimed_apart table land right its_line after_it claim decided alike_here claimed false (rw territory at apart) (rw begins at new) refl)
+
+  -- its interest is decided
+  pub step_before : (not line.begins && decided) ≡ true → Claimed table land right (drop (length first - (count + 1)) first) claim true
+  step_before old = rw one_more (claimed_before table land right its_line after_it claim decided alike_here claimed (covers table land its_line) refl (rw begins at old))
+
+-- The lines of the first account end where those of another begin.
+module _ (lines : List ClaimLine) (count : ℕ) (same : (k : ℕ) (d : ClaimLine) → k < count → (get_or lines k d).account ≡ (get_or lines 0 d).account)
+    (account : ℕ) (first : List ShareLine) (others : List ClaimLine) (split : lines ≡ claim_lines account first ++ others) (some : 0 < length first) (apart : All (λ other. ¬ (other.account ≡ account)) others) where
+  long : length (claim_lines account first) ≡ length first
+  long = length-claim_lines account first
+
+  -- a line of it is of its account
+  pub within_first : (k : ℕ) (d : ClaimLine) → k < length first → (get_or lines k d).account ≡ account
+  within_first k d inside =
+      let there : k < length (claim_lines account first) = omega (arith, inside, long) in
+      ap (λ (l : List ClaimLine). (get_or l k d).account) split
+      ∙ (ap (λ (l : ClaimLine). l.account) (get_or_append_left (claim_lines account first) others d k there) ∙ of_its_account account first k d there)
+
+  -- no more lines than those are of one account
+  pub no_further : count ≤ length lines → count ≤ length first
+  no_further within = elim (cases_lt (length first) count) [
+    | inr short ↦ short
+    | inl past ↦
+        let d : ClaimLine = record { account = 0; shares = record { performing = 0; mechanical = 0; synchronisation = 0 }; territory = 0; begins = false } in
+        let next : get_or lines (length first) d ≡ get_or others 0 d =
+        ap (λ (l : List ClaimLine). get_or l (length first) d) split ∙ (get_or-append_right (claim_lines account first) others (length first) (length first) d long (omega arith) ∙ ap (λ n. get_or others n d) (omega arith)) in
+        let left : 0 < length others = omega (arith, past, within, ap (λ (l : List ClaimLine). length l) split, length-append (claim_lines account first) others, long) in
+        absurd (apart 0 d left (sym (ap (λ (l : ClaimLine). l.account) next) ∙ (same (length first) d past ∙ within_first 0 d some)))
+  ]
 
 -- whether a claim is not 0
 abbrev pub counts : ℕ × ℕ → Bool
@@ -213,44 +318,155 @@ module _ (all : List (ℕ × ℕ)) where
     pub gathered_over : MOST_CLAIMED < total + claim.1 → nat_le (total_of all) MOST_CLAIMED ≡ false
     gathered_over over = lt-leb (total_of all) MOST_CLAIMED (omega (arith, next_sum, sum_by-take-le (λ (claim : ℕ × ℕ). claim.1) all (n + 1), over))
 
--- the payee at a place, as it is seen
-pub seen_at : (places : List ℕ) (payees : List Payee) (k : ℕ) (payee : Payee) → k < length payees → payee ≡ get_or payees k payee → get_or (map (seen places) payees) k (seen places payee) ≡ seen places payee
-seen_at places payees k payee within is = get_or-map (seen places) payees k payee (seen places payee) within ∙ ap (seen places) (sym is)
-
--- what holds of each payee holds of it
-pub at_payee : (Holds : ℕ × List ℕ → Type 0) (places : List ℕ) (payees : List Payee) (k : ℕ) (payee : Payee) → All Holds (map (seen places) payees) → k < length payees → payee ≡ get_or payees k payee → Holds (seen places payee)
-at_payee Holds places payees k payee all within is = subst Holds (seen_at places payees k payee within is) (all k (seen places payee) (omega (arith, within, length-map payees (seen places))))
-
-module _ (table : List (ℕ × List ℕ)) (land : ℕ) (right : Right) (lines : List ShareLine) (places : List ℕ) where
+module _ (table : List (ℕ × List ℕ)) (land : ℕ) (right : Right) (lines : List ShareLine) (payees : List (ℕ × List ℕ)) where
   -- as many claims as payees
-  pub length-claims : (payees : List Payee) → length (claims_of_payees table land right lines (map (seen places) payees)) ≡ length payees
-  length-claims payees = length-map (map (seen places) payees) _ ∙ length-map payees (seen places)
+  pub length-claims : length (claims_of_payees table land right lines payees) ≡ length payees
+  length-claims = length-map payees _
 
-  module _ (payees : List Payee) (k : ℕ) (payee : Payee) (within : k < length payees) (is : payee ≡ get_or payees k payee) where
-    inside : k < length (map (seen places) payees)
-    inside = omega (arith, within, length-map payees (seen places))
-
+  module _ (k : ℕ) (payee : ℕ × List ℕ) (within : k < length payees) (is : payee ≡ get_or payees k payee) where
     -- the claim of a payee
-    pub claim_at : (claim : ℕ) → claim ≡ sum_by (share_for right) (deciding table land (lines_at lines (seen places payee).1))
-        → get_or (claims_of_payees table land right lines (map (seen places) payees)) k (payee.account, claim) ≡ (payee.account, claim)
+    pub claim_at : (claim : ℕ) → claim ≡ sum_by (share_for right) (deciding table land (lines_at lines payee.1))
+        → get_or (claims_of_payees table land right lines payees) k (payee.0, claim) ≡ (payee.0, claim)
     claim_at claim sum =
-        get_or-map _ (map (seen places) payees) k (seen places payee) (payee.account, claim) inside
-        ∙ (ap (λ (p : ℕ × List ℕ). (p.0, sum_by (share_for right) (deciding table land (lines_at lines p.1)))) (seen_at places payees k payee within is)
-        ∙ ap (λ n. (payee.account, n)) (sym sum))
+        get_or-map _ payees k payee (payee.0, claim) within
+        ∙ (ap (λ (p : ℕ × List ℕ). (p.0, sum_by (share_for right) (deciding table land (lines_at lines p.1)))) (sym is)
+        ∙ ap (λ n. (payee.0, n)) (sym sum))
 
     -- it is behind those of lower accounts
-    pub lower_accounts : AllPairs (λ payee later. payee.0 < later.0) (map (seen places) payees)
-        → All (λ other. other.0 < payee.account) (filter counts (take k (claims_of_payees table land right lines (map (seen places) payees))))
+    pub lower_accounts : AllPairs (λ payee later. payee.0 < later.0) payees → All (λ other. other.0 < payee.0) (filter counts (take k (claims_of_payees table land right lines payees)))
     lower_accounts rising =
-        let all = claims_of_payees table land right lines (map (seen places) payees) in
-        All-filter counts (λ other. other.0 < payee.account) (take k all)
+        let all = claims_of_payees table land right lines payees in
+        All-filter counts (λ other. other.0 < payee.0) (take k all)
         (λ j d kept.
-        let before : j < k = omega (arith, kept, length-take-le k all (omega (arith, within, length-claims payees))) in
+        let before : j < k = omega (arith, kept, length-take-le k all (omega (arith, within, length-claims))) in
         let this : get_or (take k all) j d ≡ get_or all j d = get_or-take k all j d before in
-        let there : j < length (map (seen places) payees) = omega (arith, before, inside) in
-        let other : (get_or all j d).0 ≡ (get_or (map (seen places) payees) j (seen places payee)).0 = ap (λ (p : ℕ × ℕ). p.0) (get_or-map _ (map (seen places) payees) j (seen places payee) d there) in
-        let lower = rising j k (seen places payee) before inside in
-        omega (arith, lower, ap (λ (p : ℕ × ℕ). p.0) this, other, ap (λ (p : ℕ × List ℕ). p.0) (seen_at places payees k payee within is)))
+        let there : j < length payees = omega (arith, before, within) in
+        let other : (get_or all j d).0 ≡ (get_or payees j payee).0 = ap (λ (p : ℕ × ℕ). p.0) (get_or-map _ payees j payee d there) in
+        let lower = rising j k payee before within in
+        omega (arith, lower, ap (λ (p : ℕ × ℕ). p.0) this, other, ap (λ (p : ℕ × List ℕ). p.0) is))
+
+-- as many lines as places
+pub length-lines_of_payees : (named : List ShareLine) (payees : List (ℕ × List ℕ)) → length (lines_of_payees named payees) ≡ places_in payees
+length-lines_of_payees named [] = refl
+length-lines_of_payees named (payee ∷ later) =
+    let front = claim_lines payee.0 (lines_at named payee.1) in
+    omega (
+      arith,
+      length-append front (lines_of_payees named later),
+      length-claim_lines payee.0 (lines_at named payee.1),
+      length-lines_at named payee.1,
+      length-lines_of_payees named later,
+      sum_by-cons (λ (p : ℕ × List ℕ). length p.1) payee later,
+    )
+
+-- one payee more
+pub lines_of_payees_push : (named : List ShareLine) (payees : List (ℕ × List ℕ)) (payee : ℕ × List ℕ) → lines_of_payees named (payees ++ payee ∷ []) ≡ lines_of_payees named payees ++ claim_lines payee.0 (lines_at named payee.1)
+lines_of_payees_push named payees payee =
+    flat_map-append (λ payee. claim_lines payee.0 (lines_at named payee.1)) payees (payee ∷ [])
+    ∙ ap (λ (l : List ClaimLine). lines_of_payees named payees ++ l) (append-nil (claim_lines payee.0 (lines_at named payee.1)))
+
+-- the lines of payees are of their accounts
+of_payees : (named : List ShareLine) (Holds : ℕ → Type 0) (payees : List (ℕ × List ℕ)) → All (λ payee. Holds payee.0) payees → All (λ line. Holds line.account) (lines_of_payees named payees)
+of_payees named Holds [] all = λ k d within. absurd (omega arith)
+of_payees named Holds (payee ∷ later) all =
+    All-append (λ line. Holds line.account) (claim_lines payee.0 (lines_at named payee.1)) (lines_of_payees named later)
+    (λ k d within. subst Holds (sym (of_its_account payee.0 (lines_at named payee.1) k d within)) (all 0 payee (omega arith)))
+    (of_payees named Holds later (All-tail (λ payee. Holds payee.0) payee later all))
+
+-- The lines from the first of a payee on.
+module _ (named : List ShareLine) (payees : List (ℕ × List ℕ)) (lines : List ClaimLine) (claim_lines_of : AreClaimLines named payees lines) (at n : ℕ)
+    (here : drop at lines ≡ lines_of_payees named (drop n payees)) where
+  -- where lines are left, a payee is
+  pub payee_left : at < length lines → n < length payees
+  payee_left left = elim (cases_lt n (length payees)) [
+    | inl inside ↦ inside
+    | inr past ↦
+        let none : drop n payees ≡ [] = drop_all n payees past in
+        absurd (omega (arith, left, length-drop at lines, ap (λ (l : List ClaimLine). length l) (here ∙ ap (lines_of_payees named) none)))
+  ]
+
+  -- and where none is left, none is
+  pub none_left : length lines ≤ at → length payees ≤ n
+  none_left past = elim (cases_lt n (length payees)) [
+    | inr done ↦ done
+    | inl inside ↦
+        let none : lines_of_payees named (drop n payees) ≡ [] = sym here ∙ drop_all at lines past in
+        let first : lines_of_payees named (drop n payees) ≡ claim_lines (get_or payees n (0, [])).0 (lines_at named (get_or payees n (0, [])).1) ++ lines_of_payees named (drop (n + 1) payees) =
+        ap (lines_of_payees named) (drop_more payees n (0, []) inside) in
+        let front = claim_lines (get_or payees n (0, [])).0 (lines_at named (get_or payees n (0, [])).1) in
+        absurd (omega (
+          arith,
+          ap (λ (l : List ClaimLine). length l) (sym first ∙ none),
+          length-append front (lines_of_payees named (drop (n + 1) payees)),
+          length-claim_lines (get_or payees n (0, [])).0 (lines_at named (get_or payees n (0, [])).1),
+          length-lines_at named (get_or payees n (0, [])).1,
+          claim_lines_of.some n (0, []) inside,
+        ))
+  ]
+
+  module _ (inside : n < length payees) where
+    -- the payee
+    abbrev pub payee_here : ℕ × List ℕ
+    payee_here = get_or payees n (0, [])
+
+    pub is_here : payee_here ≡ get_or payees n payee_here
+    is_here = get_or_default payees n (0, []) payee_here inside
+
+    -- its lines, and those of the payees after it
+    abbrev pub others : List ClaimLine
+    others = lines_of_payees named (drop (n + 1) payees)
+
+    pub first_lines : drop at lines ≡ claim_lines payee_here.0 (lines_at named payee_here.1) ++ others
+    first_lines = here ∙ ap (lines_of_payees named) (drop_more payees n (0, []) inside)
+
+    pub other_accounts : All (λ other. ¬ (other.account ≡ payee_here.0)) others
+    other_accounts =
+        of_payees named (λ account. ¬ (account ≡ payee_here.0)) (drop (n + 1) payees)
+        (λ k d within same.
+        let there : n + 1 + k < length payees = omega (arith, within, length-drop (n + 1) payees) in
+        let first : get_or payees n d ≡ payee_here = get_or_default payees n d (0, []) inside in
+        let higher = claim_lines_of.rising n (n + 1 + k) d (omega arith) there in
+        omega (arith, higher, same, ap (λ (p : ℕ × List ℕ). p.0) (get_or-drop (n + 1) payees k d), ap (λ (p : ℕ × List ℕ). p.0) first))
+
+    some_lines : 0 < length (lines_at named payee_here.1)
+    some_lines = omega (arith, length-lines_at named payee_here.1, claim_lines_of.some n (0, []) inside)
+
+    pub its_lines : (0 < length (lines_at named payee_here.1)) × AllPairs IsAlike (lines_at named payee_here.1)
+    its_lines = (some_lines, claim_lines_of.alike n (0, []) inside)
+
+    -- the first line is the payee's
+    pub its_account : (d : ClaimLine) → (get_or lines at d).account ≡ payee_here.0
+    its_account d =
+        let front = claim_lines payee_here.0 (lines_at named payee_here.1) in
+        let long : 0 < length front = omega (arith, length-claim_lines payee_here.0 (lines_at named payee_here.1), some_lines) in
+        let first : at ≡ at + 0 = omega arith in
+        ap (λ (line : ClaimLine). line.account)
+        (ap (λ k. get_or lines k d) first ∙ sym (get_or-drop at lines 0 d) ∙ ap (λ (l : List ClaimLine). get_or l 0 d) first_lines ∙ get_or_append_left front others d 0 long)
+        ∙ of_its_account payee_here.0 (lines_at named payee_here.1) 0 d long
+
+    -- behind its lines are those of the next
+    next_payee : (count : ℕ) → count ≡ length (lines_at named payee_here.1) → drop (at + count) lines ≡ lines_of_payees named (drop (n + 1) payees)
+    next_payee count is =
+        let front = claim_lines payee_here.0 (lines_at named payee_here.1) in
+        let long : count ≡ length front = is ∙ sym (length-claim_lines payee_here.0 (lines_at named payee_here.1)) in
+        sym (drop-drop count at lines) ∙ (ap (drop count) first_lines ∙ (ap (λ k. drop k (front ++ others)) long ∙ drop-append_seam front others))
+
+    -- where the claim of the first account and the number of its lines are worked out, they are the payee's, and behind its lines are those of the next
+    pub claim_here : (table : List (ℕ × List ℕ)) (land : ℕ) (right : Right) (claim count : ℕ)
+        → ((account : ℕ) (first : List ShareLine) (others : List ClaimLine) → drop at lines ≡ claim_lines account first ++ others → 0 < length first → AllPairs IsAlike first → All (λ other. ¬ (other.account ≡ account)) others
+        → (claim ≡ sum_by (share_for right) (deciding table land first)) × (count ≡ length first))
+        → (get_or (claims_of_payees table land right named payees) n (payee_here.0, claim) ≡ (payee_here.0, claim)) × (drop (at + count) lines ≡ lines_of_payees named (drop (n + 1) payees))
+    claim_here table land right claim count worked_out =
+        let (sum, long) = worked_out payee_here.0 (lines_at named payee_here.1) others first_lines its_lines.0 its_lines.1 other_accounts in
+        (claim_at table land right named payees n payee_here inside is_here claim sum, next_payee count long)
+
+-- a kept line at the place that is next from the last one back
+pub kept_at : (shares : List KeptShare) (places : List ℕ) (count : ℕ) (d : KeptShare) (e : ShareLine) → count < length places → All (λ place. place < length shares) places
+    → get_or (lines_at (map (line_by []) shares) places) (length places - 1 - count) e ≡ line_by [] (get_or shares (get_or places (length places - 1 - count) 0) d)
+kept_at shares places count d e some within =
+    let k = length places - 1 - count in
+    let inside : k < length places = omega arith in
+    get_or-map _ places k 0 e inside ∙ get_or-map (line_by []) shares (get_or places k 0) d _ (within k 0 inside)
 
 -- a test that only lines of a party pass, finds one among them
 list_any-filter : {X : Type 0} (test keep : X → Bool) → ((x : X) → test x ≡ true → keep x ≡ true) → (xs : List X) → list_any test (filter keep xs) ≡ list_any test xs
@@ -524,66 +740,51 @@ module _ (table : List (ℕ × List ℕ)) (land : ℕ) where
         | inr not_it ↦ rw not_it rest
       ])
 
-module _ (parties : List (List ℕ)) (registration : Kept) (compiled : IsCompiled parties (kept_lines parties registration) (payees_of registration))
+module _ (parties : List (List ℕ)) (registration : Kept) (payees : List (ℕ × List ℕ)) (compiled : IsCompiled parties (kept_lines parties registration) payees)
     (rise : InterestsRise (kept_lines parties registration)) where
   -- the lines of a payee
   at_places : (places : List ℕ) → lines_at (nameless registration) places ≡ map unnamed (lines_at (kept_lines parties registration) places)
   at_places places = ap (λ l. lines_at l places) (nameless_lines parties registration) ∙ lines_at_unnamed (kept_lines parties registration) places
 
-  alike_named : All (λ payee. AllPairs IsAlike (lines_at (kept_lines parties registration) payee.1)) (payees_of registration)
+  alike_named : All (λ payee. AllPairs IsAlike (lines_at (kept_lines parties registration) payee.1)) payees
   alike_named = λ k d within. rw (compiled.exact k d within) (alike_in_party _ (kept_lines parties registration) rise)
 
-  pub alike_nameless : All (λ payee. AllPairs IsAlike (lines_at (nameless registration) payee.1)) (payees_of registration)
+  pub alike_nameless : All (λ payee. AllPairs IsAlike (lines_at (nameless registration) payee.1)) payees
   alike_nameless = λ k d within.
-      let places = (get_or (payees_of registration) k d).1 in
+      let places = (get_or payees k d).1 in
       subst (AllPairs IsAlike) (sym (at_places places)) (alike_unnamed (lines_at (kept_lines parties registration) places) (alike_named k d within))
 
   -- the claims of the payees without the parties
   pub same_nameless : (table : List (ℕ × List ℕ)) (land : ℕ) (right : Right)
-      → claims_of_payees table land right (nameless registration) (payees_of registration) ≡ claims_of_payees table land right (kept_lines parties registration) (payees_of registration)
+      → claims_of_payees table land right (nameless registration) payees ≡ claims_of_payees table land right (kept_lines parties registration) payees
   same_nameless table land right =
       map_agree (λ (payee : ℕ × List ℕ). (payee.0, sum_by (share_for right) (deciding table land (lines_at (nameless registration) payee.1))))
-      (λ payee. (payee.0, sum_by (share_for right) (deciding table land (lines_at (kept_lines parties registration) payee.1)))) (payees_of registration)
+      (λ payee. (payee.0, sum_by (share_for right) (deciding table land (lines_at (kept_lines parties registration) payee.1)))) payees
       (λ k d within.
-      let payee = get_or (payees_of registration) k d in
+      let payee = get_or payees k d in
       ap (λ (n : ℕ). (payee.0, n))
       (ap (λ l. sum_by (share_for right) (deciding table land l)) (at_places payee.1) ∙ sum_unnamed table land right (lines_at (kept_lines parties registration) payee.1) (alike_named k d within)))
-
--- its shares are not over 100.00 per cent
-pub small_nameless : (parties : List (List ℕ)) (registration : Kept) → All IsShareLine (kept_lines parties registration) → All IsSmall (nameless registration)
-small_nameless parties registration good =
-    subst (All IsSmall) (sym (nameless_lines parties registration))
-    (All-map IsSmall unnamed (kept_lines parties registration) (λ k d within. let line = good k d within in record { performing = line.performing; mechanical = line.mechanical; synchronisation = line.synchronisation }))
-
--- a kept line at its place
-pub line_at : (parties : List (List ℕ)) (shares : List KeptShare) (place : ℕ) (share : KeptShare) → place < length shares → share ≡ get_or shares place share
-    → line_by parties share ≡ get_or (map (line_by parties) shares) place (line_by parties share)
-line_at parties shares place share within is = sym (get_or-map (line_by parties) shares place share (line_by parties share) within ∙ ap (line_by parties) (sym is))
-
--- places among the kept lines are places among the lines
-pub within_lines : (parties : List (List ℕ)) (shares : List KeptShare) (places : List ℕ) → All (λ place. place < length shares) places → All (λ place. place < length (map (line_by parties) shares)) places
-within_lines parties shares places within = λ k d inside. omega (arith, within k d inside, length-map shares (line_by parties))
 
 module _ (table : List (ℕ × List ℕ)) (registered : Registered) (line : Line) (registration : Kept) (land : ℕ) (up : LookedUp registered line.work registration)
     (same : land ≡ line.territory) (known : is_known table line.territory ≡ true) where
   -- the claims of its payees
-  abbrev of_payees : List (ℕ × ℕ)
-  of_payees = claims_of_payees table land line.right (nameless registration) (payees_of registration)
+  abbrev claims_here : List (ℕ × ℕ)
+  claims_here = claims_of_payees table land line.right (nameless registration) up.kept.payees
 
-  these : filter counts of_payees ≡ claims_by table registered line (kept_lines registered.parties registration)
+  these : filter counts claims_here ≡ claims_by table registered line (kept_lines registered.parties registration)
   these =
-      rw same (ap (filter counts) (same_nameless registered.parties registration up.kept.compiled up.rise table line.territory line.right)
-      ∙ same_claims table line.territory line.right registered.parties (kept_lines registered.parties registration) (payees_of registration) up.kept.compiled)
+      rw same (ap (filter counts) (same_nameless registered.parties registration up.kept.payees up.kept.compiled up.rise table line.territory line.right)
+      ∙ same_claims table line.territory line.right registered.parties (kept_lines registered.parties registration) up.kept.payees up.kept.compiled)
 
-  total : total_of (claims_by table registered line (kept_lines registered.parties registration)) ≡ total_of of_payees
-  total = ap total_of (sym these) ∙ total-counts of_payees
+  total : total_of (claims_by table registered line (kept_lines registered.parties registration)) ≡ total_of claims_here
+  total = ap total_of (sym these) ∙ total-counts claims_here
 
   -- what a claim of too much comes to
-  pub answered_over : nat_le (total_of of_payees) MOST_CLAIMED ≡ false → (reason_against table registered line ≡ Some Over) × (claims_on table registered line ≡ [])
+  pub answered_over : nat_le (total_of claims_here) MOST_CLAIMED ≡ false → (reason_against table registered line ≡ Some Over) × (claims_on table registered line ≡ [])
   answered_over over = against_over table registered line (kept_lines registered.parties registration) up.works known (ap (λ n. nat_le n MOST_CLAIMED) total ∙ over)
 
   -- and one of no more
-  pub answered : nat_le (total_of of_payees) MOST_CLAIMED ≡ true → (reason_against table registered line ≡ None) × (claims_on table registered line ≡ filter counts of_payees)
+  pub answered : nat_le (total_of claims_here) MOST_CLAIMED ≡ true → (reason_against table registered line ≡ None) × (claims_on table registered line ≡ filter counts claims_here)
   answered within =
       let (reason, claims) = against_nothing table registered line (kept_lines registered.parties registration) up.works known (ap (λ n. nat_le n MOST_CLAIMED) total ∙ within) in
       (reason, claims ∙ sym these)

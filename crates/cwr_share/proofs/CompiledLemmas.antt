@@ -15,13 +15,13 @@ use Rattle.std.proofs.lemmas.Map.Keys.{Less-from_sorted}
 use Rattle.std.proofs.lemmas.Map.Lookups.{exact_bytes}
 use Rattle.std.proofs.lemmas.Option.{cond_some, none-some}
 use Rattle.std.proofs.lemmas.Slice.Eq.{bytes_eq-Decides}
-use Rattle.cwr_share.specs.Compiled.{AreInside, AreKept, InterestsRise, IsCompiled, IsExtent, IsKept, Kept, WorkNumber, gathered, kept_lines, line_by, lines_at, lines_of_party, part, places_in, registered_as, seen, with_place}
+use Rattle.cwr_share.specs.Compiled.{AreKept, InterestsRise, IsCompiled, IsExtent, IsKept, Kept, WorkNumber, gathered, kept_lines, line_by, lines_at, lines_of_party, part, places_in, registered_as, with_place}
 use Rattle.cwr_share.specs.Registered.{IsRegistered, IsShareLine, Registered}
 use Rattle.cwr_share.specs.Registrations.{ShareLine, find_work}
+use Rattle.cwr_share.specs.declared.registration.AccountPlaces.{AccountPlaces}
 use Rattle.cwr_share.specs.declared.share_line.KeptShare.{KeptShare}
 use Rattle.cwr_share.specs.declared.TheConstants.{MOST_SHARES}
-use Rattle.cwr_share.specs.declared.registration.AccountPlaces.{AccountPlaces}
-use Rattle.cwr_share.specs.declared.registration.Payee.{Payee}
+use Rattle.cwr_share.specs.declared.claim_line.ClaimLine.{ClaimLine}
 use Rattle.cwr_share.specs.declared.registrations.Extent.{Extent}
 
 -- what holds of the text of an item at a place
@@ -333,6 +333,7 @@ compiled_none parties = record {
   total = refl;
   rising = λ i j d before within. absurd (omega arith);
   accounts = λ k d within. absurd (omega arith);
+  some = λ k d within. absurd (omega arith);
   within = λ k d within. absurd (omega arith);
   exact = λ k d within. absurd (omega arith);
   every = λ account inside has. absurd (omega (arith, has.1));
@@ -386,6 +387,8 @@ module _ (parties : List (List ℕ)) (lines : List ShareLine) (payees : List (�
     rising = rising_with_place account (length lines) payees compiled.rising;
     accounts = each_with_place account (length lines) (λ payee. (0 < payee.0) × (payee.0 < length parties)) (λ payee. (0 < payee.0) × (payee.0 < length parties))
         (λ payee known other. known) (λ payee known same. (some, inside)) payees (λ none. (some, inside)) compiled.rising compiled.accounts;
+    some = each_with_place account (length lines) (λ payee. 0 < length payee.1) (λ payee. 0 < length payee.1) (λ payee filled other. filled)
+        (λ payee filled same. omega (arith, length_push payee.1 (length lines))) payees (λ none. omega arith) compiled.rising compiled.some;
     within = each_with_place account (length lines) (λ payee. All (λ place. place < length (lines ++ line ∷ [])) payee.1) Inside (λ payee all other. further payee.1 all)
         (λ payee all same. All-push (λ place. place < length (lines ++ line ∷ [])) payee.1 (length lines) (further payee.1 all) last) payees
         (λ none. All-cons (λ place. place < length (lines ++ line ∷ [])) (length lines) [] last (λ k d within. absurd (omega arith))) compiled.rising compiled.within;
@@ -436,42 +439,12 @@ module _ {X : Type 0} (xs ys : List X) where
   pub part_added : take (length ys) (drop (length xs) (xs ++ ys)) ≡ ys
   part_added = rw (drop-append-le (length xs) xs ys (omega arith), drop_all (length xs) xs (omega arith)) (take_all (length ys) ys (omega arith))
 
--- The payees of some accounts, with one account more behind them.
-module _ (places : List ℕ) (payees : List Payee) (inside : AreInside places payees) (account : ℕ) (these : List ℕ) where
-  -- its places come last
-  abbrev pub flat : Payee
-  flat = record { account = account; first = length places; count = length these }
-
-  as_before : (payees : List Payee) → AreInside places payees → map (seen (places ++ these)) payees ≡ map (seen places) payees
-  as_before [] inside = refl
-  as_before (payee ∷ later) inside =
-      ap (λ (l : List ℕ). (payee.account, l) ∷ map (seen (places ++ these)) later) (part_stays places these payee.first payee.count (inside 0 payee (omega arith)))
-      ∙ ap (λ (l : List (ℕ × List ℕ)). seen places payee ∷ l) (as_before later (All-tail (λ payee. payee.first + payee.count ≤ length places) payee later inside))
-
-  pub flat_more : map (seen (places ++ these)) (payees ++ flat ∷ []) ≡ map (seen places) payees ++ (account, these) ∷ []
-  flat_more =
-      map_push (seen (places ++ these)) payees flat
-      ∙ (ap (λ (l : List (ℕ × List ℕ)). l ++ seen (places ++ these) flat ∷ []) (as_before payees inside)
-      ∙ ap (λ (l : List ℕ). map (seen places) payees ++ (account, l) ∷ []) (part_added places these))
-
-  pub flat_inside : AreInside (places ++ these) (payees ++ flat ∷ [])
-  flat_inside =
-      All-push (λ payee. payee.first + payee.count ≤ length (places ++ these)) payees flat
-      (λ k d within. omega (arith, inside k d within, length-append places these)) (omega (arith, length-append places these))
-
 -- the accounts up to one more, and their places
-module _ (accounts : List AccountPlaces) (n : ℕ) (next : AccountPlaces) (within : n < length accounts) (is : next ≡ get_or accounts n next) where
-  pub gathered_more : map gathered (take (n + 1) accounts) ≡ map gathered (take n accounts) ++ gathered next ∷ []
-  gathered_more =
-      ap (map gathered) (take_more accounts n next within ∙ ap (λ (a : AccountPlaces). take n accounts ++ a ∷ []) (sym is))
-      ∙ map_push gathered (take n accounts) next
-
-  pub places_more : places_in (map gathered (take (n + 1) accounts)) ≡ places_in (map gathered (take n accounts)) + length next.places.items
-  places_more = ap places_in gathered_more ∙ sum_by_push (λ (payee : ℕ × List ℕ). length payee.1) (map gathered (take n accounts)) (gathered next)
-
-  pub gathered_places : places_in (map gathered (take n accounts)) + length next.places.items ≤ places_in (map gathered accounts)
-  gathered_places =
-      omega (arith, places_more, sum_by-take-le (λ (payee : ℕ × List ℕ). length payee.1) (map gathered accounts) (n + 1), ap places_in (sym (take-map gathered (n + 1) accounts)))
+pub gathered_more : (accounts : List AccountPlaces) (n : ℕ) (next : AccountPlaces) → n < length accounts → next ≡ get_or accounts n next
+    → map gathered (take (n + 1) accounts) ≡ map gathered (take n accounts) ++ gathered next ∷ []
+gathered_more accounts n next within is =
+    ap (map gathered) (take_more accounts n next within ∙ ap (λ (a : AccountPlaces). take n accounts ++ a ∷ []) (sym is))
+    ∙ map_push gathered (take n accounts) next
 
 -- the line at the next place is kept
 pub kept_next : (parties : List (List ℕ)) (lines : List ShareLine) (place : ℕ) (line : ShareLine) (kept : List KeptShare) (share : KeptShare)
@@ -483,38 +456,30 @@ kept_next parties lines place line kept share within is before same =
     ∙ (ap (λ (l : ShareLine). take place lines ++ l ∷ []) (same ∙ is) ∙ sym (take_more lines place line within)))
 
 -- Registrations side by side, with one more behind them.
-module _ (shares these : List KeptShare) (places theirs : List ℕ) (payees whose : List Payee) (paired : length places ≡ length shares) (equal : length theirs ≡ length these) where
+module _ (shares these : List KeptShare) (lines theirs : List ClaimLine) (paired : length shares ≡ length lines) (equal : length these ≡ length theirs) where
   -- its part of each list
   abbrev pub extent_of_it : Extent
-  extent_of_it = record { first_share = length shares; first_payee = length payees; shares = length these; payees = length whose }
+  extent_of_it = record { first = length lines; count = length theirs }
 
-  part_as_before : (extent : Extent) → IsExtent shares payees extent → part (shares ++ these) (places ++ theirs) (payees ++ whose) extent ≡ part shares places payees extent
-  part_as_before extent within =
-      cc (
-        part_stays shares these extent.first_share extent.shares within.in_shares,
-        part_stays places theirs extent.first_share extent.shares (omega (arith, within.in_shares, paired)),
-        part_stays payees whose extent.first_payee extent.payees within.in_payees,
-      )
-
-  parts_as_before : (extents : List Extent) → All (IsExtent shares payees) extents → map (part (shares ++ these) (places ++ theirs) (payees ++ whose)) extents ≡ map (part shares places payees) extents
+  parts_as_before : (extents : List Extent) → All (IsExtent lines) extents → map (part (shares ++ these) (lines ++ theirs)) extents ≡ map (part shares lines) extents
   parts_as_before [] within = refl
   parts_as_before (extent ∷ later) within =
-      cc (part_as_before extent (within 0 extent (omega arith)), parts_as_before later (All-tail (IsExtent shares payees) extent later within))
+      let inside : extent.first + extent.count ≤ length lines = within 0 extent (omega arith) in
+      let front = part_stays shares these extent.first extent.count (omega (arith, inside, paired)) in
+      let back = part_stays lines theirs extent.first extent.count inside in
+      let this : part (shares ++ these) (lines ++ theirs) extent ≡ part shares lines extent = cc (front, back) in
+      cc (this, parts_as_before later (All-tail (IsExtent lines) extent later within))
 
-  part_of_it : part (shares ++ these) (places ++ theirs) (payees ++ whose) extent_of_it ≡ record { shares = these; places = theirs; payees = whose }
-  part_of_it = cc (part_added shares these, rw (paired, equal) at (part_added {X = ℕ} places theirs), part_added payees whose)
+  part_of_it : part (shares ++ these) (lines ++ theirs) extent_of_it ≡ record { shares = these; lines = theirs }
+  part_of_it =
+      let front = rw (paired, equal) at (part_added {X = KeptShare} shares these) in
+      cc (front, part_added lines theirs)
 
-  pub parts_more : (extents : List Extent) → All (IsExtent shares payees) extents
-      → map (part (shares ++ these) (places ++ theirs) (payees ++ whose)) (extents ++ extent_of_it ∷ []) ≡ map (part shares places payees) extents ++ record { shares = these; places = theirs; payees = whose } ∷ []
+  pub parts_more : (extents : List Extent) → All (IsExtent lines) extents
+      → map (part (shares ++ these) (lines ++ theirs)) (extents ++ extent_of_it ∷ []) ≡ map (part shares lines) extents ++ record { shares = these; lines = theirs } ∷ []
   parts_more extents within =
-      map_push (part (shares ++ these) (places ++ theirs) (payees ++ whose)) extents extent_of_it
+      map_push (part (shares ++ these) (lines ++ theirs)) extents extent_of_it
       ∙ cc (parts_as_before extents within, part_of_it)
-
-  pub extents_more : (extents : List Extent) → All (IsExtent shares payees) extents → All (IsExtent (shares ++ these) (payees ++ whose)) (extents ++ extent_of_it ∷ [])
-  extents_more extents within =
-      All-push (IsExtent (shares ++ these) (payees ++ whose)) extents extent_of_it
-      (λ k d inside. record { in_shares = omega (arith, (within k d inside).in_shares, length-append shares these); in_payees = omega (arith, (within k d inside).in_payees, length-append payees whose) })
-      (record { in_shares = omega (arith, length-append shares these); in_payees = omega (arith, length-append payees whose) })
 
 -- works beside their share lines
 abbrev pub entries : List (List ℕ) → List WorkNumber → List Kept → List (List ℕ × List ShareLine)

@@ -1,13 +1,14 @@
 -- How a registration is kept, so that its claims take one look at each of its share lines.
-use Rattle.std.specs.Prelude.{ℕ, ◌++◌, ◌==◌, nat_lt, if◌then◌else◌, ◌≡◌, ◌≤◌, ◌<◌, ◌+◌, ◌∷◌, List, All, AllPairs, Contains, [], drop, filter, length, map, nat_eq, slice_index_or, sum_by, take, zip, false, Vec}
+use Rattle.std.specs.Prelude.{ℕ, ◌++◌, ◌==◌, nat_lt, if◌then◌else◌, ◌≡◌, ◌≤◌, ◌<◌, ◌+◌, ◌∷◌, List, All, AllPairs, Contains, [], drop, filter, length, map, nat_eq, slice_index_or, sum_by, take, zip, false, Vec, Bool, Option, Some, None, not, flat_map}
+use Rattle.std.specs.Option.{option_eq}
 use Rattle.std.specs.Cmp.Lexicographic.{pointwise}
 use Rattle.line_split.specs.declared.TheConstants.{FULL_SHARE}
 use Rattle.line_split.specs.declared.usage.Right.{Right}
+use Rattle.line_split.specs.declared.usage.Right.TheVariants.{P, M, S}
 use Rattle.cwr_share.specs.ClaimsOn.{deciding, share_for}
 use Rattle.cwr_share.specs.Registrations.{ShareLine}
 use Rattle.cwr_share.specs.declared.registration.AccountPlaces.{AccountPlaces}
-use Rattle.cwr_share.specs.declared.registration.Payee.{Payee}
-use Rattle.cwr_share.specs.declared.kept.KeptRegistration.{KeptRegistration}
+use Rattle.cwr_share.specs.declared.claim_line.ClaimLine.{ClaimLine}
 use Rattle.cwr_share.specs.declared.registration.Registration.{Registration}
 use Rattle.cwr_share.specs.declared.registrations.Extent.{Extent}
 use Rattle.cwr_share.specs.declared.share_line.KeptShare.{KeptShare}
@@ -31,32 +32,25 @@ line_by parties share = record {
   territory = share.territory;
 }
 
--- a registration as it is kept: its share lines, in the order of the file; the places of those of each payee, one payee's after another's; and whose they are, by rising account
+-- a registration as it is kept: its share lines, in the order of the file; and the same again, as its claims are worked out
 pub record Kept : Type 0 where
   pub shares : List KeptShare
-  pub places : List ℕ
-  pub payees : List Payee
+  pub lines : List ClaimLine
 
 -- one that stands alone
 abbrev pub whole : Registration → Kept
-whole registration = record { shares = registration.shares.items; places = registration.places.items; payees = registration.payees.items }
+whole registration = record { shares = registration.shares.items; lines = registration.lines.items }
 
--- one that stands among others
-abbrev pub lent : KeptRegistration → Kept
-lent registration = record { shares = registration.shares.now; places = registration.places.now; payees = registration.payees.now }
-
--- and what an extent says of it
-abbrev pub part : List KeptShare → List ℕ → List Payee → Extent → Kept
-part shares places payees extent = record {
-  shares = take extent.shares (drop extent.first_share shares);
-  places = take extent.shares (drop extent.first_share places);
-  payees = take extent.payees (drop extent.first_payee payees);
+-- one that stands among others, in an extent
+abbrev pub part : List KeptShare → List ClaimLine → Extent → Kept
+part shares lines extent = record {
+  shares = take extent.count (drop extent.first shares);
+  lines = take extent.count (drop extent.first lines);
 }
 
--- the extent lies within the lists
-pub record IsExtent (shares : List KeptShare) (payees : List Payee) (extent : Extent) : Type 0 where
-  pub in_shares : extent.first_share + extent.shares ≤ length shares
-  pub in_payees : extent.first_payee + extent.payees ≤ length payees
+-- the extent lies within a list
+abbrev pub IsExtent : List ClaimLine → Extent → Type 0
+IsExtent lines extent = extent.first + extent.count ≤ length lines
 
 -- its share lines, with their parties
 abbrev pub kept_lines : List (List ℕ) → Kept → List ShareLine
@@ -87,18 +81,6 @@ lines_of_party party lines = filter (λ line. pointwise nat_eq line.party party)
 abbrev pub gathered : AccountPlaces → ℕ × List ℕ
 gathered account = (account.account, account.places.items)
 
--- and in a registration with these places
-abbrev pub seen : List ℕ → Payee → ℕ × List ℕ
-seen places payee = (payee.account, take payee.count (drop payee.first places))
-
--- the payees of a registration
-abbrev pub payees_of : Kept → List (ℕ × List ℕ)
-payees_of kept = map (seen kept.places) kept.payees
-
--- what the payees have is among these places
-abbrev pub AreInside : List ℕ → List Payee → Type 0
-AreInside places payees = All (λ payee. payee.first + payee.count ≤ length places) payees
-
 -- how many places there are
 abbrev pub places_in : List (ℕ × List ℕ) → ℕ
 places_in payees = sum_by (λ payee. length payee.1) payees
@@ -109,6 +91,7 @@ pub record IsCompiled (parties : List (List ℕ)) (lines : List ShareLine) (paye
   pub total : places_in payees ≡ length lines
   pub rising : AllPairs (λ payee later. payee.0 < later.0) payees
   pub accounts : All (λ payee. (0 < payee.0) × (payee.0 < length parties)) payees
+  pub some : All (λ payee. 0 < length payee.1) payees
   pub within : All (λ payee. All (λ place. place < length lines) payee.1) payees
   pub exact : All (λ payee. lines_at lines payee.1 ≡ lines_of_party (slice_index_or parties payee.0 []) lines) payees
   pub every : (account : ℕ) → account < length parties → Contains (map (λ line. line.party) lines) (slice_index_or parties account [])
@@ -131,6 +114,48 @@ abbrev pub claims_of_payees : List (ℕ × List ℕ) → (land : ℕ) → Right 
 claims_of_payees table land right lines payees =
     map (λ payee. (payee.0, sum_by (share_for right) (deciding table land (lines_at lines payee.1)))) payees
 
+-- a share line of an account as claims are worked out: what it gives under each right, and whether it begins an interest
+abbrev pub claim_line : (account : ℕ) → (begins : Bool) → ShareLine → ClaimLine
+claim_line account begins line = record {
+  account = account;
+  begins = begins;
+  territory = line.territory;
+  shares = record { performing = share_for P line; mechanical = share_for M line; synchronisation = share_for S line };
+}
+
+-- the interest of the first of some lines
+abbrev pub interest_of : List ShareLine → Option ℕ
+interest_of [] = None
+interest_of (line ∷ _) = Some line.interest
+
+-- the line is not of the interest of the first of those after it
+abbrev pub begins_interest : ShareLine → (later : List ShareLine) → Bool
+begins_interest line later = not (option_eq nat_eq (interest_of later) (Some line.interest))
+
+-- the share lines of an account, from the last one back
+unfoldable pub claim_lines : (account : ℕ) → List ShareLine → List ClaimLine
+claim_lines account [] = []
+claim_lines account (line ∷ later) = claim_lines account later ++ claim_line account (begins_interest line later) line ∷ []
+
+-- those of each payee, one payee's after another's
+abbrev pub lines_of_payees : List ShareLine → List (ℕ × List ℕ) → List ClaimLine
+lines_of_payees lines payees = flat_map (λ payee. claim_lines payee.0 (lines_at lines payee.1)) payees
+
+-- what such a line gives under a right
+abbrev pub share_under : Right → ClaimLine → ℕ
+share_under P line = line.shares.performing
+share_under M line = line.shares.mechanical
+share_under S line = line.shares.synchronisation
+
+-- such lines of some payees, by rising account; a payee's share lines are alike but for their interests, which do not fall
+pub record AreClaimLines (named : List ShareLine) (payees : List (ℕ × List ℕ)) (lines : List ClaimLine) : Type 0 where
+  pub exact : lines ≡ lines_of_payees named payees
+  pub few : length payees ≤ length lines
+  pub rising : AllPairs (λ payee later. payee.0 < later.0) payees
+  pub accounts : All (λ payee. 0 < payee.0) payees
+  pub some : All (λ payee. 0 < length payee.1) payees
+  pub alike : All (λ payee. AllPairs (λ line later. (line.party ≡ later.party) × (line.interest ≤ later.interest)) (lines_at named payee.1)) payees
+
 -- what a registry keeps: each work with its share lines, and the parties
 abbrev pub registered_as : List WorkNumber → List Kept → List (Vec ℕ Global) → Registered
 registered_as works registrations parties = record {
@@ -140,9 +165,9 @@ registered_as works registrations parties = record {
 
 -- a registration is kept for its claims
 pub record IsKept (parties : List (List ℕ)) (kept : Kept) : Type 0 where
-  pub compiled : IsCompiled parties (kept_lines parties kept) (payees_of kept)
-  pub inside : AreInside kept.places kept.payees
-  pub paired : length kept.places ≡ length kept.shares
+  pub payees : List (ℕ × List ℕ)
+  pub compiled : IsCompiled parties (kept_lines parties kept) payees
+  pub lines : kept.lines ≡ lines_of_payees (nameless kept) payees
 
 -- each work has one registration, which is kept for its claims
 pub record AreKept (works : List WorkNumber) (registrations : List Kept) (parties : List (Vec ℕ Global)) : Type 0 where

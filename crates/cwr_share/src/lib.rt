@@ -6,9 +6,9 @@
 //! what each party's shares come to.
 #![tactic(auto)]
 
+mod claim_line;
 mod cwr_fault;
 pub mod fields;
-mod kept;
 pub mod laws;
 mod lines;
 mod parties;

@@ -1,13 +1,14 @@
 //! How a registration in force is compiled, so that its claims take one look at each of its share lines.
 
-ghost use Rattle.std.specs.Prelude.{◌≡◌, ◌≤◌, ◌<◌, ◌+◌, All, AllPairs, Contains, [], IfOk, OnOk, length, map, slice_index_or};
+ghost use Rattle.std.specs.Prelude.{◌≡◌, ◌≤◌, ◌<◌, ◌+◌, ◌++◌, All, AllPairs, Contains, [], IfOk, OnOk, length, map, slice_index_or};
 ghost use Rattle.std.specs.List.Sorted.{IsStrictlySortedBy};
 ghost use Rattle.std.specs.Cmp.Lexicographic.{slice_cmp};
 ghost use Rattle.std.specs.Ordering.{nat_cmp};
-ghost use Rattle.cwr_share.specs.Compiled.{AreInside, IsKept, gathered, kept_lines, places_in, seen, whole, with_place};
+ghost use Rattle.cwr_share.specs.Compiled.{IsKept, claim_lines, gathered, kept_lines, line_by, lines_at, lines_of_payees, whole, with_place};
 ghost use Rattle.cwr_share.specs.Registered.{IsShareLine};
 ghost use Rattle.cwr_share.specs.declared.TheConstants.{MOST_PARTIES, MOST_SHARES};
 
+use crate::claim_line::ClaimLine;
 use crate::parties::account_of;
 use crate::share_line::{KeptShare, Share};
 use line_split::Account;
@@ -18,18 +19,8 @@ use std::alloc::{AllocError, Global};
 pub(crate) struct Registration {
     /// Its share lines, in the order of the file.
     pub(crate) shares: Vec<KeptShare>,
-    /// The places of the share lines of each payee, one payee's after another's.
-    pub(crate) places: Vec<u16>,
-    /// Whose they are, by rising account.
-    pub(crate) payees: Vec<Payee>,
-}
-
-/// An account, and which of a registration's places are those of its share lines.
-#[derive(Clone, Copy)]
-pub(crate) struct Payee {
-    pub(crate) account: Account,
-    pub(crate) first: u16,
-    pub(crate) count: u16,
+    /// The same lines, by rising account and from an account's last one back.
+    pub(crate) lines: Vec<ClaimLine>,
 }
 
 /// An account with the places of its share lines so far, in the order of the file.
@@ -54,6 +45,7 @@ impl Registration {
         requires residue { slice_index_or (map (λ party. party.items) parties.now) 0 [] ≡ [] }
         requires known { All (λ share. Contains (map (λ party. party.items) parties.now) share.party) shares.now }
         ensures shares { IfOk result (λ registration. kept_lines (map (λ party. party.items) parties.now) (whole registration) ≡ shares.now) }
+        ensures paired { IfOk result (λ registration. length registration.lines.items ≡ length registration.shares.items) }
         ensures kept { IfOk result (λ registration. IsKept (map (λ party. party.items) parties.now) (whole registration)) }
     {
         let mut kept = Vec::with_capacity(alloc, shares.len())?;
@@ -65,11 +57,10 @@ impl Registration {
                 add_place(alloc, &mut accounts, account, place as u16)?;
             }
         }
-        let (places, payees) = flattened(alloc, accounts.as_slice(), shares.len())?;
+        let lines = lines_by_account(alloc, kept.as_slice(), accounts.as_slice())?;
         Ok(Registration {
             shares: kept,
-            places,
-            payees,
+            lines,
         })
     }
 }
@@ -97,26 +88,37 @@ fn add_place(
     Ok(())
 }
 
-/// The places of these accounts, so many in all, and the payees that have them.
-fn flattened(
+/// The share lines of these accounts, each account's from the last one back.
+fn lines_by_account(
     alloc: Global,
+    shares: &[KeptShare],
     accounts: &[AccountPlaces],
-    count: usize,
-) -> Result<(Vec<u16>, Vec<Payee>), AllocError>
-    requires few { places_in (map gathered accounts.now) ≤ MOST_SHARES }
-    ensures payees { IfOk result (λ flat. map (seen flat.0.items) flat.1.items ≡ map gathered accounts.now) }
-    ensures inside { IfOk result (λ flat. AreInside flat.0.items flat.1.items) }
-    ensures long { IfOk result (λ flat. length flat.0.items ≡ places_in (map gathered accounts.now)) }
+) -> Result<Vec<ClaimLine>, AllocError>
+    requires { All (λ entry. All (λ place. place < length shares.now) entry.places.items) accounts.now }
+    ensures { IfOk result (λ lines. lines.items ≡ lines_of_payees (map (line_by []) shares.now) (map gathered accounts.now)) }
 {
-    let mut places = Vec::with_capacity(alloc, count)?;
-    let mut payees = Vec::with_capacity(alloc, accounts.len())?;
+    let mut lines = Vec::with_capacity(alloc, shares.len())?;
     for entry in accounts {
-        payees.push(Payee {
-            account: entry.account,
-            first: places.len() as u16,
-            count: entry.places.len() as u16,
-        })?;
-        places.extend_from_slice(entry.places.as_slice())?;
+        add_lines(shares, entry.account, entry.places.as_slice(), &mut lines)?;
     }
-    Ok((places, payees))
+    Ok(lines)
+}
+
+/// Adds the share lines at these places, which are an account's, from the last one back.
+fn add_lines(
+    shares: &[KeptShare],
+    account: Account,
+    places: &[u16],
+    lines: &mut Vec<ClaimLine>,
+) -> Result<(), AllocError>
+    requires { All (λ place. place < length shares.now) places.now }
+    ensures { OnOk result (lines.new.items ≡ lines.old.items ++ claim_lines account (lines_at (map (line_by []) shares.now) places.now)) }
+{
+    let mut later = None;
+    for count in 0..places.len() {
+        let share = shares[places[places.len() - 1 - count] as usize];
+        lines.push(share.claim_line(account, later != Some(share.interest)))?;
+        later = Some(share.interest);
+    }
+    Ok(())
 }

@@ -9,6 +9,7 @@ ghost use Rattle.cwr_share.specs.Lines.{lines_of};
 ghost use Rattle.cwr_share.specs.Registered.{IsRegistered};
 
 use crate::CwrFault;
+use crate::claim_line::claims;
 use crate::lines::Lines;
 use crate::parties::account_of;
 use crate::reading::Reading;
@@ -143,8 +144,8 @@ impl Registry {
         let Some(land) = land_of(tis, line.territory) else {
             return Some(Reason::Land);
         };
-        let registration = self.registrations.at(place);
-        if registration.claims(tis, land, line.right, out) {
+        let lines = self.registrations.lines_of(place);
+        if claims(lines, tis, land, line.right, out) {
             None
         } else {
             Some(Reason::Over)

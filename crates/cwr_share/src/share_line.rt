@@ -5,14 +5,14 @@ ghost use Rattle.csv_table.specs.Forms.{IsCode, number_of};
 ghost use Rattle.cwr_share.specs.CwrFile.{IsFaultOfShare, IsShareRecord};
 ghost use Rattle.cwr_share.specs.Fields.{HasShares, IsFilled, IsMark, IsShare, field_of, share_of, trimmed as trimmed_text, without_spaces_before as from_first_byte};
 ghost use Rattle.cwr_share.specs.Registrations.{share_line_of};
-ghost use Rattle.cwr_share.specs.ClaimsOn.{share_for};
-ghost use Rattle.cwr_share.specs.Compiled.{line_by};
+ghost use Rattle.cwr_share.specs.Compiled.{claim_line, line_by};
 ghost use Rattle.cwr_share.specs.declared.cwr_fault.CwrFault.TheVariants.{Memory};
 
+use crate::claim_line::ClaimLine;
 use crate::fields::ShareFields;
 use crate::{CwrFault, MOST_SHARES};
 use csv_table::forms::{code, number_up_to};
-use line_split::{Account, FULL_SHARE, Right};
+use line_split::{Account, FULL_SHARE};
 use std::alloc::Global;
 use std::marker::Model;
 use tis_tree::Code;
@@ -48,6 +48,13 @@ pub(crate) struct Shares {
     pub(crate) mechanical: u16,
     pub(crate) synchronisation: u16,
 }
+
+/// No share under any right.
+const NO_SHARES: Shares = Shares {
+    performing: 0,
+    mechanical: 0,
+    synchronisation: 0,
+};
 
 impl Model for Share {
     ghost use Rattle.cwr_share.specs.Registrations.{ShareLine};
@@ -121,19 +128,20 @@ impl Share {
 }
 
 impl KeptShare {
-    /// The share for a right: nothing where the territory is excluded.
-    pub(crate) fn share_for(&self, right: Right) -> u32
-        ensures { result ≡ share_for right (line_by [] self.now) }
+    /// The line in the form that claims are worked out from.
+    pub(crate) fn claim_line(&self, account: Account, begins: bool) -> ClaimLine
+        ensures { result ≡ claim_line account begins (line_by [] self.now) }
     {
-        if !self.includes {
-            return 0;
+        ClaimLine {
+            account,
+            shares: if self.includes {
+                self.shares
+            } else {
+                NO_SHARES
+            },
+            territory: self.territory,
+            begins,
         }
-        let share = match right {
-            Right::P => self.shares.performing,
-            Right::M => self.shares.mechanical,
-            Right::S => self.shares.synchronisation,
-        };
-        u32::from(share)
     }
 }
 

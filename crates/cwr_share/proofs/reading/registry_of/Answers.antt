@@ -2,7 +2,7 @@ use Rattle.std.proofs.Common.{◌≡◌, ◌∙◌, ◌∷◌, ◌++◌, [], ℕ
 use Rattle.std.proofs.lemmas.List.{length-map, take_all, take_more}
 use Rattle.std.proofs.lemmas.List.Elements.{All-nil, All-push}
 use Rattle.std.proofs.lemmas.Result.{err_from_is_err_and}
-use Rattle.cwr_share.specs.Compiled.{IsKept, kept_lines, line_by, seen, whole}
+use Rattle.cwr_share.specs.Compiled.{IsKept, kept_lines, line_by, whole}
 use Rattle.cwr_share.specs.Parties.{AreAccountsOf}
 use Rattle.cwr_share.specs.Registered.{Registered}
 use Rattle.cwr_share.specs.Registrations.{ShareLine}
@@ -31,18 +31,13 @@ of-requires-clause-known c =
 
 pub and-requires-clause-few : goal.and-requires-clause-few
 and-requires-clause-few c =
-    let lists = c.deref-shares-items.result.now in
     let parties = map (λ (party : Vec ℕ Global). party.items) c.in_ok-parties.parties.items in
     let registration = whole c.in_ok-registration.registration in
     let same = rw (c.as_slice-in-loop-shares.ensures.value, c.as_slice-in-loop-shares-2.ensures.value) at c.in_ok-registration.ensures.shares in
-    let kept = rw c.as_slice-in-loop-shares-2.ensures.value at c.in_ok-registration.ensures.kept in
     let inside : c.loop-shares.shares-index < length c.args.lists.items = rw c.deref-shares-items.ensures.value at c.loop-shares-test.true in
     let is = rw c.deref-shares-items.ensures.value at c.shares-item.is in
     let few = subst (λ (lines : Vec ShareLine Global). length lines.items ≤ MOST_SHARES) (sym is) (c.requires.lists c.loop-shares.shares-index c.shares-item.result inside).few in
-    let lines = length-map registration.shares (line_by parties) in
-    let payees = length-map registration.payees (seen registration.places) in
-    let long = ap (λ (lines : List ShareLine). length lines) same in
-    (omega (arith, long, lines, few), omega (arith, kept.compiled.few, payees, long, few))
+    omega (arith, c.in_ok-registration.ensures.paired, ap (λ (lines : List ShareLine). length lines) same, length-map registration.shares (line_by parties), few)
 
 pub loop-shares-preserved : goal.loop-shares-preserved
 loop-shares-preserved c =

@@ -1,7 +1,10 @@
-use Rattle.std.proofs.Common.{◌≡◌, ◌∙◌, ◌<◌, Global, Vec, ap, arith, length, map, refl, subst, sym, ℕ}
-use Rattle.std.proofs.lemmas.List.{length-map, take_all}
+use Rattle.std.proofs.Common.{◌≡◌, ◌∙◌, ◌<◌, [], All, Global, List, Vec, ap, arith, length, map, refl, subst, sym, take, ℕ}
+use Rattle.std.proofs.lemmas.List.{get_or-map, length-map, take_all}
 use Rattle.cwr_share.specs.Compiled.{IsCompiled, gathered, line_by}
 use Rattle.cwr_share.specs.Registrations.{ShareLine}
+use Rattle.cwr_share.specs.declared.claim_line.ClaimLine.{ClaimLine}
+use Rattle.cwr_share.specs.declared.share_line.KeptShare.{KeptShare}
+use Rattle.cwr_share.proofs.ClaimLemmas.{length-lines_of_payees}
 use Rattle.cwr_share.proofs.CompiledLemmas.{compiled_next, compiled_none, kept_next}
 use Rattle.cwr_share.proofs.registration.Registration.of.Goals as goal
 use Rattle.cwr_share.proofs.registration.Registration.of.Goals.{in-Some+in_ok-push+in_ok-add_place, in_default}
@@ -34,23 +37,35 @@ loop-place-preserved c =
           absurd (w.in_default.ensures.none (rw (party, c.index-shares-place.is) known))
     ]
 
-pub flattened-requires : goal.flattened-requires
-flattened-requires c =
-    let whole = take_all c.loop-place.place c.args.shares.now (omega arith) in
-    let compiled = rw whole at c.loop-place.invariant.compiled in
-    rw c.as_slice-2.ensures.value (omega (arith, compiled.total, c.requires.few))
+-- the lines that are kept are as many as those that are compiled
+as_many : (parties : List (List ℕ)) (lines : List ShareLine) (kept : List KeptShare) → map (line_by parties) kept ≡ lines → length kept ≡ length lines
+as_many parties lines kept same = sym (length-map kept (line_by parties)) ∙ ap (λ (l : List ShareLine). length l) same
+
+pub lines_by_account-requires : goal.lines_by_account-requires
+lines_by_account-requires c =
+    let accounts = c.loop-place.accounts.items in
+    rw (c.as_slice-2.ensures.value, c.as_slice-3.ensures.value, as_many (map (λ (party : Vec ℕ Global). party.items) c.args.parties.now) (take c.loop-place.place c.args.shares.now) c.loop-place.kept.items c.loop-place.invariant.kept)
+    (λ k d inside.
+    let within = c.loop-place.invariant.compiled.within k (gathered d) (omega (arith, inside, length-map accounts gathered)) in
+    subst (λ (payee : ℕ × List ℕ). All (λ place. place < length (take c.loop-place.place c.args.shares.now)) payee.1) (get_or-map gathered accounts k d (gathered d) inside) within)
 
 pub returns-clause-kept : goal.returns-clause-kept
 returns-clause-kept c =
     let compiled = subst (λ lines. IsCompiled (map (λ (party : Vec ℕ Global). party.items) c.args.parties.now) lines (map gathered c.loop-place.accounts.items))
     (sym c.loop-place.invariant.kept) c.loop-place.invariant.compiled in
-    let long = rw c.as_slice-2.ensures.value at c.in_ok-places.ensures.long in
-    let kept = length-map c.loop-place.kept.items (line_by (map (λ (party : Vec ℕ Global). party.items) c.args.parties.now)) in
-    record {
-      compiled = rw (c.in_ok-places.ensures.payees, c.as_slice-2.ensures.value) compiled;
-      inside = c.in_ok-places.ensures.inside;
-      paired = omega (arith, long, compiled.total, kept);
-    }
+    record { payees = map gathered c.loop-place.accounts.items; compiled = compiled; lines = rw (c.as_slice-2.ensures.value, c.as_slice-3.ensures.value) at c.in_ok-lines.ensures }
+
+pub returns-clause-paired : goal.returns-clause-paired
+returns-clause-paired c =
+    let lines = rw (c.as_slice-2.ensures.value, c.as_slice-3.ensures.value) at c.in_ok-lines.ensures in
+    let payees = map gathered c.loop-place.accounts.items in
+    omega (
+      arith,
+      ap (λ (l : List ClaimLine). length l) lines,
+      length-lines_of_payees (map (line_by []) c.loop-place.kept.items) payees,
+      c.loop-place.invariant.compiled.total,
+      as_many (map (λ (party : Vec ℕ Global). party.items) c.args.parties.now) (take c.loop-place.place c.args.shares.now) c.loop-place.kept.items c.loop-place.invariant.kept,
+    )
 
 pub returns-clause-shares : goal.returns-clause-shares
 returns-clause-shares c = c.loop-place.invariant.kept ∙ take_all c.loop-place.place c.args.shares.now (omega arith)

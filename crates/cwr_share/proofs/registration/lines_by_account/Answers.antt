@@ -1,0 +1,14 @@
+use Rattle.std.proofs.Common.{◌≡◌, ◌∙◌, [], map, sym, take}
+use Rattle.cwr_share.specs.Compiled.{gathered, line_by, lines_of_payees}
+use Rattle.cwr_share.proofs.ClaimLemmas.{lines_of_payees_push}
+use Rattle.cwr_share.proofs.CompiledLemmas.{gathered_more}
+use Rattle.cwr_share.proofs.registration.lines_by_account.Goals as goal
+
+pub loop-entry-preserved : goal.loop-entry-preserved
+loop-entry-preserved c =
+    let lines = map (line_by []) c.args.shares.now in
+    let accounts = c.args.accounts.now in
+    let n = c.loop-entry.entry-index in
+    let entry = c.entry-item.result in
+    rw (c.in_ok-add_lines.ensures, c.as_slice.ensures.value, c.loop-entry.invariant, gathered_more accounts n entry c.loop-entry-test.true c.entry-item.is)
+    (sym (lines_of_payees_push lines (map gathered (take n accounts)) (gathered entry)))
