@@ -3,8 +3,6 @@
 ghost use Rattle.std.specs.Prelude.{◌≡◌, ◌≤◌, ◌<◌, ◌↔◌, IsTrue, IfSome, IfNone};
 ghost use Rattle.csv_table.specs.Forms.{IsCode, IsNumber, IsPrintable, number_of};
 
-use std::str;
-
 /// The greatest TIS numeric code.
 pub const MOST_CODE: u16 = 9999;
 
@@ -26,10 +24,7 @@ pub fn number_up_to(field: &[u8], most: u64) -> Option<u64>
     if field.is_empty() || !field[0].is_ascii_digit() {
         return None;
     }
-    let Ok(digits) = str::from_utf8(field) else {
-        return None;
-    };
-    match digits.parse::<u64>() {
+    match fast_float::parse_u64(field) {
         Ok(number) if number <= most => Some(number),
         _ => None,
     }

@@ -1,25 +1,27 @@
--- The steps of the division: turns in a row, rounding in place, and who is served.
-use Rattle.std.proofs.Common.{◌≡◌, ◌≢◌, ℕ, ◌+◌, ◌-◌, ◌<◌, ◌≤◌, Bool, true, false, not, cond, ltb, List, [], ◌∷◌, ◌++◌, length, map, get_or, set, take, drop, sum_by, Option, sym, ap, ◌∙◌, subst, arith, zero-add}
+-- The steps of the division: turns in a row, their order, and what the units are given to.
+use Rattle.std.proofs.Common.{◌≡◌, ℕ, ◌+◌, ◌<◌, ◌≤◌, inl, inr, Bool, true, false, cond, eqb, ltb, List, [], ◌∷◌, ◌++◌, All, length, map, get_or, take, drop, sum_by, count_by, refl, sym, ap, ◌∙◌, subst, arith, zero-add}
 use Rattle.std.specs.List.{enumerate_from}
 use Rattle.std.specs.Ordering.{is_lt, nat_cmp, ordering_then}
 use Rattle.std.specs.List.Sorted.{IsPermutation, IsSortedBy}
-use Rattle.std.proofs.lemmas.Bool.Decides.{nat_tests}
-use Rattle.std.proofs.lemmas.Cmp.{nat_cmp_total, on_total, then_total, back_total}
-use Rattle.std.proofs.lemmas.List.Sorted.{ranks_by, sorted_far, sum_by-IsPermutation}
 use Rattle.std.specs.Cmp.{IsStrictWeakOrder}
-use Rattle.std.proofs.lemmas.List.{length-map, map_more, length-take-le, drop_more, set_at, get_or_at, append_assoc}
+use Rattle.std.proofs.lemmas.Bool.{cases_lt, eq-eqb, ne_eqb, lt-ltb, le-ltb}
+use Rattle.std.proofs.lemmas.Bool.Decides.{nat_tests}
+use Rattle.std.proofs.lemmas.Cmp.{nat_cmp_total, nat_eq_equiv, on_total, then_total, back_total}
+use Rattle.std.proofs.lemmas.List.Sorted.{ranks_by, sorted_far, All-permutation, IsPermutation-map, sum_by-IsPermutation}
+use Rattle.std.proofs.lemmas.Map.Keys.{IsDistinct-from_apart, IsDistinct-IsPermutation, apart_from_distinct}
+use Rattle.std.proofs.lemmas.List.{length-map, map_more, length-take-le, drop_more, get_or_at, get_or_default, get_or-map, get_or-take, same_lists}
 use Rattle.std.proofs.lemmas.List.FromFn.{length-enumerate_from}
 use Rattle.std.proofs.lemmas.List.Sums.{sum_by_more_le}
 use Rattle.line_split.specs.declared.turn.Turn.{Turn}
 use Rattle.line_split.specs.LargestRemainder.{quota_of, remainder_of, comes_before, turns_of, units_left, rank_of, portions_among, portions_of}
 use Rattle.line_split.specs.Claims.{base_of, participants_of}
-use Rattle.line_split.specs.Turns.{is_served, rounded, seen}
+use Rattle.line_split.specs.Turns.{seen, with_unit}
 use Rattle.line_split.specs.FairSplit.{number_at}
-use Rattle.line_split.proofs.Enumerated.{enumerate_from_push, enumerated_more, map_same}
-use Rattle.line_split.proofs.SumBelow.{sum_below, bit, sum_below-part, sum_by-places, sum_by-map}
-use Rattle.line_split.proofs.Ranks.{count_below, front_counts}
-use Rattle.line_split.proofs.Quotas.{quotas_fit, left_small}
-use Rattle.line_split.proofs.Places.{sum_by_number, units_left_is}
+use Rattle.line_split.proofs.Enumerated.{enumerate_from_push}
+use Rattle.line_split.proofs.SumBelow.{sum_below, bit, same_sums, sum_below-part, sum_below-front, sum_below-only, sum_below-constant, sum_by-places, sum_by-map}
+use Rattle.line_split.proofs.Ranks.{rank}
+use Rattle.line_split.proofs.Quotas.{left, remainders, quotas_fit, left_small}
+use Rattle.line_split.proofs.Places.{number_at_is, sum_by_number, units_left_is, turn_at, rank_is, length-portions, portion_at}
 use Rattle.line_split.proofs.ClaimLemmas.{length-participants}
 use Rattle.line_split.proofs.Fair.{base_positive, shares_are_base, some_place}
 
@@ -43,32 +45,12 @@ quota_fits amount base ps some whole i d lt =
     let part = sum_by_more_le (λ p. quota_of amount base p.1) ps i d lt in
     omega (arith, all, part, sum_by_number (quota_of amount base) ps)
 
--- a participant's account and portion, where it is known whose turns are served
-abbrev entry : (amount base : ℕ) → Option Turn → ℕ × (ℕ × ℕ) → ℕ × ℕ
-entry amount base last e = (e.1.0, quota_of amount base e.1.1 + cond (is_served last (e.0, remainder_of amount base e.1.1)) 1 0)
-
--- one more portion in the place of its share
-pub rounded_more : (amount base : ℕ) (last : Option Turn) (ps list : List (ℕ × ℕ)) (i : ℕ) (d : ℕ × ℕ) → i < length ps
-    → list ≡ rounded amount base last (take i ps) ++ drop i ps
-    → (unit : ℕ) → unit ≡ cond (is_served last (i, remainder_of amount base (get_or list i d).1)) 1 0
-    → set list i ((get_or list i d).0, quota_of amount base (get_or list i d).1 + unit)
-    ≡ rounded amount base last (take (i + 1) ps) ++ drop (i + 1) ps
-rounded_more amount base last ps list i d lt is unit served =
-    ap (λ (u : ℕ). set list i ((get_or list i d).0, quota_of amount base (get_or list i d).1 + u)) served
-    ∙ (ap (λ (x : ℕ × ℕ). set list i (entry amount base last (i, x))) here
-    ∙ (ap (λ (l : List (ℕ × ℕ)). set l i (entry amount base last (i, get_or ps i d))) split
-    ∙ (set_at (rounded amount base last (take i ps)) (get_or ps i d) (drop (i + 1) ps) (entry amount base last (i, get_or ps i d)) i so_far
-    ∙ (sym (append_assoc (rounded amount base last (take i ps)) (entry amount base last (i, get_or ps i d) ∷ []) (drop (i + 1) ps))
-    ∙ ap (λ (l : List (ℕ × ℕ)). l ++ drop (i + 1) ps) (sym (enumerated_more (entry amount base last) ps i d lt))))))
-  where
-    split : list ≡ rounded amount base last (take i ps) ++ (get_or ps i d ∷ drop (i + 1) ps)
-    split = is ∙ ap (λ (l : List (ℕ × ℕ)). rounded amount base last (take i ps) ++ l) (drop_more ps i d lt)
-
-    so_far : length (rounded amount base last (take i ps)) ≡ i
-    so_far = length-map (enumerate_from 0 (take i ps)) (entry amount base last) ∙ (length-enumerate_from 0 (take i ps) ∙ length-take-le i ps (omega arith))
-
-    here : get_or list i d ≡ get_or ps i d
-    here = ap (λ (l : List (ℕ × ℕ)). get_or l i d) split ∙ get_or_at (rounded amount base last (take i ps)) (get_or ps i d) (drop (i + 1) ps) d i so_far
+-- where a loop has written over the elements before a place, that of the place stands as it was
+pub unwritten : {X : Type 0} (f : X → X) (xs ys : List X) (i : ℕ) (d : X) → i < length xs → ys ≡ map f (take i xs) ++ drop i xs
+    → get_or ys i d ≡ get_or xs i d
+unwritten {X} f xs ys i d lt is =
+    ap (λ (l : List X). get_or l i d) (is ∙ ap (λ (l : List X). map f (take i xs) ++ l) (drop_more xs i d lt))
+    ∙ get_or_at (map f (take i xs)) (get_or xs i d) (drop (i + 1) xs) d i (length-map (take i xs) f ∙ length-take-le i xs (omega arith))
 
 -- the order that the sort goes by
 abbrev pub turn_lt : Turn → Turn → Bool
@@ -81,51 +63,97 @@ turn_lt_order = ranks_by (then_total (on_total (λ (t : Turn). t.remainder.0) (b
 same_order : (a b : Turn) → turn_lt a b ≡ comes_before (seen a) (seen b)
 same_order a b = grind (arith, nat_tests)
 
--- what comes no later than one that comes before a turn comes before it too
-weak_then : (a b turn : ℕ × ℕ) → comes_before b a ≡ false → comes_before b turn ≡ true → comes_before a turn ≡ true
-weak_then a b turn h g = grind (arith, nat_tests)
+-- of two places, the one that the other does not come before comes before it
+one_first : (a b : ℕ × ℕ) → comes_before b a ≡ false → eqb a.0 b.0 ≡ false → comes_before a b ≡ true
+one_first a b h other = grind (arith, nat_tests)
 
--- Of the turns in order, those before the place of the last unit are those with a small rank.
-pub serves_by_rank : (turns sorted : List Turn) (left : ℕ) (d : Turn) → IsPermutation turns sorted → IsSortedBy turn_lt sorted
-    → left ≢ 0 → left ≤ length sorted → (turn : ℕ × ℕ)
-    → not (comes_before (seen (get_or sorted (left - 1) d)) turn) ≡ ltb (rank_of (map seen turns) turn) left
-serves_by_rank turns sorted left d moved up some le turn =
-    let last : left - 1 < length sorted = omega arith in
-    let at_last = front_counts (length sorted) (λ k. comes_before (seen (get_or sorted k d)) turn) goes_down (left - 1) last in
-    turned (rank_of (map seen turns) turn) counted at_last
-  where
-    -- a turn is before this one where a later one is
-    goes_down : (j k : ℕ) → j ≤ k → k < length sorted → comes_before (seen (get_or sorted k d)) turn ≡ true
-        → comes_before (seen (get_or sorted j d)) turn ≡ true
-    goes_down j k low lt h =
-        weak_then (seen (get_or sorted j d)) (seen (get_or sorted k d)) turn
-        (sym (same_order (get_or sorted k d) (get_or sorted j d)) ∙ sorted_far turn_lt turn_lt_order sorted up j k d low lt) h
+-- Turns that each have their own place, and the same turns in order.
+module _ (turns sorted : List Turn) (d : Turn) (moved : IsPermutation turns sorted) (up : IsSortedBy turn_lt sorted)
+    (places : (k : ℕ) → k < length turns → (get_or turns k d).place ≡ k) where
+  abbrev place_at : List Turn → ℕ → ℕ
+  place_at list k = (get_or list k d).place
 
-    counted : rank_of (map seen turns) turn ≡ count_below (length sorted) (λ k. comes_before (seen (get_or sorted k d)) turn)
-    counted =
-        sum_by-map (λ other. bit (comes_before other turn)) seen turns
-        ∙ (sym (sum_by-IsPermutation (λ t. bit (comes_before (seen t) turn)) turns sorted moved)
-        ∙ sum_by-places (λ t. bit (comes_before (seen t) turn)) sorted d)
+  apart : (j k e : ℕ) → j < k → k < length sorted → eqb (place_at sorted j) (place_at sorted k) ≡ false
+  apart j k e less lt =
+      let distinct = IsDistinct-IsPermutation eqb nat_eq_equiv.symm (map (λ t. t.place) turns) (map (λ t. t.place) sorted)
+      (IsPermutation-map (λ t. t.place) turns sorted moved) (IsDistinct-from_apart eqb (map (λ t. t.place) turns) (λ i m e low small.
+      let in_list : m < length turns = rw (length-map turns (λ t. t.place)) at small in
+      ne_eqb _ _ (λ same. absurd (omega (arith, same, get_or-map (λ t. t.place) turns i d e (omega arith), get_or-map (λ t. t.place) turns m d e in_list, places i (omega arith), places m in_list))))) in
+      let other = apart_from_distinct {K = ℕ} eqb (map (λ t. t.place) sorted) j k e distinct less (rw (length-map sorted (λ t. t.place)) lt) in
+      rw (get_or-map (λ t. t.place) sorted j d e (omega arith), get_or-map (λ t. t.place) sorted k d e lt) at other
 
-    turned : (k : ℕ) → k ≡ count_below (length sorted) (λ k. comes_before (seen (get_or sorted k d)) turn)
-        → comes_before (seen (get_or sorted (left - 1) d)) turn
-        ≡ ltb (left - 1) (count_below (length sorted) (λ k. comes_before (seen (get_or sorted k d)) turn))
-        → not (comes_before (seen (get_or sorted (left - 1) d)) turn) ≡ ltb k left
-    turned k e h = ap not h ∙ (ap (λ (m : ℕ). not (ltb (left - 1) m)) (sym e) ∙ flipped k)
-      where
-        flipped : (k : ℕ) → not (ltb (left - 1) k) ≡ ltb k left
-        flipped k = grind (arith, nat_tests)
+  -- each of the first turns in order has the place of a turn
+  pub served_place : (left i : ℕ) → left ≤ length sorted → i < length (take left sorted) → (get_or (take left sorted) i d).place < length turns
+  served_place left i le lt =
+      let early : i < left = omega (arith, lt, length-take-le left sorted le) in
+      let below = All-permutation (λ t. t.place < length turns) turns sorted moved
+      (λ k e small. rw (get_or_default turns k e d small) (omega (arith, places k small))) i d (omega (arith, early, le)) in
+      rw (get_or-take left sorted i d early) below
 
--- Rounded by the rank, the participants' shares are their portions.
-pub rounded-portions : (amount base : ℕ) (last : Option Turn) (ps : List (ℕ × ℕ))
-    → ((turn : ℕ × ℕ) → is_served last turn ≡ ltb (rank_of (turns_of amount base ps) turn) (units_left amount base ps))
-    → rounded amount base last ps ≡ portions_among amount base ps
-rounded-portions amount base last ps same =
-    map_same _ _ (λ (e : ℕ × (ℕ × ℕ)). ap (λ (b : Bool). (e.1.0, quota_of amount base e.1.1 + cond b 1 0)) (same (e.0, remainder_of amount base e.1.1)))
-    (enumerate_from 0 ps)
+  -- of the turns in order, an earlier one comes before a later one
+  in_order : (j k : ℕ) → j < length sorted → k < length sorted → comes_before (seen (get_or sorted j d)) (seen (get_or sorted k d)) ≡ ltb j k
+  in_order j k jn kn = elim (cases_lt j k) [
+    | inl less ↦
+        one_first (seen (get_or sorted j d)) (seen (get_or sorted k d))
+        (sym (same_order (get_or sorted k d) (get_or sorted j d)) ∙ sorted_far turn_lt turn_lt_order sorted up j k d (omega arith) kn)
+        (apart j k 0 less kn)
+        ∙ sym (lt-ltb j k less)
+    | inr more ↦
+        sym (same_order (get_or sorted j d) (get_or sorted k d))
+        ∙ (sorted_far turn_lt turn_lt_order sorted up k j d more jn ∙ sym (le-ltb j k more))
+  ]
 
-pub length-rounded : (amount base : ℕ) (last : Option Turn) (ps : List (ℕ × ℕ)) → length (rounded amount base last ps) ≡ length ps
-length-rounded amount base last ps = length-map (enumerate_from 0 ps) (entry amount base last) ∙ length-enumerate_from 0 ps
+  -- so a turn's rank is its place in order
+  rank_in_order : (k : ℕ) → k < length sorted → rank_of (map seen turns) (seen (get_or sorted k d)) ≡ k
+  rank_in_order k lt =
+      sum_by-map (λ other. bit (comes_before other (seen (get_or sorted k d)))) seen turns
+      ∙ (sym (sum_by-IsPermutation (λ t. bit (comes_before (seen t) (seen (get_or sorted k d)))) turns sorted moved)
+      ∙ (sum_by-places (λ t. bit (comes_before (seen t) (seen (get_or sorted k d)))) sorted d
+      ∙ (same_sums (length sorted) (λ j. bit (comes_before (seen (get_or sorted j d)) (seen (get_or sorted k d)))) (λ j. bit (ltb j k))
+      (λ j jn. ap bit (in_order j k jn lt))
+      ∙ (sum_below-front (length sorted) k (λ _. 1) (omega arith) ∙ (sum_below-constant k 1 ∙ omega arith)))))
+
+  -- 1 for the turn of a place, if its rank is below the number of units
+  abbrev unit_of : (left i : ℕ) → Turn → ℕ
+  unit_of left i turn = cond (eqb turn.place i) (bit (ltb (rank_of (map seen turns) (seen turn)) left)) 0
+
+  -- Among the first turns in order there is that of a place where its rank is small, and it is there once.
+  pub served_once : (left i : ℕ) → left ≤ length sorted → i < length turns
+      → count_by (λ t. eqb t.place i) (take left sorted) ≡ bit (ltb (rank_of (map seen turns) (seen (get_or turns i d))) left)
+  served_once left i le lt = among_first ∙ (sym among_all ∙ (sum_by-IsPermutation (unit_of left i) turns sorted moved ∙ among_turns))
+    where
+      among_first : count_by (λ t. eqb t.place i) (take left sorted) ≡ sum_below left (λ k. bit (eqb (place_at sorted k) i))
+      among_first =
+          sum_by-places (λ t. bit (eqb t.place i)) (take left sorted) d
+          ∙ (ap (λ (n : ℕ). sum_below n (λ k. bit (eqb (place_at (take left sorted) k) i))) (length-take-le left sorted le)
+          ∙ same_sums left (λ k. bit (eqb (place_at (take left sorted) k) i)) (λ k. bit (eqb (place_at sorted k) i))
+          (λ k small. ap (λ (t : Turn). bit (eqb t.place i)) (get_or-take left sorted k d small)))
+
+      turned : (b c : Bool) → cond b (bit c) 0 ≡ cond c (bit b) 0
+      turned true true = refl
+      turned true false = refl
+      turned false true = refl
+      turned false false = refl
+
+      among_all : sum_by (unit_of left i) sorted ≡ sum_below left (λ k. bit (eqb (place_at sorted k) i))
+      among_all =
+          sum_by-places (unit_of left i) sorted d
+          ∙ (same_sums (length sorted) (λ k. unit_of left i (get_or sorted k d)) (λ k. cond (ltb k left) (bit (eqb (place_at sorted k) i)) 0)
+          (λ k small. ap (λ (r : ℕ). cond (eqb (place_at sorted k) i) (bit (ltb r left)) 0) (rank_in_order k small)
+          ∙ turned (eqb (place_at sorted k) i) (ltb k left))
+          ∙ sum_below-front (length sorted) left (λ k. bit (eqb (place_at sorted k) i)) le)
+
+      at_place : (k : ℕ) → k < length turns → (b : Bool) → eqb k i ≡ b
+          → unit_of left i (get_or turns k d) ≡ cond b (bit (ltb (rank_of (map seen turns) (seen (get_or turns k d))) left)) 0
+      at_place k small b is =
+          ap (λ (c : Bool). cond c (bit (ltb (rank_of (map seen turns) (seen (get_or turns k d))) left)) 0)
+          (ap (λ (p : ℕ). eqb p i) (places k small) ∙ is)
+
+      among_turns : sum_by (unit_of left i) turns ≡ bit (ltb (rank_of (map seen turns) (seen (get_or turns i d))) left)
+      among_turns =
+          sum_by-places (unit_of left i) turns d
+          ∙ (sum_below-only (length turns) i (λ k. unit_of left i (get_or turns k d)) lt (λ k small other. at_place k small false (ne_eqb k i other))
+          ∙ at_place i lt true (eq-eqb i i refl))
 
 -- Fewer units are left than there are participants.
 pub units_fit : (amount base left : ℕ) (claims ps : List (ℕ × ℕ)) → base ≡ base_of claims → ps ≡ participants_of claims
@@ -136,15 +164,58 @@ units_fit amount base left claims ps base_is ps_is left_is =
     (subst (λ (b : ℕ). units_left amount b (participants_of claims) < length (participants_of claims)) (sym base_is)
     (rw (units_left_is amount (base_of claims) (participants_of claims)) (left_small (length (participants_of claims)) amount (base_of claims) (number_at (participants_of claims)) (base_positive claims) (shares_are_base claims) (some_place claims)))))
 
+-- A quota and all units left come to no more than the amount.
+pub small_portions : (amount base units : ℕ) (claims ps quotas : List (ℕ × ℕ))
+    → base ≡ base_of claims → ps ≡ participants_of claims → quotas ≡ map (λ p. (p.0, quota_of amount base p.1)) ps
+    → units ≡ units_left amount base ps → All (λ portion. portion.1 + units ≤ amount) quotas
+small_portions amount base units claims ps quotas base_is ps_is quotas_are units_are k d lt =
+    let many : length quotas ≡ length ps =
+    ap (λ (l : List (ℕ × ℕ)). length l) quotas_are ∙ length-map ps (λ p. (p.0, quota_of amount base p.1)) in
+    let in_list : k < length ps = omega (arith, lt, many) in
+    let whole : sum_below (length ps) (number_at ps) ≡ base =
+    ap (λ (l : List (ℕ × ℕ)). sum_below (length l) (number_at l)) ps_is ∙ (shares_are_base claims ∙ sym base_is) in
+    let all = quotas_fit (length ps) amount base (number_at ps) (omega (arith, base_positive claims, base_is)) whole in
+    let part = sum_by_more_le (λ p. quota_of amount base p.1) ps k (0, 0) in_list in
+    let here : (get_or quotas k d).1 ≡ quota_of amount base (get_or ps k (0, 0)).1 =
+    ap (λ (l : List (ℕ × ℕ)). (get_or l k d).1) quotas_are
+    ∙ ap (λ (p : ℕ × ℕ). p.1) (get_or-map (λ p. (p.0, quota_of amount base p.1)) ps k (0, 0) d in_list) in
+    omega (arith, here, all, part, sum_by_number (quota_of amount base) ps, units_are)
+
 -- What the steps of the division leave are the portions by the claims.
-pub divided : (amount base left : ℕ) (claims ps : List (ℕ × ℕ)) (turns : List Turn) (last : Option Turn)
-    → base ≡ base_of claims → ps ≡ participants_of claims → map seen turns ≡ turns_of amount base ps → left ≡ units_left amount base ps
-    → ((turn : ℕ × ℕ) → is_served last turn ≡ ltb (rank_of (map seen turns) turn) left)
-    → rounded amount base last ps ≡ portions_of amount claims
-divided amount base left claims ps turns last base_is ps_is turns_are left_is served =
-    rounded-portions amount base last ps
-    (λ turn. served turn ∙ (ap (λ (l : List (ℕ × ℕ)). ltb (rank_of l turn) left) turns_are ∙ ap (λ (m : ℕ). ltb (rank_of (turns_of amount base ps) turn) m) left_is))
+pub portions_made : (amount base units : ℕ) (claims ps quotas turns portions : List (ℕ × ℕ))
+    → base ≡ base_of claims → ps ≡ participants_of claims → quotas ≡ map (λ p. (p.0, quota_of amount base p.1)) ps
+    → turns ≡ turns_of amount base ps → units ≡ units_left amount base ps → length portions ≡ length quotas
+    → ((k : ℕ) (d : ℕ × ℕ) → k < length quotas
+    → get_or portions k d ≡ with_unit (ltb (rank_of turns (get_or turns k d)) units) (get_or quotas k d))
+    → portions ≡ portions_of amount claims
+portions_made amount base units claims ps quotas turns portions base_is ps_is quotas_are turns_are units_are len given =
+    same_lists portions (portions_among amount base ps) (all ∙ sym (length-portions amount base ps))
+    (λ k d lt. at_place k d (omega (arith, all)) (omega (arith, len)))
     ∙ (ap (λ (b : ℕ). portions_among amount b ps) base_is ∙ ap (λ (l : List (ℕ × ℕ)). portions_among amount (base_of claims) l) ps_is)
+  where
+    all : length portions ≡ length ps
+    all = len ∙ (ap (λ (l : List (ℕ × ℕ)). length l) quotas_are ∙ length-map ps (λ p. (p.0, quota_of amount base p.1)))
+
+    quota_at : (k : ℕ) (d : ℕ × ℕ) → k < length ps → get_or quotas k d ≡ ((get_or ps k (0, 0)).0, quota_of amount base (number_at ps k))
+    quota_at k d lt =
+        ap (λ (l : List (ℕ × ℕ)). get_or l k d) quotas_are
+        ∙ (get_or-map (λ p. (p.0, quota_of amount base p.1)) ps k (0, 0) d lt
+        ∙ ap (λ (share : ℕ). ((get_or ps k (0, 0)).0, quota_of amount base share)) (number_at_is ps k (0, 0) lt))
+
+    rank_at : (k : ℕ) (d : ℕ × ℕ) → k < length ps
+        → rank_of turns (get_or turns k d) ≡ rank (length ps) (remainders amount base (number_at ps)) k
+    rank_at k d lt =
+        ap (λ (l : List (ℕ × ℕ)). rank_of l (get_or l k d)) turns_are
+        ∙ (ap (rank_of (turns_of amount base ps)) (turn_at amount base ps k d lt) ∙ rank_is amount base ps k)
+
+    at_place : (k : ℕ) (d : ℕ × ℕ) → k < length ps → k < length quotas → get_or portions k d ≡ get_or (portions_among amount base ps) k d
+    at_place k d lt lt' =
+        given k d lt'
+        ∙ (ap (λ (r : ℕ). with_unit (ltb r units) (get_or quotas k d)) (rank_at k d lt)
+        ∙ (ap (λ (u : ℕ). with_unit (ltb (rank (length ps) (remainders amount base (number_at ps)) k) u) (get_or quotas k d))
+        (units_are ∙ units_left_is amount base ps)
+        ∙ (ap (with_unit (ltb (rank (length ps) (remainders amount base (number_at ps)) k) (left (length ps) amount base (number_at ps)))) (quota_at k d lt)
+        ∙ sym (portion_at amount base ps k d lt))))
 
 -- the quotas of the places before one, and its own, fit the amount
 pub quota_fits_at : (amount base : ℕ) (claims : List (ℕ × ℕ)) (i : ℕ) → base ≡ base_of claims → i < length claims + 1

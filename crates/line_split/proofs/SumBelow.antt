@@ -1,6 +1,7 @@
 -- Sums over the places below a number: how a sum over a list is a sum over its places, and what sums of bits count.
-use Rattle.std.proofs.Common.{◌≡◌, ℕ, zero, suc, ◌+◌, ◌*◌, ◌<◌, ◌≤◌, Bool, true, false, cond, List, [], ◌∷◌, length, map, get_or, sum_by, refl, sym, ap, ◌∙◌, arith}
+use Rattle.std.proofs.Common.{◌≡◌, ◌≢◌, ℕ, zero, suc, ◌+◌, ◌*◌, ◌<◌, ◌≤◌, Bool, true, false, cond, ltb, List, [], ◌∷◌, length, map, get_or, sum_by, refl, sym, ap, ◌∙◌, arith}
 use Rattle.std.specs.Int.{from_bool}
+use Rattle.std.proofs.lemmas.Bool.Decides.{nat_tests}
 use Rattle.std.proofs.lemmas.List.Sums.{sum_by-cons}
 
 abbrev pub sum_below : ℕ → (ℕ → ℕ) → ℕ
@@ -87,3 +88,25 @@ sum_below-part zero (suc n) f lt = omega arith
 sum_below-part (suc i) (suc n) f lt =
     let rest = sum_below-part i n (λ j. f (suc j)) (omega arith) in
     omega (arith, rest)
+
+-- a sum of which the terms from a place on are left out
+pub sum_below-front : (n m : ℕ) (f : ℕ → ℕ) → m ≤ n → sum_below n (λ k. cond (ltb k m) (f k) 0) ≡ sum_below m f
+sum_below-front n zero f le =
+    same_sums n (λ k. cond (ltb k 0) (f k) 0) (λ _. 0) (λ k _. grind (arith, nat_tests)) ∙ (sum_below-constant n 0 ∙ omega arith)
+sum_below-front zero (suc m) f le = absurd (omega arith)
+sum_below-front (suc n) (suc m) f le =
+    let first : cond (ltb 0 (suc m)) (f 0) 0 ≡ f 0 = grind (arith, nat_tests) in
+    let rest = same_sums n (λ k. cond (ltb (suc k) (suc m)) (f (suc k)) 0) (λ k. cond (ltb k m) (f (suc k)) 0) (λ k _. grind (arith, nat_tests))
+    ∙ sum_below-front n m (λ k. f (suc k)) (omega arith) in
+    omega (arith, first, rest)
+
+-- a sum of one term, all others being 0
+pub sum_below-only : (n i : ℕ) (f : ℕ → ℕ) → i < n → ((k : ℕ) → k < n → k ≢ i → f k ≡ 0) → sum_below n f ≡ f i
+sum_below-only zero i f lt none = absurd (omega arith)
+sum_below-only (suc n) zero f lt none =
+    let rest = same_sums n (λ k. f (suc k)) (λ _. 0) (λ k small. none (suc k) (omega arith) (omega arith)) in
+    omega (arith, rest, sum_below-constant n 0)
+sum_below-only (suc n) (suc i) f lt none =
+    let first : f 0 ≡ 0 = none 0 (omega arith) (omega arith) in
+    let rest = sum_below-only n i (λ k. f (suc k)) (omega arith) (λ k small other. none (suc k) (omega arith) (omega arith)) in
+    omega (arith, first, rest)

@@ -1,16 +1,19 @@
 //! The division of one line's amount, by the method of largest remainder.
 
-ghost use Rattle.std.specs.Prelude.{◌≡◌, ℕ, ◌+◌, ◌<◌, ◌≤◌, length, map, vec_capacity, sum_by, IfOk, [], nat_lt, if◌then◌else◌};
+ghost use Rattle.std.specs.Prelude.{◌≡◌, ℕ, ◌+◌, ◌/◌, ◌%◌, ◌<◌, ◌≤◌, length, map, vec_capacity, sum_by, All, IfOk, [], nat_lt, slice_index_or, if◌then◌else◌};
 ghost use Rattle.line_split.specs.declared.TheConstants.{MOST_AMOUNT, MOST_CLAIMED};
 ghost use Rattle.line_split.specs.Claims.{AreClaims, base_of, participants_of, total_of};
-ghost use Rattle.line_split.specs.LargestRemainder.{portions_of, rank_of, turns_of, units_left};
-ghost use Rattle.line_split.specs.Turns.{is_served, rounded, seen};
+ghost use Rattle.line_split.specs.LargestRemainder.{portions_of, quota_of, rank_of, turns_of, units_left};
+ghost use Rattle.line_split.specs.Turns.{seen, with_unit};
 
 use crate::turn::Turn;
 use crate::{Account, Claims, FULL_SHARE, MOST_AMOUNT, MOST_CLAIMED, RESIDUE};
 use std::alloc::{AllocError, Global};
 use std::cmp::Reverse;
 use std::marker::Model;
+
+/// `FULL_SHARE`, as wide as what is divided by it.
+const FULL_BASE: u64 = FULL_SHARE as u64;
 
 /// The portions of one line, in minor units, with room that is taken once and used for many lines.
 #[derive(Drop)]
@@ -70,9 +73,9 @@ pub fn split(amount: u64, claims: &Claims, portions: &mut Portions)
     ensures room { portions.new.room ≡ portions.old.room }
 {
     let base = enter(claims.list(), &mut portions.list);
-    let left = line_up(amount, base, portions.list.as_slice(), &mut portions.turns);
-    let last = last_served(left, portions.turns.as_mut_slice());
-    round(amount, base, last, portions.list.as_mut_slice());
+    let list = portions.list.as_mut_slice();
+    let left = round_down(amount, base, list, &mut portions.turns);
+    give_units(left, portions.turns.as_mut_slice(), list);
 }
 
 /// What the claims come to.
@@ -117,65 +120,61 @@ fn enter_claims(claims: &[(Account, u32)], counts: bool, list: &mut Vec<(Account
     }
 }
 
-/// Gives each participant its turn by its remainder, and answers how many units the quotas leave.
-fn line_up(amount: u64, base: u64, participants: &[(Account, u64)], turns: &mut Vec<Turn>) -> u64
+/// The quotient and the remainder. Dividing by the usual base, a constant, compiles to a product.
+#[inline]
+fn divided(exact: u64, base: u64) -> (u64, u64)
+    requires { 0 < base }
+    ensures quotient { result.0 ≡ exact / base }
+    ensures remainder { result.1 ≡ exact % base }
+{
+    if base == FULL_BASE {
+        (exact / FULL_BASE, exact % FULL_BASE)
+    } else {
+        (exact / base, exact % base)
+    }
+}
+
+/// Puts each participant's quota in the place of its share, lists its turn by what is rounded off,
+/// and answers how many units the quotas leave.
+fn round_down(amount: u64, base: u64, list: &mut [(Account, u64)], turns: &mut Vec<Turn>) -> u64
     requires in_range { amount ≤ MOST_AMOUNT }
     requires some { (0 < base) × (base ≤ MOST_CLAIMED) }
-    requires whole { sum_by (λ p. p.1) participants.now ≡ base }
-    requires room { length participants.now ≤ vec_capacity turns.old }
-    ensures turns { map seen turns.new.items ≡ turns_of amount base participants.now }
-    ensures left { result ≡ units_left amount base participants.now }
+    requires whole { sum_by (λ p. p.1) list.old ≡ base }
+    requires room { length list.old ≤ vec_capacity turns.old }
+    ensures quotas { list.new ≡ map (λ p. (p.0, quota_of amount base p.1)) list.old }
+    ensures turns { map seen turns.new.items ≡ turns_of amount base list.old }
+    ensures left { result ≡ units_left amount base list.old }
     ensures room { vec_capacity turns.new ≡ vec_capacity turns.old }
 {
     turns.clear();
     let mut left = amount;
-    for (place, participant) in participants.iter().enumerate() {
-        let exact = amount * participant.1;
-        left -= exact / base;
+    for place in 0..list.len() {
+        let (quota, remainder) = divided(amount * list[place].1, base);
+        list[place].1 = quota;
+        left -= quota;
         turns.push_reserved(Turn {
-            remainder: Reverse(exact % base),
+            remainder: Reverse(remainder),
             place,
         });
     }
     left
 }
 
-/// The last turn that gets one of the units left, where there are any. The turns are put in order.
-fn last_served(left: u64, turns: &mut [Turn]) -> Option<Turn>
-    requires { left ≤ length turns.old }
-    ensures { (turn : ℕ × ℕ) → is_served result turn ≡ nat_lt (rank_of (map seen turns.old) turn) left }
+/// Gives a unit to each of the first `left` turns. The turns are put in order.
+fn give_units(left: u64, turns: &mut [Turn], list: &mut [(Account, u64)])
+    requires few { left ≤ length turns.old }
+    requires places { (k : ℕ) (d : ℕ × ℕ) → k < length turns.old → (slice_index_or (map seen turns.old) k d).0 ≡ k }
+    requires each { length turns.old ≡ length list.old }
+    requires small { All (λ portion. portion.1 + left ≤ MOST_AMOUNT) list.old }
+    ensures each { length list.new ≡ length list.old }
+    ensures given { (k : ℕ) (d : ℕ × ℕ) → k < length list.old → slice_index_or list.new k d ≡ with_unit (nat_lt (rank_of (map seen turns.old) (slice_index_or (map seen turns.old) k d)) left) (slice_index_or list.old k d) }
 {
     if left == 0 {
-        return None;
+        return;
     }
     turns.sort_unstable();
-    Some(turns[left as usize - 1])
-}
-
-/// Puts each participant's portion in the place of its share: its quota, and a unit more where its
-/// turn comes no later than `last`.
-fn round(amount: u64, base: u64, last: Option<Turn>, list: &mut [(Account, u64)])
-    requires in_range { amount ≤ MOST_AMOUNT }
-    requires some { (0 < base) × (base ≤ MOST_CLAIMED) }
-    requires whole { sum_by (λ p. p.1) list.old ≡ base }
-    ensures { list.new ≡ rounded amount base last list.old }
-{
-    for place in 0..list.len() {
-        let exact = amount * list[place].1;
-        let turn = Turn {
-            remainder: Reverse(exact % base),
-            place,
-        };
-        list[place].1 = exact / base + u64::from(gets_unit(turn, last));
-    }
-}
-
-/// Whether a turn comes no later than the last one that gets a unit.
-fn gets_unit(turn: Turn, last: Option<Turn>) -> bool
-    ensures { result ≡ is_served last (seen turn) }
-{
-    match last {
-        Some(last) => turn <= last,
-        None => false,
+    let served = &turns[..left as usize];
+    for turn in served {
+        list[turn.place].1 += 1;
     }
 }

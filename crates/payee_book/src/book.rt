@@ -1,6 +1,7 @@
 //! The statements of all accounts.
 
 ghost use Rattle.std.specs.Prelude.{◌≡◌, true, false, ◌<◌, ◌≤◌, ◌∷◌, ℕ, List, [], All, IfOk, IfErr, OnOk, OnErr, length, map, replicate, slice_index_or, slice_set};
+ghost use Rattle.std.specs.List.{insert};
 ghost use Rattle.line_split.specs.declared.TheConstants.{MOST_AMOUNT};
 ghost use Rattle.payee_book.specs.Statement.{AreStatements, IsRising, comes_before, total_of, with_posting};
 
@@ -54,10 +55,7 @@ impl Book {
     {
         let statement = &mut self.statements[account as usize];
         let place = place_of(statement.as_slice(), (line, amount));
-        match statement.insert(place, (line, amount)) {
-            Ok(()) => Ok(()),
-            Err(_) => Err(AllocError),
-        }
+        put(statement, place, (line, amount))
     }
 
     /// The postings of an account, by rising line and amount.
@@ -104,6 +102,23 @@ fn place_of(statement: &[(u64, u64)], posting: (u64, u64)) -> usize
         place -= 1;
     }
     place
+}
+
+/// Puts a posting at a place of a statement. Mostly that is the end, where nothing moves.
+fn put(statement: &mut Vec<(u64, u64)>, place: usize, posting: (u64, u64)) -> Result<(), AllocError>
+    requires { place ≤ length statement.old.items }
+    ensures put { OnOk result (statement.new.items ≡ insert statement.old.items place posting) }
+    ensures refused { OnErr result (statement.new.items ≡ statement.old.items) }
+{
+    let added = if place == statement.len() {
+        statement.push(posting)
+    } else {
+        statement.insert(place, posting)
+    };
+    match added {
+        Ok(()) => Ok(()),
+        Err(_) => Err(AllocError),
+    }
 }
 
 /// Whether a posting comes before another: by its line, and within a line by its amount.

@@ -1,8 +1,11 @@
 use Rattle.std.proofs.Common.{◌≡◌, ◌<◌, ◌∙◌, ℕ, List, [], length, map, slice_index_or, slice_set, sym, ap, subst}
 use Rattle.std.specs.List.{insert}
+use Rattle.std.specs.Result.{OnOk, OnErr}
+use Rattle.std.specs.declared.result.Result.{Result}
+use Rattle.std.specs.declared.result.Result.TheVariants.{Ok, Err}
+use Rattle.std.proofs.lemmas.Result.{on_ok_weaker, on_err_weaker}
 use Rattle.payee_book.specs.Statement.{AreStatements, IsRising, with_posting}
 use Rattle.payee_book.proofs.Rising.{shown, kept, put, placed, statements_with}
-use Rattle.payee_book.proofs.book.Book.post.Goals.{in-Ok, in-Err}
 use Rattle.payee_book.proofs.book.Book.post.Goals as goal
 
 pub place_of-place-requires : goal.place_of-place-requires
@@ -13,51 +16,51 @@ place_of-place-requires c =
     ∙ sym c.as_slice.ensures.value)
     (c.self.invariant.rising c.args.account [] within)
 
-module _ (c : goal.Joined-insert) where
+-- what holds of an `Ok` and of an `Err`
+either_way : {T E P : Type 0} (r : Result T E) → OnOk r P → OnErr r P → P
+either_way (Ok x) ok err = ok
+either_way (Err e) ok err = err
+
+module _ (c : goal.After-self-1) where
   abbrev book : List (List (ℕ × ℕ))
   book = map (λ s. s.items) c.self.inside.statements.items
 
   abbrev book_after : List (List (ℕ × ℕ))
-  book_after = map (λ s. s.items) (slice_set c.self.inside.statements.items c.args.account c.insert.new.self)
+  book_after = map (λ s. s.items) (slice_set c.self.inside.statements.items c.args.account c.put.new.statement)
 
   within : c.args.account < length book
   within = rw c.self.view_is c.requires.account
 
-  -- where the insert succeeded
-  with_it : c.insert.new.self.items ≡ insert c.index_mut-statement.result.now.items c.place_of-place.result (c.args.line, c.args.amount)
+  -- where the posting was put
+  with_it : c.put.new.statement.items ≡ insert c.index_mut-statement.result.now.items c.place_of-place.result (c.args.line, c.args.amount)
       → book_after ≡ slice_set book c.args.account (with_posting (c.args.line, c.args.amount) (slice_index_or book c.args.account []))
   with_it items =
       put (λ s. s.items) c.self.inside.statements.items c.args.account c.index_mut-statement.result.now within c.index_mut-statement.ensures.value
-      c.insert.new.self (c.args.line, c.args.amount)
+      c.put.new.statement (c.args.line, c.args.amount)
       (items
       ∙ (ap (λ (l : List (ℕ × ℕ)). insert l c.place_of-place.result (c.args.line, c.args.amount)) (sym c.as_slice.ensures.value)
       ∙ (placed (c.args.line, c.args.amount) c.as_slice.result.now c.place_of-place.result c.place_of-place.ensures.bound c.place_of-place.ensures.after
       c.place_of-place.ensures.before
       ∙ ap (with_posting (c.args.line, c.args.amount)) c.as_slice.ensures.value)))
 
-  -- where it failed
-  without : c.insert.new.self.items ≡ c.index_mut-statement.result.now.items → book_after ≡ book
+  -- where it was not
+  without : c.put.new.statement.items ≡ c.index_mut-statement.result.now.items → book_after ≡ book
   without items =
       kept (λ s. s.items) c.self.inside.statements.items c.args.account c.index_mut-statement.result.now within c.index_mut-statement.ensures.value
-      c.insert.new.self items
+      c.put.new.statement items
 
 pub invariant_of-self : goal.invariant_of-self
-invariant_of-self c = elim c.match-insert.branch [
-  | in-Ok w ↦ subst AreStatements (sym (with_it c w.in-Ok.ensures.items))
-      (statements_with (book c) c.args.account (c.args.line, c.args.amount) (within c) c.requires.amount c.self.invariant)
-  | in-Err w ↦ subst AreStatements (sym (without c w.in-Err.ensures.items)) c.self.invariant
-]
+invariant_of-self c =
+    either_way c.put.result
+    (on_ok_weaker c.put.result (λ items. subst AreStatements (sym (with_it c items))
+    (statements_with (book c) c.args.account (c.args.line, c.args.amount) (within c) c.requires.amount c.self.invariant)) c.put.ensures.put)
+    (on_err_weaker c.put.result (λ items. subst AreStatements (sym (without c items)) c.self.invariant) c.put.ensures.refused)
 
 pub returns-clause-posted : goal.returns-clause-posted
-returns-clause-posted c = elim c.match-insert.branch [
-  | in-Ok w ↦ rw w.result-is
-      (with_it c w.in-Ok.ensures.items
-      ∙ ap (λ b. slice_set b c.args.account (with_posting (c.args.line, c.args.amount) (slice_index_or b c.args.account []))) c.self.view_is)
-  | in-Err w ↦ rw w.result-is tt
-]
+returns-clause-posted c =
+    on_ok_weaker c.put.result (λ items.
+    with_it c items
+    ∙ ap (λ b. slice_set b c.args.account (with_posting (c.args.line, c.args.amount) (slice_index_or b c.args.account []))) c.self.view_is) c.put.ensures.put
 
 pub returns-clause-refused : goal.returns-clause-refused
-returns-clause-refused c = elim c.match-insert.branch [
-  | in-Ok w ↦ rw w.result-is tt
-  | in-Err w ↦ rw w.result-is (without c w.in-Err.ensures.items ∙ c.self.view_is)
-]
+returns-clause-refused c = on_err_weaker c.put.result (λ items. without c items ∙ c.self.view_is) c.put.ensures.refused

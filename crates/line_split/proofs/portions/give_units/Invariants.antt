@@ -1,0 +1,8 @@
+use Rattle.std.proofs.Common.{◌≡◌, ℕ, ◌+◌, ◌<◌, eqb, count_by, length, get_or, take}
+use Rattle.line_split.proofs.portions.give_units.Given as goal
+
+-- each portion has a unit more for each turn of its place so far
+abbrev pub invariant-loop-turn : goal.invariant-loop-turn
+invariant-loop-turn l =
+    (k : ℕ) (d : ℕ × ℕ) → k < length l.fn.list
+    → get_or l.list k d ≡ ((get_or l.fn.list k d).0, (get_or l.fn.list k d).1 + count_by (λ turn. eqb turn.place k) (take l.turn-index l.served))
