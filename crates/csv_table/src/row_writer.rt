@@ -32,10 +32,16 @@ impl RowWriter {
     pub fn new(alloc: Global) -> RowWriter
         ensures { result ≡ [] }
     {
+        RowWriter::over(Vec::new(alloc))
+    }
+
+    /// No rows yet, to be written into this memory, whatever it holds.
+    pub fn over(mut memory: Vec<u8>) -> RowWriter
+        ensures { result ≡ [] }
+    {
+        memory.clear();
         RowWriter {
-            out: WriterBuilder::new()
-                .flexible(true)
-                .from_writer(Vec::new(alloc)),
+            out: WriterBuilder::new().flexible(true).from_writer(memory),
             has_failed: false,
         }
     }

@@ -34,6 +34,15 @@ fn writes_rows_of_any_width(rt: HostRuntime) -> Result<(), Fail> {
 }
 
 #[test]
+fn writes_over_what_the_memory_held(rt: HostRuntime) -> Result<(), Fail> {
+    let mut out = RowWriter::over(Vec::from_slice(rt.alloc(), b"a longer text")?);
+    out.row(&[b"a", b"b"])?;
+    let text = out.into_text()?;
+    assert_eq!(rt; text.as_slice(), b"a,b\n".as_slice());
+    Ok(())
+}
+
+#[test]
 fn knows_the_forms_of_fields(rt: HostRuntime) -> Result<(), Fail> {
     assert!(rt; is_printable(b" ~", 2) && !is_printable(b" ~", 1));
     assert!(rt; !is_printable(b"", 1) && !is_printable(b"\x7f", 1) && !is_printable(b"\x1f", 1));

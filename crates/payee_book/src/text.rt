@@ -32,7 +32,24 @@ impl Book {
         ensures rows { IfOk result (λ text. text.items ≡ text_of (rows_of_book self.now usage.now (map (λ party. party.items) parties.now) reasons.now)) }
         ensures reads_back { IfOk result (λ text. rows_of text.items ≡ rows_of_book self.now usage.now (map (λ party. party.items) parties.now) reasons.now) }
     {
-        let mut out = RowWriter::new(alloc);
+        self.text_over(Vec::new(alloc), usage, parties, reasons)
+    }
+
+    /// The same, written into this memory, whatever it holds.
+    pub fn text_over(
+        &self,
+        memory: Vec<u8>,
+        usage: &Usage,
+        parties: &[Vec<u8>],
+        reasons: &[Reason],
+    ) -> Result<Vec<u8>, AllocError>
+        requires parties { length parties.now ≡ length self.now }
+        requires reasons { length reasons.now ≡ length usage.now }
+        requires lines { All (All (λ posting. posting.0 < length usage.now)) self.now }
+        ensures rows { IfOk result (λ text. text.items ≡ text_of (rows_of_book self.now usage.now (map (λ party. party.items) parties.now) reasons.now)) }
+        ensures reads_back { IfOk result (λ text. rows_of text.items ≡ rows_of_book self.now usage.now (map (λ party. party.items) parties.now) reasons.now) }
+    {
+        let mut out = RowWriter::over(memory);
         for account in 1..self.accounts() {
             let party = parties[account as usize].as_slice();
             write_payee(&mut out, usage, party, self.lines(account))?;

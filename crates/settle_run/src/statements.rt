@@ -35,10 +35,12 @@ pub fn settle<R: Threads + Wait + Sync>(
     let territories = TisTable::read(alloc, tis)?;
     let registry = Registry::read(alloc, cwr)?;
     let lines = Usage::read(alloc, usage)?;
-    Ok(statements(alloc, &territories, &registry, &lines)?)
+    let memory = Vec::new(alloc);
+    Ok(statements(alloc, memory, &territories, &registry, &lines)?)
 }
 
-/// The same of inputs that are no longer needed: each is freed as soon as it is read.
+/// The same of inputs that are no longer needed: the territories and the CWR file are freed as soon as
+/// they are read, and the statements are written into the memory of the usage lines.
 pub fn settle_and_free<R: Threads + Wait + Sync>(
     _rt: &R,
     alloc: Global,
@@ -55,13 +57,14 @@ pub fn settle_and_free<R: Threads + Wait + Sync>(
     let registry = Registry::read(alloc, cwr.as_slice())?;
     drop(cwr);
     let lines = Usage::read(alloc, usage.as_slice())?;
-    drop(usage);
-    Ok(statements(alloc, &territories, &registry, &lines)?)
+    // The statements are longer than the table of usage lines that they come from, and its memory is at hand.
+    Ok(statements(alloc, usage, &territories, &registry, &lines)?)
 }
 
-/// The statements of usage lines by these territories and registrations.
+/// The statements of usage lines by these territories and registrations, written into this memory.
 fn statements(
     alloc: Global,
+    memory: Vec<u8>,
     tis: &TisTable,
     registry: &Registry,
     usage: &Usage,
@@ -71,7 +74,7 @@ fn statements(
 {
     let book = book_of(alloc, tis, registry, usage)?;
     let reasons = reasons_of(alloc, tis, registry, usage, book.lines(RESIDUE))?;
-    book.text(alloc, usage, registry.parties(), reasons.as_slice())
+    book.text_over(memory, usage, registry.parties(), reasons.as_slice())
 }
 
 /// The book of all usage lines: each is divided by the claims on it, and each portion that is not 0 is

@@ -17,8 +17,8 @@ reasons_of-requires c =
     rw c.lines.ensures.postings
     (book_lines_below (division_by c.args.tis.now c.args.registry.now) c.args.usage.now (length c.args.registry.now.parties) c.in_ok-book.book c.in_ok-book.ensures 0 [] some)
 
-pub text-requires-clause-lines : goal.text-requires-clause-lines
-text-requires-clause-lines c =
+pub text_over-requires-clause-lines : goal.text_over-requires-clause-lines
+text_over-requires-clause-lines c =
     book_lines_below (division_by c.args.tis.now c.args.registry.now) c.args.usage.now (length c.args.registry.now.parties) c.in_ok-book.book c.in_ok-book.ensures
 
 pub returns : goal.returns
@@ -31,7 +31,7 @@ returns c =
     let owns = map (reason_of table registered) lines in
     let residue : residue_rows lines reasons (get_or book 0 []) ≡ residue_rows lines owns (get_or book 0 []) =
     subst (λ postings. residue_rows lines reasons postings ≡ residue_rows lines owns postings) c.lines.ensures.postings c.in_ok-reasons.ensures.rows in
-    if_ok c.text.result (λ text rows. record {
+    if_ok c.text_over.result (λ text rows. record {
       statements = book;
       divided = c.in_ok-book.ensures;
       adds_up = adds_up table registered lines book c.requires.sound c.in_ok-book.ensures;
@@ -39,4 +39,4 @@ returns c =
           ∙ (ap (λ l. text_of (rows_of_book book lines (map (λ party. party.items) c.parties.result.now) l)) c.as_slice.ensures.value
           ∙ (ap (λ l. text_of (rows_of_book book lines l reasons)) c.parties.ensures
           ∙ ap text_of (book_rows_same book lines registered.parties reasons owns residue)));
-    }) c.text.ensures.rows
+    }) c.text_over.ensures.rows

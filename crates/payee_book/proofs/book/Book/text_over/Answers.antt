@@ -5,7 +5,7 @@ use Rattle.csv_table.specs.Table.{rows_of}
 use Rattle.csv_table.specs.Written.{text_of}
 use Rattle.payee_book.specs.Text.{residue_rows, rows_of_book}
 use Rattle.payee_book.proofs.TextLemmas.{book_reads_back, statements_more, whole_text}
-use Rattle.payee_book.proofs.book.Book.text.Goals as goal
+use Rattle.payee_book.proofs.book.Book.text_over.Goals as goal
 
 pub loop-account-preserved : goal.loop-account-preserved
 loop-account-preserved c =

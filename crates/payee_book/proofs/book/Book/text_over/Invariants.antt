@@ -2,7 +2,7 @@ use Rattle.std.proofs.Common.{◌≡◌, ◌-◌, drop, map, take}
 use Rattle.std.specs.Prelude.{flat_map, zip}
 use Rattle.csv_table.specs.Written.{text_of}
 use Rattle.payee_book.specs.Text.{payee_rows}
-use Rattle.payee_book.proofs.book.Book.text.Given as goal
+use Rattle.payee_book.proofs.book.Book.text_over.Given as goal
 
 -- the statements of the accounts so far are written
 abbrev pub invariant-loop-account : goal.invariant-loop-account
