@@ -1,8 +1,7 @@
 -- What share lines come to: those of a party, from the last one back; those of a registration, payee by payee; and the answer on a usage line.
-use Rattle.std.proofs.Common.{◌≡◌, ◌∙◌, ◌≤◌, ◌<◌, ◌+◌, ◌*◌, ◌-◌, ◌++◌, ◌∷◌, ◌⊎◌, [], ℕ, Bool, true, false, List, Option, Some, None, All, AllPairs, Contains, zero, suc, drop, filter, find, length, take, map, get_or, ltb, nat_eq, nat_le, not, option_map, sum_by, append-nil, ap, sym, refl, subst, inl, inr, arith}
+use Rattle.std.proofs.Common.{◌≡◌, ◌∙◌, ◌≤◌, ◌<◌, ◌+◌, ◌-◌, ◌++◌, ◌∷◌, ◌⊎◌, [], ℕ, Bool, true, false, List, Some, None, All, AllPairs, Contains, zero, suc, drop, filter, length, take, map, get_or, ltb, nat_eq, nat_le, not, sum_by, append-nil, ap, sym, refl, subst, inl, inr, arith}
 use Rattle.std.specs.Prelude.{Any, IsTrue, ◌↔◌, ◌==◌, ◌&&◌, if◌then◌else◌}
 use Rattle.std.specs.List.{enumerate_from, list_any, range_with_len}
-use Rattle.std.specs.Option.{option_eq}
 use Rattle.std.specs.Cmp.Lexicographic.{pointwise}
 use Rattle.std.proofs.lemmas.Bool.{cases_Bool, false_from_ne_true, le-leb, le-ltb, leb-false, leb-true, lt-leb, lt-ltb, false≢true, cases_eq, cases_lt, and_parts, and_right, eqb-true, eq-eqb, ne_eqb}
 use Rattle.std.proofs.lemmas.Bool.Decides.{same_from_decides}
@@ -19,7 +18,7 @@ use Rattle.csv_table.specs.declared.forms.TheConstants.{MOST_CODE}
 use Rattle.tis_tree.specs.Territories.{AreTerritories, IsKnown, encloses, row_at}
 use Rattle.tis_tree.proofs.Enclosing.{at_known, known_at}
 use Rattle.line_split.specs.Claims.{total_of}
-use Rattle.line_split.specs.declared.TheConstants.{FULL_SHARE, MOST_CLAIMED}
+use Rattle.line_split.specs.declared.TheConstants.{MOST_CLAIMED}
 use Rattle.line_split.specs.declared.reason.Reason.TheVariants.{Land, Over, Work}
 use Rattle.line_split.specs.declared.usage.Line.{Line}
 use Rattle.line_split.specs.declared.usage.Right.{Right}
@@ -28,7 +27,7 @@ use Rattle.cwr_share.specs.ClaimsOn.{claim_of, claims_among, claims_by, claims_o
 use Rattle.cwr_share.specs.Compiled.{AreClaimLines, InterestsRise, IsCompiled, Kept, begins_interest, claim_line, claim_lines, claims_of_payees, kept_lines, line_by, lines_at, lines_of_party, lines_of_payees, nameless, places_in, share_under}
 use Rattle.cwr_share.specs.declared.claim_line.ClaimLine.{ClaimLine}
 use Rattle.cwr_share.specs.declared.share_line.KeptShare.{KeptShare}
-use Rattle.cwr_share.specs.Registered.{IsShareLine, Registered}
+use Rattle.cwr_share.specs.Registered.{Registered}
 use Rattle.cwr_share.specs.Registrations.{ShareLine, find_work}
 use Rattle.cwr_share.proofs.CompiledLemmas.{LookedUp, AllPairs-head, AllPairs-tail, contains_cases, lines_of_party_none, same_text}
 
@@ -679,12 +678,6 @@ alike_in_party party lines rise = λ i j d before within.
     let second = get_or (lines_of_party party lines) j d in
     let same = (bytes_eq-Decides first.party party).0 (kept i d (omega arith)) ∙ sym ((bytes_eq-Decides second.party party).0 (kept j d within)) in
     (same, AllPairs-filter (λ line later. line.interest ≤ later.interest) of_party lines rise i j d before within)
-
--- no party has more places than there are lines
-pub few_places : (party : List ℕ) (lines : List ShareLine) (places : List ℕ) → lines_at lines places ≡ lines_of_party party lines → length places ≤ length lines
-few_places party lines places is =
-    let of_party : ShareLine → Bool = λ line. pointwise nat_eq line.party party in
-    omega (arith, length-lines_at lines places, ap (λ (l : List ShareLine). length l) is, length-filter of_party lines, count_by-le-length of_party lines)
 
 -- a share line without its party
 abbrev unnamed : ShareLine → ShareLine

@@ -6,10 +6,10 @@ use Rattle.std.specs.Cmp.Lexicographic.{pointwise, slice_cmp}
 use Rattle.std.specs.Ordering.{ordering_index, ordering_reverse}
 use Rattle.std.proofs.lemmas.Bool.{cases_Bool, cases_lt, cases_order, eq-eqb, le-ltb, lt-ltb, ltb-false, ltb-true, ne_eqb, false_from_ne_true}
 use Rattle.std.proofs.lemmas.Cmp.{nat_list_cmp_total, nat_list_eq_equiv, tied_itself}
-use Rattle.std.proofs.lemmas.List.{get_or_default, get_or-map, drop-map, get_or_append_left, get_or_push, drop-append-le, drop_all, length-append, length-drop, length-map, length-take-le, length_push, map_push, map-append, map-set, take-append-le, take-map, take_all, take_more}
+use Rattle.std.proofs.lemmas.List.{get_or_default, get_or-map, drop-map, get_or_append_left, get_or_push, drop-append-le, drop_all, length-drop, length-map, length-take-le, length_push, map_push, map-append, map-set, take-append-le, take-map, take_all, take_more}
 use Rattle.std.proofs.lemmas.List.Elements.{All-cons, All-contains, All-map, Contains-get_or, recursion_from_All, All-head, All-nil, All-push, All-tail, Contains-push_cases, filter-append}
 use Rattle.std.proofs.lemmas.List.Kept.{AllPairs-cons}
-use Rattle.std.proofs.lemmas.List.Sums.{sum_by-cons, sum_by-take-le, sum_by_push}
+use Rattle.std.proofs.lemmas.List.Sums.{sum_by-cons}
 use Rattle.std.proofs.lemmas.List.Sorted.{searchable_from_sorted}
 use Rattle.std.proofs.lemmas.Map.Keys.{Less-from_sorted}
 use Rattle.std.proofs.lemmas.Map.Lookups.{exact_bytes}
@@ -567,7 +567,6 @@ pub record LookedUp (registered : Registered) (work : List ℕ) (registration : 
   pub works : find_work work registered.works ≡ Some (kept_lines registered.parties registration)
   pub kept : IsKept registered.parties registration
   pub rise : InterestsRise (kept_lines registered.parties registration)
-  pub good : All IsShareLine (kept_lines registered.parties registration)
   pub few : length (kept_lines registered.parties registration) ≤ MOST_SHARES
 
 -- what a look-up by the index finds
@@ -581,7 +580,6 @@ looked_up works registrations parties registered work place registration sound k
       works = found_at work texts works registrations place registration kept.paired index is;
       kept = subst (IsKept (map (λ party. party.items) parties)) (sym is) (kept.kept place registration inside);
       rise = subst (λ (r : Kept). InterestsRise (kept_lines texts r)) (sym is) (kept.rise place registration inside);
-      good = entry_at texts (All IsShareLine) works registrations place registration kept.paired inside is sound.shares;
       few = entry_at texts (λ lines. length lines ≤ MOST_SHARES) works registrations place registration kept.paired inside is sound.few;
     })
 

@@ -2,7 +2,6 @@
 use Rattle.std.specs.Prelude.{ℕ, ◌++◌, ◌==◌, nat_lt, if◌then◌else◌, ◌≡◌, ◌≤◌, ◌<◌, ◌+◌, ◌∷◌, List, All, AllPairs, Contains, [], drop, filter, length, map, nat_eq, slice_index_or, sum_by, take, zip, false, Vec, Bool, Option, Some, None, not, flat_map}
 use Rattle.std.specs.Option.{option_eq}
 use Rattle.std.specs.Cmp.Lexicographic.{pointwise}
-use Rattle.line_split.specs.declared.TheConstants.{FULL_SHARE}
 use Rattle.line_split.specs.declared.usage.Right.{Right}
 use Rattle.line_split.specs.declared.usage.Right.TheVariants.{P, M, S}
 use Rattle.cwr_share.specs.ClaimsOn.{deciding, share_for}
@@ -59,12 +58,6 @@ kept_lines parties kept = map (line_by parties) kept.shares
 -- without their parties, which do not matter to what each of them claims
 abbrev pub nameless : Kept → List ShareLine
 nameless kept = kept_lines [] kept
-
--- no share of the line is over 100.00 per cent
-pub record IsSmall (line : ShareLine) : Type 0 where
-  pub performing : line.performing ≤ FULL_SHARE
-  pub mechanical : line.mechanical ≤ FULL_SHARE
-  pub synchronisation : line.synchronisation ≤ FULL_SHARE
 
 -- the share lines at these places
 abbrev pub lines_at : List ShareLine → List ℕ → List ShareLine

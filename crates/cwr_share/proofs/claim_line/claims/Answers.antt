@@ -1,4 +1,4 @@
-use Rattle.std.proofs.Common.{◌≡◌, ◌∙◌, ◌≤◌, ◌<◌, ◌+◌, ◌++◌, ◌∷◌, [], ℕ, List, ap, arith, drop, get_or, length, refl, subst, sym}
+use Rattle.std.proofs.Common.{◌≤◌, ◌<◌, ◌+◌, [], arith, length, refl, sym}
 use Rattle.std.proofs.lemmas.List.{take_rest}
 use Rattle.cwr_share.specs.Compiled.{claims_of_payees}
 use Rattle.cwr_share.proofs.ClaimLemmas.{claim_here, gathered_all, gathered_few, gathered_more, gathered_none, gathered_over, gathered_zero, is_here, its_account, length-claims, lower_accounts, none_left, payee_here, payee_left}

@@ -1,11 +1,10 @@
-use Rattle.std.proofs.Common.{◌≡◌, ◌∙◌, ◌≤◌, ◌<◌, ◌+◌, ◌-◌, ◌*◌, ◌++◌, [], ℕ, Bool, List, AllPairs, ap, inl, inr, arith, drop, get_or, length, not, refl, sym, true, false}
+use Rattle.std.proofs.Common.{◌≡◌, ◌∙◌, ◌≤◌, ◌<◌, ◌+◌, ◌-◌, ℕ, List, ap, inl, inr, arith, get_or, length, not, refl, sym}
 use Rattle.std.specs.Prelude.{◌&&◌}
-use Rattle.std.proofs.lemmas.Bool.{cases_lt, not-false, not-true}
+use Rattle.std.proofs.lemmas.Bool.{cases_lt}
 use Rattle.std.proofs.lemmas.List.{drop_all, get_or_default, length-append}
 use Rattle.cwr_share.specs.Compiled.{claim_lines}
-use Rattle.cwr_share.specs.Registrations.{ShareLine}
 use Rattle.cwr_share.specs.declared.claim_line.ClaimLine.{ClaimLine}
-use Rattle.cwr_share.proofs.ClaimLemmas.{Claimed, IsAlike, claimed_none, length-claim_lines, no_further, step_apart, step_before, step_more, within_first}
+use Rattle.cwr_share.proofs.ClaimLemmas.{claimed_none, length-claim_lines, no_further, step_apart, step_before, step_more, within_first}
 use Rattle.cwr_share.proofs.claim_line.first_claim.Goals as goal
 use Rattle.cwr_share.proofs.claim_line.first_claim.Goals.{then-not-line, else-not-line, then-not-decided+then-contains, else-not-decided, else-not-decided-via-then-not-decided+else-contains, else-not-decided-via-else-not-decided}
 

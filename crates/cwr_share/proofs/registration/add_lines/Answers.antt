@@ -1,6 +1,6 @@
 use Rattle.std.proofs.Common.{◌≡◌, ◌∙◌, ◌++◌, ◌∷◌, ◌-◌, ◌<◌, ◌+◌, [], List, ap, append-nil, arith, drop, get_or, length, map, refl, sym}
-use Rattle.std.proofs.lemmas.List.{append_assoc, drop_all, get_or_default}
-use Rattle.cwr_share.specs.Compiled.{begins_interest, claim_line, claim_lines, interest_of, line_by, lines_at}
+use Rattle.std.proofs.lemmas.List.{append_assoc, drop_all}
+use Rattle.cwr_share.specs.Compiled.{begins_interest, claim_line, claim_lines, line_by, lines_at}
 use Rattle.cwr_share.specs.Registrations.{ShareLine}
 use Rattle.cwr_share.specs.declared.claim_line.ClaimLine.{ClaimLine}
 use Rattle.cwr_share.proofs.ClaimLemmas.{claim_lines_more, claim_lines_none, kept_at, length-lines_at, next_line}

@@ -1,5 +1,5 @@
-use Rattle.std.proofs.Common.{◌≡◌, ◌∙◌, [], map, sym, take}
-use Rattle.cwr_share.specs.Compiled.{gathered, line_by, lines_of_payees}
+use Rattle.std.proofs.Common.{[], map, sym, take}
+use Rattle.cwr_share.specs.Compiled.{gathered, line_by}
 use Rattle.cwr_share.proofs.ClaimLemmas.{lines_of_payees_push}
 use Rattle.cwr_share.proofs.CompiledLemmas.{gathered_more}
 use Rattle.cwr_share.proofs.registration.lines_by_account.Goals as goal
