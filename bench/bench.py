@@ -4,6 +4,9 @@
     python3 bench.py --program PATH [--lines 1000000] [--works 20000]
         [--parties 400] [--seed 1] [--repeats 5] [--phases]
 
+The plain program runs in two forms: as it is, and without its hints to fetch memory ahead
+(`prefetch`), which Rattle has no word for.
+
 The data are made once. Every repeat runs each program once, so that noise hits both
 alike. Outputs go to a file and have to be the same bytes. Shown are the best wall
 time, the user and system time of that run, and the greatest peak memory.
@@ -18,11 +21,12 @@ import tempfile
 HERE = os.path.dirname(os.path.abspath(__file__))
 
 
-def build_plain():
-    """Builds the plain Rust program, and answers its path."""
+def build_plain(target="target", *flags):
+    """Builds the plain Rust program into a folder, and answers its path."""
     folder = os.path.join(HERE, "plain")
-    subprocess.run(["cargo", "build", "--release", "--offline", "--quiet"], cwd=folder, check=True)
-    return os.path.join(folder, "target", "release", "plain")
+    subprocess.run(["cargo", "build", "--release", "--offline", "--quiet", "--target-dir", target, *flags],
+                   cwd=folder, check=True)
+    return os.path.join(folder, target, "release", "plain")
 
 
 # A child's peak memory begins with that of its parent, so a small process of its own starts it and
@@ -85,7 +89,8 @@ def main():
     parser.add_argument("--repeats", type=int, default=5)
     parser.add_argument("--phases", action="store_true", help="those of the plain program")
     a = parser.parse_args()
-    plain = build_plain()
+    plain = build_plain("target")
+    no_hints = build_plain("target/no_hints", "--no-default-features")
     with tempfile.TemporaryDirectory() as folder:
         subprocess.run([sys.executable, os.path.join(HERE, "large.py"), folder,
                         "--lines", str(a.lines), "--works", str(a.works),
@@ -96,19 +101,21 @@ def main():
         words += ["--workers", "1", "--readers", "1", "--nodes", "64"]
         ours = Row("program", [os.path.abspath(a.program), *words])
         theirs = Row("plain", [plain, *words, "--times"])
+        unhinted = Row("no hints", [no_hints, *words, "--times"])
         for _ in range(a.repeats):
-            ours.run(folder)
-            theirs.run(folder)
+            for row in (ours, theirs, unhinted):
+                row.run(folder)
     print(f"{a.lines} lines, {a.works} works, {a.parties} parties, best of {a.repeats}, "
           f"{os.cpu_count()} cores, load {os.getloadavg()[0]:.1f}")
     print(f"{'':<10}{'wall s':>10}{'user+sys':>10}{'MB':>8}")
-    for row in (ours, theirs):
+    for row in (ours, theirs, unhinted):
         print(f"{row.name:<10}{row.wall:>10.3f}{row.cpu:>10.3f}{row.memory:>8.0f}")
     print(f"program to plain: {ours.wall / theirs.wall:.2f} times the time, "
           f"{ours.memory / theirs.memory:.2f} times the memory")
+    print(f"program to plain with no hints: {ours.wall / unhinted.wall:.2f} times the time")
     if a.phases:
         print(theirs.phases, end="")
-    if ours.sha != theirs.sha:
+    if not ours.sha == theirs.sha == unhinted.sha:
         print("the statements differ")
         return 1
     print("the statements are the same bytes")

@@ -10,15 +10,15 @@ pub const OVER: u8 = 2;
 pub const OPEN: u8 = 3;
 pub const REASONS: [&[u8]; 4] = [b"WORK", b"LAND", b"OVER", b"OPEN"];
 
-/// A hint only.
+/// A hint only, and nothing without the feature `prefetch`.
 #[inline(always)]
 pub fn prefetch<T>(p: *const T) {
-    #[cfg(target_arch = "x86_64")]
+    #[cfg(all(feature = "prefetch", target_arch = "x86_64"))]
     unsafe {
         use std::arch::x86_64::{_MM_HINT_T0, _mm_prefetch};
         _mm_prefetch::<_MM_HINT_T0>(p.cast())
     }
-    #[cfg(not(target_arch = "x86_64"))]
+    #[cfg(not(all(feature = "prefetch", target_arch = "x86_64")))]
     let _ = p;
 }
 

@@ -18,6 +18,9 @@ pub const MOST_LINES: u64 = 1_000_000;
 /// The longest text of a usage or of a work number, in bytes.
 pub const MOST_TEXT_BYTES: usize = 64;
 
+/// The fewest bytes of a row and its line end: those of five fields of one byte, and what follows each.
+const FEWEST_ROW_BYTES: usize = 10;
+
 /// The fields of the table's first row.
 const HEADER: [&str; 5] = ["usage", "work", "territory", "right", "amount"];
 
@@ -76,7 +79,9 @@ impl Usage {
         if !(rows.next()? && rows.is(&HEADER)) {
             return Err(LineFault::Csv(0));
         }
-        let mut lines = Vec::new(alloc);
+        // All that there can be: memory that is not used costs nothing, and none is moved.
+        let room = (bytes.len() / FEWEST_ROW_BYTES).min(MOST_LINES as usize);
+        let mut lines = Vec::with_capacity(alloc, room)?;
         for number in 1..=MOST_LINES {
             if !rows.next()? {
                 return Ok(Usage { lines });

@@ -30,9 +30,17 @@ impl Book {
         requires { 0 < accounts }
         ensures { IfOk result (λ book. book ≡ replicate accounts []) }
     {
+        Book::with_room(alloc, accounts, 0)
+    }
+
+    /// The same, with room for so many postings of each account.
+    pub fn with_room(alloc: Global, accounts: u16, postings: usize) -> Result<Book, AllocError>
+        requires { 0 < accounts }
+        ensures { IfOk result (λ book. book ≡ replicate accounts []) }
+    {
         let mut statements = Vec::new(alloc);
         for _ in 0..accounts {
-            statements.push(Vec::new(alloc))?;
+            statements.push(Vec::with_capacity(alloc, postings)?)?;
         }
         Ok(Book { statements })
     }

@@ -77,6 +77,10 @@ fn statements(
     book.text_over(memory, usage, registry.parties(), reasons.as_slice())
 }
 
+/// How many postings a usage line is expected to come to, at most, where all accounts have as many. Room
+/// that is not used costs nothing, and an account with more takes more.
+const EXPECTED_POSTINGS: usize = 4;
+
 /// The book of all usage lines: each is divided by the claims on it, and each portion that is not 0 is
 /// posted.
 fn book_of(
@@ -87,7 +91,8 @@ fn book_of(
 ) -> Result<Book, AllocError>
     ensures { IfOk result (IsBookOf (division_by tis.now registry.now) usage.now (length registry.now.parties)) }
 {
-    let mut book = Book::open(alloc, registry.accounts())?;
+    let room = usage.len() * EXPECTED_POSTINGS / registry.accounts() as usize;
+    let mut book = Book::with_room(alloc, registry.accounts(), room)?;
     let mut claims = registry.scratch(alloc)?;
     let mut portions = Portions::room(alloc, MOST_CLAIMS + 1)?;
     for place in 0..usage.len() {

@@ -51,7 +51,8 @@ T,,2,37
 R,,3,157
 ";
 
-/// The statements of a run, or what it is refused for.
+/// The statements of a run, or what it is refused for: of inputs that are lent, and the same of inputs
+/// that are given away.
 fn outcome<R: Threads + Wait + Sync>(
     rt: &R,
     alloc: Global,
@@ -59,14 +60,22 @@ fn outcome<R: Threads + Wait + Sync>(
     plan: Plan,
 ) -> Result<String, Fail> {
     let [tis, cwr, usage] = inputs;
-    match settle(
-        rt,
-        alloc,
-        tis.as_bytes(),
-        cwr.as_bytes(),
-        usage.as_bytes(),
-        plan,
-    ) {
+    let (tis, cwr, usage) = (tis.as_bytes(), cwr.as_bytes(), usage.as_bytes());
+    let lent = told(alloc, settle(rt, alloc, tis, cwr, usage, plan))?;
+    let tis = Vec::from_slice(alloc, tis)?;
+    let cwr = Vec::from_slice(alloc, cwr)?;
+    let usage = Vec::from_slice(alloc, usage)?;
+    let given = told(alloc, settle_and_free(rt, alloc, tis, cwr, usage, plan))?;
+    if lent.as_str() == given.as_str() {
+        Ok(lent)
+    } else {
+        Err(Fail::new("inputs that are given away have another outcome"))
+    }
+}
+
+/// The statements, or the fault's number, place and text.
+fn told(alloc: Global, answer: Result<Vec<u8>, Fault>) -> Result<String, Fail> {
+    match answer {
         Ok(text) => Ok(String::from_utf8(text).unwrap_or(String::new(alloc))),
         Err(fault) => {
             let (number, place) = (fault.number(), fault.place());

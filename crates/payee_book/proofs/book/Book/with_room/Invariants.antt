@@ -1,5 +1,5 @@
 use Rattle.std.proofs.Common.{◌≡◌, [], map, replicate}
-use Rattle.payee_book.proofs.book.Book.open.Given as goal
+use Rattle.payee_book.proofs.book.Book.with_room.Given as goal
 
 -- the statements so far are empty
 abbrev pub invariant-loop : goal.invariant-loop
