@@ -6,8 +6,8 @@ use Rattle.std.specs.Cmp.Lexicographic.{pointwise, slice_cmp}
 use Rattle.std.specs.Ordering.{ordering_index, ordering_reverse}
 use Rattle.std.proofs.lemmas.Bool.{cases_Bool, cases_lt, cases_order, eq-eqb, le-ltb, lt-ltb, ltb-false, ltb-true, ne_eqb, false_from_ne_true}
 use Rattle.std.proofs.lemmas.Cmp.{nat_list_cmp_total, nat_list_eq_equiv, tied_itself}
-use Rattle.std.proofs.lemmas.List.{get_or_default, get_or-map, drop-map, get_or_append_left, get_or_push, drop-append-le, drop_all, length-drop, length-map, length-take-le, length_push, map_push, map-append, map-set, take-append-le, take-map, take_all, take_more}
-use Rattle.std.proofs.lemmas.List.Elements.{All-cons, All-contains, All-map, Contains-get_or, recursion_from_All, All-head, All-nil, All-push, All-tail, Contains-push_cases, filter-append}
+use Rattle.std.proofs.lemmas.List.{get_or_default, get_or_past, get_or-map, drop-map, get_or_append_left, get_or_push, drop-append-le, drop_all, length-drop, length-map, length-take-le, length_push, map_push, map-append, map-set, take-append-le, take-map, take_all, take_more}
+use Rattle.std.proofs.lemmas.List.Elements.{All-cons, All-contains, All-map, Contains-get_or, recursion_from_All, All-head, All-nil, All-push, All-tail, Contains-push_cases, filter-append, filter_passes}
 use Rattle.std.proofs.lemmas.List.Kept.{AllPairs-cons}
 use Rattle.std.proofs.lemmas.List.Sums.{sum_by-cons}
 use Rattle.std.proofs.lemmas.List.Sorted.{searchable_from_sorted}
@@ -325,6 +325,32 @@ account_is parties account other rising within inside same = elim (cases_order a
   where
     never : (a b : List ℕ) → a ≡ b → slice_cmp nat_cmp a b ≡ Less → ⊥
     never a b same less = let level : slice_cmp nat_cmp b b ≡ Less = subst (λ t. slice_cmp nat_cmp t b ≡ Less) same less in let no = sym (tied_itself nat_list_cmp_total b) ∙ level in cc
+
+-- the places of an account are those of lines that are kept under it
+pub own_places : (parties : List (List ℕ)) (kept : List KeptShare) (payees : List (ℕ × List ℕ)) → IsStrictlySortedBy (slice_cmp nat_cmp) parties → All IsShareLine (map (line_by parties) kept)
+    → IsCompiled parties (map (line_by parties) kept) payees → All (λ payee. All (HoldsAt (λ share. share.account ≡ payee.0) kept) payee.1) payees
+own_places parties kept payees rising filled compiled = λ k d inside j e within f.
+    let payee = get_or payees k d in
+    let lines = map (line_by parties) kept in
+    let place = get_or payee.1 j e in
+    let share = get_or kept place f in
+    let line = line_by parties share in
+    let party = get_or parties payee.0 [] in
+    let there : place < length lines = compiled.within k d inside j e within in
+    let its : place < length kept = omega (arith, there, length-map kept (line_by parties)) in
+    let at : get_or (lines_at lines payee.1) j line ≡ line = get_or-map _ payee.1 j e line within ∙ get_or-map (line_by parties) kept place f _ its in
+    let exact = compiled.exact k d inside in
+    let long : length (lines_at lines payee.1) ≡ length payee.1 = length-map payee.1 _ in
+    let among : j < length (lines_of_party party lines) = omega (arith, within, long, ap (λ (l : List ShareLine). length l) exact) in
+    let passes = filter_passes (λ line. pointwise nat_eq line.party party) lines j line among in
+    let same : get_or (lines_of_party party lines) j line ≡ line = ap (λ (l : List ShareLine). get_or l j line) (sym exact) ∙ at in
+    let whose : line.party ≡ party = (bytes_eq-Decides line.party party).0 (subst (λ (l : ShareLine). pointwise nat_eq l.party party ≡ true) same passes) in
+    let some : 0 < length line.party = subst (λ (l : ShareLine). 0 < length l.party) (get_or-map (line_by parties) kept place f line its) (filled place line there).party in
+    let known : share.account < length parties = elim (cases_lt share.account (length parties)) [
+      | inl among_them ↦ among_them
+      | inr past ↦ absurd (omega (arith, some, ap (λ (text : List ℕ). length text) (get_or_past parties share.account [] past)))
+    ] in
+    account_is parties share.account payee.0 rising known (compiled.accounts k d inside).1 whose
 
 -- no line is compiled yet
 pub compiled_none : (parties : List (List ℕ)) → IsCompiled parties [] []

@@ -3,8 +3,9 @@ use Rattle.std.proofs.Common.{◌≡◌, ◌≢◌, ◌<◌, ◌≤◌, ◌-◌,
 use Rattle.std.specs.Prelude.{reverse, slice_index}
 use Rattle.std.proofs.lemmas.Bool.{ne_eqb}
 use Rattle.std.proofs.Math.Seq.{drop-append_seam}
-use Rattle.std.proofs.lemmas.List.{get_or-reverse, length-drop, length-reverse, reverse-append, reverse-reverse, take-append-drop}
-use Rattle.cwr_share.specs.Fields.{trimmed, without_spaces_before}
+use Rattle.std.proofs.lemmas.List.{get_or-reverse, length-drop, length-reverse, length-take, reverse-append, reverse-reverse, take-append-drop}
+use Rattle.cwr_share.specs.Fields.{field_of, trimmed, without_spaces_before}
+use Rattle.cwr_share.specs.declared.fields.Field.{Field}
 
 -- nothing is left of an empty text
 no_text : without_spaces_before [] ≡ []
@@ -56,10 +57,14 @@ before_no_longer (byte ∷ rest) = by (byte == 32) (before_no_longer rest)
     by true shorter = omega (arith, shorter)
     by false shorter = omega arith
 
-pub trimmed_no_longer : (text : List ℕ) → length (trimmed text) ≤ length text
+trimmed_no_longer : (text : List ℕ) → length (trimmed text) ≤ length text
 trimmed_no_longer text =
     let front = without_spaces_before text in
     omega (arith, length-reverse (without_spaces_before (reverse front)), before_no_longer (reverse front), length-reverse front, before_no_longer text)
+
+-- a field has no more bytes than it is long
+pub field_fits : (field : Field) (line : List ℕ) → length (trimmed (field_of field line)) ≤ field.last - (field.first - 1)
+field_fits field line = omega (arith, trimmed_no_longer (field_of field line), length-take (field.last - (field.first - 1)) (drop (field.first - 1) line))
 
 -- what stays before the spaces at the end
 pub last_spaces_go : (text : List ℕ) (n : ℕ) → n < length text → ((k : ℕ) → k < n → slice_index (reverse text) k ≡ 32) → slice_index text (length text - n - 1) ≢ 32

@@ -2,18 +2,20 @@
 use Rattle.std.proofs.Common.{◌≡◌, ◌<◌, ◌≤◌, ◌+◌, ◌⊎◌, ℕ, suc, zero, true, List, [], ◌∷◌, ◌++◌, length, map, take, drop, All, Contains, slice_index_or, ap, sym, refl, subst, ◌∙◌, inl, inr, arith}
 use Rattle.std.specs.declared.cmp.Ordering.{Ordering}
 use Rattle.std.specs.declared.cmp.Ordering.TheVariants.{Less, Equal, Greater}
-use Rattle.std.specs.Ordering.{nat_cmp, match_ordering, is_eq}
-use Rattle.std.specs.Cmp.{Equal-is}
-use Rattle.std.specs.Cmp.Lexicographic.{slice_cmp}
+use Rattle.std.specs.Ordering.{nat_cmp, match_ordering}
+use Rattle.std.specs.Prelude.{nat_eq, if◌then◌else◌, Bool, false}
+use Rattle.std.specs.Cmp.Lexicographic.{pointwise, slice_cmp}
+use Rattle.std.proofs.lemmas.Slice.Eq.{bytes_eq-Decides}
+use Rattle.arrayvec.specs.ArrayVec.{ArrayVec}
+use Rattle.indexmap.specs.IndexSet.{insert_key as insert_number}
 use Rattle.std.specs.List.{AllByRecursion, list_any}
 use Rattle.std.specs.List.Sorted.{IsStrictlySortedBy}
 use Rattle.std.specs.BTreeSet.{insert_key}
-use Rattle.std.specs.BTreeMap.{is_at}
 use Rattle.std.proofs.lemmas.Bool.{false≢true, or_cases}
-use Rattle.std.proofs.lemmas.List.Elements.{All-contains, All-map, All-weaker, Contains-append_left, Contains-get_or, Contains-push, Contains-push_cases}
+use Rattle.std.proofs.lemmas.List.Elements.{All-contains, All-map, All-push, All-tail, All-weaker, Contains-append_left, Contains-get_or, Contains-push, Contains-push_cases}
 use Rattle.std.proofs.lemmas.List.{get_or-map, length-map, map-append, map_more, take-append-drop, take_all}
 use Rattle.std.proofs.lemmas.Map.Lookups.{exact_bytes}
-use Rattle.cwr_share.specs.Parties.{ArePartiesIn, HasAdded, HasMany, IsAmong}
+use Rattle.cwr_share.specs.Parties.{AreFound, ArePartiesIn, HasAdded, HasMany, IsAmong}
 use Rattle.cwr_share.specs.declared.TheConstants.{MOST_PARTIES}
 use Rattle.cwr_share.specs.declared.cwr_fault.CwrFault.{CwrFault}
 use Rattle.cwr_share.specs.declared.cwr_fault.CwrFault.TheVariants.{Accounts, Memory}
@@ -94,16 +96,20 @@ module _ {K : Type 0} (text_of : K → List ℕ) where
       go rest Equal = refl
       go rest Greater = ap (λ texts. text_of first ∷ texts) rest
 
-  -- a key that a text finds has it
-  found_text : (keys : List K) (text : List ℕ) → list_any (is_at (λ key. slice_cmp nat_cmp text (text_of key))) keys ≡ true → Contains (map text_of keys) text
-  found_text [] text found = absurd (false≢true found)
-  found_text (first ∷ keys) text found = go (found_text keys text) (or_cases (is_eq (slice_cmp nat_cmp text (text_of first))) (list_any (is_at (λ key. slice_cmp nat_cmp text (text_of key))) keys) found)
+  -- numbers that were seen are found still, and so is the one of the key
+  pub seen_more : (eq : ArrayVec ℕ → ArrayVec ℕ → Bool) (keys : List K) (key : K) (numbers : List (ArrayVec ℕ)) (number : ArrayVec ℕ) → text_of key ≡ number.items
+      → AreFound (map text_of keys) numbers → AreFound (map text_of (insert_key by_text keys key)) (insert_number eq numbers number)
+  seen_more eq keys key numbers number same found = by (list_any (eq number) numbers)
     where
-      go : (list_any (is_at (λ key. slice_cmp nat_cmp text (text_of key))) keys ≡ true → Contains (map text_of keys) text)
-          → (is_eq (slice_cmp nat_cmp text (text_of first)) ≡ true) ⊎ (list_any (is_at (λ key. slice_cmp nat_cmp text (text_of key))) keys ≡ true)
-          → Contains (text_of first ∷ map text_of keys) text
-      go rest (inl same) = (0, omega arith, sym (exact_bytes text (text_of first) ((Equal-is (slice_cmp nat_cmp text (text_of first))).0 same)))
-      go rest (inr later) = contains_later (text_of first) (map text_of keys) text (rest later)
+      there : (text : List ℕ) → Contains (map text_of keys) text ⊎ (text_of key ≡ text) → Contains (map text_of (insert_key by_text keys key)) text
+      there text either = subst (λ (texts : List (List ℕ)). Contains texts text) (sym (texts-insert_key keys key)) (into_with_text (map text_of keys) (text_of key) text either)
+
+      earlier : AreFound (map text_of (insert_key by_text keys key)) numbers
+      earlier = λ k d within. there (slice_index_or numbers k d).items (inl (found k d within))
+
+      by : (known : Bool) → AreFound (map text_of (insert_key by_text keys key)) (if known then numbers else numbers ++ number ∷ [])
+      by true = earlier
+      by false = All-push (λ other. Contains (map text_of (insert_key by_text keys key)) other.items) numbers number earlier (there number.items (inr same))
 
   below_all : (key : K) (keys : List K) → AllByRecursion (λ other. by_text key other ≡ Less) keys → AllByRecursion (λ other. slice_cmp nat_cmp (text_of key) other ≡ Less) (map text_of keys)
   below_all key [] below = tt
@@ -160,6 +166,15 @@ module _ {K : Type 0} (text_of : K → List ℕ) where
       back other (inl old) = (has.exact other).1 (inl old)
       back other (inr new) = last other (Contains-push_cases added text other new)
 
+-- a text that was seen is found
+pub seen_text : (texts : List (List ℕ)) (numbers : List (ArrayVec ℕ)) (text : List ℕ) → AreFound texts numbers → list_any (λ number. pointwise nat_eq text number.items) numbers ≡ true → Contains texts text
+seen_text texts [] text found seen = absurd (false≢true seen)
+seen_text texts (number ∷ numbers) text found seen = go (seen_text texts numbers text) (or_cases (pointwise nat_eq text number.items) (list_any (λ other. pointwise nat_eq text other.items) numbers) seen)
+  where
+    go : (AreFound texts numbers → list_any (λ other. pointwise nat_eq text other.items) numbers ≡ true → Contains texts text) → (pointwise nat_eq text number.items ≡ true) ⊎ (list_any (λ other. pointwise nat_eq text other.items) numbers ≡ true) → Contains texts text
+    go rest (inl same) = subst (Contains texts) (sym ((bytes_eq-Decides text number.items).0 same)) (found 0 number (omega arith))
+    go rest (inr later) = rest (All-tail (λ other. Contains texts other.items) number numbers found) later
+
 abbrev pub parties_in : List ShareLine → List (List ℕ)
 parties_in shares = map (λ share. share.party) shares
 
@@ -173,9 +188,8 @@ module _ {K : Type 0} (text_of : K → List ℕ) (before : List (List ℕ)) (sha
   party_by_key key same = rw (more, ← same) (added_key text_of before (parties_in (take place shares)) keys key has)
 
   -- or one that a key has
-  pub party_by_found : (text : List ℕ) → text ≡ share.party → list_any (is_at (λ key. slice_cmp nat_cmp text (text_of key))) keys ≡ true
-      → HasAdded before (parties_in (take (place + 1) shares)) (map text_of keys)
-  party_by_found text same found = rw (more, ← same) (added_again text_of before (parties_in (take place shares)) keys text has (found_text text_of keys text found))
+  pub party_by_found : (text : List ℕ) → text ≡ share.party → Contains (map text_of keys) text → HasAdded before (parties_in (take (place + 1) shares)) (map text_of keys)
+  party_by_found text same found = rw (more, ← same) (added_again text_of before (parties_in (take place shares)) keys text has found)
 
 contains_part : (place : ℕ) (shares : List ShareLine) (party : List ℕ) → Contains (parties_in (take place shares)) party → Contains (parties_in shares) party
 contains_part place shares party inside =

@@ -5,12 +5,17 @@ use Rattle.std.specs.List.Sorted.{IsStrictlySortedBy}
 use Rattle.std.specs.Cmp.Lexicographic.{slice_cmp}
 use Rattle.std.specs.Ordering.{nat_cmp}
 use Rattle.std.specs.declared.alloc.Global.{Global}
+use Rattle.arrayvec.specs.ArrayVec.{ArrayVec}
 use Rattle.cwr_share.specs.Registrations.{ShareLine, find_work}
 use Rattle.cwr_share.specs.declared.TheConstants.{MOST_PARTIES}
 
 -- the texts in a set
 abbrev pub texts_of : BTreeSet (Vec ℕ Global) → List (List ℕ)
 texts_of set = map (λ text. text.items) set.keys
+
+-- these party numbers are among the texts
+abbrev pub AreFound : List (List ℕ) → List (ArrayVec ℕ) → Type 0
+AreFound texts numbers = All (λ number. Contains texts number.items) numbers
 
 -- the texts before with those added are these
 pub record HasAdded (before added texts : List (List ℕ)) : Type 0 where

@@ -79,7 +79,7 @@ pub(crate) fn claims(
 fn first_claim(lines: &[ClaimLine], tis: &TisTable, land: Code, right: Right) -> (u32, usize)
     requires some { 0 < length lines.now }
     requires few { length lines.now ≤ MOST_SHARES }
-    ensures small { result.0 ≤ MOST_SHARES * 65535 }
+    ensures small { result.0 ≤ MOST_SHARES * u16.MAX }
     ensures some { 0 < result.1 }
     ensures within { result.1 ≤ length lines.now }
     ensures claim { (account : ℕ) (first : List ShareLine) (others : List ClaimLine) → lines.now ≡ claim_lines account first ++ others → 0 < length first

@@ -11,6 +11,7 @@ mod cwr_fault;
 pub mod fields;
 pub mod laws;
 mod lines;
+mod numbers;
 mod parties;
 mod reading;
 mod record_type;
@@ -20,7 +21,6 @@ mod registry;
 mod share_line;
 #[cfg(test)]
 mod tests;
-mod work_number;
 
 pub use cwr_fault::CwrFault;
 pub use record_type::RecordType;

@@ -3,6 +3,7 @@
 ghost use Rattle.std.specs.Prelude.{◌≡◌, ◌∷◌, ◌<◌, [], IfSome, IfNone, length};
 ghost use Rattle.cwr_share.specs.Lines.{cut_at_line_feeds, without_return, lines_of};
 
+use memchr::memchr;
 use std::marker::Model;
 
 /// The lines of a text that are to come, without their ends: LF or CR LF.
@@ -46,12 +47,10 @@ impl<'a> Lines<'a> {
 fn first_line(text: &[u8]) -> (&[u8], &[u8])
     ensures { (0 < length text.now) → cut_at_line_feeds text.now ≡ result.0.now ∷ cut_at_line_feeds result.1.now }
 {
-    for place in 0..text.len() {
-        if text[place] == b'\n' {
-            return (&text[..place], &text[place + 1..]);
-        }
+    match memchr(b'\n', text) {
+        Some(place) => (&text[..place], &text[place + 1..]),
+        None => (text, b""),
     }
-    (text, b"")
 }
 
 /// A line without the carriage return at its end.

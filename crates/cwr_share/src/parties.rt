@@ -5,13 +5,15 @@ ghost use Rattle.std.specs.List.Sorted.{IsStrictlySortedBy};
 ghost use Rattle.std.specs.Cmp.Lexicographic.{slice_cmp};
 ghost use Rattle.std.specs.Ordering.{nat_cmp};
 ghost use Rattle.std.specs.BTreeSet.{btree_set_len};
-ghost use Rattle.cwr_share.specs.Parties.{AreAccountsOf, HasAdded, HasMany, texts_of};
+ghost use Rattle.cwr_share.specs.Parties.{AreAccountsOf, AreFound, HasAdded, HasMany, texts_of};
 ghost use Rattle.cwr_share.specs.Registered.{IsShareLine};
 ghost use Rattle.cwr_share.specs.declared.TheConstants.{MOST_PARTIES};
 ghost use Rattle.cwr_share.specs.declared.cwr_fault.CwrFault.TheVariants.{Accounts, Memory};
 
+use crate::numbers::{PartyNumber, Sought, in_place};
 use crate::share_line::Share;
 use crate::{CwrFault, MOST_PARTIES};
+use indexmap::IndexSet;
 use line_split::Account;
 use std::alloc::{AllocError, Global};
 use std::collections::BTreeSet;
@@ -26,29 +28,35 @@ pub(crate) fn parties_of(
     ensures parties { IfOk result (λ parties. AreAccountsOf (map (λ lines. lines.items) registrations.now) (map (λ party. party.items) parties.items)) }
     ensures fault { IfErr result (λ fault. (fault ≡ Memory) ⊎ ((fault ≡ Accounts) × HasMany (map (λ lines. lines.items) registrations.now))) }
 {
+    let mut seen = IndexSet::new(alloc);
     let mut found = BTreeSet::new(alloc);
     for shares in registrations {
-        add_parties(alloc, shares.as_slice(), &mut found)?;
+        add_parties(alloc, shares.as_slice(), &mut seen, &mut found)?;
     }
     Ok(by_account(alloc, found)?)
 }
 
-/// Adds the parties of a registration.
+/// Adds the parties of a registration. Those that were seen before are found already.
 fn add_parties(
     alloc: Global,
     shares: &[Share],
+    seen: &mut IndexSet<PartyNumber>,
     found: &mut BTreeSet<Vec<u8>>,
 ) -> Result<(), CwrFault>
+    requires seen { AreFound (texts_of found.old) seen.old.keys }
     requires few { btree_set_len found.old ≤ MOST_PARTIES }
     ensures exact { OnOk result (HasAdded (texts_of found.old) (map (λ share. share.party) shares.now) (texts_of found.new)) }
     ensures few { OnOk result (btree_set_len found.new ≤ MOST_PARTIES) }
+    ensures seen { OnOk result (AreFound (texts_of found.new) seen.new.keys) }
     ensures fault { IfErr result (λ fault. (fault ≡ Memory) ⊎ ((fault ≡ Accounts) × (MOST_PARTIES < length (texts_of found.new))
         × IsStrictlySortedBy (slice_cmp nat_cmp) (texts_of found.new)
         × All (λ text. Contains (texts_of found.old) text ⊎ Contains (map (λ share. share.party) shares.now) text) (texts_of found.new))) }
 {
     for share in shares {
-        if !found.contains(&share.party) {
-            found.insert(Vec::from_slice(alloc, share.party.as_slice())?)?;
+        let party = share.party.as_slice();
+        if !seen.contains(Sought(party)) {
+            seen.insert(in_place(party))?;
+            found.insert(Vec::from_slice(alloc, party)?)?;
             if found.len() > MOST_PARTIES {
                 return Err(CwrFault::Accounts);
             }

@@ -9,12 +9,12 @@ ghost use Rattle.cwr_share.specs.declared.cwr_fault.CwrFault.TheVariants.{Accoun
 ghost use Rattle.cwr_share.specs.declared.record_type.RecordType.TheVariants as record_type;
 
 use crate::fields::{SPT, SWT, ShareFields, WORK};
+use crate::numbers::{WorkNumber, in_place};
 use crate::parties::parties_of;
 use crate::record_type::record_type;
 use crate::registration::Registration;
 use crate::registrations::Registrations;
 use crate::share_line::{Share, is_filled, trimmed};
-use crate::work_number::{WorkNumber, work_number};
 use crate::{CwrFault, RecordType, Registry};
 use indexmap::IndexSet;
 use std::alloc::{AllocError, Global};
@@ -84,7 +84,7 @@ impl Reading {
         }
         self.end()?;
         self.open = Some(Open {
-            work: work_number(trimmed(work)),
+            work: in_place(trimmed(work)),
             shares: Vec::new(alloc),
             interest: 0,
         });
@@ -116,14 +116,7 @@ impl Reading {
         let Some(open) = self.open.as_mut() else {
             return Ok(());
         };
-        let share = Share::read(
-            alloc,
-            line,
-            number,
-            fields,
-            open.interest,
-            open.shares.len(),
-        )?;
+        let share = Share::read(line, number, fields, open.interest, open.shares.len())?;
         open.shares.push(share)?;
         Ok(())
     }

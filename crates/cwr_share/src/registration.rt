@@ -1,6 +1,7 @@
 //! How a registration in force is compiled, so that its claims take one look at each of its share lines.
 
-ghost use Rattle.std.specs.Prelude.{◌≡◌, ◌≤◌, ◌<◌, ◌+◌, ◌++◌, All, AllPairs, Contains, [], IfOk, OnOk, length, map, slice_index_or};
+ghost use Rattle.std.specs.Prelude.{ℕ, ◌≡◌, ◌≤◌, ◌<◌, ◌+◌, ◌++◌, All, AllPairs, Contains, [], IfOk, OnOk, length, map, slice_index_or};
+ghost use Rattle.std.specs.List.{HoldsAt};
 ghost use Rattle.std.specs.List.Sorted.{IsStrictlySortedBy};
 ghost use Rattle.std.specs.Cmp.Lexicographic.{slice_cmp};
 ghost use Rattle.std.specs.Ordering.{nat_cmp};
@@ -94,12 +95,13 @@ fn lines_by_account(
     shares: &[KeptShare],
     accounts: &[AccountPlaces],
 ) -> Result<Vec<ClaimLine>, AllocError>
-    requires { All (λ entry. All (λ place. place < length shares.now) entry.places.items) accounts.now }
+    requires within { All (λ entry. All (λ place. place < length shares.now) entry.places.items) accounts.now }
+    requires own { All (λ entry. All (HoldsAt (λ share. share.account ≡ entry.account) shares.now) entry.places.items) accounts.now }
     ensures { IfOk result (λ lines. lines.items ≡ lines_of_payees (map (line_by []) shares.now) (map gathered accounts.now)) }
 {
     let mut lines = Vec::with_capacity(alloc, shares.len())?;
     for entry in accounts {
-        add_lines(shares, entry.account, entry.places.as_slice(), &mut lines)?;
+        add_lines(shares, entry.places.as_slice(), &mut lines)?;
     }
     Ok(lines)
 }
@@ -107,17 +109,17 @@ fn lines_by_account(
 /// Adds the share lines at these places, which are an account's, from the last one back.
 fn add_lines(
     shares: &[KeptShare],
-    account: Account,
     places: &[u16],
     lines: &mut Vec<ClaimLine>,
 ) -> Result<(), AllocError>
     requires { All (λ place. place < length shares.now) places.now }
-    ensures { OnOk result (lines.new.items ≡ lines.old.items ++ claim_lines account (lines_at (map (line_by []) shares.now) places.now)) }
+    ensures { OnOk result ((account : ℕ) → All (HoldsAt (λ share. share.account ≡ account) shares.now) places.now
+        → lines.new.items ≡ lines.old.items ++ claim_lines account (lines_at (map (line_by []) shares.now) places.now)) }
 {
     let mut later = None;
     for count in 0..places.len() {
         let share = shares[places[places.len() - 1 - count] as usize];
-        lines.push(share.claim_line(account, later != Some(share.interest)))?;
+        lines.push(share.claim_line(later != Some(share.interest)))?;
         later = Some(share.interest);
     }
     Ok(())

@@ -1,19 +1,19 @@
 //! Share lines: who collects which share of a work, in which territory.
 
-ghost use Rattle.std.specs.Prelude.{◌≡◌, ◌↔◌, ◌==◌, ◌⊎◌, [], ℕ, List, IfOk, IfErr, IfSome, IfNone, IsTrue, not, reverse, slice_index, slice_index_or};
+ghost use Rattle.std.specs.Prelude.{◌≡◌, ◌↔◌, ◌<◌, ◌+◌, ◌==◌, [], ℕ, List, IfOk, IfErr, IfSome, IfNone, IsTrue, not, reverse, slice_index, slice_index_or};
 ghost use Rattle.csv_table.specs.Forms.{IsCode, number_of};
 ghost use Rattle.cwr_share.specs.CwrFile.{IsFaultOfShare, IsShareRecord};
 ghost use Rattle.cwr_share.specs.Fields.{HasShares, IsFilled, IsMark, IsShare, field_of, share_of, trimmed as trimmed_text, without_spaces_before as from_first_byte};
 ghost use Rattle.cwr_share.specs.Registrations.{share_line_of};
 ghost use Rattle.cwr_share.specs.Compiled.{claim_line, line_by};
-ghost use Rattle.cwr_share.specs.declared.cwr_fault.CwrFault.TheVariants.{Memory};
+ghost use Rattle.cwr_share.specs.declared.numbers.TheConstants.{MOST_PARTY_BYTES};
 
 use crate::claim_line::ClaimLine;
 use crate::fields::ShareFields;
+use crate::numbers::{PartyNumber, in_place};
 use crate::{CwrFault, MOST_SHARES};
 use csv_table::forms::{code, number_up_to};
 use line_split::{Account, FULL_SHARE};
-use std::alloc::Global;
 use std::marker::Model;
 use tis_tree::Code;
 
@@ -24,7 +24,7 @@ pub(crate) struct Share {
     /// How many interests were opened before it in its registration.
     pub(crate) interest: usize,
     /// The interested party number.
-    pub(crate) party: Vec<u8>,
+    pub(crate) party: PartyNumber,
     pub(crate) shares: Shares,
     /// Whether the territory is included or excluded.
     pub(crate) includes: bool,
@@ -75,15 +75,15 @@ impl Model for Share {
 impl Share {
     /// Reads a share line, which has this number, below so many others of its registration.
     pub(crate) fn read(
-        alloc: Global,
         line: &[u8],
         number: u64,
         fields: &ShareFields,
         interest: usize,
         earlier: usize,
     ) -> Result<Share, CwrFault>
+        requires party { fields.now.party.last < fields.now.party.first + MOST_PARTY_BYTES }
         ensures share { IfOk result (λ share. IsShareRecord earlier fields.now line.now × (share ≡ share_line_of interest fields.now line.now)) }
-        ensures fault { IfErr result (λ fault. (fault ≡ Memory) ⊎ IsFaultOfShare earlier fields.now line.now number fault) }
+        ensures fault { IfErr result (λ fault. IsFaultOfShare earlier fields.now line.now number fault) }
     {
         if line.len() < fields.territory.last {
             return Err(CwrFault::Short(number));
@@ -106,7 +106,7 @@ impl Share {
         }
         Ok(Share {
             interest,
-            party: Vec::from_slice(alloc, trimmed(party))?,
+            party: in_place(trimmed(party)),
             shares,
             includes,
             territory,
@@ -129,11 +129,11 @@ impl Share {
 
 impl KeptShare {
     /// The line in the form that claims are worked out from.
-    pub(crate) fn claim_line(&self, account: Account, begins: bool) -> ClaimLine
-        ensures { result ≡ claim_line account begins (line_by [] self.now) }
+    pub(crate) fn claim_line(&self, begins: bool) -> ClaimLine
+        ensures { result ≡ claim_line self.now.account begins (line_by [] self.now) }
     {
         ClaimLine {
-            account,
+            account: self.account,
             shares: if self.includes {
                 self.shares
             } else {

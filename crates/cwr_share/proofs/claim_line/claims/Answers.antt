@@ -1,7 +1,12 @@
-use Rattle.std.proofs.Common.{◌≤◌, ◌<◌, ◌+◌, [], arith, length, refl, sym}
+use Rattle.std.proofs.Common.{◌≡◌, ◌≤◌, ◌<◌, ◌+◌, ◌++◌, ℕ, List, All, AllPairs, arith, drop, get_or, length, refl, sym}
+use Rattle.std.specs.Prelude.{sum_by}
 use Rattle.std.proofs.lemmas.List.{take_rest}
-use Rattle.cwr_share.specs.Compiled.{claims_of_payees}
-use Rattle.cwr_share.proofs.ClaimLemmas.{claim_here, gathered_all, gathered_few, gathered_more, gathered_none, gathered_over, gathered_zero, is_here, its_account, length-claims, lower_accounts, none_left, payee_here, payee_left}
+use Rattle.line_split.specs.declared.usage.Right.{Right}
+use Rattle.cwr_share.specs.ClaimsOn.{deciding, share_for}
+use Rattle.cwr_share.specs.Compiled.{AreClaimLines, claim_lines, claims_of_payees, lines_of_payees}
+use Rattle.cwr_share.specs.Registrations.{ShareLine}
+use Rattle.cwr_share.specs.declared.claim_line.ClaimLine.{ClaimLine}
+use Rattle.cwr_share.proofs.ClaimLemmas.{Gathered, IsAlike, claim_here, gathered_all, gathered_few, gathered_more, gathered_none, gathered_over, gathered_zero, is_here, its_account, length-claims, lower_accounts, none_left, payee_here, payee_left}
 use Rattle.cwr_share.proofs.claim_line.claims.Goals as goal
 use Rattle.cwr_share.proofs.claim_line.claims.Goals.{then-claim-gt0, else-claim-gt0}
 
@@ -13,48 +18,72 @@ loop-at-init c = rw c.clear.ensures (record {
   gathered = λ named payees of. (0, of.exact, gathered_none (claims_of_payees c.args.tis.now c.args.land c.args.right named payees));
 })
 
+-- so many payees' claims are worked out, and the lines at hand are those of the next
+record Next (table : List (ℕ × List ℕ)) (land : ℕ) (right : Right) (named : List ShareLine) (payees : List (ℕ × List ℕ)) (lines : List ClaimLine) (at total : ℕ) (out : List (ℕ × ℕ)) : Type 0 where
+  n : ℕ
+  inside : n < length payees
+  payee : ℕ × List ℕ
+  is : payee ≡ get_or payees n payee
+  account : (d : ClaimLine) → (get_or lines at d).account ≡ payee.0
+  gathered : Gathered (claims_of_payees table land right named payees) out total n
+  left : n < length (claims_of_payees table land right named payees)
+  lower : All (λ other. other.0 < payee.0) out
+  claim : (claim count : ℕ)
+      → ((account : ℕ) (first : List ShareLine) (others : List ClaimLine) → drop at lines ≡ claim_lines account first ++ others → 0 < length first → AllPairs IsAlike first
+      → All (λ other. ¬ (other.account ≡ account)) others → (claim ≡ sum_by (share_for right) (deciding table land first)) × (count ≡ length first))
+      → (get_or (claims_of_payees table land right named payees) n (payee.0, claim) ≡ (payee.0, claim)) × (drop (at + count) lines ≡ lines_of_payees named (drop (n + 1) payees))
+
+next_here : (table : List (ℕ × List ℕ)) (land : ℕ) (right : Right) (named : List ShareLine) (payees : List (ℕ × List ℕ)) (lines : List ClaimLine) → AreClaimLines named payees lines
+    → (at total : ℕ) (out : List (ℕ × ℕ)) → (n : ℕ) × (drop at lines ≡ lines_of_payees named (drop n payees)) × Gathered (claims_of_payees table land right named payees) out total n
+    → at < length lines → Next table land right named payees lines at total out
+next_here table land right named payees lines of at total out (n, here, gathered) some =
+    let inside = payee_left named payees lines of at n here some in
+    let payee = payee_here named payees lines of at n here inside in
+    let is = is_here named payees lines of at n here inside in
+    record {
+      n = n;
+      inside = inside;
+      payee = payee;
+      is = is;
+      account = its_account named payees lines of at n here inside;
+      gathered = gathered;
+      left = omega (arith, inside, length-claims table land right named payees);
+      lower = rw gathered.kept (lower_accounts table land right named payees n payee inside is of.rising);
+      claim = claim_here named payees lines of at n here inside table land right;
+    }
+
 pub returns-then-total-gt-MOST_CLAIMED-clause-within : goal.returns-then-total-gt-MOST_CLAIMED-clause-within
 returns-then-total-gt-MOST_CLAIMED-clause-within c = λ named payees of.
     let all = claims_of_payees c.args.tis.now c.args.land c.args.right named payees in
-    let (n, here, gathered) = c.loop-at.invariant.gathered named payees of in
-    let inside = payee_left named payees c.args.lines.now of c.loop-at.at n here c.loop-at-test.true in
-    let payee = payee_here named payees c.args.lines.now of c.loop-at.at n here inside in
-    let (at, next) = claim_here named payees c.args.lines.now of c.loop-at.at n here inside c.args.tis.now c.args.land c.args.right c.first_claim-claim.result.0 c.first_claim-claim.result.1 (rw (take_rest c.args.lines.now c.loop-at.at) at c.first_claim-claim.ensures.claim) in
-    let left : n < length all = omega (arith, inside, length-claims c.args.tis.now c.args.land c.args.right named payees) in
-    sym (gathered_over all c.loop-at.out.list c.loop-at.total n (payee.0, c.first_claim-claim.result.0) gathered left at c.if-total-gt-MOST_CLAIMED.true)
+    let next = next_here c.args.tis.now c.args.land c.args.right named payees c.args.lines.now of c.loop-at.at c.loop-at.total c.loop-at.out.list (c.loop-at.invariant.gathered named payees of) c.loop-at-test.true in
+    let (at, later) = next.claim c.first_claim-claim.result.0 c.first_claim-claim.result.1 (rw (take_rest c.args.lines.now c.loop-at.at) at c.first_claim-claim.ensures.claim) in
+    sym (gathered_over all c.loop-at.out.list c.loop-at.total next.n (next.payee.0, c.first_claim-claim.result.0) next.gathered next.left at c.if-total-gt-MOST_CLAIMED.true)
 
 pub push-requires-clause-account : goal.push-requires-clause-account
 push-requires-clause-account c =
     let (named, payees, of) = c.requires.lines in
-    let (n, here, gathered) = c.loop-at.invariant.gathered named payees of in
-    let inside = payee_left named payees c.args.lines.now of c.loop-at.at n here c.loop-at-test.true in
-    rw (its_account named payees c.args.lines.now of c.loop-at.at n here inside c.index-lines-at.result) (of.accounts n (0, []) inside)
+    let next = next_here c.args.tis.now c.args.land c.args.right named payees c.args.lines.now of c.loop-at.at c.loop-at.total c.loop-at.out.list (c.loop-at.invariant.gathered named payees of) c.loop-at-test.true in
+    rw (next.account c.index-lines-at.result, next.is) (of.accounts next.n next.payee next.inside)
 
 pub push-requires-clause-rising : goal.push-requires-clause-rising
 push-requires-clause-rising c =
     let (named, payees, of) = c.requires.lines in
-    let (n, here, gathered) = c.loop-at.invariant.gathered named payees of in
-    let inside = payee_left named payees c.args.lines.now of c.loop-at.at n here c.loop-at-test.true in
-    let payee = payee_here named payees c.args.lines.now of c.loop-at.at n here inside in
-    rw (its_account named payees c.args.lines.now of c.loop-at.at n here inside c.index-lines-at.result, gathered.kept)
-    (lower_accounts c.args.tis.now c.args.land c.args.right named payees n payee inside (is_here named payees c.args.lines.now of c.loop-at.at n here inside) of.rising)
+    let next = next_here c.args.tis.now c.args.land c.args.right named payees c.args.lines.now of c.loop-at.at c.loop-at.total c.loop-at.out.list (c.loop-at.invariant.gathered named payees of) c.loop-at-test.true in
+    rw (next.account c.index-lines-at.result) next.lower
 
 pub push-requires-clause-room : goal.push-requires-clause-room
 push-requires-clause-room c =
     let (named, payees, of) = c.requires.lines in
     let all = claims_of_payees c.args.tis.now c.args.land c.args.right named payees in
-    let (n, here, gathered) = c.loop-at.invariant.gathered named payees of in
-    let inside = payee_left named payees c.args.lines.now of c.loop-at.at n here c.loop-at-test.true in
-    let long = length-claims c.args.tis.now c.args.land c.args.right named payees in
-    let few = gathered_few all c.loop-at.out.list c.loop-at.total n gathered (omega (arith, inside, long)) in
-    omega (arith, few, long, of.few, c.requires.room, c.loop-at.invariant.room)
+    let next = next_here c.args.tis.now c.args.land c.args.right named payees c.args.lines.now of c.loop-at.at c.loop-at.total c.loop-at.out.list (c.loop-at.invariant.gathered named payees of) c.loop-at-test.true in
+    let few = gathered_few all c.loop-at.out.list c.loop-at.total next.n next.gathered (omega (arith, next.left)) in
+    omega (arith, few, length-claims c.args.tis.now c.args.land c.args.right named payees, of.few, c.requires.room, c.loop-at.invariant.room)
 
 pub loop-at-preserved : goal.loop-at-preserved
 loop-at-preserved c =
-    let lines = c.args.lines.now in
     let claim = c.first_claim-claim.result.0 in
     let small = c.if-total-gt-MOST_CLAIMED.false in
-    let within : c.loop-at.at + c.first_claim-claim.result.1 ≤ length lines = omega arith in
+    let within : c.loop-at.at + c.first_claim-claim.result.1 ≤ length c.args.lines.now = omega arith in
     elim c.if-claim-gt0.branch [
       | then-claim-gt0 w ↦ rw (w.out-is, w.push.ensures) (record {
         within = within;
@@ -62,15 +91,11 @@ loop-at-preserved c =
         room = c.loop-at.invariant.room;
         gathered = λ named payees of.
             let all = claims_of_payees c.args.tis.now c.args.land c.args.right named payees in
-            let (n, here, gathered) = c.loop-at.invariant.gathered named payees of in
-            let inside = payee_left named payees lines of c.loop-at.at n here c.loop-at-test.true in
-            let payee = payee_here named payees lines of c.loop-at.at n here inside in
-            let (at, next) = claim_here named payees lines of c.loop-at.at n here inside c.args.tis.now c.args.land c.args.right claim c.first_claim-claim.result.1 (rw (take_rest c.args.lines.now c.loop-at.at) at c.first_claim-claim.ensures.claim) in
-            let left : n < length all = omega (arith, inside, length-claims c.args.tis.now c.args.land c.args.right named payees) in (
-              n + 1,
-              next,
-              rw (its_account named payees lines of c.loop-at.at n here inside w.index-lines-at.result)
-                  (gathered_more all c.loop-at.out.list c.loop-at.total n (payee.0, claim) gathered left at w.if-claim-gt0.true small),
+            let next = next_here c.args.tis.now c.args.land c.args.right named payees c.args.lines.now of c.loop-at.at c.loop-at.total c.loop-at.out.list (c.loop-at.invariant.gathered named payees of) c.loop-at-test.true in
+            let (at, later) = next.claim c.first_claim-claim.result.0 c.first_claim-claim.result.1 (rw (take_rest c.args.lines.now c.loop-at.at) at c.first_claim-claim.ensures.claim) in (
+              next.n + 1,
+              later,
+              rw (next.account w.index-lines-at.result) (gathered_more all c.loop-at.out.list c.loop-at.total next.n (next.payee.0, claim) next.gathered next.left at w.if-claim-gt0.true small),
             );
       })
       | else-claim-gt0 w ↦ rw w.out-is (record {
@@ -79,12 +104,9 @@ loop-at-preserved c =
         room = c.loop-at.invariant.room;
         gathered = λ named payees of.
             let all = claims_of_payees c.args.tis.now c.args.land c.args.right named payees in
-            let (n, here, gathered) = c.loop-at.invariant.gathered named payees of in
-            let inside = payee_left named payees lines of c.loop-at.at n here c.loop-at-test.true in
-            let payee = payee_here named payees lines of c.loop-at.at n here inside in
-            let (at, next) = claim_here named payees lines of c.loop-at.at n here inside c.args.tis.now c.args.land c.args.right claim c.first_claim-claim.result.1 (rw (take_rest c.args.lines.now c.loop-at.at) at c.first_claim-claim.ensures.claim) in
-            let left : n < length all = omega (arith, inside, length-claims c.args.tis.now c.args.land c.args.right named payees) in
-            (n + 1, next, gathered_zero all c.loop-at.out.list c.loop-at.total n (payee.0, claim) gathered left at (omega (arith, w.if-claim-gt0.false)) small);
+            let next = next_here c.args.tis.now c.args.land c.args.right named payees c.args.lines.now of c.loop-at.at c.loop-at.total c.loop-at.out.list (c.loop-at.invariant.gathered named payees of) c.loop-at-test.true in
+            let (at, later) = next.claim c.first_claim-claim.result.0 c.first_claim-claim.result.1 (rw (take_rest c.args.lines.now c.loop-at.at) at c.first_claim-claim.ensures.claim) in
+            (next.n + 1, later, gathered_zero all c.loop-at.out.list c.loop-at.total next.n (next.payee.0, claim) next.gathered next.left at (omega (arith, w.if-claim-gt0.false)) small);
       })
     ]
 

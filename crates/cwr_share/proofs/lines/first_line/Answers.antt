@@ -1,9 +1,12 @@
-use Rattle.std.proofs.Common.{arith}
+use Rattle.std.proofs.Common.{refl, arith}
+use Rattle.std.proofs.lemmas.Bool.{eqb-true}
 use Rattle.cwr_share.proofs.LineLemmas.{cut_at_feed, cut_nowhere}
 use Rattle.cwr_share.proofs.lines.first_line.Goals as goal
 
-pub returns-then-text-place-eq10 : goal.returns-then-text-place-eq10
-returns-then-text-place-eq10 c = λ _. cut_at_feed _ _ c.loop-place-test.true c.loop-place.invariant c.if-text-place-eq10.true
+pub returns-in-Some : goal.returns-in-Some
+returns-in-Some c =
+    let found = c.in-Some.ensures in
+    λ _. cut_at_feed _ _ found.0.high (λ k lt is. found.0.before k (omega arith) lt (rw is refl)) (eqb-true _ _ found.1)
 
-pub returns : goal.returns
-returns c = λ some. cut_nowhere _ some (λ k lt. c.loop-place.invariant k (omega (arith, lt)))
+pub returns-in-None : goal.returns-in-None
+returns-in-None c = λ some. cut_nowhere _ some (λ k lt is. c.in-None.ensures k (omega arith) lt (rw is refl))

@@ -1,7 +1,7 @@
 use Rattle.std.proofs.Common.{ℕ, List, All, Vec, Global, map, arith}
 use Rattle.std.proofs.lemmas.List.{length-map}
 use Rattle.std.proofs.lemmas.Result.{err_from_is_err_and}
-use Rattle.std.proofs.lemmas.List.Elements.{All-map}
+use Rattle.std.proofs.lemmas.List.Elements.{All-map, All-nil}
 use Rattle.cwr_share.specs.Parties.{texts_of}
 use Rattle.cwr_share.specs.Registered.{IsShareLine}
 use Rattle.cwr_share.specs.Registrations.{ShareLine}
@@ -12,10 +12,10 @@ abbrev lines_of : Vec ShareLine Global → List ShareLine
 lines_of lines = lines.items
 
 pub loop-shares-init : goal.loop-shares-init
-loop-shares-init c = record { parties = rw c.new-found.ensures.empty none_among; few = omega arith }
+loop-shares-init c = record { parties = rw c.new-found.ensures.empty none_among; few = omega arith; seen = rw c.new-seen.ensures.empty (All-nil _) }
 
 pub add_parties-requires : goal.add_parties-requires
-add_parties-requires c = record { few = c.loop-shares.invariant.few }
+add_parties-requires c = record { seen = c.loop-shares.invariant.seen; few = c.loop-shares.invariant.few }
 
 pub returns-in_err-add_parties-clause-fault : goal.returns-in_err-add_parties-clause-fault
 returns-in_err-add_parties-clause-fault c =
@@ -32,6 +32,7 @@ loop-shares-preserved c = record {
       (texts_of c.loop-shares.found) (texts_of c.add_parties.new.found) c.loop-shares.invariant.parties
       (rw c.as_slice.ensures.value at c.in_ok-add_parties.ensures.exact);
   few = c.in_ok-add_parties.ensures.few;
+  seen = c.in_ok-add_parties.ensures.seen;
 }
 
 pub by_account-requires : goal.by_account-requires

@@ -3,6 +3,7 @@ use Rattle.std.proofs.lemmas.List.{append_assoc, drop_all}
 use Rattle.cwr_share.specs.Compiled.{begins_interest, claim_line, claim_lines, line_by, lines_at}
 use Rattle.cwr_share.specs.Registrations.{ShareLine}
 use Rattle.cwr_share.specs.declared.claim_line.ClaimLine.{ClaimLine}
+use Rattle.cwr_share.specs.declared.share_line.KeptShare.{KeptShare}
 use Rattle.cwr_share.proofs.ClaimLemmas.{claim_lines_more, claim_lines_none, kept_at, length-lines_at, next_line}
 use Rattle.cwr_share.proofs.registration.add_lines.Goals as goal
 
@@ -11,7 +12,7 @@ loop-count-init c =
     let places = c.args.places.now in
     let lines = lines_at (map (line_by []) c.args.shares.now) places in
     let none : drop (length places - 0) lines ≡ [] = drop_all (length places - 0) lines (omega (arith, length-lines_at (map (line_by []) c.args.shares.now) places)) in
-    rw (none, claim_lines_none c.args.account) (record { added = sym (append-nil c.args.lines.now.items); later = refl })
+    rw none (record { added = λ account own. rw (claim_lines_none account) (sym (append-nil c.args.lines.now.items)); later = refl })
 
 pub loop-count-preserved : goal.loop-count-preserved
 loop-count-preserved c =
@@ -29,13 +30,15 @@ loop-count-preserved c =
     let before = c.loop-count.invariant in
     let begins = c.ne.ensures in
     rw (more, c.in_ok-push.ensures.items, c.claim_line.ensures) (record {
-      added = rw (before.added, begins, before.later)
-          (append_assoc c.args.lines.now.items (claim_lines c.args.account later) (claim_line c.args.account (begins_interest line later) line ∷ [])
-          ∙ ap (λ (l : List ClaimLine). c.args.lines.now.items ++ l) (sym (claim_lines_more c.args.account line later)));
+      added = λ account own.
+          let its_account : share.account ≡ account = ap (λ (share : KeptShare). share.account) c.index-shares-places.is ∙ own (length places - 1 - count) 0 (omega (arith, some)) share in
+          rw (before.added account own, begins, before.later, its_account)
+          (append_assoc c.args.lines.now.items (claim_lines account later) (claim_line account (begins_interest line later) line ∷ [])
+          ∙ ap (λ (l : List ClaimLine). c.args.lines.now.items ++ l) (sym (claim_lines_more account line later)));
       later = refl;
     })
 
 pub returns : goal.returns
 returns c =
     let none : length c.args.places.now - c.loop-count.count ≡ 0 = omega arith in
-    rw none at c.loop-count.invariant.added
+    λ account own. rw none at (c.loop-count.invariant.added account own)

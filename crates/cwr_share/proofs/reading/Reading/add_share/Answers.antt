@@ -1,26 +1,41 @@
-use Rattle.std.proofs.Common.{◌≡◌, ◌⊎◌, ℕ, List, Some, inl, inr, length, refl, subst, sym, true, ◌∙◌, ap, ◌∷◌, ◌++◌, []}
+use Rattle.std.proofs.Common.{◌≡◌, ◌<◌, ◌+◌, arith, ℕ, List, Some, inr, length, refl, subst, sym, true, ◌∙◌, ap, ◌∷◌, ◌++◌, []}
 use Rattle.std.proofs.lemmas.Result.{err_from_is_err_and}
 use Rattle.cwr_share.specs.CwrFile.{IsFaultOfLine, IsFaultOfShare, IsShareRecord}
 use Rattle.cwr_share.specs.Reading.{IsReadTo}
-use Rattle.cwr_share.specs.Records.{is_share_line, share_fields}
+use Rattle.cwr_share.specs.Records.{is_share_line, share_fields, type_of}
 use Rattle.cwr_share.specs.Registrations.{ShareLine, share_line_of}
 use Rattle.cwr_share.specs.declared.cwr_fault.CwrFault.{CwrFault}
-use Rattle.cwr_share.specs.declared.cwr_fault.CwrFault.TheVariants.{Memory}
+use Rattle.cwr_share.specs.declared.numbers.TheConstants.{MOST_PARTY_BYTES}
+use Rattle.cwr_share.specs.declared.record_type.RecordType.{RecordType}
+use Rattle.cwr_share.specs.declared.record_type.RecordType.TheVariants.{Registration, Interest, PublisherShare, WriterShare, Closing, Other}
 use Rattle.cwr_share.specs.declared.fields.ShareFields.{ShareFields}
 use Rattle.cwr_share.specs.declared.reading.Open.{Open}
 use Rattle.cwr_share.specs.declared.reading.Reading.{Reading}
 use Rattle.cwr_share.proofs.FileLemmas.{fault_of_share, open_share, read_inside, read_outside, share_stays, sound_share}
 use Rattle.cwr_share.proofs.reading.Reading.add_share.Goals as goal
 
--- what the share line is refused for, or memory
+-- what the share line is refused for
 refused : (line : List ℕ) (number earlier : ℕ) (fields : ShareFields) (reading : Reading) (registration : Open) (fault : CwrFault)
     → reading.open ≡ Some registration → is_share_line line ≡ true → fields ≡ share_fields line → earlier ≡ length registration.shares.items
-    → (fault ≡ Memory) ⊎ IsFaultOfShare earlier fields line number fault
-    → (fault ≡ Memory) ⊎ ((before : List (List ℕ)) → IsReadTo before reading → IsFaultOfLine before line number fault)
-refused line number earlier fields reading registration fault was is same count (inl memory) = inl memory
-refused line number earlier fields reading registration fault was is same count (inr wrong) =
-    inr (λ before read. fault_of_share before line number reading registration fault was is
-    (subst (λ (n : ℕ). IsFaultOfShare n (share_fields line) line number fault) count (subst (λ (f : ShareFields). IsFaultOfShare earlier f line number fault) same wrong)) read)
+    → IsFaultOfShare earlier fields line number fault → (before : List (List ℕ)) → IsReadTo before reading → IsFaultOfLine before line number fault
+refused line number earlier fields reading registration fault was is same count wrong = λ before read.
+    fault_of_share before line number reading registration fault was is
+    (subst (λ (n : ℕ). IsFaultOfShare n (share_fields line) line number fault) count (subst (λ (f : ShareFields). IsFaultOfShare earlier f line number fault) same wrong)) read
+
+-- the field of a party has no more bytes
+party_fits : (line : List ℕ) → (share_fields line).party.last < (share_fields line).party.first + MOST_PARTY_BYTES
+party_fits line = by (type_of line) refl
+  where
+    by : (type : RecordType) → type_of line ≡ type → (share_fields line).party.last < (share_fields line).party.first + MOST_PARTY_BYTES
+    by Registration is = rw is (omega arith)
+    by Interest is = rw is (omega arith)
+    by PublisherShare is = rw is (omega arith)
+    by WriterShare is = rw is (omega arith)
+    by Closing is = rw is (omega arith)
+    by Other is = rw is (omega arith)
+
+pub read-requires : goal.read-requires
+read-requires c = record { party = rw c.requires.1 (party_fits c.args.line.now) }
 
 pub returns-in_default-clause-read : goal.returns-in_default-clause-read
 returns-in_default-clause-read c = λ before.
@@ -32,8 +47,8 @@ pub returns-in_err-share-clause-fault : goal.returns-in_err-share-clause-fault
 returns-in_err-share-clause-fault c =
     let p = err_from_is_err_and c.from_residual.result c.from_residual.ensures.1 in
     let registration = c.in-Some.open.now in
-    rw (p.1, p.2) (refused c.args.line.now c.args.number c.len.result c.args.fields.now c.args.self.now registration c.in_err-share.field-0.0
-    (sym c.in-Some.ensures.value) c.requires.0 c.requires.1 (c.len.ensures ∙ registration.shares.ok.0) c.in_err-share.ensures.fault)
+    rw (p.1, p.2) (inr (refused c.args.line.now c.args.number c.len.result c.args.fields.now c.args.self.now registration c.in_err-share.field-0.0
+    (sym c.in-Some.ensures.value) c.requires.0 c.requires.1 (c.len.ensures ∙ registration.shares.ok.0) c.in_err-share.ensures.fault))
 
 pub returns-clause-read : goal.returns-clause-read
 returns-clause-read c = λ before.

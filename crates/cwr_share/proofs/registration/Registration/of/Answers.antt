@@ -1,11 +1,13 @@
 use Rattle.std.proofs.Common.{◌≡◌, ◌∙◌, ◌<◌, [], All, Global, List, Vec, ap, arith, length, map, refl, subst, sym, take, ℕ}
 use Rattle.std.proofs.lemmas.List.{get_or-map, length-map, take_all}
 use Rattle.cwr_share.specs.Compiled.{IsCompiled, gathered, line_by}
+use Rattle.std.specs.List.{HoldsAt}
+use Rattle.cwr_share.specs.Registered.{IsShareLine}
 use Rattle.cwr_share.specs.Registrations.{ShareLine}
 use Rattle.cwr_share.specs.declared.claim_line.ClaimLine.{ClaimLine}
 use Rattle.cwr_share.specs.declared.share_line.KeptShare.{KeptShare}
 use Rattle.cwr_share.proofs.ClaimLemmas.{length-lines_of_payees}
-use Rattle.cwr_share.proofs.CompiledLemmas.{compiled_next, compiled_none, kept_next}
+use Rattle.cwr_share.proofs.CompiledLemmas.{compiled_next, compiled_none, kept_next, own_places}
 use Rattle.cwr_share.proofs.registration.Registration.of.Goals as goal
 use Rattle.cwr_share.proofs.registration.Registration.of.Goals.{in-Some+in_ok-push+in_ok-add_place, in_default}
 
@@ -41,13 +43,26 @@ loop-place-preserved c =
 as_many : (parties : List (List ℕ)) (lines : List ShareLine) (kept : List KeptShare) → map (line_by parties) kept ≡ lines → length kept ≡ length lines
 as_many parties lines kept same = sym (length-map kept (line_by parties)) ∙ ap (λ (l : List ShareLine). length l) same
 
-pub lines_by_account-requires : goal.lines_by_account-requires
-lines_by_account-requires c =
+pub lines_by_account-requires-clause-within : goal.lines_by_account-requires-clause-within
+lines_by_account-requires-clause-within c =
     let accounts = c.loop-place.accounts.items in
     rw (c.as_slice-2.ensures.value, c.as_slice-3.ensures.value, as_many (map (λ (party : Vec ℕ Global). party.items) c.args.parties.now) (take c.loop-place.place c.args.shares.now) c.loop-place.kept.items c.loop-place.invariant.kept)
     (λ k d inside.
     let within = c.loop-place.invariant.compiled.within k (gathered d) (omega (arith, inside, length-map accounts gathered)) in
     subst (λ (payee : ℕ × List ℕ). All (λ place. place < length (take c.loop-place.place c.args.shares.now)) payee.1) (get_or-map gathered accounts k d (gathered d) inside) within)
+
+pub lines_by_account-requires-clause-own : goal.lines_by_account-requires-clause-own
+lines_by_account-requires-clause-own c =
+    let parties = map (λ (party : Vec ℕ Global). party.items) c.args.parties.now in
+    let kept = c.loop-place.kept.items in
+    let accounts = c.loop-place.accounts.items in
+    let compiled = subst (λ lines. IsCompiled parties lines (map gathered accounts)) (sym c.loop-place.invariant.kept) c.loop-place.invariant.compiled in
+    let filled = subst (All IsShareLine) (sym (c.loop-place.invariant.kept ∙ take_all c.loop-place.place c.args.shares.now (omega arith))) c.requires.filled in
+    let own = own_places parties kept (map gathered accounts) c.requires.rising filled compiled in
+    rw (c.as_slice-2.ensures.value, c.as_slice-3.ensures.value)
+    (λ k d inside.
+    subst (λ (payee : ℕ × List ℕ). All (HoldsAt (λ share. share.account ≡ payee.0) kept) payee.1) (get_or-map gathered accounts k d (gathered d) inside)
+    (own k (gathered d) (omega (arith, inside, length-map accounts gathered))))
 
 pub returns-clause-kept : goal.returns-clause-kept
 returns-clause-kept c =

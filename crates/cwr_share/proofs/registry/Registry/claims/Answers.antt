@@ -1,8 +1,9 @@
-use Rattle.std.proofs.Common.{◌≡◌, ◌∙◌, ℕ, List, Global, Vec, ap, arith, length, map, refl, sym}
-use Rattle.cwr_share.specs.Compiled.{AreClaimLines, Kept, kept_lines, nameless}
+use Rattle.std.proofs.Common.{◌≡◌, ◌∙◌, ◌<◌, ◌≤◌, ℕ, List, Global, Some, Vec, ap, arith, get_or, length, map, position, refl, sym}
+use Rattle.cwr_share.specs.Compiled.{AreClaimLines, AreKept, Kept, WorkNumber, kept_lines, nameless, registered_as}
+use Rattle.cwr_share.specs.declared.TheConstants.{MOST_SHARES}
 use Rattle.cwr_share.specs.declared.claim_line.ClaimLine.{ClaimLine}
-use Rattle.cwr_share.specs.Registered.{Registered}
-use Rattle.cwr_share.proofs.CompiledLemmas.{LookedUp, found_at, found_nowhere, looked_up, registration_at}
+use Rattle.cwr_share.specs.Registered.{IsRegistered, Registered}
+use Rattle.cwr_share.proofs.CompiledLemmas.{LookedUp, found_at, found_nowhere, is_work, looked_up, registration_at}
 use Rattle.cwr_share.proofs.ClaimLemmas.{against_land, against_work, alike_nameless, answered, answered_over, length-lines_of_payees}
 use Rattle.cwr_share.proofs.registry.Registry.claims.Goals as goal
 
@@ -26,68 +27,69 @@ returns-in_default-land_of c =
     let (reason, claims) = against_land c.args.tis.now c.args.self.now c.args.line.now (kept_lines (texts c.self.inside.parties.items) registration) works c.in_default-land_of.ensures.none in
     record { reason = sym reason; claims = rw c.clear.ensures (sym claims); room = rw c.clear.ensures refl }
 
--- the registration of a work, in the form that its claims are worked out from
-module _ (registered : Registered) (work : List ℕ) (registration : Kept) (lines : List ClaimLine) (up : LookedUp registered work registration) (is : lines ≡ registration.lines) where
-  as_many : length lines ≡ length (kept_lines registered.parties registration)
-  as_many = omega (arith, ap (λ (l : List ClaimLine). length l) (is ∙ up.kept.lines), length-lines_of_payees (nameless registration) up.kept.payees, up.kept.compiled.total)
+-- the registration of a work, whose claims are worked out from these lines
+record Found (registered : Registered) (work : List ℕ) (lines : List ClaimLine) : Type 0 where
+  registration : Kept
+  up : LookedUp registered work registration
+  claim_lines : AreClaimLines (nameless registration) up.kept.payees lines
+  few : length lines ≤ MOST_SHARES
 
-  its_claim_lines : AreClaimLines (nameless registration) up.kept.payees lines
-  its_claim_lines = record {
-    exact = is ∙ up.kept.lines;
-    few = omega (arith, as_many, up.kept.compiled.few);
-    rising = up.kept.compiled.rising;
-    accounts = λ k d within. (up.kept.compiled.accounts k d within).0;
-    some = up.kept.compiled.some;
-    alike = alike_nameless registered.parties registration up.kept.payees up.kept.compiled up.rise;
-  }
+-- what is at the place that a look-up finds
+found_here : (works : List WorkNumber) (registrations : List Kept) (parties : List (Vec ℕ Global)) (registered : Registered) (work : List ℕ) (place : ℕ) (lines : List ClaimLine)
+    → IsRegistered (registered_as works registrations parties) → AreKept works registrations parties → registered_as works registrations parties ≡ registered
+    → Some place ≡ position (is_work work) works → place < length works → ((d : Kept) → lines ≡ (get_or registrations place d).lines) → Found registered work lines
+found_here works registrations parties registered work place lines sound kept view index within at =
+    let (registration, there) = registration_at registrations place (omega (arith, within, kept.paired)) in
+    let up = looked_up works registrations parties registered work place registration sound kept view index within there in
+    let is = at registration ∙ ap (λ (r : Kept). r.lines) (sym there) ∙ up.kept.lines in
+    let as_many : length lines ≡ length (kept_lines registered.parties registration) =
+    omega (arith, ap (λ (l : List ClaimLine). length l) is, length-lines_of_payees (nameless registration) up.kept.payees, up.kept.compiled.total) in
+    record {
+      registration = registration;
+      up = up;
+      claim_lines = record {
+        exact = is;
+        few = omega (arith, as_many, up.kept.compiled.few);
+        rising = up.kept.compiled.rising;
+        accounts = λ k d inside. (up.kept.compiled.accounts k d inside).0;
+        some = up.kept.compiled.some;
+        alike = alike_nameless registered.parties registration up.kept.payees up.kept.compiled up.rise;
+      };
+      few = omega (arith, as_many, up.few);
+    }
 
 pub claims-requires : goal.claims-requires
 claims-requires c =
-    let registrations = c.self.inside.registrations in
-    let (registration, same) = registration_at registrations c.in-Some.place (omega (arith, c.in-Some.ensures.within, c.self.invariant.1.paired)) in
-    let index = rw c.as_slice.ensures at c.in-Some.ensures.index in
-    let up = looked_up c.self.inside.works.keys registrations c.self.inside.parties.items c.args.self.now c.args.line.now.work c.in-Some.place registration
-    c.self.invariant.0 c.self.invariant.1 c.self.view_is index c.in-Some.ensures.within same in
-    let is = c.lines_of-lines.ensures registration ∙ ap (λ (r : Kept). r.lines) (sym same) in
-    let long = as_many c.args.self.now c.args.line.now.work registration c.lines_of-lines.result.now up is in
+    let here = found_here c.self.inside.works.keys c.self.inside.registrations c.self.inside.parties.items c.args.self.now c.args.line.now.work c.in-Some.place c.lines_of-lines.result.now
+    c.self.invariant.0 c.self.invariant.1 c.self.view_is (rw c.as_slice.ensures at c.in-Some.ensures.index) c.in-Some.ensures.within c.lines_of-lines.ensures in
     record {
-      lines = (nameless registration, up.kept.payees, its_claim_lines c.args.self.now c.args.line.now.work registration c.lines_of-lines.result.now up is);
-      few = omega (arith, long, up.few);
-      room = omega (arith, long, up.few, c.requires, ap (λ r. r.room) c.clear.ensures);
+      lines = (nameless here.registration, here.up.kept.payees, here.claim_lines);
+      few = here.few;
+      room = omega (arith, here.few, c.requires, ap (λ r. r.room) c.clear.ensures);
     }
 
 pub returns-then-claims : goal.returns-then-claims
 returns-then-claims c =
-    let registrations = c.self.inside.registrations in
-    let (registration, there) = registration_at registrations c.in-Some.place (omega (arith, c.in-Some.ensures.within, c.self.invariant.1.paired)) in
-    let index = rw c.as_slice.ensures at c.in-Some.ensures.index in
-    let up = looked_up c.self.inside.works.keys registrations c.self.inside.parties.items c.args.self.now c.args.line.now.work c.in-Some.place registration
-    c.self.invariant.0 c.self.invariant.1 c.self.view_is index c.in-Some.ensures.within there in
-    let is = c.lines_of-lines.ensures registration ∙ ap (λ (r : Kept). r.lines) (sym there) in
-    let its = its_claim_lines c.args.self.now c.args.line.now.work registration c.lines_of-lines.result.now up is in
+    let here = found_here c.self.inside.works.keys c.self.inside.registrations c.self.inside.parties.items c.args.self.now c.args.line.now.work c.in-Some.place c.lines_of-lines.result.now
+    c.self.invariant.0 c.self.invariant.1 c.self.view_is (rw c.as_slice.ensures at c.in-Some.ensures.index) c.in-Some.ensures.within c.lines_of-lines.ensures in
     let (same, known) = c.in-Some-land_of.ensures.some in
-    let (reason, claims) = answered c.args.tis.now c.args.self.now c.args.line.now registration c.in-Some-land_of.land up same known
-    (sym (c.claims.ensures.within (nameless registration) up.kept.payees its) ∙ c.if-claims.true) in
+    let within = c.claims.ensures.within (nameless here.registration) here.up.kept.payees here.claim_lines in
+    let (reason, claims) = answered c.args.tis.now c.args.self.now c.args.line.now here.registration c.in-Some-land_of.land here.up same known (sym within ∙ c.if-claims.true) in
     record {
       reason = sym reason;
-      claims = (rw c.if-claims.true at (c.claims.ensures.claims (nameless registration) up.kept.payees its)) ∙ sym claims;
+      claims = (rw c.if-claims.true at (c.claims.ensures.claims (nameless here.registration) here.up.kept.payees here.claim_lines)) ∙ sym claims;
       room = c.claims.ensures.room ∙ ap (λ r. r.room) c.clear.ensures;
     }
 
 pub returns-else-claims : goal.returns-else-claims
 returns-else-claims c =
-    let registrations = c.self.inside.registrations in
-    let (registration, there) = registration_at registrations c.in-Some.place (omega (arith, c.in-Some.ensures.within, c.self.invariant.1.paired)) in
-    let index = rw c.as_slice.ensures at c.in-Some.ensures.index in
-    let up = looked_up c.self.inside.works.keys registrations c.self.inside.parties.items c.args.self.now c.args.line.now.work c.in-Some.place registration
-    c.self.invariant.0 c.self.invariant.1 c.self.view_is index c.in-Some.ensures.within there in
-    let is = c.lines_of-lines.ensures registration ∙ ap (λ (r : Kept). r.lines) (sym there) in
-    let its = its_claim_lines c.args.self.now c.args.line.now.work registration c.lines_of-lines.result.now up is in
+    let here = found_here c.self.inside.works.keys c.self.inside.registrations c.self.inside.parties.items c.args.self.now c.args.line.now.work c.in-Some.place c.lines_of-lines.result.now
+    c.self.invariant.0 c.self.invariant.1 c.self.view_is (rw c.as_slice.ensures at c.in-Some.ensures.index) c.in-Some.ensures.within c.lines_of-lines.ensures in
     let (same, known) = c.in-Some-land_of.ensures.some in
-    let (reason, claims) = answered_over c.args.tis.now c.args.self.now c.args.line.now registration c.in-Some-land_of.land up same known
-    (sym (c.claims.ensures.within (nameless registration) up.kept.payees its) ∙ c.if-claims.false) in
+    let within = c.claims.ensures.within (nameless here.registration) here.up.kept.payees here.claim_lines in
+    let (reason, claims) = answered_over c.args.tis.now c.args.self.now c.args.line.now here.registration c.in-Some-land_of.land here.up same known (sym within ∙ c.if-claims.false) in
     record {
       reason = sym reason;
-      claims = (rw c.if-claims.false at (c.claims.ensures.claims (nameless registration) up.kept.payees its)) ∙ sym claims;
+      claims = (rw c.if-claims.false at (c.claims.ensures.claims (nameless here.registration) here.up.kept.payees here.claim_lines)) ∙ sym claims;
       room = c.claims.ensures.room ∙ ap (λ r. r.room) c.clear.ensures;
     }
