@@ -7,13 +7,16 @@
 The plain program runs in two forms: as it is, and without its hints to fetch memory ahead
 (`prefetch`), which Rattle has no word for.
 
-The data are made once. Every repeat runs each program once, so that noise hits both
+The data are made once. Every repeat runs each program once, so that noise hits all
 alike. Outputs go to a file and have to be the same bytes. Shown are the best wall
-time, the user and system time of that run, and the greatest peak memory.
+time, the user and system time of that run, and the greatest peak memory; then how many
+times as long the program took, by these best times and by the median over the repeats,
+which a machine with other work on it disturbs less.
 """
 import argparse
 import hashlib
 import os
+import statistics
 import subprocess
 import sys
 import tempfile
@@ -56,6 +59,7 @@ class Row:
     def __init__(self, name, command):
         self.name, self.command = name, command
         self.wall = self.cpu = self.sha = None
+        self.walls = []
         self.memory = 0
         self.phases = ""
 
@@ -74,8 +78,15 @@ class Row:
             sys.exit(f"{self.name}: its own runs differ")
         self.sha = sha
         self.memory = max(self.memory, memory / 1024)
+        self.walls.append(wall)
         if self.wall is None or wall < self.wall:
             self.wall, self.cpu, self.phases = wall, cpu, text
+
+
+def times(ours, theirs):
+    """How many times as long one program took as another, in words."""
+    median = statistics.median(a / b for a, b in zip(ours.walls, theirs.walls))
+    return f"{ours.wall / theirs.wall:.2f} times the time (median of the repeats {median:.2f})"
 
 
 def main():
@@ -110,9 +121,9 @@ def main():
     print(f"{'':<10}{'wall s':>10}{'user+sys':>10}{'MB':>8}")
     for row in (ours, theirs, unhinted):
         print(f"{row.name:<10}{row.wall:>10.3f}{row.cpu:>10.3f}{row.memory:>8.0f}")
-    print(f"program to plain: {ours.wall / theirs.wall:.2f} times the time, "
+    print(f"program to plain: {times(ours, theirs)}, "
           f"{ours.memory / theirs.memory:.2f} times the memory")
-    print(f"program to plain with no hints: {ours.wall / unhinted.wall:.2f} times the time")
+    print(f"program to plain with no hints: {times(ours, unhinted)}")
     if a.phases:
         print(theirs.phases, end="")
     if not ours.sha == theirs.sha == unhinted.sha:

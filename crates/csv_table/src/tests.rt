@@ -43,6 +43,21 @@ fn writes_over_what_the_memory_held(rt: HostRuntime) -> Result<(), Fail> {
 }
 
 #[test]
+fn finds_a_byte_that_is_not_printable_wherever_it_is(rt: HostRuntime) -> Result<(), Fail> {
+    for byte in [b'\0', 0x1f, 0x7f, 0x80, 0xff] {
+        for place in 0..17 {
+            let mut field = *b"sixteen and one: ";
+            assert!(rt; is_printable(&field, 17) && !is_printable(&field, 16));
+            field[place] = byte;
+            assert!(rt; !is_printable(&field, 17));
+            assert!(rt; is_printable(&field[..8], 8) == (place >= 8));
+            assert!(rt; is_printable(&field[10..], 8) == (place < 10));
+        }
+    }
+    Ok(())
+}
+
+#[test]
 fn knows_the_forms_of_fields(rt: HostRuntime) -> Result<(), Fail> {
     assert!(rt; is_printable(b" ~", 2) && !is_printable(b" ~", 1));
     assert!(rt; !is_printable(b"", 1) && !is_printable(b"\x7f", 1) && !is_printable(b"\x1f", 1));

@@ -32,7 +32,7 @@ impl<'a> Lines<'a> {
     /// The next line, where there is one.
     pub(crate) fn next(&mut self) -> Option<&'a [u8]>
         ensures some { IfSome result (λ line. self.old ≡ line.now ∷ self.new) }
-        ensures none { IfNone result (self.old ≡ []) }
+        ensures none { IfNone result ((self.old ≡ []) × (self.new ≡ [])) }
     {
         if self.rest.is_empty() {
             return None;

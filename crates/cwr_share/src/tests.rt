@@ -59,6 +59,12 @@ SPU0000000000000001
 SPT0000000000000002123456789000000010000200003000I2136N001
 SWR0000000000000002
 SWT0000000000000003987654321040000500000500I2136N001
+NWR0000000100000000SONG........................................................ENABCDEFGHIJKLMOT1234567890
+SPU0000000100000001
+SPT0000000100000002123456789000000100001000010000I2136N001
+NWR0000000200000000SONG........................................................ENABCDEFGHIJKLMPT1234567890
+SWR0000000200000001
+SWT0000000200000002987654321100001000010000I2136N001
 ";
 
 /// The registrations of a file.
@@ -181,6 +187,16 @@ fn two_registrations(alloc: Global, last: u32) -> Result<String, Fail> {
         first.as_str(),
         registration(alloc, "W2", 257, last)?.as_str(),
     )
+}
+
+/// Registrations of so many works, with one party.
+fn registrations(alloc: Global, works: u32) -> Result<String, Fail> {
+    let mut text = String::new(alloc);
+    for number in 1..=works {
+        let work = format!(in alloc; "W{number}")?;
+        text.push_str(registration(alloc, work.as_str(), 1, 1)?.as_str())?;
+    }
+    Ok(text)
 }
 
 /// The outcomes of all prefixes of a file, each with the length from which on it holds.
@@ -457,6 +473,25 @@ fn takes_the_most_parties(rt: HostRuntime) -> Result<(), Fail> {
 }
 
 #[test]
+fn takes_more_works_than_lines_of_one(rt: HostRuntime) -> Result<(), Fail> {
+    let alloc = rt.alloc();
+    let file = registrations(alloc, 300)?;
+    assert_outcome(&rt, alloc, file.as_bytes(), "accounts 2, works 300")?;
+    assert_rows(
+        &rt,
+        alloc,
+        file.as_str(),
+        Asked::Claims,
+        "\
+W1,276,P: None [(1, 10)]
+W256,276,P: None [(1, 10)]
+W300,276,S: None [(1, 30)]
+W301,276,S: Some(Work) []
+",
+    )
+}
+
+#[test]
 fn refuses_too_many_parties(rt: HostRuntime) -> Result<(), Fail> {
     let alloc = rt.alloc();
     let file = two_registrations(alloc, 512)?;
@@ -509,6 +544,12 @@ fn reads_each_field_from_end_to_end(rt: HostRuntime) -> Result<(), Fail> {
 ABCDEFGHIJKLMN,276,P: None [(1, 1000), (2, 4000)]
 ABCDEFGHIJKLMN,276,M: None [(1, 2000), (2, 5000)]
 ABCDEFGHIJKLMN,276,S: None [(1, 3000), (2, 500)]
+ABCDEFGHIJKLMO,276,P: None [(1, 10000)]
+ABCDEFGHIJKLMO,276,M: None [(1, 10000)]
+ABCDEFGHIJKLMO,276,S: None [(1, 10000)]
+ABCDEFGHIJKLMP,276,P: None [(2, 10000)]
+ABCDEFGHIJKLMP,276,M: None [(2, 10000)]
+ABCDEFGHIJKLMP,276,S: None [(2, 10000)]
 ",
     )?;
     assert_rows(

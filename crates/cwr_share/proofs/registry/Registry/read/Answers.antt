@@ -9,7 +9,7 @@ use Rattle.cwr_share.proofs.registry.Registry.read.Goals.{After-finish, Left-loo
 
 -- all lines are read where none is left
 read_before : (c : After-finish) → IsReadTo (lines_of c.args.bytes.now) c.loop-number.reading
-read_before c = walked_all (lines_of c.args.bytes.now) c.loop-number.lines c.loop-number.number c.loop-number.reading c.in_default.ensures.none c.loop-number.invariant
+read_before c = walked_all (lines_of c.args.bytes.now) c.loop-number.lines c.loop-number.number c.loop-number.reading c.in_default.ensures.none.0 c.loop-number.invariant
 
 -- and after the loop
 read_after : (c : Left-loop-number) → IsReadTo (lines_of c.args.bytes.now) c.loop-number-test.reading
