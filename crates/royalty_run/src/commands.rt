@@ -17,7 +17,14 @@ use std::alloc::{AllocError, Global};
 /// What stands below the help of the whole program.
 const HELP: &str = "\
 `royalty_run run --help` says what the files of a distribution run have in them, and
-`royalty_run split --help` how an amount is divided.";
+`royalty_run split --help` how an amount is divided.
+
+Exit status:
+  0  the answer was printed, or help
+  1  an input file is refused for what is in it
+  2  the words are refused
+  3  memory was refused
+  4  a file cannot be read, or the output refused a write";
 
 /// What the words of the command line ask for.
 #[derive(Debug, Drop)]

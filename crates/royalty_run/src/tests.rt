@@ -146,18 +146,42 @@ fn refuses_words_and_shows_help(rt: HostRuntime) -> Result<(), Fail> {
         assert!(rt; answer.out.len() > 100, "{line}");
         assert!(rt; answer.err.is_empty(), "{line}");
     }
-    let help = run(&rt, "r split --help")?;
-    let text = str::from_utf8(help.out.as_slice())?;
-    for told in [
-        "minor units",
-        "from 0 to 1000000000000",
-        "hundredths of a per cent",
-        "0 to 10000, at most 256 of them",
-        "more than 10006",
-        "split 100 A=3333 B=3333 C=3333",
-        "  P,A,34\n  P,B,33\n  P,C,33\n  M,,0\n",
+    Ok(())
+}
+
+#[test]
+fn tells_what_the_words_are(rt: HostRuntime) -> Result<(), Fail> {
+    for (line, told) in [
+        (
+            "r --help",
+            "  1  an input file is refused for what is in it\n",
+        ),
+        (
+            "r --help",
+            "  4  a file cannot be read, or the output refused a write\n",
+        ),
+        ("r run --help", "at most 268435456 bytes"),
+        ("r run --help", "code,groups: a TIS numeric code"),
+        ("r run --help", "usage,work,territory,right,amount: a name"),
+        ("r run --help", "CWR 2.2"),
+        ("r run --help", "L,party,usage,amount"),
+        (
+            "r run --help",
+            "run --tis territories.csv --cwr works.cwr --usage usage.csv",
+        ),
+        ("r split --help", "minor units"),
+        ("r split --help", "from 0 to 1000000000000"),
+        ("r split --help", "hundredths of a per cent"),
+        ("r split --help", "0 to 10000, at most 256 of them"),
+        ("r split --help", "more than 10006"),
+        ("r split --help", "split 100 A=3333 B=3333 C=3333"),
+        ("r split --help", "  P,A,34\n  P,B,33\n  P,C,33\n  M,,0\n"),
     ] {
-        assert!(rt; text.contains(told), "{told}");
+        let help = run(&rt, line)?;
+        assert!(rt;
+            str::from_utf8(help.out.as_slice())?.contains(told),
+            "{line}: {told}"
+        );
     }
     Ok(())
 }
