@@ -60,13 +60,23 @@ pub fn number_up_to(field: &[u8], most: u64) -> Option<u64>
     ensures number { IfSome result (λ number. IsNumber most field.now × (number ≡ number_of field.now)) }
     ensures none { IfNone result (¬ IsNumber most field.now) }
 {
-    if field.is_empty() || !field[0].is_ascii_digit() {
+    if field.is_empty() {
         return None;
     }
-    match fast_float::parse_u64(field) {
-        Ok(number) if number <= most => Some(number),
-        _ => None,
+    let mut number: u64 = 0;
+    for byte in field {
+        if !byte.is_ascii_digit() {
+            return None;
+        }
+        let Some(tens) = number.checked_mul(10) else {
+            return None;
+        };
+        let Some(next) = tens.checked_add(u64::from(*byte - b'0')) else {
+            return None;
+        };
+        number = next;
     }
+    if number <= most { Some(number) } else { None }
 }
 
 /// The TIS numeric code that a field writes with one to four digits, where it is not 0.

@@ -12,7 +12,6 @@ use Rattle.std.proofs.lemmas.List.Folds.{Any-from_list_any, list_any_at, list_an
 use Rattle.std.proofs.lemmas.List.FromFn.{get_or-enumerate_from, get_or-map-range_with_len, length-enumerate_from, length-map-range_with_len}
 use Rattle.std.proofs.lemmas.List.Sums.{count_by-le-length, length-filter, sum_by-cons, sum_by-take-le, sum_by_more}
 use Rattle.std.proofs.lemmas.Slice.Eq.{bytes_eq-Decides}
-use Rattle.std.proofs.lemmas.Grind.{flat_map-append}
 use Rattle.std.proofs.Math.Seq.{drop-append_seam, get_or-append_seam}
 use Rattle.csv_table.specs.declared.forms.TheConstants.{MOST_CODE}
 use Rattle.tis_tree.specs.Territories.{AreTerritories, IsKnown, encloses, row_at}
@@ -20,13 +19,12 @@ use Rattle.tis_tree.proofs.Enclosing.{at_known, known_at}
 use Rattle.line_split.specs.Claims.{total_of}
 use Rattle.line_split.specs.declared.TheConstants.{MOST_CLAIMED}
 use Rattle.line_split.specs.declared.reason.Reason.TheVariants.{Land, Over, Work}
-use Rattle.line_split.specs.declared.usage.Line.{Line}
+use Rattle.line_split.specs.UsageLine.{UsageLine}
 use Rattle.line_split.specs.declared.usage.Right.{Right}
 use Rattle.line_split.specs.declared.usage.Right.TheVariants.{P, M, S}
 use Rattle.cwr_share.specs.ClaimsOn.{claim_of, claims_among, claims_by, claims_on, covers, deciding, is_alike, is_known, reason_against, renamed, share_for}
 use Rattle.cwr_share.specs.Compiled.{AreClaimLines, InterestsRise, IsCompiled, Kept, begins_interest, claim_line, claim_lines, claims_of_payees, kept_lines, line_by, lines_at, lines_of_party, lines_of_payees, nameless, places_in, share_under}
 use Rattle.cwr_share.specs.declared.claim_line.ClaimLine.{ClaimLine}
-use Rattle.cwr_share.specs.declared.share_line.KeptShare.{KeptShare}
 use Rattle.cwr_share.specs.Registered.{Registered}
 use Rattle.cwr_share.specs.Registrations.{ShareLine, find_work}
 use Rattle.cwr_share.proofs.CompiledLemmas.{LookedUp, AllPairs-head, AllPairs-tail, contains_cases, lines_of_party_none, same_text}
@@ -358,12 +356,6 @@ length-lines_of_payees named (payee ∷ later) =
       sum_by-cons (λ (p : ℕ × List ℕ). length p.1) payee later,
     )
 
--- one payee more
-pub lines_of_payees_push : (named : List ShareLine) (payees : List (ℕ × List ℕ)) (payee : ℕ × List ℕ) → lines_of_payees named (payees ++ payee ∷ []) ≡ lines_of_payees named payees ++ claim_lines payee.0 (lines_at named payee.1)
-lines_of_payees_push named payees payee =
-    flat_map-append (λ payee. claim_lines payee.0 (lines_at named payee.1)) payees (payee ∷ [])
-    ∙ ap (λ (l : List ClaimLine). lines_of_payees named payees ++ l) (append-nil (claim_lines payee.0 (lines_at named payee.1)))
-
 -- the lines of payees are of their accounts
 of_payees : (named : List ShareLine) (Holds : ℕ → Type 0) (payees : List (ℕ × List ℕ)) → All (λ payee. Holds payee.0) payees → All (λ line. Holds line.account) (lines_of_payees named payees)
 of_payees named Holds [] all = λ k d within. absurd (omega arith)
@@ -458,14 +450,6 @@ module _ (named : List ShareLine) (payees : List (ℕ × List ℕ)) (lines : Lis
     claim_here table land right claim count worked_out =
         let (sum, long) = worked_out payee_here.0 (lines_at named payee_here.1) others first_lines its_lines.0 its_lines.1 other_accounts in
         (claim_at table land right named payees n payee_here inside is_here claim sum, next_payee count long)
-
--- a kept line at the place that is next from the last one back
-pub kept_at : (shares : List KeptShare) (places : List ℕ) (count : ℕ) (d : KeptShare) (e : ShareLine) → count < length places → All (λ place. place < length shares) places
-    → get_or (lines_at (map (line_by []) shares) places) (length places - 1 - count) e ≡ line_by [] (get_or shares (get_or places (length places - 1 - count) 0) d)
-kept_at shares places count d e some within =
-    let k = length places - 1 - count in
-    let inside : k < length places = omega arith in
-    get_or-map _ places k 0 e inside ∙ get_or-map (line_by []) shares (get_or places k 0) d _ (within k 0 inside)
 
 -- a test that only lines of a party pass, finds one among them
 list_any-filter : {X : Type 0} (test keep : X → Bool) → ((x : X) → test x ≡ true → keep x ≡ true) → (xs : List X) → list_any test (filter keep xs) ≡ list_any test xs
@@ -645,7 +629,7 @@ out_of_range table code sound out = false_from_ne_true (is_known table code) (λ
     let (some, few) = sound.codes place (0, []) within in
     out (omega (arith, some, is), omega (arith, few, is)))
 
-module _ (table : List (ℕ × List ℕ)) (registered : Registered) (line : Line) where
+module _ (table : List (ℕ × List ℕ)) (registered : Registered) (line : UsageLine) where
   -- no registration in force has the work
   pub against_work : find_work line.work registered.works ≡ None → (reason_against table registered line ≡ Some Work) × (claims_on table registered line ≡ [])
   against_work none = rw none (refl, refl)
@@ -758,7 +742,7 @@ module _ (parties : List (List ℕ)) (registration : Kept) (payees : List (ℕ �
       ap (λ (n : ℕ). (payee.0, n))
       (ap (λ l. sum_by (share_for right) (deciding table land l)) (at_places payee.1) ∙ sum_unnamed table land right (lines_at (kept_lines parties registration) payee.1) (alike_named k d within)))
 
-module _ (table : List (ℕ × List ℕ)) (registered : Registered) (line : Line) (registration : Kept) (land : ℕ) (up : LookedUp registered line.work registration)
+module _ (table : List (ℕ × List ℕ)) (registered : Registered) (line : UsageLine) (registration : Kept) (land : ℕ) (up : LookedUp registered line.work registration)
     (same : land ≡ line.territory) (known : is_known table line.territory ≡ true) where
   -- the claims of its payees
   abbrev claims_here : List (ℕ × ℕ)

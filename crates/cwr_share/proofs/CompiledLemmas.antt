@@ -1,12 +1,12 @@
 -- How a registration is compiled, by the accounts of its parties and the places of their share lines; and how a registry finds one.
-use Rattle.std.proofs.Common.{◌≡◌, ◌==◌, ◌∙◌, ◌++◌, ◌⊎◌, inl, inr, ◌<◌, ◌≤◌, ◌+◌, ◌∷◌, [], ℕ, zero, suc, List, All, AllPairs, Contains, HoldsAt, IsSortedBy, nat_eq, ltb, true, false, insert, length, map, position, get_or, set, take, drop, ap, sym, refl, append-nil, subst, arith, zero-le, one-add, lt_trans, ⊎_elim, Bool, Vec, Global, Some, None, zip, Ordering, Less, Equal, Greater, is_lt, nat_cmp}
-use Rattle.std.specs.List.{AllWithin, position_or_len}
+use Rattle.std.proofs.Common.{◌≡◌, ◌==◌, ◌∙◌, ◌++◌, ◌⊎◌, inl, inr, ◌<◌, ◌≤◌, ◌+◌, ◌∷◌, [], ℕ, zero, suc, List, All, AllPairs, Contains, HoldsAt, IsSortedBy, nat_eq, ltb, true, false, length, map, position, get_or, take, drop, ap, sym, refl, append-nil, subst, arith, zero-le, one-add, lt_trans, ⊎_elim, Bool, Vec, Global, Some, None, zip, Ordering, Less, Equal, Greater, is_lt, nat_cmp}
+use Rattle.std.specs.List.{position_or_len}
 use Rattle.std.specs.List.Sorted.{IsNonDecreasingBy, IsPartitionPoint, IsStrictlySortedBy}
 use Rattle.std.specs.Cmp.Lexicographic.{pointwise, slice_cmp}
 use Rattle.std.specs.Ordering.{ordering_index, ordering_reverse}
 use Rattle.std.proofs.lemmas.Bool.{cases_Bool, cases_lt, cases_order, eq-eqb, le-ltb, lt-ltb, ltb-false, ltb-true, ne_eqb, false_from_ne_true}
 use Rattle.std.proofs.lemmas.Cmp.{nat_list_cmp_total, nat_list_eq_equiv, tied_itself}
-use Rattle.std.proofs.lemmas.List.{get_or_default, get_or_past, get_or-map, drop-map, get_or_append_left, get_or_push, drop-append-le, drop_all, length-drop, length-map, length-take-le, length_push, map_push, map-append, map-set, take-append-le, take-map, take_all, take_more}
+use Rattle.std.proofs.lemmas.List.{get_or_default, get_or_past, get_or-map, get_or_append_left, get_or_push, drop-append-le, drop_all, length-drop, length-map, length-take-le, length_push, map_push, take-append-le, take_all, take_more}
 use Rattle.std.proofs.lemmas.List.Elements.{All-cons, All-contains, All-map, Contains-get_or, recursion_from_All, All-head, All-nil, All-push, All-tail, Contains-push_cases, filter-append, filter_passes}
 use Rattle.std.proofs.lemmas.List.Kept.{AllPairs-cons}
 use Rattle.std.proofs.lemmas.List.Sums.{sum_by-cons}
@@ -15,10 +15,9 @@ use Rattle.std.proofs.lemmas.Map.Keys.{Less-from_sorted}
 use Rattle.std.proofs.lemmas.Map.Lookups.{exact_bytes}
 use Rattle.std.proofs.lemmas.Option.{cond_some, none-some}
 use Rattle.std.proofs.lemmas.Slice.Eq.{bytes_eq-Decides}
-use Rattle.cwr_share.specs.Compiled.{AreKept, InterestsRise, IsCompiled, IsExtent, IsKept, Kept, WorkNumber, gathered, kept_lines, line_by, lines_at, lines_of_party, part, places_in, registered_as, with_place}
+use Rattle.cwr_share.specs.Compiled.{AreKept, InterestsRise, IsCompiled, IsExtent, IsKept, Kept, WorkNumber, kept_lines, line_by, lines_at, lines_of_party, part, places_in, registered_as, with_place}
 use Rattle.cwr_share.specs.Registered.{IsRegistered, IsShareLine, Registered}
 use Rattle.cwr_share.specs.Registrations.{ShareLine, find_work}
-use Rattle.cwr_share.specs.declared.registration.AccountPlaces.{AccountPlaces}
 use Rattle.cwr_share.specs.declared.share_line.KeptShare.{KeptShare}
 use Rattle.cwr_share.specs.declared.TheConstants.{MOST_SHARES}
 use Rattle.cwr_share.specs.declared.claim_line.ClaimLine.{ClaimLine}
@@ -64,18 +63,6 @@ module _ {X : Type 0} (text : X → List ℕ) (xs : List X) (rising : IsStrictly
       by (inl low) = let no = here Less (λ d. gap.0 k d zero-le low) in cc
       by (inr high) = let no = here Greater (λ d. gap.1 k d high inside) in cc
 
--- accounts that rise do not fall
-pub accounts_rise : (payees : List AccountPlaces) → AllPairs (λ payee later. payee.0 < later.0) (map gathered payees) → IsNonDecreasingBy (λ payee. payee.account) payees
-accounts_rise payees rising = λ i j d low within. by i j d within (cases_lt i j) low
-  where
-    by : (i j : ℕ) (d : AccountPlaces) → j < length payees → (i < j) ⊎ (j ≤ i) → i ≤ j → (get_or payees i d).account ≤ (get_or payees j d).account
-    by i j d within (inl before) low =
-        let less = rising i j (0, []) before (omega (arith, length-map payees gathered)) in
-        let first = get_or-map gathered payees i d (0, []) (omega arith) in
-        let second = get_or-map gathered payees j d (0, []) within in
-        omega (arith, ap (λ (p : ℕ × List ℕ). p.0) first, ap (λ (p : ℕ × List ℕ). p.0) second)
-    by i j d within (inr not_before) low = let same : i ≡ j = omega arith in rw same (omega arith)
-
 module _ (account place : ℕ) where
   -- a payee of a lower account stays in front
   behind_lower : (payee : ℕ × List ℕ) (later more : List (ℕ × List ℕ)) → payee.0 < account → more ≡ with_place account place later → payee ∷ more ≡ with_place account place (payee ∷ later)
@@ -83,77 +70,6 @@ module _ (account place : ℕ) where
       let not_lower : ltb account payee.0 ≡ false = le-ltb account payee.0 (omega arith) in
       let other : (account == payee.0) ≡ false = ne_eqb account payee.0 (λ same. absurd (omega arith)) in
       rw (not_lower, other) (ap (λ (l : List (ℕ × List ℕ)). payee ∷ l) rest)
-
-  -- the place goes to the account's payee, behind those of lower accounts
-  pub placed_at : (payees : List (ℕ × List ℕ)) (at : ℕ) (places : List ℕ) (d : ℕ × List ℕ) → at < length payees → ((k : ℕ) → k < at → (get_or payees k d).0 < account)
-      → get_or payees at d ≡ (account, places) → set payees at (account, places ++ place ∷ []) ≡ with_place account place payees
-  placed_at [] at places d within before is = absurd (omega arith)
-  placed_at (payee ∷ later) zero places d within before is =
-      let whose : payee.0 ≡ account = ap (λ (p : ℕ × List ℕ). p.0) is in
-      let not_lower : ltb account payee.0 ≡ false = le-ltb account payee.0 (omega arith) in
-      let same : (account == payee.0) ≡ true = eq-eqb account payee.0 (sym whose) in
-      rw (not_lower, same, ap (λ (p : ℕ × List ℕ). p.1) is) refl
-  placed_at (payee ∷ later) (suc at) places d within before is =
-      let low : payee.0 < account = before 0 (omega arith) in
-      let rest = placed_at later at places d (omega arith) (λ k lt. before (suc k) (omega arith)) is in
-      behind_lower payee later (set later at (account, places ++ place ∷ [])) low rest
-
-  -- a payee more, behind those of lower accounts and before those of higher ones
-  pub placed_new : (payees : List (ℕ × List ℕ)) (at : ℕ) (d : ℕ × List ℕ) → at ≤ length payees → ((k : ℕ) → k < at → (get_or payees k d).0 < account)
-      → (at < length payees → account < (get_or payees at d).0) → insert payees at (account, place ∷ []) ≡ with_place account place payees
-  placed_new [] zero d within before after = refl
-  placed_new [] (suc at) d within before after = absurd (omega arith)
-  placed_new (payee ∷ later) zero d within before after =
-      let higher : ltb account payee.0 ≡ true = lt-ltb account payee.0 (after (omega arith)) in
-      rw higher refl
-  placed_new (payee ∷ later) (suc at) d within before after =
-      let rest = placed_new later at d (omega arith) (λ k lt. before (suc k) (omega arith)) (λ lt. after (omega arith)) in
-      behind_lower payee later (insert later at (account, place ∷ [])) (before 0 (omega arith)) rest
-
-module _ (payees : List AccountPlaces) (at account : ℕ) (split : IsPartitionPoint (λ payee. ltb payee.account account ≡ true) (λ payee. ltb payee.account account ≡ false) payees at) where
-  -- the accounts before the place are lower
-  lower : at ≤ length payees → (k : ℕ) → k < at → (get_or (map gathered payees) k (0, [])).0 < account
-  lower within k before = by payees within k before split.0
-    where
-      by : (payees : List AccountPlaces) → at ≤ length payees → (k : ℕ) → k < at → AllWithin (λ payee. ltb payee.account account ≡ true) payees 0 at → (get_or (map gathered payees) k (0, [])).0 < account
-      by [] within k before low = absurd (omega arith)
-      by (payee ∷ later) within k before low =
-          let here = ltb-true (get_or (payee ∷ later) k payee).account account (low k payee zero-le before) in
-          let same = get_or-map gathered (payee ∷ later) k payee (0, []) (omega arith) in
-          omega (arith, here, ap (λ (p : ℕ × List ℕ). p.0) same)
-
-  -- where the payee at the place has the account, the place goes to it
-  pub place_added : (place : ℕ) (old new : AccountPlaces) → at < length payees → old ≡ get_or payees at old → old.account ≡ account → new.account ≡ account
-      → new.places.items ≡ old.places.items ++ place ∷ [] → map gathered (set payees at new) ≡ with_place account place (map gathered payees)
-  place_added place old new within is whose still more =
-      let same : gathered new ≡ (account, old.places.items ++ place ∷ []) = cc in
-      let at_place : get_or (map gathered payees) at (0, []) ≡ (account, old.places.items) = get_or-map gathered payees at old (0, []) within ∙ (ap gathered (sym is) ∙ ap (λ (a : ℕ). (a, old.places.items)) whose) in
-      map-set gathered payees at new
-      ∙ (ap (set (map gathered payees) at) same
-      ∙ placed_at account place (map gathered payees) at old.places.items (0, []) (omega (arith, length-map payees gathered)) (lower (omega arith)) at_place)
-
-  -- where none has it, a payee goes in there
-  pub payee_added : (place : ℕ) (new : AccountPlaces) → at ≤ length payees → (at < length payees → (old : AccountPlaces) → ¬ ((get_or payees at old).account ≡ account)) → new.account ≡ account
-      → new.places.items ≡ place ∷ [] → map gathered (insert payees at new) ≡ with_place account place (map gathered payees)
-  payee_added place new within other whose only =
-      let same : gathered new ≡ (account, place ∷ []) = cc in
-      map-append gathered (take at payees) (new ∷ drop at payees)
-      ∙ (ap (λ l. l ++ gathered new ∷ map gathered (drop at payees)) (sym (take-map gathered at payees))
-      ∙ (ap (λ l. take at (map gathered payees) ++ gathered new ∷ l) (sym (drop-map gathered at payees))
-      ∙ (ap (insert (map gathered payees) at) same
-      ∙ placed_new account place (map gathered payees) at (0, []) (omega (arith, length-map payees gathered)) (lower within) higher)))
-    where
-      higher : at < length (map gathered payees) → account < (get_or (map gathered payees) at (0, [])).0
-      higher inside = by payees (omega (arith, inside, length-map payees gathered)) split.1 other
-        where
-          by : (payees : List AccountPlaces) → at < length payees → AllWithin (λ payee. ltb payee.account account ≡ false) payees at (length payees)
-              → (at < length payees → (old : AccountPlaces) → ¬ ((get_or payees at old).account ≡ account)) → account < (get_or (map gathered payees) at (0, [])).0
-          by [] inside high other = absurd (omega arith)
-          by (payee ∷ later) inside high other =
-              let here = ltb-false (get_or (payee ∷ later) at payee).account account (high at payee (omega arith) inside) in
-              let same = get_or-map gathered (payee ∷ later) at payee (0, []) inside in
-              let apart = other inside payee in
-              omega (arith, here, apart, ap (λ (p : ℕ × List ℕ). p.0) same)
 
 -- the first and the others of a list whose pairs are related
 pub AllPairs-head : {X : Type 0} (R : X → X → Type 0) (x : X) (xs : List X) → AllPairs R (x ∷ xs) → All (R x) xs
@@ -174,12 +90,12 @@ contains_cases x y xs (zero, within, is) = inl is
 contains_cases x y xs (suc k, within, is) = inr (k, omega (arith, within), is)
 
 -- payees by rising account
-abbrev Rising : List (ℕ × List ℕ) → Type 0
+abbrev pub Rising : List (ℕ × List ℕ) → Type 0
 Rising payees = AllPairs (λ payee later. payee.0 < later.0) payees
 
 module _ (account place : ℕ) where
   -- where the place goes, by the first payee
-  place_goes : (payee : ℕ × List ℕ) (later : List (ℕ × List ℕ))
+  pub place_goes : (payee : ℕ × List ℕ) (later : List (ℕ × List ℕ))
       → ((account < payee.0) × (with_place account place (payee ∷ later) ≡ (account, place ∷ []) ∷ payee ∷ later))
       ⊎ (((account ≡ payee.0) × (with_place account place (payee ∷ later) ≡ (account, payee.1 ++ place ∷ []) ∷ later))
       ⊎ ((payee.0 < account) × (with_place account place (payee ∷ later) ≡ payee ∷ with_place account place later)))
@@ -218,7 +134,7 @@ module _ (account place : ℕ) where
       ]
 
   -- the accounts still rise
-  rising_with_place : (payees : List (ℕ × List ℕ)) → Rising payees → Rising (with_place account place payees)
+  pub rising_with_place : (payees : List (ℕ × List ℕ)) → Rising payees → Rising (with_place account place payees)
   rising_with_place [] rising = λ i j d before within. absurd (omega arith)
   rising_with_place (payee ∷ later) rising =
       let R : ℕ × List ℕ → ℕ × List ℕ → Type 0 = λ payee other. payee.0 < other.0 in
@@ -315,7 +231,7 @@ lines_at_last lines line places within =
     map_push _ places (length lines) ∙ rw (lines_at_longer lines line places within, get_or_push lines line _ (length lines) refl) refl
 
 -- no two accounts have one party
-account_is : (parties : List (List ℕ)) (account other : ℕ) → IsStrictlySortedBy (slice_cmp nat_cmp) parties → account < length parties → other < length parties
+pub account_is : (parties : List (List ℕ)) (account other : ℕ) → IsStrictlySortedBy (slice_cmp nat_cmp) parties → account < length parties → other < length parties
     → get_or parties account [] ≡ get_or parties other [] → account ≡ other
 account_is parties account other rising within inside same = elim (cases_order account other) [
   | inl is ↦ is
@@ -464,13 +380,6 @@ module _ {X : Type 0} (xs ys : List X) where
 
   pub part_added : take (length ys) (drop (length xs) (xs ++ ys)) ≡ ys
   part_added = rw (drop-append-le (length xs) xs ys (omega arith), drop_all (length xs) xs (omega arith)) (take_all (length ys) ys (omega arith))
-
--- the accounts up to one more, and their places
-pub gathered_more : (accounts : List AccountPlaces) (n : ℕ) (next : AccountPlaces) → n < length accounts → next ≡ get_or accounts n next
-    → map gathered (take (n + 1) accounts) ≡ map gathered (take n accounts) ++ gathered next ∷ []
-gathered_more accounts n next within is =
-    ap (map gathered) (take_more accounts n next within ∙ ap (λ (a : AccountPlaces). take n accounts ++ a ∷ []) (sym is))
-    ∙ map_push gathered (take n accounts) next
 
 -- the line at the next place is kept
 pub kept_next : (parties : List (List ℕ)) (lines : List ShareLine) (place : ℕ) (line : ShareLine) (kept : List KeptShare) (share : KeptShare)

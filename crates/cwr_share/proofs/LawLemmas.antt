@@ -13,7 +13,7 @@ use Rattle.std.proofs.lemmas.Slice.Eq.{bytes_eq-Decides}
 use Rattle.std.proofs.lemmas.Bool.Decides.{same_from_decides}
 use Rattle.line_split.specs.LargestRemainder.{portion_of, portions_of, rank_of, remainder_of, turns_of, units_left}
 use Rattle.line_split.specs.declared.TheConstants.{FULL_SHARE, RESIDUE}
-use Rattle.line_split.specs.declared.usage.Line.{Line}
+use Rattle.line_split.specs.UsageLine.{UsageLine}
 use Rattle.line_split.proofs.SumBelow.{sum_by-map}
 use Rattle.line_split.specs.declared.usage.Right.{Right}
 use Rattle.line_split.specs.declared.usage.Right.TheVariants.{P, M, S}
@@ -297,7 +297,7 @@ claims_none table land right payees = none 1 payees
     none account [] = refl
     none account (payee ∷ payees) = none (account + 1) payees
 
-pub no_claims_on : (table : List (ℕ × List ℕ)) (registered : Registered) (line : Line) → find_work line.work registered.works ≡ Some [] → claims_on table registered line ≡ []
+pub no_claims_on : (table : List (ℕ × List ℕ)) (registered : Registered) (line : UsageLine) → find_work line.work registered.works ≡ Some [] → claims_on table registered line ≡ []
 no_claims_on table registered line found = go (cases_Bool (is_known table line.territory))
   where
     none : claims_by table registered line [] ≡ []

@@ -4,5 +4,6 @@ pub mod FieldLemmas
 pub mod FileLemmas
 pub mod LawLemmas
 pub mod LineLemmas
+pub mod OrderLemmas
 pub mod PartyLemmas
 pub mod PartyWorks

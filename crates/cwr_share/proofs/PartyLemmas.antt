@@ -1,5 +1,5 @@
 -- Texts in rising byte order, and the parties that are gathered of share lines.
-use Rattle.std.proofs.Common.{◌≡◌, ◌<◌, ◌≤◌, ◌+◌, ◌⊎◌, ℕ, suc, zero, true, List, [], ◌∷◌, ◌++◌, length, map, take, drop, All, Contains, slice_index_or, ap, sym, refl, subst, ◌∙◌, inl, inr, arith}
+use Rattle.std.proofs.Common.{◌≡◌, ◌<◌, ◌≤◌, ◌+◌, ◌⊎◌, ℕ, suc, zero, true, List, [], ◌∷◌, ◌++◌, length, map, take, drop, All, Contains, slice_index_or, ap, sym, refl, subst, ◌∙◌, inl, inr, arith, position, Some}
 use Rattle.std.specs.declared.cmp.Ordering.{Ordering}
 use Rattle.std.specs.declared.cmp.Ordering.TheVariants.{Less, Equal, Greater}
 use Rattle.std.specs.Ordering.{nat_cmp, match_ordering}
@@ -13,7 +13,11 @@ use Rattle.std.specs.List.Sorted.{IsStrictlySortedBy}
 use Rattle.std.specs.BTreeSet.{insert_key}
 use Rattle.std.proofs.lemmas.Bool.{false≢true, or_cases}
 use Rattle.std.proofs.lemmas.List.Elements.{All-contains, All-map, All-push, All-tail, All-weaker, Contains-append_left, Contains-get_or, Contains-push, Contains-push_cases}
-use Rattle.std.proofs.lemmas.List.{get_or-map, length-map, map-append, map_more, take-append-drop, take_all}
+use Rattle.std.proofs.lemmas.List.{get_or-map, get_or-take, get_or_default, length-map, length-take-le, map-append, map_more, map_push, take-append-drop, take_all, take_more}
+use Rattle.std.proofs.lemmas.List.Folds.{list_any_at}
+use Rattle.std.proofs.lemmas.List.Quantifiers.{position-Some}
+use Rattle.std.proofs.lemmas.Option.{none-some}
+use Rattle.cwr_share.proofs.CompiledLemmas.{account_is}
 use Rattle.std.proofs.lemmas.Map.Lookups.{exact_bytes}
 use Rattle.cwr_share.specs.Parties.{AreFound, ArePartiesIn, HasAdded, HasMany, IsAmong}
 use Rattle.cwr_share.specs.declared.TheConstants.{MOST_PARTIES}
@@ -120,6 +124,17 @@ module _ {K : Type 0} (text_of : K → List ℕ) where
   unfolding IsStrictlySortedBy
   rising_texts [] rising = tt
   rising_texts (key ∷ keys) rising = (below_all key keys rising.0, rising_texts keys rising.1)
+
+  -- what holds of the texts, and of that of the key, holds of them together
+  pub each_more : (P : List ℕ → Type 0) (keys : List K) (key : K) → All P (map text_of keys) → P (text_of key) → All P (map text_of (insert_key by_text keys key))
+  each_more P keys key all holds =
+      rw (texts-insert_key keys key)
+      (λ k d within. by (slice_index_or (with_text (map text_of keys) (text_of key)) k d)
+      (from_with_text (map text_of keys) (text_of key) (slice_index_or (with_text (map text_of keys) (text_of key)) k d) (Contains-get_or (with_text (map text_of keys) (text_of key)) k d within)))
+    where
+      by : (other : List ℕ) → Contains (map text_of keys) other ⊎ (text_of key ≡ other) → P other
+      by other (inl there) = All-contains P (map text_of keys) other all there
+      by other (inr is) = subst P is holds
 
   -- one more text is added, by its key or because it is there
   pub added_key : (before added : List (List ℕ)) (keys : List K) (key : K) → HasAdded before added (map text_of keys)
@@ -302,3 +317,48 @@ pub many_among : (lists : List (List ShareLine)) (texts before lines : List (Lis
     → (fault ≡ Memory) ⊎ ((fault ≡ Accounts) × HasMany lists)
 many_among lists texts before lines fault among (inl memory) = inl memory
 many_among lists texts before lines fault among (inr (accounts, many, rising, each)) = inr (accounts, (texts, rising, among each, many))
+
+-- the texts of numbers
+abbrev texts_in : List (ArrayVec ℕ) → List (List ℕ)
+texts_in numbers = map (λ number. number.items) numbers
+
+-- the next party's number comes after the others
+pub number_next : (parties : List (List ℕ)) (place : ℕ) (numbers : List (ArrayVec ℕ)) (number : ArrayVec ℕ) → IsStrictlySortedBy (slice_cmp nat_cmp) parties → place < length parties
+    → number.items ≡ slice_index_or parties place [] → texts_in numbers ≡ take place parties
+    → texts_in (insert_number (λ number other. pointwise nat_eq number.items other.items) numbers number) ≡ take (place + 1) parties
+number_next parties place numbers number rising within is before = by (list_any (λ other. pointwise nat_eq number.items other.items) numbers) refl
+  where
+    own : AreFound (texts_in numbers) numbers
+    own = λ k d inside. (k, omega (arith, inside, length-map numbers (λ (number : ArrayVec ℕ). number.items)), get_or-map (λ (number : ArrayVec ℕ). number.items) numbers k d _ inside)
+
+    earlier : ¬ Contains (take place parties) number.items
+    earlier (k, inside, at) =
+        let front : length (take place parties) ≡ place = length-take-le place parties (omega (arith, within)) in
+        let here : slice_index_or parties k [] ≡ slice_index_or parties place [] =
+        sym (get_or-take place parties k [] (omega (arith, inside, front))) ∙ (get_or_default (take place parties) k [] number.items inside ∙ (at ∙ is)) in
+        absurd (omega (arith, inside, front, account_is parties k place rising (omega (arith, inside, front, within)) within here))
+
+    by : (known : Bool) → list_any (λ other. pointwise nat_eq number.items other.items) numbers ≡ known → texts_in (if known then numbers else numbers ++ number ∷ []) ≡ take (place + 1) parties
+    by true seen = absurd (earlier (subst (λ (texts : List (List ℕ)). Contains texts number.items) before (seen_text (texts_in numbers) numbers number.items own seen)))
+    by false seen =
+        map_push (λ (number : ArrayVec ℕ). number.items) numbers number
+        ∙ (ap (λ (texts : List (List ℕ)). texts ++ number.items ∷ []) before
+        ∙ (ap (λ (text : List ℕ). take place parties ++ text ∷ []) is ∙ sym (take_more parties place [] within)))
+
+-- a number that is found has the text
+pub number_found : (numbers : List (ArrayVec ℕ)) (party : List ℕ) (place : ℕ) → position (λ number. pointwise nat_eq party number.items) numbers ≡ Some place
+    → (place < length numbers) × (slice_index_or (texts_in numbers) place [] ≡ party)
+number_found [] party place found = absurd (none-some place found)
+number_found (first ∷ numbers) party place found =
+    let (within, same, none) = position-Some (λ (number : ArrayVec ℕ). pointwise nat_eq party number.items) (first ∷ numbers) place first found in
+    (within, get_or-map (λ (number : ArrayVec ℕ). number.items) (first ∷ numbers) place first [] within ∙ sym ((bytes_eq-Decides party (slice_index_or (first ∷ numbers) place first).items).0 same))
+
+-- where none is found, no number has the text
+pub number_missing : (numbers : List (ArrayVec ℕ)) (party : List ℕ) → list_any (λ number. pointwise nat_eq party number.items) numbers ≡ false → ¬ Contains (texts_in numbers) party
+number_missing [] party none (k, within, at) = absurd (omega (arith, within))
+number_missing (first ∷ numbers) party none (k, within, at) =
+    let here : slice_index_or (texts_in (first ∷ numbers)) k party ≡ (slice_index_or (first ∷ numbers) k first).items =
+    get_or-map (λ (number : ArrayVec ℕ). number.items) (first ∷ numbers) k first party (omega (arith, within, length-map (first ∷ numbers) (λ (number : ArrayVec ℕ). number.items))) in
+    false≢true (sym none ∙ list_any_at (λ (number : ArrayVec ℕ). pointwise nat_eq party number.items) (first ∷ numbers) k first
+    (omega (arith, within, length-map (first ∷ numbers) (λ (number : ArrayVec ℕ). number.items)))
+    ((bytes_eq-Decides party (slice_index_or (first ∷ numbers) k first).items).1 (sym at ∙ here)))

@@ -6,7 +6,7 @@ use Rattle.std.specs.Cmp.Lexicographic.{pointwise}
 use Rattle.tis_tree.specs.Territories.{encloses}
 use Rattle.line_split.specs.Claims.{total_of}
 use Rattle.line_split.specs.declared.TheConstants.{MOST_CLAIMED}
-use Rattle.line_split.specs.declared.usage.Line.{Line}
+use Rattle.line_split.specs.UsageLine.{UsageLine}
 use Rattle.line_split.specs.declared.usage.Right.{Right}
 use Rattle.line_split.specs.declared.usage.Right.TheVariants.{P, M, S}
 use Rattle.line_split.specs.declared.reason.Reason.{Reason}
@@ -71,7 +71,7 @@ claims_among table land right lines payees = filter (λ claim. not (claim.1 == 0
     (map (λ payee. (payee.0, claim_of table land right lines payee.1)) (enumerate_from 1 payees))
 
 -- the claims on a line by the share lines of its work
-abbrev pub claims_by : List (ℕ × List ℕ) → Registered → Line → List ShareLine → List (ℕ × ℕ)
+abbrev pub claims_by : List (ℕ × List ℕ) → Registered → UsageLine → List ShareLine → List (ℕ × ℕ)
 claims_by table registered line lines = claims_among table line.territory line.right lines (drop 1 registered.parties)
 
 -- the territory has a row in the table
@@ -79,7 +79,7 @@ abbrev pub is_known : List (ℕ × List ℕ) → ℕ → Bool
 is_known table code = list_any (λ row. row.0 == code) table
 
 -- what stands against all claims on a line, if anything does: its work is not registered, or its territory is unknown, or the claims come to more than 100.06 per cent; the first of these
-abbrev pub reason_against : List (ℕ × List ℕ) → Registered → Line → Option Reason
+abbrev pub reason_against : List (ℕ × List ℕ) → Registered → UsageLine → Option Reason
 reason_against table registered line = against (find_work line.work registered.works)
   where
     against : Option (List ShareLine) → Option Reason
@@ -90,7 +90,7 @@ reason_against table registered line = against (find_work line.work registered.w
         else None
 
 -- the claims on a line: none where a reason stands against them
-abbrev pub claims_on : List (ℕ × List ℕ) → Registered → Line → List (ℕ × ℕ)
+abbrev pub claims_on : List (ℕ × List ℕ) → Registered → UsageLine → List (ℕ × ℕ)
 claims_on table registered line = unless (reason_against table registered line) (find_work line.work registered.works)
   where
     unless : Option Reason → Option (List ShareLine) → List (ℕ × ℕ)

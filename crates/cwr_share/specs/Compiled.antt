@@ -1,12 +1,12 @@
 -- How a registration is kept, so that its claims take one look at each of its share lines.
-use Rattle.std.specs.Prelude.{ℕ, ◌++◌, ◌==◌, nat_lt, if◌then◌else◌, ◌≡◌, ◌≤◌, ◌<◌, ◌+◌, ◌∷◌, List, All, AllPairs, Contains, [], drop, filter, length, map, nat_eq, slice_index_or, sum_by, take, zip, false, Vec, Bool, Option, Some, None, not, flat_map}
+use Rattle.std.specs.Prelude.{ℕ, ◌++◌, ◌==◌, nat_lt, if◌then◌else◌, ◌≡◌, ◌≤◌, ◌<◌, ◌+◌, ◌∷◌, List, All, AllPairs, Contains, [], drop, filter, length, map, nat_eq, slice_index_or, sum_by, take, zip, false, Vec, Bool, Option, Some, None, not, flat_map, reverse}
 use Rattle.std.specs.Option.{option_eq}
 use Rattle.std.specs.Cmp.Lexicographic.{pointwise}
 use Rattle.line_split.specs.declared.usage.Right.{Right}
 use Rattle.line_split.specs.declared.usage.Right.TheVariants.{P, M, S}
 use Rattle.cwr_share.specs.ClaimsOn.{deciding, share_for}
 use Rattle.cwr_share.specs.Registrations.{ShareLine}
-use Rattle.cwr_share.specs.declared.registration.AccountPlaces.{AccountPlaces}
+use Rattle.cwr_share.specs.declared.registration.Placed.{Placed}
 use Rattle.cwr_share.specs.declared.claim_line.ClaimLine.{ClaimLine}
 use Rattle.cwr_share.specs.declared.registration.Registration.{Registration}
 use Rattle.cwr_share.specs.declared.registrations.Extent.{Extent}
@@ -70,10 +70,6 @@ lines_at lines places = map (λ place. slice_index_or lines place nothing) place
 abbrev pub lines_of_party : List ℕ → List ShareLine → List ShareLine
 lines_of_party party lines = filter (λ line. pointwise nat_eq line.party party) lines
 
--- an account with the places of its share lines, while they are gathered
-abbrev pub gathered : AccountPlaces → ℕ × List ℕ
-gathered account = (account.account, account.places.items)
-
 -- how many places there are
 abbrev pub places_in : List (ℕ × List ℕ) → ℕ
 places_in payees = sum_by (λ payee. length payee.1) payees
@@ -97,6 +93,19 @@ with_place account place (payee ∷ later) =
     if nat_lt account payee.0 then (account, place ∷ []) ∷ payee ∷ later
     else if account == payee.0 then (account, payee.1 ++ place ∷ []) ∷ later
     else payee ∷ with_place account place later
+
+-- the places of a payee from the last one back, each with the account
+abbrev pub placed : ℕ × List ℕ → List Placed
+placed payee = map (λ place. record { account = payee.0; place = place }) (reverse payee.1)
+
+-- those of payees, one payee's after another's
+abbrev pub in_order : List (ℕ × List ℕ) → List Placed
+in_order payees = flat_map placed payees
+
+-- those of payees by rising account
+pub record IsInOrder (payees : List (ℕ × List ℕ)) (order : List Placed) : Type 0 where
+  pub rising : AllPairs (λ payee later. payee.0 < later.0) payees
+  pub exact : order ≡ in_order payees
 
 -- the interests of the share lines of a registration do not fall
 abbrev pub InterestsRise : List ShareLine → Type 0

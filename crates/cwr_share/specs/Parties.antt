@@ -8,6 +8,7 @@ use Rattle.std.specs.declared.alloc.Global.{Global}
 use Rattle.arrayvec.specs.ArrayVec.{ArrayVec}
 use Rattle.cwr_share.specs.Registrations.{ShareLine, find_work}
 use Rattle.cwr_share.specs.declared.TheConstants.{MOST_PARTIES}
+use Rattle.cwr_share.specs.declared.numbers.TheConstants.{MOST_PARTY_BYTES}
 
 -- the texts in a set
 abbrev pub texts_of : BTreeSet (Vec ℕ Global) → List (List ℕ)
@@ -16,6 +17,10 @@ texts_of set = map (λ text. text.items) set.keys
 -- these party numbers are among the texts
 abbrev pub AreFound : List (List ℕ) → List (ArrayVec ℕ) → Type 0
 AreFound texts numbers = All (λ number. Contains texts number.items) numbers
+
+-- the texts are no longer than party numbers
+abbrev pub AreShort : List (List ℕ) → Type 0
+AreShort texts = All (λ text. length text ≤ MOST_PARTY_BYTES) texts
 
 -- the texts before with those added are these
 pub record HasAdded (before added texts : List (List ℕ)) : Type 0 where

@@ -3,7 +3,7 @@
 ghost use Rattle.std.specs.Prelude.{◌≡◌, ◌<◌, ◌++◌, ◌∷◌, [], ℕ, List, All, Some, false, map, true};
 ghost use Rattle.line_split.specs.LargestRemainder.{portions_of};
 ghost use Rattle.line_split.specs.declared.TheConstants.{RESIDUE};
-ghost use Rattle.line_split.specs.declared.usage.Line.{Line};
+ghost use Rattle.line_split.specs.UsageLine.{UsageLine};
 ghost use Rattle.line_split.specs.declared.usage.Right.{Right};
 ghost use Rattle.cwr_share.specs.ClaimsOn.{claim_of, claims_among, claims_on, covers, reason_against, renamed, share_for, share_in, sum_below};
 ghost use Rattle.cwr_share.specs.Records.{ends_registration, opens_registration};
@@ -39,15 +39,15 @@ pub fn law_a_later_registration_replaces()
 
 /// A registration without share lines leaves the whole amount to the residue.
 pub fn law_no_share_lines_leave_all_to_the_residue()
-    ensures { (table : List (ℕ × List ℕ)) (registered : Registered) (line : Line) → find_work line.work registered.works ≡ Some []
+    ensures { (table : List (ℕ × List ℕ)) (registered : Registered) (line : UsageLine) → find_work line.work registered.works ≡ Some []
         → portions_of line.amount (claims_on table registered line) ≡ (RESIDUE, line.amount) ∷ [] }
 {}
 
 /// The claims on a line are those of no other work: what is registered for others changes nothing.
 pub fn law_claims_are_of_no_other_work()
-    ensures claims { (table : List (ℕ × List ℕ)) (registered other : Registered) (line : Line) → find_work line.work registered.works ≡ find_work line.work other.works
+    ensures claims { (table : List (ℕ × List ℕ)) (registered other : Registered) (line : UsageLine) → find_work line.work registered.works ≡ find_work line.work other.works
         → registered.parties ≡ other.parties → claims_on table registered line ≡ claims_on table other line }
-    ensures reason { (table : List (ℕ × List ℕ)) (registered other : Registered) (line : Line) → find_work line.work registered.works ≡ find_work line.work other.works
+    ensures reason { (table : List (ℕ × List ℕ)) (registered other : Registered) (line : UsageLine) → find_work line.work registered.works ≡ find_work line.work other.works
         → registered.parties ≡ other.parties → reason_against table registered line ≡ reason_against table other line }
 {}
 

@@ -5,7 +5,7 @@ ghost use Rattle.std.specs.List.Sorted.{IsStrictlySortedBy};
 ghost use Rattle.std.specs.Cmp.Lexicographic.{slice_cmp};
 ghost use Rattle.std.specs.Ordering.{nat_cmp};
 ghost use Rattle.std.specs.BTreeSet.{btree_set_len};
-ghost use Rattle.cwr_share.specs.Parties.{AreAccountsOf, AreFound, HasAdded, HasMany, texts_of};
+ghost use Rattle.cwr_share.specs.Parties.{AreAccountsOf, AreFound, AreShort, HasAdded, HasMany, texts_of};
 ghost use Rattle.cwr_share.specs.Registered.{IsShareLine};
 ghost use Rattle.cwr_share.specs.declared.TheConstants.{MOST_PARTIES};
 ghost use Rattle.cwr_share.specs.declared.cwr_fault.CwrFault.TheVariants.{Accounts, Memory};
@@ -26,6 +26,7 @@ pub(crate) fn parties_of(
 ) -> Result<Vec<Vec<u8>>, CwrFault>
     requires filled { All (λ lines. All IsShareLine lines.items) registrations.now }
     ensures parties { IfOk result (λ parties. AreAccountsOf (map (λ lines. lines.items) registrations.now) (map (λ party. party.items) parties.items)) }
+    ensures short { IfOk result (λ parties. AreShort (map (λ party. party.items) parties.items)) }
     ensures fault { IfErr result (λ fault. (fault ≡ Memory) ⊎ ((fault ≡ Accounts) × HasMany (map (λ lines. lines.items) registrations.now))) }
 {
     let mut seen = IndexSet::new(alloc);
@@ -45,9 +46,11 @@ fn add_parties(
 ) -> Result<(), CwrFault>
     requires seen { AreFound (texts_of found.old) seen.old.keys }
     requires few { btree_set_len found.old ≤ MOST_PARTIES }
+    requires short { AreShort (texts_of found.old) }
     ensures exact { OnOk result (HasAdded (texts_of found.old) (map (λ share. share.party) shares.now) (texts_of found.new)) }
     ensures few { OnOk result (btree_set_len found.new ≤ MOST_PARTIES) }
     ensures seen { OnOk result (AreFound (texts_of found.new) seen.new.keys) }
+    ensures short { OnOk result (AreShort (texts_of found.new)) }
     ensures fault { IfErr result (λ fault. (fault ≡ Memory) ⊎ ((fault ≡ Accounts) × (MOST_PARTIES < length (texts_of found.new))
         × IsStrictlySortedBy (slice_cmp nat_cmp) (texts_of found.new)
         × All (λ text. Contains (texts_of found.old) text ⊎ Contains (map (λ share. share.party) shares.now) text) (texts_of found.new))) }
@@ -75,6 +78,34 @@ fn by_account(alloc: Global, found: BTreeSet<Vec<u8>>) -> Result<Vec<Vec<u8>>, A
     parties.push(Vec::new(alloc))?;
     parties.extend(found)?;
     Ok(parties)
+}
+
+/// The parties' numbers by account. A party's place among them is found by its hash.
+pub(crate) fn numbers_of(
+    alloc: Global,
+    parties: &[Vec<u8>],
+) -> Result<IndexSet<PartyNumber>, AllocError>
+    requires short { AreShort (map (λ party. party.items) parties.now) }
+    requires rising { IsStrictlySortedBy (slice_cmp nat_cmp) (map (λ party. party.items) parties.now) }
+    ensures { IfOk result (λ numbers. map (λ number. number.items) numbers.keys ≡ map (λ party. party.items) parties.now) }
+{
+    let mut numbers = IndexSet::new(alloc);
+    for party in parties {
+        numbers.insert(in_place(party.as_slice()))?;
+    }
+    Ok(numbers)
+}
+
+/// The account of a party: its place among the numbers, where it has one.
+pub(crate) fn account_among(numbers: &IndexSet<PartyNumber>, party: &[u8]) -> Option<Account>
+    requires few { length numbers.now.keys ≤ MOST_PARTIES + 1 }
+    ensures some { IfSome result (λ account. (account < length numbers.now.keys) × (slice_index_or (map (λ number. number.items) numbers.now.keys) account [] ≡ party.now)) }
+    ensures none { IfNone result (¬ Contains (map (λ number. number.items) numbers.now.keys) party.now) }
+{
+    match numbers.get_index_of(Sought(party)) {
+        Some(place) => Some(place as Account),
+        None => None,
+    }
 }
 
 /// The account of a party: its place among the parties, where it has one.

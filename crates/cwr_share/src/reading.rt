@@ -10,7 +10,7 @@ ghost use Rattle.cwr_share.specs.declared.record_type.RecordType.TheVariants as 
 
 use crate::fields::{SPT, SWT, ShareFields, WORK};
 use crate::numbers::{WorkNumber, in_place};
-use crate::parties::parties_of;
+use crate::parties::{numbers_of, parties_of};
 use crate::record_type::record_type;
 use crate::registration::Registration;
 use crate::registrations::Registrations;
@@ -163,8 +163,10 @@ fn registry_of(
 {
     let mut registrations = Registrations::room(alloc, works.len())?;
     let parties = parties_of(alloc, lists.as_slice())?;
+    let numbers = numbers_of(alloc, parties.as_slice())?;
+    let mut registration = Registration::new(alloc);
     for shares in &lists {
-        let registration = Registration::of(alloc, shares.as_slice(), parties.as_slice())?;
+        registration.set(shares.as_slice(), &numbers)?;
         registrations = registrations.and(&registration)?;
     }
     Ok(Registry::of(works, registrations, parties))

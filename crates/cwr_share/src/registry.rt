@@ -2,6 +2,7 @@
 
 ghost use Rattle.std.specs.Prelude.{◌≡◌, ◌≤◌, ◌<◌, ◌↔◌, ◌⊎◌, [], ℕ, Contains, IfOk, IfErr, IfSome, IfNone, true, false, length, map, slice_index_or};
 ghost use Rattle.line_split.specs.declared.TheConstants.{MOST_CLAIMS};
+ghost use Rattle.line_split.specs.UsageLine.{seen};
 ghost use Rattle.cwr_share.specs.ClaimsOn.{claims_on, is_known, reason_against};
 ghost use Rattle.cwr_share.specs.Compiled.{AreKept, registered_as};
 ghost use Rattle.cwr_share.specs.CwrFile.{IsFaultOf, IsFileOf};
@@ -131,14 +132,14 @@ impl Registry {
     /// Puts the claims on a usage line into `out`, in hundredths of a per cent; an account that claims
     /// nothing is left out. Where something stands against all claims, this is the answer, and `out` is
     /// empty.
-    pub fn claims(&self, tis: &TisTable, line: &Line, out: &mut Claims) -> Option<Reason>
+    pub fn claims(&self, tis: &TisTable, line: &Line<'_>, out: &mut Claims) -> Option<Reason>
         requires { MOST_CLAIMS ≤ out.old.room }
-        ensures reason { result ≡ reason_against tis.now self.now line.now }
-        ensures claims { out.new.list ≡ claims_on tis.now self.now line.now }
+        ensures reason { result ≡ reason_against tis.now self.now (seen line.now) }
+        ensures claims { out.new.list ≡ claims_on tis.now self.now (seen line.now) }
         ensures room { out.new.room ≡ out.old.room }
     {
         out.clear();
-        let Some(place) = self.works.get_index_of(Sought(line.work.as_slice())) else {
+        let Some(place) = self.works.get_index_of(Sought(line.work)) else {
             return Some(Reason::Work);
         };
         let Some(land) = land_of(tis, line.territory) else {

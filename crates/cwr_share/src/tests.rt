@@ -5,7 +5,7 @@
 //! second or two: the prover follows each call of a test, but not into the helpers.
 
 use super::*;
-use line_split::{Line, Right, Text};
+use line_split::{Line, Right};
 use std::alloc::Global;
 use std::process::Abort;
 use std::test::Fail;
@@ -96,20 +96,20 @@ fn right(name: &str) -> Right {
 }
 
 /// The usage line of a work, a land and a right, divided by commas.
-fn usage_line(alloc: Global, text: &str) -> Result<Line, Fail> {
+fn usage_line(text: &str) -> Line<'_> {
     let (work, place) = text.split_once(',').unwrap_or((text, ""));
     let (land, name) = place.split_once(',').unwrap_or((place, ""));
-    Ok(Line {
-        usage: Text::of(Vec::new(alloc)),
-        work: Text::of(Vec::from_slice(alloc, work.as_bytes())?),
+    Line {
+        usage: b"",
+        work: work.as_bytes(),
         territory: land.parse().unwrap_or(0),
         right: right(name),
         amount: 100,
-    })
+    }
 }
 
 /// What stands against all claims on a usage line, and the claims.
-fn claims(alloc: Global, registry: &Registry, line: &Line) -> Result<String, Fail> {
+fn claims(alloc: Global, registry: &Registry, line: &Line<'_>) -> Result<String, Fail> {
     let tis = TisTable::read(alloc, TERRITORIES)?;
     let mut out = registry.scratch(alloc)?;
     let against = registry.claims(&tis, line, &mut out);
@@ -227,7 +227,7 @@ enum Asked {
 /// The answer to a question on a file.
 fn answer(alloc: Global, file: &str, asked: Asked, question: &str) -> Result<String, Fail> {
     match asked {
-        Asked::Claims => claims(alloc, &read(alloc, file)?, &usage_line(alloc, question)?),
+        Asked::Claims => claims(alloc, &read(alloc, file)?, &usage_line(question)),
         Asked::Account => account(alloc, &read(alloc, file)?, question),
         Asked::Outcome => outcome(alloc, edited(alloc, file, question)?.as_bytes()),
     }

@@ -1,12 +1,12 @@
 -- The steps of the division: turns in a row, their order, and what the units are given to.
 use Rattle.std.proofs.Common.{◌≡◌, ℕ, ◌+◌, ◌<◌, ◌≤◌, inl, inr, Bool, true, false, cond, eqb, ltb, List, [], ◌∷◌, ◌++◌, All, length, map, get_or, take, drop, sum_by, count_by, refl, sym, ap, ◌∙◌, subst, arith, zero-add}
 use Rattle.std.specs.List.{enumerate_from}
-use Rattle.std.specs.Ordering.{is_lt, nat_cmp, ordering_then}
+use Rattle.std.specs.Ordering.{is_lt, nat_cmp}
 use Rattle.std.specs.List.Sorted.{IsPermutation, IsSortedBy}
 use Rattle.std.specs.Cmp.{IsStrictWeakOrder}
 use Rattle.std.proofs.lemmas.Bool.{cases_lt, eq-eqb, ne_eqb, lt-ltb, le-ltb}
 use Rattle.std.proofs.lemmas.Bool.Decides.{nat_tests}
-use Rattle.std.proofs.lemmas.Cmp.{nat_cmp_total, nat_eq_equiv, on_total, then_total, back_total}
+use Rattle.std.proofs.lemmas.Cmp.{nat_cmp_total, nat_eq_equiv, on_total, back_total}
 use Rattle.std.proofs.lemmas.List.Sorted.{ranks_by, sorted_far, All-permutation, IsPermutation-map, sum_by-IsPermutation}
 use Rattle.std.proofs.lemmas.Map.Keys.{IsDistinct-from_apart, IsDistinct-IsPermutation, apart_from_distinct}
 use Rattle.std.proofs.lemmas.List.{length-map, map_more, length-take-le, drop_more, get_or_at, get_or_default, get_or-map, get_or-take, same_lists}
@@ -15,7 +15,7 @@ use Rattle.std.proofs.lemmas.List.Sums.{sum_by_more_le}
 use Rattle.line_split.specs.declared.turn.Turn.{Turn}
 use Rattle.line_split.specs.LargestRemainder.{quota_of, remainder_of, comes_before, turns_of, units_left, rank_of, portions_among, portions_of}
 use Rattle.line_split.specs.Claims.{base_of, participants_of}
-use Rattle.line_split.specs.Turns.{seen, with_unit}
+use Rattle.line_split.specs.Turns.{place_of, seen, with_unit}
 use Rattle.line_split.specs.FairSplit.{number_at}
 use Rattle.line_split.proofs.Enumerated.{enumerate_from_push}
 use Rattle.line_split.proofs.SumBelow.{sum_below, bit, same_sums, sum_below-part, sum_below-front, sum_below-only, sum_below-constant, sum_by-places, sum_by-map}
@@ -54,10 +54,10 @@ unwritten {X} f xs ys i d lt is =
 
 -- the order that the sort goes by
 abbrev pub turn_lt : Turn → Turn → Bool
-turn_lt a b = is_lt (ordering_then (nat_cmp b.remainder.0 a.remainder.0) (nat_cmp a.place b.place))
+turn_lt a b = is_lt (nat_cmp b.number.0 a.number.0)
 
 turn_lt_order : IsStrictWeakOrder turn_lt
-turn_lt_order = ranks_by (then_total (on_total (λ (t : Turn). t.remainder.0) (back_total nat_cmp_total)) (on_total (λ (t : Turn). t.place) nat_cmp_total)) (λ t. t)
+turn_lt_order = ranks_by (on_total (λ (t : Turn). t.number.0) (back_total nat_cmp_total)) (λ t. t)
 
 -- the order of turns is that of the definition
 same_order : (a b : Turn) → turn_lt a b ≡ comes_before (seen a) (seen b)
@@ -69,24 +69,24 @@ one_first a b h other = grind (arith, nat_tests)
 
 -- Turns that each have their own place, and the same turns in order.
 module _ (turns sorted : List Turn) (d : Turn) (moved : IsPermutation turns sorted) (up : IsSortedBy turn_lt sorted)
-    (places : (k : ℕ) → k < length turns → (get_or turns k d).place ≡ k) where
+    (places : (k : ℕ) → k < length turns → place_of (get_or turns k d) ≡ k) where
   abbrev place_at : List Turn → ℕ → ℕ
-  place_at list k = (get_or list k d).place
+  place_at list k = place_of (get_or list k d)
 
   apart : (j k e : ℕ) → j < k → k < length sorted → eqb (place_at sorted j) (place_at sorted k) ≡ false
   apart j k e less lt =
-      let distinct = IsDistinct-IsPermutation eqb nat_eq_equiv.symm (map (λ t. t.place) turns) (map (λ t. t.place) sorted)
-      (IsPermutation-map (λ t. t.place) turns sorted moved) (IsDistinct-from_apart eqb (map (λ t. t.place) turns) (λ i m e low small.
-      let in_list : m < length turns = rw (length-map turns (λ t. t.place)) at small in
-      ne_eqb _ _ (λ same. absurd (omega (arith, same, get_or-map (λ t. t.place) turns i d e (omega arith), get_or-map (λ t. t.place) turns m d e in_list, places i (omega arith), places m in_list))))) in
-      let other = apart_from_distinct {K = ℕ} eqb (map (λ t. t.place) sorted) j k e distinct less (rw (length-map sorted (λ t. t.place)) lt) in
-      rw (get_or-map (λ t. t.place) sorted j d e (omega arith), get_or-map (λ t. t.place) sorted k d e lt) at other
+      let distinct = IsDistinct-IsPermutation eqb nat_eq_equiv.symm (map (λ t. place_of t) turns) (map (λ t. place_of t) sorted)
+      (IsPermutation-map (λ t. place_of t) turns sorted moved) (IsDistinct-from_apart eqb (map (λ t. place_of t) turns) (λ i m e low small.
+      let in_list : m < length turns = rw (length-map turns (λ t. place_of t)) at small in
+      ne_eqb _ _ (λ same. absurd (omega (arith, same, get_or-map (λ t. place_of t) turns i d e (omega arith), get_or-map (λ t. place_of t) turns m d e in_list, places i (omega arith), places m in_list))))) in
+      let other = apart_from_distinct {K = ℕ} eqb (map (λ t. place_of t) sorted) j k e distinct less (rw (length-map sorted (λ t. place_of t)) lt) in
+      rw (get_or-map (λ t. place_of t) sorted j d e (omega arith), get_or-map (λ t. place_of t) sorted k d e lt) at other
 
   -- each of the first turns in order has the place of a turn
-  pub served_place : (left i : ℕ) → left ≤ length sorted → i < length (take left sorted) → (get_or (take left sorted) i d).place < length turns
+  pub served_place : (left i : ℕ) → left ≤ length sorted → i < length (take left sorted) → place_of (get_or (take left sorted) i d) < length turns
   served_place left i le lt =
       let early : i < left = omega (arith, lt, length-take-le left sorted le) in
-      let below = All-permutation (λ t. t.place < length turns) turns sorted moved
+      let below = All-permutation (λ t. place_of t < length turns) turns sorted moved
       (λ k e small. rw (get_or_default turns k e d small) (omega (arith, places k small))) i d (omega (arith, early, le)) in
       rw (get_or-take left sorted i d early) below
 
@@ -115,19 +115,19 @@ module _ (turns sorted : List Turn) (d : Turn) (moved : IsPermutation turns sort
 
   -- 1 for the turn of a place, if its rank is below the number of units
   abbrev unit_of : (left i : ℕ) → Turn → ℕ
-  unit_of left i turn = cond (eqb turn.place i) (bit (ltb (rank_of (map seen turns) (seen turn)) left)) 0
+  unit_of left i turn = cond (eqb (place_of turn) i) (bit (ltb (rank_of (map seen turns) (seen turn)) left)) 0
 
   -- Among the first turns in order there is that of a place where its rank is small, and it is there once.
   pub served_once : (left i : ℕ) → left ≤ length sorted → i < length turns
-      → count_by (λ t. eqb t.place i) (take left sorted) ≡ bit (ltb (rank_of (map seen turns) (seen (get_or turns i d))) left)
+      → count_by (λ t. eqb (place_of t) i) (take left sorted) ≡ bit (ltb (rank_of (map seen turns) (seen (get_or turns i d))) left)
   served_once left i le lt = among_first ∙ (sym among_all ∙ (sum_by-IsPermutation (unit_of left i) turns sorted moved ∙ among_turns))
     where
-      among_first : count_by (λ t. eqb t.place i) (take left sorted) ≡ sum_below left (λ k. bit (eqb (place_at sorted k) i))
+      among_first : count_by (λ t. eqb (place_of t) i) (take left sorted) ≡ sum_below left (λ k. bit (eqb (place_at sorted k) i))
       among_first =
-          sum_by-places (λ t. bit (eqb t.place i)) (take left sorted) d
+          sum_by-places (λ t. bit (eqb (place_of t) i)) (take left sorted) d
           ∙ (ap (λ (n : ℕ). sum_below n (λ k. bit (eqb (place_at (take left sorted) k) i))) (length-take-le left sorted le)
           ∙ same_sums left (λ k. bit (eqb (place_at (take left sorted) k) i)) (λ k. bit (eqb (place_at sorted k) i))
-          (λ k small. ap (λ (t : Turn). bit (eqb t.place i)) (get_or-take left sorted k d small)))
+          (λ k small. ap (λ (t : Turn). bit (eqb (place_of t) i)) (get_or-take left sorted k d small)))
 
       turned : (b c : Bool) → cond b (bit c) 0 ≡ cond c (bit b) 0
       turned true true = refl

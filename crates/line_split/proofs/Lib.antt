@@ -10,4 +10,5 @@ pub mod FirstPlaces
 pub mod ByAccount
 pub mod Over
 mod UsageRows
+mod KeptLemmas
 pub mod PortionAccounts

@@ -3,8 +3,7 @@ use Rattle.std.proofs.Common.{◌≡◌, ◌≤◌, ◌+◌, ℕ, List, [], ◌�
 use Rattle.std.proofs.lemmas.List.{append-nil, length-map, length_push, map-append}
 use Rattle.std.proofs.lemmas.List.Elements.{All-map, All-nil, All-push}
 use Rattle.csv_table.proofs.Codes.{code_small}
-use Rattle.line_split.specs.UsageLine.{line_of}
-use Rattle.line_split.specs.declared.usage.Line.{Line}
+use Rattle.line_split.specs.UsageLine.{UsageLine, line_of}
 use Rattle.line_split.specs.UsageLines.{AreUsageLines, IsUsageLine}
 use Rattle.line_split.specs.UsageTable.{IsFaultOf, IsFaultOfRow, IsFirstFault, IsLine, IsTableOf, header}
 use Rattle.line_split.specs.declared.line_fault.LineFault.{LineFault}
@@ -12,7 +11,7 @@ use Rattle.line_split.specs.declared.line_fault.LineFault.TheVariants.{Csv, Fiel
 use Rattle.line_split.specs.declared.usage.TheConstants.{MOST_LINES}
 
 -- the rows below the header that were read so far are these lines
-pub record Walked (rows left : List (List (List ℕ))) (number : ℕ) (lines : List Line) : Type 0 where
+pub record Walked (rows left : List (List (List ℕ))) (number : ℕ) (lines : List UsageLine) : Type 0 where
   pub below : List (List (List ℕ))
   pub split : rows ≡ header ∷ (below ++ left)
   pub sound : All IsLine below
@@ -22,7 +21,7 @@ pub record Walked (rows left : List (List (List ℕ))) (number : ℕ) (lines : L
 pub walked_start : (rows left : List (List (List ℕ))) → rows ≡ header ∷ left → Walked rows left 1 []
 walked_start rows left is = record { below = []; split = is; sound = All-nil IsLine; same = refl; count = refl }
 
-pub walked_more : (rows left : List (List (List ℕ))) (row : List (List ℕ)) (number : ℕ) (lines : List Line) (line : Line)
+pub walked_more : (rows left : List (List (List ℕ))) (row : List (List ℕ)) (number : ℕ) (lines : List UsageLine) (line : UsageLine)
     → Walked rows (row ∷ left) number lines → IsLine row → line ≡ line_of row → Walked rows left (number + 1) (lines ++ line ∷ [])
 walked_more rows left row number lines line walked sound is = record {
   below = walked.below ++ row ∷ [];
@@ -40,13 +39,13 @@ line_in_limits row line = record {
   amount = line.amount.small;
 }
 
-pub walked_lines : (rows left : List (List (List ℕ))) (number : ℕ) (lines : List Line) → Walked rows left number lines → number ≤ MOST_LINES + 1 → AreUsageLines lines
+pub walked_lines : (rows left : List (List (List ℕ))) (number : ℕ) (lines : List UsageLine) → Walked rows left number lines → number ≤ MOST_LINES + 1 → AreUsageLines lines
 walked_lines rows left number lines walked few = record {
   few = rw (walked.same, length-map walked.below line_of) (omega (arith, walked.count, few));
   each = rw walked.same (All-map IsUsageLine line_of walked.below (λ k d lt. line_in_limits _ (walked.sound k d lt)));
 }
 
-pub walked_table : (rows : List (List (List ℕ))) (number : ℕ) (lines : List Line) → Walked rows [] number lines → number ≤ MOST_LINES + 1 → IsTableOf rows lines
+pub walked_table : (rows : List (List (List ℕ))) (number : ℕ) (lines : List UsageLine) → Walked rows [] number lines → number ≤ MOST_LINES + 1 → IsTableOf rows lines
 walked_table rows number lines walked few = record {
   few = (walked_lines rows [] number lines walked few).few;
   rows_below = walked.below;
@@ -55,7 +54,7 @@ walked_table rows number lines walked few = record {
   same = walked.same;
 }
 
-first_fault : (rows left : List (List (List ℕ))) (row : List (List ℕ)) (number : ℕ) (lines : List Line) (fault : LineFault)
+first_fault : (rows left : List (List (List ℕ))) (row : List (List ℕ)) (number : ℕ) (lines : List UsageLine) (fault : LineFault)
     → Walked rows (row ∷ left) number lines → IsFaultOfRow number row fault → IsFirstFault rows fault
 first_fault rows left row number lines fault walked refused = record {
   before = walked.below;
@@ -66,7 +65,7 @@ first_fault rows left row number lines fault walked refused = record {
   refused = rw walked.count refused;
 }
 
-pub walked_fault : (rows left : List (List (List ℕ))) (row : List (List ℕ)) (number : ℕ) (lines : List Line) (fault : LineFault)
+pub walked_fault : (rows left : List (List (List ℕ))) (row : List (List ℕ)) (number : ℕ) (lines : List UsageLine) (fault : LineFault)
     → Walked rows (row ∷ left) number lines → IsFaultOfRow number row fault → IsFaultOf rows fault
 walked_fault rows left row number lines (Csv n) walked refused = inr (first_fault rows left row number lines (Csv n) walked refused)
 walked_fault rows left row number lines (Fields n) walked refused = first_fault rows left row number lines (Fields n) walked refused

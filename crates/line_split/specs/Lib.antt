@@ -6,6 +6,7 @@ pub mod LargestRemainder
 pub mod Turns
 pub mod FairSplit
 pub mod UsageLine
+pub mod KeptLines
 pub mod UsageLines
 pub mod UsageTable
 pub mod Texts

@@ -7,6 +7,24 @@ use Rattle.line_split.specs.declared.usage.Line.{Line}
 use Rattle.line_split.specs.declared.usage.Right.{Right}
 use Rattle.line_split.specs.declared.usage.Right.TheVariants.{P, M, S}
 
+-- a line: what its use is called, the work, the territory, the right and the amount
+pub record UsageLine : Type 0 where
+  pub usage : List ℕ
+  pub work : List ℕ
+  pub territory : ℕ
+  pub right : Right
+  pub amount : ℕ
+
+-- what a program has in hand of one
+abbrev pub seen : Line → UsageLine
+seen line = record {
+  usage = line.usage.now;
+  work = line.work.now;
+  territory = line.territory;
+  right = line.right;
+  amount = line.amount;
+}
+
 -- the five fields of a row
 abbrev pub usage_of : List (List ℕ) → List ℕ
 usage_of row = slice_index_or row 0 []
@@ -47,7 +65,7 @@ right_named letter =
     else S
 
 -- the line of a row whose fields have these forms
-abbrev pub line_of : List (List ℕ) → Line
+abbrev pub line_of : List (List ℕ) → UsageLine
 line_of row = record {
   usage = usage_of row;
   work = work_of row;

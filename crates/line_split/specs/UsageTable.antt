@@ -1,7 +1,6 @@
 -- The table of usage lines: a header, and a row for each line. Rows count from 0, the header's.
 use Rattle.std.specs.Prelude.{ℕ, ◌≡◌, ◌≤◌, ◌<◌, ◌+◌, ◌⊎◌, ◌∷◌, ◌++◌, [], List, All, length, map, codes, Option, Some, None, ⊤}
-use Rattle.line_split.specs.UsageLine.{HasAmount, HasRight, HasTerritory, HasTexts, line_of}
-use Rattle.line_split.specs.declared.usage.Line.{Line}
+use Rattle.line_split.specs.UsageLine.{HasAmount, HasRight, HasTerritory, HasTexts, UsageLine, line_of}
 use Rattle.line_split.specs.declared.usage.TheConstants.{MOST_LINES}
 use Rattle.line_split.specs.declared.line_fault.LineFault.{LineFault}
 use Rattle.line_split.specs.declared.line_fault.LineFault.TheVariants.{Csv, Fields, Territory, Right, Amount, Lines, Memory}
@@ -18,7 +17,7 @@ pub record IsLine (row : List (List ℕ)) : Type 0 where
   pub amount : HasAmount row
 
 -- the rows are a table of these lines
-pub record IsTableOf (rows : List (List (List ℕ))) (lines : List Line) : Type 0 where
+pub record IsTableOf (rows : List (List (List ℕ))) (lines : List UsageLine) : Type 0 where
   pub few : length lines ≤ MOST_LINES
   pub rows_below : List (List (List ℕ))
   pub headed : rows ≡ header ∷ rows_below

@@ -24,7 +24,6 @@ pub use claims::{ClaimFault, Claims};
 pub use line_fault::LineFault;
 pub use portions::{Portions, split};
 pub use reason::Reason;
-pub use text::Text;
 pub use usage::{Line, MOST_LINES, MOST_TEXT_BYTES, Right, Usage};
 
 /// Who a claim or a portion belongs to, by number. 0 is the residue account.

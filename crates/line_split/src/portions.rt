@@ -2,6 +2,7 @@
 
 ghost use Rattle.std.specs.Prelude.{◌≡◌, ℕ, ◌+◌, ◌/◌, ◌%◌, ◌<◌, ◌≤◌, length, map, vec_capacity, sum_by, All, IfOk, [], nat_lt, slice_index_or, if◌then◌else◌};
 ghost use Rattle.line_split.specs.declared.TheConstants.{MOST_AMOUNT, MOST_CLAIMED};
+ghost use Rattle.line_split.specs.declared.turn.TheConstants.{PLACES};
 ghost use Rattle.line_split.specs.Claims.{AreClaims, base_of, participants_of, total_of};
 ghost use Rattle.line_split.specs.LargestRemainder.{portions_of, quota_of, rank_of, turns_of, units_left};
 ghost use Rattle.line_split.specs.Turns.{seen, with_unit};
@@ -9,11 +10,14 @@ ghost use Rattle.line_split.specs.Turns.{seen, with_unit};
 use crate::turn::Turn;
 use crate::{Account, Claims, FULL_SHARE, MOST_AMOUNT, MOST_CLAIMED, RESIDUE};
 use std::alloc::{AllocError, Global};
-use std::cmp::Reverse;
 use std::marker::Model;
 
 /// `FULL_SHARE`, as wide as what is divided by it.
 const FULL_BASE: u64 = FULL_SHARE as u64;
+
+/// The most turns of which each is compared with each: among so few that takes less time than to put
+/// them in order.
+const MOST_RANKED: usize = 16;
 
 /// The portions of one line, in minor units, with room that is taken once and used for many lines.
 #[derive(Drop)]
@@ -140,6 +144,7 @@ fn round_down(amount: u64, base: u64, list: &mut [(Account, u64)], turns: &mut V
     requires in_range { amount ≤ MOST_AMOUNT }
     requires some { (0 < base) × (base ≤ MOST_CLAIMED) }
     requires whole { sum_by (λ p. p.1) list.old ≡ base }
+    requires few { length list.old ≤ PLACES }
     requires room { length list.old ≤ vec_capacity turns.old }
     ensures quotas { list.new ≡ map (λ p. (p.0, quota_of amount base p.1)) list.old }
     ensures turns { map seen turns.new.items ≡ turns_of amount base list.old }
@@ -152,15 +157,12 @@ fn round_down(amount: u64, base: u64, list: &mut [(Account, u64)], turns: &mut V
         let (quota, remainder) = divided(amount * list[place].1, base);
         list[place].1 = quota;
         left -= quota;
-        turns.push_reserved(Turn {
-            remainder: Reverse(remainder),
-            place,
-        });
+        turns.push_reserved(Turn::of(remainder, place));
     }
     left
 }
 
-/// Gives a unit to each of the first `left` turns. The turns are put in order.
+/// Gives a unit to each of the first `left` turns. Where they are many, the turns are put in order.
 fn give_units(left: u64, turns: &mut [Turn], list: &mut [(Account, u64)])
     requires few { left ≤ length turns.old }
     requires places { (k : ℕ) (d : ℕ × ℕ) → k < length turns.old → (slice_index_or (map seen turns.old) k d).0 ≡ k }
@@ -172,9 +174,49 @@ fn give_units(left: u64, turns: &mut [Turn], list: &mut [(Account, u64)])
     if left == 0 {
         return;
     }
+    if turns.len() <= MOST_RANKED {
+        give_by_rank(left, turns, list);
+    } else {
+        give_in_order(left, turns, list);
+    }
+}
+
+/// Gives the units, going by how many turns come before each: quick where the turns are few.
+fn give_by_rank(left: u64, turns: &[Turn], list: &mut [(Account, u64)])
+    requires each { length turns.now ≡ length list.old }
+    requires small { All (λ portion. portion.1 + left ≤ MOST_AMOUNT) list.old }
+    ensures each { length list.new ≡ length list.old }
+    ensures given { (k : ℕ) (d : ℕ × ℕ) → k < length list.old → slice_index_or list.new k d ≡ with_unit (nat_lt (rank_of (map seen turns.now) (slice_index_or (map seen turns.now) k d)) left) (slice_index_or list.old k d) }
+{
+    for place in 0..turns.len() {
+        let has_unit = rank(turns, turns[place]) < left;
+        list[place].1 += u64::from(has_unit);
+    }
+}
+
+/// How many turns come before this one.
+fn rank(turns: &[Turn], turn: Turn) -> u64
+    ensures { result ≡ rank_of (map seen turns.now) (seen turn) }
+{
+    let mut rank = 0;
+    for other in turns {
+        rank += u64::from(other.comes_before(turn));
+    }
+    rank
+}
+
+/// Gives the units, putting the turns in order.
+fn give_in_order(left: u64, turns: &mut [Turn], list: &mut [(Account, u64)])
+    requires few { left ≤ length turns.old }
+    requires places { (k : ℕ) (d : ℕ × ℕ) → k < length turns.old → (slice_index_or (map seen turns.old) k d).0 ≡ k }
+    requires each { length turns.old ≡ length list.old }
+    requires small { All (λ portion. portion.1 + left ≤ MOST_AMOUNT) list.old }
+    ensures each { length list.new ≡ length list.old }
+    ensures given { (k : ℕ) (d : ℕ × ℕ) → k < length list.old → slice_index_or list.new k d ≡ with_unit (nat_lt (rank_of (map seen turns.old) (slice_index_or (map seen turns.old) k d)) left) (slice_index_or list.old k d) }
+{
     turns.sort_unstable();
     let served = &turns[..left as usize];
     for turn in served {
-        list[turn.place].1 += 1;
+        list[turn.place()].1 += 1;
     }
 }

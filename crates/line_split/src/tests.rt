@@ -75,6 +75,29 @@ fn agrees_with_the_slow_program(rt: HostRuntime) -> Result<(), Fail> {
 }
 
 #[test]
+fn divides_among_few_and_many(rt: HostRuntime) -> Result<(), Fail> {
+    let alloc = rt.alloc();
+    let mut list = Vec::new(alloc);
+    for account in 1..25u16 {
+        list.push((account, 390 + u32::from(account % 4)))?;
+        for amount in [1, 7, 50, 99, 9_999, 1_000_001] {
+            divided(&rt, alloc, amount, list.as_slice())?;
+        }
+    }
+    let mut equal = Vec::new(alloc);
+    for account in 1..21u16 {
+        equal.push((account, 500))?;
+    }
+    let portions = divided(&rt, alloc, 33, equal.as_slice())?;
+    for place in 0..20 {
+        assert!(rt; place < portions.len());
+        let want = if place < 13 { 2 } else { 1 };
+        assert_eq!(rt; portions[place].1, want);
+    }
+    Ok(())
+}
+
+#[test]
 fn orders_claims_and_names_faults(rt: HostRuntime) -> Result<(), Fail> {
     let alloc = rt.alloc();
     let claims = Claims::of(alloc, &[(2, 7), (1, 5)])?;

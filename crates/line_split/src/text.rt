@@ -2,56 +2,54 @@
 
 ghost use Rattle.std.specs.Prelude.{◌≡◌, IfOk};
 
-use arrayvec::ArrayVec;
 use std::alloc::{AllocError, Global};
 use std::marker::Model;
 
-/// The longest text that is kept in place, in bytes.
-const MOST_IN_PLACE: usize = 16;
+/// The longest text that is kept in place, in bytes, so that a `Text` has 16 bytes.
+const MOST_IN_PLACE: usize = 14;
 
-/// A text as it stood in a table, as bytes. A short one that was copied takes no memory beside itself.
-#[derive(Debug, Drop)]
+/// A text as it stood in a table, as bytes. A short one takes no memory beside itself.
+#[derive(Drop)]
 pub struct Text {
     bytes: Bytes,
 }
 
 /// Where the bytes of a text are.
-#[derive(Debug, Drop)]
+#[derive(Drop)]
 enum Bytes {
-    InPlace(ArrayVec<u8, MOST_IN_PLACE>),
-    Apart(Vec<u8>),
+    /// How many there are, and these, with others behind them.
+    InPlace(u8, [u8; MOST_IN_PLACE]),
+    /// Boxed, since a vector has 24 bytes.
+    Apart(Box<Vec<u8>>),
 }
 
 impl Model for Text {
     ghost use Rattle.std.specs.Prelude.{ℕ, List};
-    ghost use Rattle.line_split.specs.Texts.{bytes_of};
+    ghost use Rattle.line_split.specs.Texts.{bytes_of, IsSound};
 
     ghost Value = { List ℕ };
 
     ghost view = { λ text. bytes_of text.bytes };
+
+    ghost invariant = { λ text. IsSound text.bytes };
 }
 
 impl Text {
-    /// The text of these bytes, which it keeps as they are.
-    pub fn of(bytes: Vec<u8>) -> Text
-        ensures { result ≡ bytes.items }
-    {
-        Text {
-            bytes: Bytes::Apart(bytes),
-        }
-    }
-
     /// A copy of these bytes.
-    pub fn copy_of(alloc: Global, bytes: &[u8]) -> Result<Text, AllocError>
+    pub fn of(alloc: Global, bytes: &[u8]) -> Result<Text, AllocError>
         ensures { IfOk result (λ text. text ≡ bytes.now) }
     {
-        let mut in_place = ArrayVec::new();
-        let bytes = if in_place.try_extend_from_slice(bytes).is_ok() {
-            Bytes::InPlace(in_place)
-        } else {
-            Bytes::Apart(Vec::from_slice(alloc, bytes)?)
-        };
-        Ok(Text { bytes })
+        if bytes.len() > MOST_IN_PLACE {
+            let apart = Vec::from_slice(alloc, bytes)?;
+            return Ok(Text {
+                bytes: Bytes::Apart(Box::new(alloc, apart)?),
+            });
+        }
+        let mut in_place = [0; MOST_IN_PLACE];
+        in_place[..bytes.len()].copy_from_slice(bytes);
+        Ok(Text {
+            bytes: Bytes::InPlace(bytes.len() as u8, in_place),
+        })
     }
 
     /// Its bytes.
@@ -59,18 +57,8 @@ impl Text {
         ensures { result.now ≡ self.now }
     {
         match &self.bytes {
-            Bytes::InPlace(bytes) => bytes.as_slice(),
+            Bytes::InPlace(length, bytes) => &bytes[..*length as usize],
             Bytes::Apart(bytes) => bytes.as_slice(),
-        }
-    }
-
-    /// Its bytes; those that it was made of are given back. A copy may take memory.
-    pub fn into_bytes(self, alloc: Global) -> Result<Vec<u8>, AllocError>
-        ensures { IfOk result (λ bytes. bytes.items ≡ self) }
-    {
-        match self.bytes {
-            Bytes::InPlace(bytes) => Vec::from_slice(alloc, bytes.as_slice()),
-            Bytes::Apart(bytes) => Ok(bytes),
         }
     }
 }

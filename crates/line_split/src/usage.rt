@@ -2,11 +2,13 @@
 
 ghost use Rattle.std.specs.Prelude.{◌≡◌, ◌≤◌, ◌<◌, ◌+◌, ◌↔◌, ℕ, List, IfOk, IfErr, IfSome, IfNone, Some, length, slice_get};
 ghost use Rattle.csv_table.specs.Table.{rows_of};
-ghost use Rattle.line_split.specs.UsageLine.{line_of, right_named, IsRight};
+ghost use Rattle.line_split.specs.KeptLines.{line_with};
+ghost use Rattle.line_split.specs.UsageLine.{line_of, right_named, seen, IsRight};
 ghost use Rattle.line_split.specs.UsageLines.{IsUsageLine};
 ghost use Rattle.line_split.specs.UsageTable.{IsFaultOf, IsFaultOfRow, IsLine, IsTableOf};
 
-use crate::{LineFault, MOST_AMOUNT, Text};
+use crate::text::Text;
+use crate::{LineFault, MOST_AMOUNT};
 use csv_table::Rows;
 use csv_table::forms::{code, is_printable, number_up_to};
 use std::alloc::Global;
@@ -36,12 +38,12 @@ pub enum Right {
 }
 
 /// One use of a work, and what it brought in.
-#[derive(Debug, Drop)]
-pub struct Line {
+#[derive(Clone, Copy, Debug)]
+pub struct Line<'a> {
     /// What the use is called: 1 to 64 printable ASCII bytes. Several lines may have the same.
-    pub usage: Text,
+    pub usage: &'a [u8],
     /// The submitter work number: 1 to 64 printable ASCII bytes.
-    pub work: Text,
+    pub work: &'a [u8],
     /// The TIS numeric code of the land or group of lands, 1 to 9999.
     pub territory: u16,
     /// The right that the work is used under.
@@ -50,22 +52,36 @@ pub struct Line {
     pub amount: u64,
 }
 
+/// A usage line without what its use is called.
+#[derive(Drop)]
+struct Used {
+    work: Text,
+    territory: u16,
+    right: Right,
+    amount: u64,
+}
+
 /// Usage lines, at most 1000000, in the order of their table.
 #[derive(Drop)]
 pub struct Usage {
-    lines: Vec<Line>,
+    /// What the use of each line is called. Statements ask for nothing else of a line, so these stand
+    /// together.
+    names: Vec<Text>,
+    /// The rest of each line.
+    uses: Vec<Used>,
 }
 
 impl Model for Usage {
-    ghost use Rattle.std.specs.Prelude.{List};
-    ghost use Rattle.line_split.specs.declared.usage.Line.{Line};
+    ghost use Rattle.std.specs.Prelude.{List, ◌≡◌, length};
+    ghost use Rattle.line_split.specs.KeptLines.{lines_of};
+    ghost use Rattle.line_split.specs.UsageLine.{UsageLine};
     ghost use Rattle.line_split.specs.UsageLines.{AreUsageLines};
 
-    ghost Value = { List Line };
+    ghost Value = { List UsageLine };
 
-    ghost view = { λ usage. usage.lines.items };
+    ghost view = { λ usage. lines_of usage.names.items usage.uses.items };
 
-    ghost invariant = { λ usage. AreUsageLines usage.lines.items };
+    ghost invariant = { λ usage. (length usage.names.items ≡ length usage.uses.items) × AreUsageLines (lines_of usage.names.items usage.uses.items) };
 }
 
 impl Usage {
@@ -81,19 +97,21 @@ impl Usage {
         }
         // All that there can be: memory that is not used costs nothing, and none is moved.
         let room = (bytes.len() / FEWEST_ROW_BYTES).min(MOST_LINES as usize);
-        let mut lines = Vec::with_capacity(alloc, room)?;
+        let mut names = Vec::with_capacity(alloc, room)?;
+        let mut uses = Vec::with_capacity(alloc, room)?;
         for number in 1..=MOST_LINES {
             if !rows.next()? {
-                return Ok(Usage { lines });
+                return Ok(Usage { names, uses });
             }
-            if lines.push(read_line(alloc, number, &rows)?).is_err() {
+            let (name, used) = read_line(alloc, number, &rows)?;
+            if names.push(name).is_err() || uses.push(used).is_err() {
                 return Err(LineFault::Memory);
             }
         }
         if rows.next()? {
             return Err(LineFault::Lines);
         }
-        Ok(Usage { lines })
+        Ok(Usage { names, uses })
     }
 
     /// How many lines there are.
@@ -101,23 +119,30 @@ impl Usage {
         ensures lines { result ≡ length self.now }
         ensures few { result ≤ MOST_LINES }
     {
-        self.lines.len()
+        self.uses.len()
     }
 
     /// The line at a place, from 0.
-    pub fn line(&self, i: usize) -> &Line
+    pub fn line(&self, i: usize) -> Line<'_>
         requires { i < length self.now }
-        ensures line { slice_get self.now i ≡ Some result.now }
-        ensures sound { IsUsageLine result.now }
+        ensures line { slice_get self.now i ≡ Some (seen result) }
+        ensures sound { IsUsageLine (seen result) }
     {
-        &self.lines[i]
+        let used = &self.uses[i];
+        Line {
+            usage: self.names[i].as_slice(),
+            work: used.work.as_slice(),
+            territory: used.territory,
+            right: used.right,
+            amount: used.amount,
+        }
     }
 }
 
 /// The line of the row at hand, which has this number.
-fn read_line(alloc: Global, number: u64, rows: &Rows<'_>) -> Result<Line, LineFault>
+fn read_line(alloc: Global, number: u64, rows: &Rows<'_>) -> Result<(Text, Used), LineFault>
     requires { number ≤ MOST_LINES }
-    ensures line { IfOk result (λ line. IsLine rows.now.row × (line ≡ line_of rows.now.row)) }
+    ensures line { IfOk result (λ line. IsLine rows.now.row × (line_with line.0 line.1 ≡ line_of rows.now.row)) }
     ensures fault { IfErr result (IsFaultOfRow number rows.now.row) }
 {
     if rows.len() != HEADER.len() {
@@ -137,13 +162,14 @@ fn read_line(alloc: Global, number: u64, rows: &Rows<'_>) -> Result<Line, LineFa
     let Some(amount) = number_up_to(rows.field(4), MOST_AMOUNT) else {
         return Err(LineFault::Amount(number));
     };
-    Ok(Line {
-        usage: Text::copy_of(alloc, usage)?,
-        work: Text::copy_of(alloc, work)?,
+    let name = Text::of(alloc, usage)?;
+    let used = Used {
+        work: Text::of(alloc, work)?,
         territory,
         right,
         amount,
-    })
+    };
+    Ok((name, used))
 }
 
 /// The right that a field names.

@@ -7,7 +7,7 @@ use Rattle.std.proofs.lemmas.List.{append-nil, drop_all, get_or-set_other, get_o
 use Rattle.std.proofs.lemmas.List.Elements.{All-filter, All-map, filter-append}
 use Rattle.std.proofs.lemmas.List.FromFn.{length-enumerate_from}
 use Rattle.std.proofs.lemmas.List.Sums.{sum_by-append}
-use Rattle.line_split.specs.declared.usage.Line.{Line}
+use Rattle.line_split.specs.UsageLine.{UsageLine}
 use Rattle.line_split.proofs.Enumerated.{enumerate_from_push, enumerated}
 use Rattle.payee_book.specs.Run.{portion_of, posting_of, statement_of}
 use Rattle.payee_book.specs.Statement.{comes_before, with_posting}
@@ -43,20 +43,20 @@ portion_none account (p ∷ division) others =
     rw other (portion_none account division (λ k d lt. others (suc k) d (omega (arith, lt))))
 
 -- the statement of an account with one more line
-pub statement_more : (division : Line → List (ℕ × ℕ)) (usage : List Line) (line : Line) (account : ℕ)
+pub statement_more : (division : UsageLine → List (ℕ × ℕ)) (usage : List UsageLine) (line : UsageLine) (account : ℕ)
     → statement_of division (usage ++ line ∷ []) account ≡ statement_of division usage account ++ posting_of (length usage) (portion_of account (division line))
 statement_more division usage line account =
-    let f : ℕ × Line → ℕ × ℕ = λ e. (e.0, portion_of account (division e.1)) in
+    let f : ℕ × UsageLine → ℕ × ℕ = λ e. (e.0, portion_of account (division e.1)) in
     let test : ℕ × ℕ → Bool = λ posting. nat_lt 0 posting.1 in
     let last : 0 + length usage ≡ length usage = omega arith in
     let numbered : enumerate_from 0 (usage ++ line ∷ []) ≡ enumerate_from 0 usage ++ (length usage, line) ∷ [] =
     enumerate_from_push 0 usage line ∙ ap (λ (n : ℕ). enumerate_from 0 usage ++ (n, line) ∷ []) last in
-    ap (λ (l : List (ℕ × Line)). filter test (map f l)) numbered
+    ap (λ (l : List (ℕ × UsageLine)). filter test (map f l)) numbered
     ∙ (ap (filter test) (map-append f (enumerate_from 0 usage) ((length usage, line) ∷ []))
     ∙ filter-append test (map f (enumerate_from 0 usage)) (f (length usage, line) ∷ []))
 
 -- its postings are of the lines there are
-pub lines_below : (division : Line → List (ℕ × ℕ)) (usage : List Line) (account : ℕ) → All (λ posting. posting.0 < length usage) (statement_of division usage account)
+pub lines_below : (division : UsageLine → List (ℕ × ℕ)) (usage : List UsageLine) (account : ℕ) → All (λ posting. posting.0 < length usage) (statement_of division usage account)
 lines_below division usage account =
     All-filter (λ posting. nat_lt 0 posting.1) (λ posting. posting.0 < length usage) (map (λ e. (e.0, portion_of account (division e.1))) (enumerate_from 0 usage))
     (All-map (λ posting. posting.0 < length usage) (λ e. (e.0, portion_of account (division e.1))) (enumerate_from 0 usage) (λ k d lt.
@@ -84,6 +84,13 @@ posted_zero line old book division p nothing posted = record {
     by true account = omega (arith, nothing)
     by false account = omega arith
 
+-- an account that has no portion among them has what it had
+pub unposted : (line : ℕ) (old book : List (List (ℕ × ℕ))) (division : List (ℕ × ℕ)) (account : ℕ) → account < length old
+    → All (λ other. ¬ (other.0 ≡ account)) division → IsPosted line old division book → get_or book account [] ≡ get_or old account []
+unposted line old book division account inside others posted =
+    posted.each account inside
+    ∙ (ap (λ (n : ℕ). get_or old account [] ++ posting_of line n) (portion_none account division others) ∙ append-nil (get_or old account []))
+
 -- another one is posted at the end
 pub posted_more : (line : ℕ) (old book : List (List (ℕ × ℕ))) (division : List (ℕ × ℕ)) (p : ℕ × ℕ) → 0 < p.1 → p.0 < length old
     → All (All (λ posting. posting.0 < line)) old → All (λ other. ¬ (other.0 ≡ p.0)) division
@@ -99,7 +106,7 @@ posted_more line old book division p some inside earlier others posted = record 
 
     -- its account had nothing of this line
     as_before : get_or book p.0 [] ≡ get_or old p.0 []
-    as_before = posted.each p.0 inside ∙ (ap (λ (n : ℕ). get_or old p.0 [] ++ posting_of line n) none ∙ append-nil (get_or old p.0 []))
+    as_before = unposted line old book division p.0 inside others posted
 
     same_test : (p.0 == p.0) ≡ true
     same_test = grind arith

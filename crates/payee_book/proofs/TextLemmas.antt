@@ -11,7 +11,7 @@ use Rattle.csv.specs.Writing.{default_writer, field_text, needs_byte, read_back}
 use Rattle.csv_table.specs.Table.{rows_of}
 use Rattle.csv_table.specs.Written.{text_of, text_of_row}
 use Rattle.csv_table.proofs.ReadBack.{no_mark, rows_read_back}
-use Rattle.line_split.specs.declared.usage.Line.{Line}
+use Rattle.line_split.specs.UsageLine.{UsageLine}
 use Rattle.line_split.specs.declared.reason.Reason.{Reason}
 use Rattle.payee_book.specs.Text.{payee_rows, posting_row, reason_at, residue_rows, rows_of_book, run_row, total_row}
 
@@ -22,7 +22,7 @@ blocks_more block xs i d lt =
     sym (flat_map-append text_of_row (flat_map block (take i xs)) (block (get_or xs i d)))
     ∙ ap text_of (flat_map_more block [] (take i xs) (get_or xs i d) ∙ ap (flat_map block) (sym (take_more xs i d lt)))
 
-module _ (usage : List Line) (parties : List (List ℕ)) (book : List (List (ℕ × ℕ))) where
+module _ (usage : List UsageLine) (parties : List (List ℕ)) (book : List (List (ℕ × ℕ))) where
   -- the accounts from 1 on, each with its party
   abbrev accounts : List (List ℕ × List (ℕ × ℕ))
   accounts = zip (drop 1 parties) (drop 1 book)
@@ -110,7 +110,7 @@ All-if : {X : Type 0} (P : X → Type 0) (test : Bool) (xs ys : List X) → All 
 All-if P true xs ys all_xs all_ys = all_xs
 All-if P false xs ys all_xs all_ys = all_ys
 
-module _ (usage : List Line) where
+module _ (usage : List UsageLine) where
   -- a payee's rows
   payee_letters : (party : List ℕ) (statement : List (ℕ × ℕ)) → All HasLetter (payee_rows usage party statement)
   payee_letters party statement =

@@ -61,9 +61,37 @@ impl Book {
         ensures posted { OnOk result (self.new ≡ slice_set self.old account (with_posting (line, amount) (slice_index_or self.old account []))) }
         ensures refused { OnErr result (self.new ≡ self.old) }
     {
-        let statement = &mut self.statements[account as usize];
-        let place = place_of(statement.as_slice(), (line, amount));
-        put(statement, place, (line, amount))
+        let place = place_of(self.lines(account), (line, amount));
+        self.put_at(account, place, (line, amount))
+    }
+
+    /// The same, of a line that comes after all those of the account. No posting has to be looked at.
+    pub fn post_last(&mut self, account: Account, line: u64, amount: u64) -> Result<(), AllocError>
+        requires account { account < length self.old }
+        requires amount { amount ≤ MOST_AMOUNT }
+        requires last { All (λ posting. posting.0 < line) (slice_index_or self.old account []) }
+        ensures posted { OnOk result (self.new ≡ slice_set self.old account (with_posting (line, amount) (slice_index_or self.old account []))) }
+        ensures refused { OnErr result (self.new ≡ self.old) }
+    {
+        let place = self.lines(account).len();
+        self.put_at(account, place, (line, amount))
+    }
+
+    /// Adds a posting to the statement of an account, at this place, which is its own.
+    fn put_at(
+        &mut self,
+        account: Account,
+        place: usize,
+        posting: (u64, u64),
+    ) -> Result<(), AllocError>
+        requires account { account < length self.old }
+        requires amount { posting.1 ≤ MOST_AMOUNT }
+        requires within { place ≤ length (slice_index_or self.old account []) }
+        requires own { insert (slice_index_or self.old account []) place posting ≡ with_posting posting (slice_index_or self.old account []) }
+        ensures posted { OnOk result (self.new ≡ slice_set self.old account (with_posting posting (slice_index_or self.old account []))) }
+        ensures refused { OnErr result (self.new ≡ self.old) }
+    {
+        put(&mut self.statements[account as usize], place, posting)
     }
 
     /// The postings of an account, by rising line and amount.

@@ -159,7 +159,7 @@ fn usage_of(usage: &Usage, line: u64) -> &[u8]
     requires { line < length usage.now }
     ensures { result.now ≡ usage_at usage.now line }
 {
-    usage.line(line as usize).usage.as_slice()
+    usage.line(line as usize).usage
 }
 
 /// A posting.

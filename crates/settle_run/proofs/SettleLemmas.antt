@@ -11,7 +11,7 @@ use Rattle.std.proofs.lemmas.List.Quantifiers.{all_pairs_push}
 use Rattle.std.proofs.lemmas.List.Sums.{sum_by-cons}
 use Rattle.line_split.specs.Claims.{total_of}
 use Rattle.line_split.specs.declared.TheConstants.{MOST_CLAIMED, RESIDUE}
-use Rattle.line_split.specs.declared.usage.Line.{Line}
+use Rattle.line_split.specs.UsageLine.{UsageLine}
 use Rattle.line_split.specs.declared.reason.Reason.{Reason}
 use Rattle.line_split.specs.declared.reason.Reason.TheVariants.{Open}
 use Rattle.line_split.proofs.ByAccount.{account_at}
@@ -27,7 +27,7 @@ use Rattle.payee_book.specs.Statement as statement
 use Rattle.payee_book.specs.Text.{payee_rows, posting_row, reason_at, reason_text, residue_rows, rows_of_book, run_row, total_row}
 use Rattle.settle_run.specs.Settled.{division_by}
 
-module _ (table : List (ℕ × List ℕ)) (registered : Registered) (line : Line) where
+module _ (table : List (ℕ × List ℕ)) (registered : Registered) (line : UsageLine) where
   abbrev Below : ℕ × ℕ → Type 0
   Below claim = claim.0 < length registered.parties
 
@@ -145,7 +145,7 @@ all_portions n (p ∷ division) below =
     ∙ sym (sum_by-cons (λ (e : ℕ × ℕ). e.1) p division))))
 
 -- the postings of nothing left out
-total_from : (f : Line → ℕ) (n : ℕ) (usage : List Line)
+total_from : (f : UsageLine → ℕ) (n : ℕ) (usage : List UsageLine)
     → sum_by (λ (posting : ℕ × ℕ). posting.1) (filter (λ posting. nat_lt 0 posting.1) (map (λ e. (e.0, f e.1)) (enumerate_from n usage))) ≡ sum_by f usage
 total_from f n [] = refl
 total_from f n (line ∷ usage) =
@@ -159,7 +159,7 @@ total_from f n (line ∷ usage) =
     by false is = let nothing : f line ≡ 0 = grind (arith, is) in omega (arith, nothing)
 
 -- sums in either order
-exchanged : (n : ℕ) (f : ℕ → Line → ℕ) (usage : List Line) → sum_below n (λ i. sum_by (f i) usage) ≡ sum_by (λ line. sum_below n (λ i. f i line)) usage
+exchanged : (n : ℕ) (f : ℕ → UsageLine → ℕ) (usage : List UsageLine) → sum_below n (λ i. sum_by (f i) usage) ≡ sum_by (λ line. sum_below n (λ i. f i line)) usage
 exchanged n f [] = sum_below-constant n 0 ∙ omega arith
 exchanged n f (line ∷ usage) =
     same_sums n (λ i. sum_by (f i) (line ∷ usage)) (λ i. f i line + sum_by (f i) usage) (λ i lt. sum_by-cons (f i) line usage)
@@ -168,13 +168,13 @@ exchanged n f (line ∷ usage) =
     ∙ sym (sum_by-cons (λ line. sum_below n (λ i. f i line)) line usage)))
 
 -- sums of what is the same of each
-sum_by_same : (f g : Line → ℕ) → ((line : Line) → f line ≡ g line) → (usage : List Line) → sum_by f usage ≡ sum_by g usage
+sum_by_same : (f g : UsageLine → ℕ) → ((line : UsageLine) → f line ≡ g line) → (usage : List UsageLine) → sum_by f usage ≡ sum_by g usage
 sum_by_same f g same [] = refl
 sum_by_same f g same (line ∷ usage) =
     sum_by-cons f line usage ∙ (ap (λ (s : ℕ). s + sum_by f usage) (same line) ∙ (ap (λ (s : ℕ). g line + s) (sum_by_same f g same usage) ∙ sym (sum_by-cons g line usage)))
 
 -- the statements of a book come to the amounts of its lines
-pub adds_up : (table : List (ℕ × List ℕ)) (registered : Registered) (usage : List Line) (book : List (List (ℕ × ℕ))) → IsRegistered registered
+pub adds_up : (table : List (ℕ × List ℕ)) (registered : Registered) (usage : List UsageLine) (book : List (List (ℕ × ℕ))) → IsRegistered registered
     → IsBookOf (division_by table registered) usage (length registered.parties) book → sum_by statement.total_of book ≡ sum_by (λ line. line.amount) usage
 adds_up table registered usage book is of_book =
     let n = length registered.parties in
@@ -228,7 +228,7 @@ module _ (owns : List Reason) (done : List (ℕ × ℕ)) (reasons : List Reason)
       there k other = get_or-set_other reasons p.0 k reason Open other
 
 -- the rows of the residue depend on the reasons of its postings alone
-pub rows_same : (usage : List Line) (owns reasons : List Reason) (statement : List (ℕ × ℕ)) → All (λ posting. posting.0 < length owns) statement
+pub rows_same : (usage : List UsageLine) (owns reasons : List Reason) (statement : List (ℕ × ℕ)) → All (λ posting. posting.0 < length owns) statement
     → AreReasons owns statement reasons → residue_rows usage reasons statement ≡ residue_rows usage owns statement
 rows_same usage owns reasons postings below are =
     ap (λ l. l ++ total_row (codes "T") [] postings ∷ []) (same postings (λ k d lt. texts (get_or postings k d) (below k d lt) (are.stand k d lt)))
@@ -248,7 +248,7 @@ rows_same usage owns reasons postings below are =
         ∙ ap (λ l. posting_row usage (codes "M") (reason_at owns p.0) p ∷ l) rest
 
 -- and with them the rows of the book
-pub book_rows_same : (book : List (List (ℕ × ℕ))) (usage : List Line) (parties : List (List ℕ)) (reasons owns : List Reason)
+pub book_rows_same : (book : List (List (ℕ × ℕ))) (usage : List UsageLine) (parties : List (List ℕ)) (reasons owns : List Reason)
     → residue_rows usage reasons (get_or book 0 []) ≡ residue_rows usage owns (get_or book 0 []) → rows_of_book book usage parties reasons ≡ rows_of_book book usage parties owns
 book_rows_same book usage parties reasons owns is =
     ap (λ (l : List (List (List ℕ))). flat_map (λ e. payee_rows usage e.0 e.1) (zip (drop 1 parties) (drop 1 book)) ++ (l ++ run_row usage ∷ [])) is

@@ -11,7 +11,7 @@ use Rattle.cwr_share.specs.ClaimsOn.{claims_on, reason_against}
 use Rattle.cwr_share.specs.declared.cwr_fault.CwrFault.TheVariants as cwr_fault
 use Rattle.line_split.specs.UsageTable as usage
 use Rattle.line_split.specs.LargestRemainder.{portions_of}
-use Rattle.line_split.specs.declared.usage.Line.{Line}
+use Rattle.line_split.specs.UsageLine.{UsageLine}
 use Rattle.line_split.specs.declared.reason.Reason.{Reason}
 use Rattle.line_split.specs.declared.reason.Reason.TheVariants.{Open}
 use Rattle.line_split.specs.declared.line_fault.LineFault.TheVariants as line_fault
@@ -22,22 +22,22 @@ use Rattle.settle_run.specs.declared.fault.Fault.{Fault}
 use Rattle.settle_run.specs.declared.fault.Fault.TheVariants.{Tis, Cwr, Usage, Room}
 
 -- how a line is divided: its amount by the claims on it
-abbrev pub division_by : List (ℕ × List ℕ) → Registered → Line → List (ℕ × ℕ)
+abbrev pub division_by : List (ℕ × List ℕ) → Registered → UsageLine → List (ℕ × ℕ)
 division_by table registered line = portions_of line.amount (claims_on table registered line)
 
 -- why a line has a residue: what stands against the claims on it, or else what they leave open
-abbrev pub reason_of : List (ℕ × List ℕ) → Registered → Line → Reason
+abbrev pub reason_of : List (ℕ × List ℕ) → Registered → UsageLine → Reason
 reason_of table registered line = unwrap_or (reason_against table registered line) Open
 
 -- what the inputs were read as
-pub record IsReading (territories_file registrations_file usage_file : List ℕ) (table : List (ℕ × List ℕ)) (registered : Registered) (lines : List Line) : Type 0 where
+pub record IsReading (territories_file registrations_file usage_file : List ℕ) (table : List (ℕ × List ℕ)) (registered : Registered) (lines : List UsageLine) : Type 0 where
   pub territories : tis.IsTableOf (rows_of territories_file) table
   pub registrations : cwr.IsFileOf (lines_of registrations_file) registered
   pub accounts : IsRegistered registered
   pub uses : usage.IsTableOf (rows_of usage_file) lines
 
 -- The text of the statements of lines: each account's statement is what dividing each line by the claims on it comes to, and together they come to all amounts.
-pub record AreStatementsFor (table : List (ℕ × List ℕ)) (registered : Registered) (lines : List Line) (text : List ℕ) : Type 0 where
+pub record AreStatementsFor (table : List (ℕ × List ℕ)) (registered : Registered) (lines : List UsageLine) (text : List ℕ) : Type 0 where
   pub statements : List (List (ℕ × ℕ))
   pub divided : IsBookOf (division_by table registered) lines (length registered.parties) statements
   pub adds_up : sum_by total_of statements ≡ sum_by (λ line. line.amount) lines
@@ -47,7 +47,7 @@ pub record AreStatementsFor (table : List (ℕ × List ℕ)) (registered : Regis
 pub record AreStatementsOf (territories_file registrations_file usage_file text : List ℕ) : Type 0 where
   pub table : List (ℕ × List ℕ)
   pub registered : Registered
-  pub lines : List Line
+  pub lines : List UsageLine
   pub read : IsReading territories_file registrations_file usage_file table registered lines
   pub statements : AreStatementsFor table registered lines text
 

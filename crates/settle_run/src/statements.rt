@@ -97,7 +97,7 @@ fn book_of(
     let mut portions = Portions::room(alloc, MOST_CLAIMS + 1)?;
     for place in 0..usage.len() {
         let line = usage.line(place);
-        let _ = registry.claims(tis, line, &mut claims);
+        let _ = registry.claims(tis, &line, &mut claims);
         split(line.amount, &claims, &mut portions);
         post_line(&mut book, place as u64, portions.list())?;
     }
@@ -115,7 +115,7 @@ fn post_line(book: &mut Book, line: u64, portions: &[(Account, u64)]) -> Result<
 {
     for portion in portions {
         if portion.1 > 0 {
-            book.post(portion.0, line, portion.1)?;
+            book.post_last(portion.0, line, portion.1)?;
         }
     }
     Ok(())
@@ -137,7 +137,7 @@ fn reasons_of(
     let mut reasons = vec![in alloc; Reason::Open; usage.len()]?;
     for posting in residue {
         let line = usage.line(posting.0 as usize);
-        if let Some(reason) = registry.claims(tis, line, &mut claims) {
+        if let Some(reason) = registry.claims(tis, &line, &mut claims) {
             reasons[posting.0 as usize] = reason;
         }
     }

@@ -1,7 +1,8 @@
-use Rattle.std.proofs.Common.{ℕ, List, All, Vec, Global, map, arith}
+use Rattle.std.proofs.Common.{ℕ, List, All, Vec, Global, map, arith, length, ◌≤◌, []}
+use Rattle.cwr_share.specs.declared.numbers.TheConstants.{MOST_PARTY_BYTES}
 use Rattle.std.proofs.lemmas.List.{length-map}
 use Rattle.std.proofs.lemmas.Result.{err_from_is_err_and}
-use Rattle.std.proofs.lemmas.List.Elements.{All-map, All-nil}
+use Rattle.std.proofs.lemmas.List.Elements.{All-cons, All-map, All-nil}
 use Rattle.cwr_share.specs.Parties.{texts_of}
 use Rattle.cwr_share.specs.Registered.{IsShareLine}
 use Rattle.cwr_share.specs.Registrations.{ShareLine}
@@ -12,10 +13,10 @@ abbrev lines_of : Vec ShareLine Global → List ShareLine
 lines_of lines = lines.items
 
 pub loop-shares-init : goal.loop-shares-init
-loop-shares-init c = record { parties = rw c.new-found.ensures.empty none_among; few = omega arith; seen = rw c.new-seen.ensures.empty (All-nil _) }
+loop-shares-init c = record { parties = rw c.new-found.ensures.empty none_among; few = omega arith; seen = rw c.new-seen.ensures.empty (All-nil _); short = rw c.new-found.ensures.empty (All-nil _) }
 
 pub add_parties-requires : goal.add_parties-requires
-add_parties-requires c = record { seen = c.loop-shares.invariant.seen; few = c.loop-shares.invariant.few }
+add_parties-requires c = record { seen = c.loop-shares.invariant.seen; few = c.loop-shares.invariant.few; short = c.loop-shares.invariant.short }
 
 pub returns-in_err-add_parties-clause-fault : goal.returns-in_err-add_parties-clause-fault
 returns-in_err-add_parties-clause-fault c =
@@ -33,6 +34,7 @@ loop-shares-preserved c = record {
       (rw c.as_slice.ensures.value at c.in_ok-add_parties.ensures.exact);
   few = c.in_ok-add_parties.ensures.few;
   seen = c.in_ok-add_parties.ensures.seen;
+  short = c.in_ok-add_parties.ensures.short;
 }
 
 pub by_account-requires : goal.by_account-requires
@@ -49,3 +51,8 @@ returns-clause-parties c = record {
   few = omega (arith, length-map c.loop-shares.found.keys (λ (text : Vec ℕ Global). text.items), c.loop-shares.invariant.few);
   exact = among_end lines_of c.args.registrations.now c.loop-shares.shares-index (texts_of c.loop-shares.found) c.loop-shares-test.false c.loop-shares.invariant.parties;
 }
+
+pub returns-clause-short : goal.returns-clause-short
+returns-clause-short c =
+    rw c.in_ok-by_account.ensures.parties
+    (All-cons (λ (text : List ℕ). length text ≤ MOST_PARTY_BYTES) [] (texts_of c.loop-shares.found) (omega arith) c.loop-shares.invariant.short)

@@ -1,44 +1,27 @@
-use Rattle.std.proofs.Common.{◌≡◌, ◌∙◌, ◌++◌, ◌∷◌, ◌-◌, ◌<◌, ◌+◌, [], List, ap, append-nil, arith, drop, get_or, length, map, refl, sym}
-use Rattle.std.proofs.lemmas.List.{append_assoc, drop_all}
-use Rattle.cwr_share.specs.Compiled.{begins_interest, claim_line, claim_lines, line_by, lines_at}
-use Rattle.cwr_share.specs.Registrations.{ShareLine}
+use Rattle.std.proofs.Common.{◌≡◌, ◌∙◌, ◌++◌, [], List, None, ap, append-nil, drop, map, sym}
+use Rattle.std.proofs.lemmas.List.{drop_all}
+use Rattle.cwr_share.specs.Compiled.{line_by}
 use Rattle.cwr_share.specs.declared.claim_line.ClaimLine.{ClaimLine}
-use Rattle.cwr_share.specs.declared.share_line.KeptShare.{KeptShare}
-use Rattle.cwr_share.proofs.ClaimLemmas.{claim_lines_more, claim_lines_none, kept_at, length-lines_at, next_line}
+use Rattle.cwr_share.specs.declared.registration.Placed.{Placed}
+use Rattle.cwr_share.proofs.OrderLemmas.{line_at, lines_in, lines_next, lines_of_all}
 use Rattle.cwr_share.proofs.registration.add_lines.Goals as goal
 
-pub loop-count-init : goal.loop-count-init
-loop-count-init c =
-    let places = c.args.places.now in
-    let lines = lines_at (map (line_by []) c.args.shares.now) places in
-    let none : drop (length places - 0) lines ≡ [] = drop_all (length places - 0) lines (omega (arith, length-lines_at (map (line_by []) c.args.shares.now) places)) in
-    rw none (record { added = λ account own. rw (claim_lines_none account) (sym (append-nil c.args.lines.now.items)); later = refl })
-
-pub loop-count-preserved : goal.loop-count-preserved
-loop-count-preserved c =
-    let shares = c.args.shares.now in
-    let places = c.args.places.now in
-    let lines = lines_at (map (line_by []) shares) places in
-    let count = c.loop-count.count in
-    let share = c.index-shares-places.result in
-    let line = line_by [] share in
-    let long : length lines ≡ length places = length-lines_at (map (line_by []) shares) places in
-    let some : count < length places = omega arith in
-    let its : get_or lines (length places - 1 - count) line ≡ line = kept_at shares places count share line some c.requires ∙ ap (line_by []) (sym c.index-shares-places.is) in
-    let later = drop (length places - count) lines in
-    let more : drop (length places - (count + 1)) lines ≡ line ∷ later = (rw long at (next_line lines count line (omega (arith, long)))) ∙ ap (λ (l : ShareLine). l ∷ later) its in
-    let before = c.loop-count.invariant in
-    let begins = c.ne.ensures in
-    rw (more, c.in_ok-push.ensures.items, c.claim_line.ensures) (record {
-      added = λ account own.
-          let its_account : share.account ≡ account = ap (λ (share : KeptShare). share.account) c.index-shares-places.is ∙ own (length places - 1 - count) 0 (omega (arith, some)) share in
-          rw (before.added account own, begins, before.later, its_account)
-          (append_assoc c.args.lines.now.items (claim_lines account later) (claim_line account (begins_interest line later) line ∷ [])
-          ∙ ap (λ (l : List ClaimLine). c.args.lines.now.items ++ l) (sym (claim_lines_more account line later)));
-      later = refl;
-    })
+pub loop-entry-preserved : goal.loop-entry-preserved
+loop-entry-preserved c =
+    let order = c.args.order.now in
+    let n = c.loop-entry.entry-index in
+    let d : Placed = record { account = 0; place = 0 } in
+    rw (c.in_ok-push.ensures.items, c.claim_line.ensures, c.ne.ensures)
+    (lines_next c.args.shares.now order n d c.index-shares-entry.result c.loop-entry.later c.loop-entry.lines.items c.loop-entry-test.true
+    (c.requires.within n d c.loop-entry-test.true) c.index-shares-entry.is (c.requires.own n d c.loop-entry-test.true)
+    ∙ c.loop-entry.invariant)
 
 pub returns : goal.returns
-returns c =
-    let none : length c.args.places.now - c.loop-count.count ≡ 0 = omega arith in
-    λ account own. rw none at (c.loop-count.invariant.added account own)
+returns c = λ payees ordered.
+    let lines = map (line_by []) c.args.shares.now in
+    let past : drop c.loop-entry.entry-index c.args.order.now ≡ [] = drop_all c.loop-entry.entry-index c.args.order.now c.loop-entry-test.false in
+    let all = lines_of_all (line_at lines) payees None ordered.rising (λ k d within. tt) in
+    sym (append-nil c.loop-entry.lines.items)
+    ∙ (ap (λ (rest : List Placed). c.loop-entry.lines.items ++ lines_in (line_at lines) c.loop-entry.later rest) (sym past)
+    ∙ (c.loop-entry.invariant
+    ∙ ap (λ (l : List ClaimLine). c.args.lines.now.items ++ l) (ap (lines_in (line_at lines) None) ordered.exact ∙ all)))

@@ -51,10 +51,11 @@ loop-place-preserved c =
           (get_or c.loop-place.list c.loop-place.place (0, 0)) lt c.loop-place.invariant.quotas
           (get_or_default c.loop-place.list c.loop-place.place (0, 0) (get_or c.loop-place.list c.loop-place.place (0, 0)) at_place);
       turns = ap (λ (l : List Turn). map seen l) c.push_reserved.ensures.items
-          ∙ (map_push seen c.loop-place.turns.items (record { remainder = record { 0 = c.divided-quota.result.1 }; place = c.loop-place.place })
+          ∙ (map_push seen c.loop-place.turns.items c.of.result
+          ∙ (ap (λ (t : ℕ × ℕ). map seen c.loop-place.turns.items ++ t ∷ []) c.of.ensures
           ∙ (ap (λ (l : List (ℕ × ℕ)). l ++ (c.loop-place.place, c.divided-quota.result.1) ∷ []) c.loop-place.invariant.turns
           ∙ (ap (λ (r : ℕ). turns_of c.args.amount c.args.base (take c.loop-place.place c.args.list.now) ++ (c.loop-place.place, r) ∷ []) rest
-          ∙ sym (turns_more c.args.amount c.args.base c.args.list.now c.loop-place.place (0, 0) lt))));
+          ∙ sym (turns_more c.args.amount c.args.base c.args.list.now c.loop-place.place (0, 0) lt)))));
       left = omega (arith, fits, more, c.loop-place.invariant.left, quota);
       room = omega (arith, c.push_reserved.ensures.capacity, c.loop-place.invariant.room);
     }

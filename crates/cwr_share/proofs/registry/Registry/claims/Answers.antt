@@ -1,4 +1,5 @@
 use Rattle.std.proofs.Common.{◌≡◌, ◌∙◌, ◌<◌, ◌≤◌, ℕ, List, Global, Some, Vec, ap, arith, get_or, length, map, position, refl, sym}
+use Rattle.line_split.specs.UsageLine.{seen}
 use Rattle.cwr_share.specs.Compiled.{AreClaimLines, AreKept, Kept, WorkNumber, kept_lines, nameless, registered_as}
 use Rattle.cwr_share.specs.declared.TheConstants.{MOST_SHARES}
 use Rattle.cwr_share.specs.declared.claim_line.ClaimLine.{ClaimLine}
@@ -12,19 +13,19 @@ texts parties = map (λ party. party.items) parties
 
 pub returns-in_default : goal.returns-in_default
 returns-in_default c =
-    let index = rw c.as_slice.ensures at c.in_default.ensures.index in
-    let none = found_nowhere c.args.line.now.work (texts c.self.inside.parties.items) c.self.inside.works.keys c.self.inside.registrations index in
-    let (reason, claims) = against_work c.args.tis.now c.args.self.now c.args.line.now (rw (ap (λ (r : Registered). r.works) c.self.view_is) at none) in
+    let index = c.in_default.ensures.index in
+    let none = found_nowhere c.args.line.now.work.now (texts c.self.inside.parties.items) c.self.inside.works.keys c.self.inside.registrations index in
+    let (reason, claims) = against_work c.args.tis.now c.args.self.now (seen c.args.line.now) (rw (ap (λ (r : Registered). r.works) c.self.view_is) at none) in
     record { reason = sym reason; claims = rw c.clear.ensures (sym claims); room = rw c.clear.ensures refl }
 
 pub returns-in_default-land_of : goal.returns-in_default-land_of
 returns-in_default-land_of c =
     let registrations = c.self.inside.registrations in
     let (registration, is) = registration_at registrations c.in-Some.place (omega (arith, c.in-Some.ensures.within, c.self.invariant.1.paired)) in
-    let index = rw c.as_slice.ensures at c.in-Some.ensures.index in
-    let found = found_at c.args.line.now.work (texts c.self.inside.parties.items) c.self.inside.works.keys registrations c.in-Some.place registration c.self.invariant.1.paired index is in
+    let index = c.in-Some.ensures.index in
+    let found = found_at c.args.line.now.work.now (texts c.self.inside.parties.items) c.self.inside.works.keys registrations c.in-Some.place registration c.self.invariant.1.paired index is in
     let works = rw (ap (λ (r : Registered). r.works) c.self.view_is) at found in
-    let (reason, claims) = against_land c.args.tis.now c.args.self.now c.args.line.now (kept_lines (texts c.self.inside.parties.items) registration) works c.in_default-land_of.ensures.none in
+    let (reason, claims) = against_land c.args.tis.now c.args.self.now (seen c.args.line.now) (kept_lines (texts c.self.inside.parties.items) registration) works c.in_default-land_of.ensures.none in
     record { reason = sym reason; claims = rw c.clear.ensures (sym claims); room = rw c.clear.ensures refl }
 
 -- the registration of a work, whose claims are worked out from these lines
@@ -60,8 +61,8 @@ found_here works registrations parties registered work place lines sound kept vi
 
 pub claims-requires : goal.claims-requires
 claims-requires c =
-    let here = found_here c.self.inside.works.keys c.self.inside.registrations c.self.inside.parties.items c.args.self.now c.args.line.now.work c.in-Some.place c.lines_of-lines.result.now
-    c.self.invariant.0 c.self.invariant.1 c.self.view_is (rw c.as_slice.ensures at c.in-Some.ensures.index) c.in-Some.ensures.within c.lines_of-lines.ensures in
+    let here = found_here c.self.inside.works.keys c.self.inside.registrations c.self.inside.parties.items c.args.self.now c.args.line.now.work.now c.in-Some.place c.lines_of-lines.result.now
+    c.self.invariant.0 c.self.invariant.1 c.self.view_is (c.in-Some.ensures.index) c.in-Some.ensures.within c.lines_of-lines.ensures in
     record {
       lines = (nameless here.registration, here.up.kept.payees, here.claim_lines);
       few = here.few;
@@ -70,11 +71,11 @@ claims-requires c =
 
 pub returns-then-claims : goal.returns-then-claims
 returns-then-claims c =
-    let here = found_here c.self.inside.works.keys c.self.inside.registrations c.self.inside.parties.items c.args.self.now c.args.line.now.work c.in-Some.place c.lines_of-lines.result.now
-    c.self.invariant.0 c.self.invariant.1 c.self.view_is (rw c.as_slice.ensures at c.in-Some.ensures.index) c.in-Some.ensures.within c.lines_of-lines.ensures in
+    let here = found_here c.self.inside.works.keys c.self.inside.registrations c.self.inside.parties.items c.args.self.now c.args.line.now.work.now c.in-Some.place c.lines_of-lines.result.now
+    c.self.invariant.0 c.self.invariant.1 c.self.view_is (c.in-Some.ensures.index) c.in-Some.ensures.within c.lines_of-lines.ensures in
     let (same, known) = c.in-Some-land_of.ensures.some in
     let within = c.claims.ensures.within (nameless here.registration) here.up.kept.payees here.claim_lines in
-    let (reason, claims) = answered c.args.tis.now c.args.self.now c.args.line.now here.registration c.in-Some-land_of.land here.up same known (sym within ∙ c.if-claims.true) in
+    let (reason, claims) = answered c.args.tis.now c.args.self.now (seen c.args.line.now) here.registration c.in-Some-land_of.land here.up same known (sym within ∙ c.if-claims.true) in
     record {
       reason = sym reason;
       claims = (rw c.if-claims.true at (c.claims.ensures.claims (nameless here.registration) here.up.kept.payees here.claim_lines)) ∙ sym claims;
@@ -83,11 +84,11 @@ returns-then-claims c =
 
 pub returns-else-claims : goal.returns-else-claims
 returns-else-claims c =
-    let here = found_here c.self.inside.works.keys c.self.inside.registrations c.self.inside.parties.items c.args.self.now c.args.line.now.work c.in-Some.place c.lines_of-lines.result.now
-    c.self.invariant.0 c.self.invariant.1 c.self.view_is (rw c.as_slice.ensures at c.in-Some.ensures.index) c.in-Some.ensures.within c.lines_of-lines.ensures in
+    let here = found_here c.self.inside.works.keys c.self.inside.registrations c.self.inside.parties.items c.args.self.now c.args.line.now.work.now c.in-Some.place c.lines_of-lines.result.now
+    c.self.invariant.0 c.self.invariant.1 c.self.view_is (c.in-Some.ensures.index) c.in-Some.ensures.within c.lines_of-lines.ensures in
     let (same, known) = c.in-Some-land_of.ensures.some in
     let within = c.claims.ensures.within (nameless here.registration) here.up.kept.payees here.claim_lines in
-    let (reason, claims) = answered_over c.args.tis.now c.args.self.now c.args.line.now here.registration c.in-Some-land_of.land here.up same known (sym within ∙ c.if-claims.false) in
+    let (reason, claims) = answered_over c.args.tis.now c.args.self.now (seen c.args.line.now) here.registration c.in-Some-land_of.land here.up same known (sym within ∙ c.if-claims.false) in
     record {
       reason = sym reason;
       claims = (rw c.if-claims.false at (c.claims.ensures.claims (nameless here.registration) here.up.kept.payees here.claim_lines)) ∙ sym claims;

@@ -1,0 +1,204 @@
+-- How the share lines of a registration are put in order: by rising account, and those of an account from the last one back.
+use Rattle.std.proofs.Common.{◌≡◌, ◌==◌, ◌∙◌, ◌++◌, inl, inr, ◌<◌, ◌≤◌, ◌+◌, ◌∷◌, [], ℕ, zero, suc, List, All, ltb, true, false, drop, insert, length, map, get_or, not, ap, sym, refl, subst, arith, zero-le, Bool, Option, Some, None}
+use Rattle.std.specs.Prelude.{⊤, ◌&&◌, flat_map, if◌then◌else◌, reverse}
+use Rattle.std.specs.Option.{option_eq}
+use Rattle.std.specs.List.{HoldsAt}
+use Rattle.std.specs.List.Sorted.{IsNonDecreasingBy, IsPartitionPoint}
+use Rattle.std.proofs.lemmas.Bool.{eq-eqb, le-ltb, lt-ltb, ne_eqb}
+use Rattle.std.proofs.lemmas.List.{append_assoc, drop_more, get_or-map, map-append, reverse-append}
+use Rattle.std.proofs.lemmas.List.Elements.{All-append, All-cons, All-nil, All-push, All-tail}
+use Rattle.cwr_share.specs.Compiled.{begins_interest, claim_line, claim_lines, in_order, IsCompiled, line_by, placed, with_place}
+use Rattle.cwr_share.specs.Registrations.{ShareLine}
+use Rattle.cwr_share.specs.declared.claim_line.ClaimLine.{ClaimLine}
+use Rattle.cwr_share.specs.declared.registration.Placed.{Placed}
+use Rattle.cwr_share.specs.declared.share_line.KeptShare.{KeptShare}
+use Rattle.cwr_share.proofs.ClaimLemmas.{claim_lines_more, claim_lines_none}
+use Rattle.cwr_share.proofs.CompiledLemmas.{AllPairs-head, AllPairs-tail, Rising, place_goes}
+
+-- a place with its account
+abbrev at_place : ℕ → ℕ → Placed
+at_place account place = record { account = account; place = place }
+
+-- the places of a payee, with an earlier one, which comes last
+placed_before : (account place : ℕ) (places : List ℕ) → placed (account, place ∷ places) ≡ placed (account, places) ++ at_place account place ∷ []
+placed_before account place places =
+    ap (map (at_place account)) (reverse-append (place ∷ []) places) ∙ map-append (at_place account) (reverse places) (place ∷ [])
+
+-- and with a later one, which comes first
+placed_after : (account place : ℕ) (places : List ℕ) → placed (account, places ++ place ∷ []) ≡ at_place account place ∷ placed (account, places)
+placed_after account place places = ap (map (at_place account)) (reverse-append places (place ∷ []))
+
+module _ (P : Placed → Type 0) where
+  each_placed : (account : ℕ) (places : List ℕ) → All (λ place. P (at_place account place)) places → All P (placed (account, places))
+  each_placed account [] all = All-nil P
+  each_placed account (place ∷ places) all =
+      rw (placed_before account place places)
+      (All-push P (placed (account, places)) (at_place account place)
+      (each_placed account places (All-tail (λ place. P (at_place account place)) place places all)) (all 0 place (omega arith)))
+
+  -- what holds of the places of each payee holds of each in order
+  pub each_in_order : (payees : List (ℕ × List ℕ)) → All (λ payee. All (λ place. P (at_place payee.0 place)) payee.1) payees → All P (in_order payees)
+  each_in_order [] all = All-nil P
+  each_in_order (payee ∷ later) all =
+      All-append P (placed payee) (in_order later) (each_placed payee.0 payee.1 (all 0 payee (omega arith)))
+      (each_in_order later (All-tail (λ (payee : ℕ × List ℕ). All (λ place. P (at_place payee.0 place)) payee.1) payee later all))
+
+module _ (account place : ℕ) where
+  -- a place put before the others that are of no lower account
+  abbrev pub put : List Placed → List Placed
+  put [] = at_place account place ∷ []
+  put (entry ∷ order) = if ltb entry.account account then entry ∷ put order else at_place account place ∷ entry ∷ order
+
+  -- by where the lower accounts end
+  pub put_at : (order : List Placed) (at : ℕ) → at ≤ length order → IsPartitionPoint (λ (entry : Placed). ltb entry.account account ≡ true) (λ (entry : Placed). ltb entry.account account ≡ false) order at
+      → insert order at (at_place account place) ≡ put order
+  put_at [] zero within split = refl
+  put_at [] (suc at) within split = absurd (omega arith)
+  put_at (entry ∷ order) zero within split = let high : ltb entry.account account ≡ false = split.1 0 entry zero-le (omega arith) in rw high refl
+  put_at (entry ∷ order) (suc at) within split =
+      let low : ltb entry.account account ≡ true = split.0 0 entry zero-le (omega arith) in
+      let rest = put_at order at (omega (arith, within)) (λ k d from to. split.0 (suc k) d zero-le (omega (arith, to)), λ k d from to. split.1 (suc k) d (omega (arith, from)) (omega (arith, to))) in
+      rw low (ap (λ (l : List Placed). entry ∷ l) rest)
+
+  put_front : (order : List Placed) → All (λ entry. account ≤ entry.account) order → put order ≡ at_place account place ∷ order
+  put_front [] high = refl
+  put_front (entry ∷ order) high = let this : ltb entry.account account ≡ false = le-ltb entry.account account (high 0 entry (omega arith)) in rw this refl
+
+  put_behind : (front order : List Placed) → All (λ entry. entry.account < account) front → put (front ++ order) ≡ front ++ put order
+  put_behind [] order low = refl
+  put_behind (entry ∷ front) order low =
+      let this : ltb entry.account account ≡ true = lt-ltb entry.account account (low 0 entry (omega arith)) in
+      rw this (ap (λ (l : List Placed). entry ∷ l) (put_behind front order (All-tail (λ (entry : Placed). entry.account < account) entry front low)))
+
+  -- it is the place of its payee
+  pub put_in_order : (payees : List (ℕ × List ℕ)) → Rising payees → put (in_order payees) ≡ in_order (with_place account place payees)
+  put_in_order [] rising = refl
+  put_in_order (payee ∷ later) rising =
+      let above : All (λ other. payee.0 < other.0) later = AllPairs-head (λ payee other. payee.0 < other.0) payee later rising in
+      let high : account ≤ payee.0 → All (λ entry. account ≤ entry.account) (in_order (payee ∷ later)) =
+      λ low. each_in_order (λ entry. account ≤ entry.account) (payee ∷ later)
+      (All-cons (λ (payee : ℕ × List ℕ). All (λ place. account ≤ payee.0) payee.1) payee later (λ k d within. low) (λ k d within i e inside. omega (arith, low, above k d within))) in
+      elim (place_goes account place payee later) [
+        | inl (less, is) ↦ rw is (put_front (in_order (payee ∷ later)) (high (omega (arith, less))))
+        | inr (inl (equal, is)) ↦
+            rw (is, placed_after account place payee.1)
+            (put_front (in_order (payee ∷ later)) (high (omega (arith, equal)))
+            ∙ ap (λ (a : ℕ). at_place account place ∷ (placed (a, payee.1) ++ in_order later)) (sym equal))
+        | inr (inr (more, is)) ↦
+            rw is
+            (put_behind (placed payee) (in_order later) (each_placed (λ entry. entry.account < account) payee.0 payee.1 (λ k d within. more))
+            ∙ ap (λ (l : List Placed). placed payee ++ l) (put_in_order later (AllPairs-tail (λ payee other. payee.0 < other.0) payee later rising)))
+      ]
+
+-- what came before is of a lower account
+abbrev IsBelow : Option (ℕ × ℕ) → ℕ → Type 0
+IsBelow None account = ⊤
+IsBelow (Some before) account = before.0 < account
+
+-- whether two share lines are of one account and interest
+abbrev same_interest : ℕ × ℕ → ℕ × ℕ → Bool
+same_interest line other = (line.0 == other.0) && (line.1 == other.1)
+
+-- The share lines at places in order, where the line before them is of this account and interest. Each one begins an interest unless the one before it is of the same.
+module _ (line_of : ℕ → ShareLine) where
+  abbrev pub lines_in : Option (ℕ × ℕ) → List Placed → List ClaimLine
+  lines_in before [] = []
+  lines_in before (entry ∷ order) =
+      claim_line entry.account (not (option_eq same_interest before (Some (entry.account, (line_of entry.place).interest)))) (line_of entry.place)
+      ∷ lines_in (Some (entry.account, (line_of entry.place).interest)) order
+
+  -- the account and interest of the last of a payee's lines, which is the first of the file
+  abbrev last_of : ℕ → List ℕ → Option (ℕ × ℕ) → Option (ℕ × ℕ)
+  last_of account [] before = before
+  last_of account (place ∷ places) before = Some (account, (line_of place).interest)
+
+  begins : (account place : ℕ) (places : List ℕ) (before : Option (ℕ × ℕ)) → IsBelow before account
+      → not (option_eq same_interest (last_of account places before) (Some (account, (line_of place).interest))) ≡ begins_interest (line_of place) (map line_of places)
+  begins account place [] None below = refl
+  begins account place [] (Some before) below = let other : (before.0 == account) ≡ false = ne_eqb before.0 account (λ same. absurd (omega (arith, below, same))) in rw other refl
+  begins account place (next ∷ places) before below = let same : (account == account) ≡ true = eq-eqb account account refl in rw same refl
+
+  lines_of_one : (account : ℕ) (places : List ℕ) (before : Option (ℕ × ℕ)) (rest : List Placed) → IsBelow before account
+      → lines_in before (placed (account, places) ++ rest) ≡ claim_lines account (map line_of places) ++ lines_in (last_of account places before) rest
+  lines_of_one account [] before rest below = rw (claim_lines_none account) refl
+  lines_of_one account (place ∷ places) before rest below =
+      let line = line_of place in
+      let front = claim_lines account (map line_of places) in
+      let after = lines_in (Some (account, line.interest)) rest in
+      let step : lines_in before ((placed (account, places) ++ at_place account place ∷ []) ++ rest)
+      ≡ front ++ claim_line account (not (option_eq same_interest (last_of account places before) (Some (account, line.interest)))) line ∷ after =
+      ap (lines_in before) (append_assoc (placed (account, places)) (at_place account place ∷ []) rest) ∙ lines_of_one account places before (at_place account place ∷ rest) below in
+      ap (λ (l : List Placed). lines_in before (l ++ rest)) (placed_before account place places)
+      ∙ (step
+      ∙ (ap (λ (b : Bool). front ++ claim_line account b line ∷ after) (begins account place places before below)
+      ∙ (sym (append_assoc front (claim_line account (begins_interest line (map line_of places)) line ∷ []) after)
+      ∙ ap (λ (l : List ClaimLine). l ++ after) (sym (claim_lines_more account line (map line_of places))))))
+
+  -- they are those of each payee
+  pub lines_of_all : (payees : List (ℕ × List ℕ)) (before : Option (ℕ × ℕ)) → Rising payees → All (λ payee. IsBelow before payee.0) payees
+      → lines_in before (in_order payees) ≡ flat_map (λ payee. claim_lines payee.0 (map line_of payee.1)) payees
+  lines_of_all [] before rising below = refl
+  lines_of_all (payee ∷ later) before rising below =
+      lines_of_one payee.0 payee.1 before (in_order later) (below 0 payee (omega arith))
+      ∙ ap (λ (l : List ClaimLine). claim_lines payee.0 (map line_of payee.1) ++ l)
+      (lines_of_all later (last_of payee.0 payee.1 before) (AllPairs-tail (λ payee other. payee.0 < other.0) payee later rising) (still_below payee.1))
+    where
+      still_below : (places : List ℕ) → All (λ other. IsBelow (last_of payee.0 places before) other.0) later
+      still_below [] = All-tail (λ (payee : ℕ × List ℕ). IsBelow before payee.0) payee later below
+      still_below (place ∷ places) = AllPairs-head (λ payee other. payee.0 < other.0) payee later rising
+
+-- the share line at a place
+abbrev pub line_at : List ShareLine → ℕ → ShareLine
+line_at lines place = get_or lines place (record { interest = 0; party = []; performing = 0; mechanical = 0; synchronisation = 0; includes = false; territory = 0 })
+
+-- one line more is added in order
+pub lines_next : (shares : List KeptShare) (order : List Placed) (n : ℕ) (d : Placed) (share : KeptShare) (before : Option (ℕ × ℕ)) (lines : List ClaimLine)
+    → n < length order → (get_or order n d).place < length shares → share ≡ get_or shares (get_or order n d).place share
+    → HoldsAt (λ share. share.account ≡ (get_or order n d).account) shares (get_or order n d).place
+    → (lines ++ claim_line share.account (not (option_eq same_interest before (Some (share.account, share.interest)))) (line_by [] share) ∷ [])
+    ++ lines_in (line_at (map (line_by []) shares)) (Some (share.account, share.interest)) (drop (n + 1) order)
+    ≡ lines ++ lines_in (line_at (map (line_by []) shares)) before (drop n order)
+lines_next shares order n d share before lines within inside is own =
+    let entry = get_or order n d in
+    let line_of = line_at (map (line_by []) shares) in
+    let rest = drop (n + 1) order in
+    let whose : share.account ≡ entry.account = ap (λ (s : KeptShare). s.account) is ∙ own share in
+    let line : line_by [] share ≡ line_of entry.place = ap (line_by []) is ∙ sym (get_or-map (line_by []) shares entry.place share _ inside) in
+    let both : (share.account, line_by [] share) ≡ (entry.account, line_of entry.place) = cc (whose, line) in
+    append_assoc lines (claim_line share.account (not (option_eq same_interest before (Some (share.account, share.interest)))) (line_by [] share) ∷ []) (lines_in line_of (Some (share.account, share.interest)) rest)
+    ∙ ap (λ (l : List ClaimLine). lines ++ l)
+    (ap (λ (p : ℕ × ShareLine). claim_line p.0 (not (option_eq same_interest before (Some (p.0, p.1.interest)))) p.1 ∷ lines_in line_of (Some (p.0, p.1.interest)) rest) both
+    ∙ ap (lines_in line_of before) (sym (drop_more order n d within)))
+
+-- the lines of payees in order do not fall
+rises_cons : (entry : Placed) (order : List Placed) → All (λ other. entry.account ≤ other.account) order → IsNonDecreasingBy (λ (other : Placed). other.account) order
+    → IsNonDecreasingBy (λ (other : Placed). other.account) (entry ∷ order)
+rises_cons entry order high rises = λ i j d low within. by i j d low within
+  where
+    by : (i j : ℕ) (d : Placed) → i ≤ j → j < length (entry ∷ order) → (get_or (entry ∷ order) i d).account ≤ (get_or (entry ∷ order) j d).account
+    by zero zero d low within = omega arith
+    by zero (suc j) d low within = high j d (omega (arith, within))
+    by (suc i) zero d low within = absurd (omega (arith, low))
+    by (suc i) (suc j) d low within = rises i j d (omega (arith, low)) (omega (arith, within))
+
+payee_rises : (account : ℕ) (places : List ℕ) (rest : List Placed) → All (λ entry. account ≤ entry.account) rest → IsNonDecreasingBy (λ (entry : Placed). entry.account) rest
+    → IsNonDecreasingBy (λ (entry : Placed). entry.account) (placed (account, places) ++ rest)
+payee_rises account [] rest high rises = rises
+payee_rises account (place ∷ places) rest high rises =
+    let split : placed (account, place ∷ places) ++ rest ≡ placed (account, places) ++ at_place account place ∷ rest =
+    ap (λ (l : List Placed). l ++ rest) (placed_before account place places) ∙ append_assoc (placed (account, places)) (at_place account place ∷ []) rest in
+    subst (IsNonDecreasingBy (λ (entry : Placed). entry.account)) (sym split)
+    (payee_rises account places (at_place account place ∷ rest) (All-cons (λ (entry : Placed). account ≤ entry.account) (at_place account place) rest (omega arith) high) (rises_cons (at_place account place) rest high rises))
+
+pub in_order_rises : (payees : List (ℕ × List ℕ)) → Rising payees → IsNonDecreasingBy (λ (entry : Placed). entry.account) (in_order payees)
+in_order_rises [] rising = λ i j d low within. absurd (omega (arith, within))
+in_order_rises (payee ∷ later) rising =
+    let above : All (λ other. payee.0 < other.0) later = AllPairs-head (λ payee other. payee.0 < other.0) payee later rising in
+    payee_rises payee.0 payee.1 (in_order later) (each_in_order (λ entry. payee.0 ≤ entry.account) later (λ k d within i e inside. omega (arith, above k d within)))
+    (in_order_rises later (AllPairs-tail (λ payee other. payee.0 < other.0) payee later rising))
+
+-- Share lines are compiled, and these are their places in order.
+pub record IsGathered (parties : List (List ℕ)) (lines : List ShareLine) (order : List Placed) : Type 0 where
+  pub payees : List (ℕ × List ℕ)
+  pub compiled : IsCompiled parties lines payees
+  pub exact : order ≡ in_order payees
