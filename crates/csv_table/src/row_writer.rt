@@ -1,17 +1,25 @@
 //! A CSV text in the making, row after row.
 //!
-//! It is the writer of the crate `csv` with its default settings, into memory.
+//! It is the writer of the crate `csv` with its default settings, into memory. A long text can go on to
+//! an output by the page, so that it is never in memory whole.
 
+ghost use Rattle.std.specs.Io.KnownBytes.{Appends, Keeps, append_known};
 ghost use Rattle.std.specs.Prelude.{◌≡◌, ◌++◌, [], OnOk, IfOk, map};
 ghost use Rattle.csv_table.specs.Written.{IsBetweenRows, text_of_row, written};
 
 use csv::{Writer, WriterBuilder};
 use std::alloc::{AllocError, Global};
+use std::io::{self, Write};
 use std::marker::Model;
+use std::mem;
+
+/// How long a text becomes, in bytes, before it is worth a write.
+const PAGE_BYTES: usize = 131_072;
 
 /// Rows as text, so far. They may have any number of fields.
 #[derive(Drop)]
 pub struct RowWriter {
+    alloc: Global,
     out: Writer<Vec<u8>>,
     has_failed: bool,
 }
@@ -32,15 +40,24 @@ impl RowWriter {
     pub fn new(alloc: Global) -> RowWriter
         ensures { result ≡ [] }
     {
-        RowWriter::over(Vec::new(alloc))
+        RowWriter::over(alloc, Vec::new(alloc))
+    }
+
+    /// No rows yet, with memory for two pages. Where the text goes on by the page, and no rows longer
+    /// than a page are added meanwhile, no more is needed.
+    pub fn with_room(alloc: Global) -> Result<RowWriter, AllocError>
+        ensures { IfOk result (λ rows. rows ≡ []) }
+    {
+        Ok(RowWriter::over(alloc, Vec::with_capacity(alloc, 2 * PAGE_BYTES)?))
     }
 
     /// No rows yet, to be written into this memory, whatever it holds.
-    pub fn over(mut memory: Vec<u8>) -> RowWriter
+    fn over(alloc: Global, mut memory: Vec<u8>) -> RowWriter
         ensures { result ≡ [] }
     {
         memory.clear();
         RowWriter {
+            alloc,
             out: WriterBuilder::new().flexible(true).from_writer(memory),
             has_failed: false,
         }
@@ -58,6 +75,31 @@ impl RowWriter {
             return Err(AllocError);
         };
         Ok(())
+    }
+
+    /// Writes the text of the rows to an output, and begins anew with the same memory. After a write that
+    /// was refused no more rows are taken.
+    pub fn pass_on<W: Write>(&mut self, to: &mut W) -> io::Result<()>
+        ensures text { OnOk result (Appends (W.contents to.old) (W.contents to.new) self.old) }
+        ensures anew { OnOk result (self.new ≡ []) }
+    {
+        let alloc = self.alloc;
+        let mut refused = RowWriter::new(alloc);
+        refused.has_failed = true;
+        let text = mem::replace(self, refused).into_text()?;
+        to.write_all(text.as_slice())?;
+        *self = RowWriter::over(alloc, text);
+        Ok(())
+    }
+
+    /// The same, but only where the text has come to a page: 131072 bytes.
+    pub fn pass_on_page<W: Write>(&mut self, to: &mut W) -> io::Result<()>
+        ensures { OnOk result (Keeps (append_known (W.contents to.old) self.old) (append_known (W.contents to.new) self.new)) }
+    {
+        if self.out.get_ref().len() < PAGE_BYTES {
+            return Ok(());
+        }
+        self.pass_on(to)
     }
 
     /// The text of the rows. After a row that was refused there is none.

@@ -34,11 +34,24 @@ fn writes_rows_of_any_width(rt: HostRuntime) -> Result<(), Fail> {
 }
 
 #[test]
-fn writes_over_what_the_memory_held(rt: HostRuntime) -> Result<(), Fail> {
-    let mut out = RowWriter::over(Vec::from_slice(rt.alloc(), b"a longer text")?);
-    out.row(&[b"a", b"b"])?;
-    let text = out.into_text()?;
-    assert_eq!(rt; text.as_slice(), b"a,b\n".as_slice());
+fn passes_rows_on_by_the_page(rt: HostRuntime) -> Result<(), Fail> {
+    let mut rows = RowWriter::with_room(rt.alloc())?;
+    let mut out = Vec::from_slice(rt.alloc(), b"before\n")?;
+    rows.row(&[b"a", b"b"])?;
+    rows.pass_on_page(&mut out)?;
+    assert_eq!(rt; out.as_slice(), b"before\n".as_slice());
+    rows.pass_on(&mut out)?;
+    assert_eq!(rt; out.as_slice(), b"before\na,b\n".as_slice());
+    let field = [b'x'; 100];
+    for _ in 0..2000 {
+        rows.row(&[&field])?;
+    }
+    rows.pass_on_page(&mut out)?;
+    assert_eq!(rt; out.len(), 11 + 2000 * 101);
+    rows.row(&[b"c"])?;
+    let mut full = [0; 1];
+    assert!(rt; rows.pass_on(&mut full.as_mut_slice()).is_err());
+    assert!(rt; rows.row(&[b"d"]).is_err() && rows.into_text().is_err());
     Ok(())
 }
 

@@ -25,9 +25,10 @@ use Rattle.line_split.specs.declared.usage.Right.TheVariants.{P, M, S}
 use Rattle.cwr_share.specs.ClaimsOn.{claim_of, claims_among, claims_by, claims_on, covers, deciding, is_alike, is_known, reason_against, renamed, share_for}
 use Rattle.cwr_share.specs.Compiled.{AreClaimLines, InterestsRise, IsCompiled, Kept, begins_interest, claim_line, claim_lines, claims_of_payees, kept_lines, line_by, lines_at, lines_of_party, lines_of_payees, nameless, places_in, share_under}
 use Rattle.cwr_share.specs.declared.claim_line.ClaimLine.{ClaimLine}
+use Rattle.cwr_share.specs.Found.{LookedUp}
 use Rattle.cwr_share.specs.Registered.{Registered}
 use Rattle.cwr_share.specs.Registrations.{ShareLine, find_work}
-use Rattle.cwr_share.proofs.CompiledLemmas.{LookedUp, AllPairs-head, AllPairs-tail, contains_cases, lines_of_party_none, same_text}
+use Rattle.cwr_share.proofs.CompiledLemmas.{AllPairs-head, AllPairs-tail, contains_cases, lines_of_party_none, same_text}
 
 -- two lines of one party, of which the later has no lower interest
 abbrev pub IsAlike : ShareLine → ShareLine → Type 0

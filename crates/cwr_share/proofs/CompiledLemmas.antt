@@ -16,6 +16,7 @@ use Rattle.std.proofs.lemmas.Map.Lookups.{exact_bytes}
 use Rattle.std.proofs.lemmas.Option.{cond_some, none-some}
 use Rattle.std.proofs.lemmas.Slice.Eq.{bytes_eq-Decides}
 use Rattle.cwr_share.specs.Compiled.{AreKept, InterestsRise, IsCompiled, IsExtent, IsKept, Kept, WorkNumber, kept_lines, line_by, lines_at, lines_of_party, part, places_in, registered_as, with_place}
+use Rattle.cwr_share.specs.Found.{LookedUp}
 use Rattle.cwr_share.specs.Registered.{IsRegistered, IsShareLine, Registered}
 use Rattle.cwr_share.specs.Registrations.{ShareLine, find_work}
 use Rattle.cwr_share.specs.declared.share_line.KeptShare.{KeptShare}
@@ -496,13 +497,6 @@ parties_rise registered sound =
     above : (party : List ℕ) → 0 < length party → slice_cmp nat_cmp [] party ≡ Less
     above [] some = absurd (omega arith)
     above (byte ∷ rest) some = refl
-
--- A registry has this registration of a work.
-pub record LookedUp (registered : Registered) (work : List ℕ) (registration : Kept) : Type 0 where
-  pub works : find_work work registered.works ≡ Some (kept_lines registered.parties registration)
-  pub kept : IsKept registered.parties registration
-  pub rise : InterestsRise (kept_lines registered.parties registration)
-  pub few : length (kept_lines registered.parties registration) ≤ MOST_SHARES
 
 -- what a look-up by the index finds
 pub looked_up : (works : List WorkNumber) (registrations : List Kept) (parties : List (Vec ℕ Global)) (registered : Registered) (work : List ℕ) (place : ℕ) (registration : Kept)

@@ -1,6 +1,6 @@
 -- The forms of the fields of a line: CWR 2.2, transaction records.
 use Rattle.std.specs.Prelude.{ℕ, ◌≡◌, ◌≤◌, ◌<◌, ◌-◌, ◌⊎◌, ◌==◌, ◌∷◌, List, All, [], codes, length, reverse, slice_index, slice_range, if◌then◌else◌}
-use Rattle.csv_table.specs.Forms.{IsCode, IsNumber, number_of}
+use Rattle.csv_table.specs.Forms.{IsCode, IsNumber, IsPrintableByte, number_of}
 use Rattle.cwr_share.specs.declared.fields.Field.{Field}
 use Rattle.cwr_share.specs.declared.fields.ShareFields.{ShareFields}
 use Rattle.line_split.specs.declared.TheConstants.{FULL_SHARE}
@@ -19,7 +19,7 @@ trimmed text = reverse (without_spaces_before (reverse (without_spaces_before te
 
 -- printable ASCII, not all of it spaces
 pub record IsFilled (field : List ℕ) : Type 0 where
-  pub printable : All (λ byte. (32 ≤ byte) × (byte ≤ 126)) field
+  pub printable : All IsPrintableByte field
   pub some : 0 < length (trimmed field)
 
 -- a share, in the five bytes of its field: digits that write at most 100.00 per cent in hundredths of a per cent, or spaces

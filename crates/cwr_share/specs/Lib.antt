@@ -6,5 +6,6 @@ pub mod Registered
 pub mod ClaimsOn
 pub mod CwrFile
 pub mod Compiled
+pub mod Found
 pub mod Reading
 pub mod Parties

@@ -24,7 +24,7 @@ mod tests;
 
 pub use cwr_fault::CwrFault;
 pub use record_type::RecordType;
-pub use registry::Registry;
+pub use registry::{Registry, Work};
 
 /// The most share lines that one registration has.
 pub const MOST_SHARES: usize = 256;

@@ -6,11 +6,12 @@ ghost use Rattle.line_split.specs.UsageLine.{seen};
 ghost use Rattle.cwr_share.specs.ClaimsOn.{claims_on, is_known, reason_against};
 ghost use Rattle.cwr_share.specs.Compiled.{AreKept, registered_as};
 ghost use Rattle.cwr_share.specs.CwrFile.{IsFaultOf, IsFileOf};
+ghost use Rattle.cwr_share.specs.Found.{IsLookUp};
 ghost use Rattle.cwr_share.specs.Lines.{lines_of};
 ghost use Rattle.cwr_share.specs.Registered.{IsRegistered};
 
 use crate::CwrFault;
-use crate::claim_line::claims;
+use crate::claim_line::{ClaimLine, claims};
 use crate::lines::Lines;
 use crate::numbers::{Sought, WorkNumber};
 use crate::parties::account_of;
@@ -138,20 +139,53 @@ impl Registry {
         ensures claims { out.new.list ≡ claims_on tis.now self.now (seen line.now) }
         ensures room { out.new.room ≡ out.old.room }
     {
+        self.claims_to(self.find(line.work), tis, line, out)
+    }
+
+    /// The work with a number, where it has a registration in force. Works that are looked up ahead, many
+    /// at a time, do not wait for each other.
+    pub fn find(&self, number: &[u8]) -> Option<Work<'_>>
+        ensures { IsLookUp self.now number.now result }
+    {
+        let place = self.works.get_index_of(Sought(number))?;
+        Some(Work {
+            lines: self.registrations.lines_of(place),
+        })
+    }
+
+    /// The same as `claims`, of a line whose work has been looked up.
+    pub fn claims_to(
+        &self,
+        work: Option<Work<'_>>,
+        tis: &TisTable,
+        line: &Line<'_>,
+        out: &mut Claims,
+    ) -> Option<Reason>
+        requires work { IsLookUp self.now line.now.work.now work }
+        requires room { MOST_CLAIMS ≤ out.old.room }
+        ensures reason { result ≡ reason_against tis.now self.now (seen line.now) }
+        ensures claims { out.new.list ≡ claims_on tis.now self.now (seen line.now) }
+        ensures room { out.new.room ≡ out.old.room }
+    {
         out.clear();
-        let Some(place) = self.works.get_index_of(Sought(line.work)) else {
+        let Some(work) = work else {
             return Some(Reason::Work);
         };
         let Some(land) = land_of(tis, line.territory) else {
             return Some(Reason::Land);
         };
-        let lines = self.registrations.lines_of(place);
-        if claims(lines, tis, land, line.right, out) {
+        if claims(work.lines, tis, land, line.right, out) {
             None
         } else {
             Some(Reason::Over)
         }
     }
+}
+
+/// A work of a registry, as it was found.
+#[derive(Clone, Copy)]
+pub struct Work<'a> {
+    pub(crate) lines: &'a [ClaimLine],
 }
 
 /// The territory with this code, where the table has it.

@@ -1,12 +1,17 @@
 //! A text as bytes.
 
-ghost use Rattle.std.specs.Prelude.{◌≡◌, IfOk};
+ghost use Rattle.std.specs.Prelude.{◌≡◌, ◌≤◌, IfOk, length, take};
+ghost use Rattle.line_split.specs.declared.text.TheConstants.{MOST_IN_PLACE};
 
 use std::alloc::{AllocError, Global};
 use std::marker::Model;
 
 /// The longest text that is kept in place, in bytes, so that a `Text` has 16 bytes.
 const MOST_IN_PLACE: usize = 14;
+
+/// How many bytes are copied at once. Two such blocks, which may overlap, have all bytes of a text that
+/// is kept in place.
+const BLOCK: usize = 8;
 
 /// A text as it stood in a table, as bytes. A short one takes no memory beside itself.
 #[derive(Drop)]
@@ -45,10 +50,8 @@ impl Text {
                 bytes: Bytes::Apart(Box::new(alloc, apart)?),
             });
         }
-        let mut in_place = [0; MOST_IN_PLACE];
-        in_place[..bytes.len()].copy_from_slice(bytes);
         Ok(Text {
-            bytes: Bytes::InPlace(bytes.len() as u8, in_place),
+            bytes: Bytes::InPlace(bytes.len() as u8, in_place(bytes)),
         })
     }
 
@@ -61,4 +64,21 @@ impl Text {
             Bytes::Apart(bytes) => bytes.as_slice(),
         }
     }
+}
+
+/// The bytes of a short text, with zeros behind them.
+#[inline]
+fn in_place(bytes: &[u8]) -> [u8; MOST_IN_PLACE]
+    requires { length bytes.now ≤ MOST_IN_PLACE }
+    ensures { take (length bytes.now) result ≡ bytes.now }
+{
+    let end = bytes.len();
+    let mut copy = [0; MOST_IN_PLACE];
+    if end < BLOCK {
+        copy[..end].copy_from_slice(bytes);
+    } else {
+        copy[..BLOCK].copy_from_slice(&bytes[..BLOCK]);
+        copy[end - BLOCK..end].copy_from_slice(&bytes[end - BLOCK..]);
+    }
+    copy
 }

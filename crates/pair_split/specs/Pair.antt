@@ -3,6 +3,7 @@ use Rattle.std.specs.Prelude.{ℕ, ◌≤◌, ◌<◌, ◌==◌, List, length, m
 use Rattle.std.specs.List.{before_first, after_first, enumerate_from}
 use Rattle.std.specs.Char.{IsAsciiDigit}
 use Rattle.std.specs.Str.Parse.{digits_value}
+use Rattle.csv_table.specs.Forms.{IsPrintableByte}
 use Rattle.pair_split.specs.declared.pair.TheConstants.{SEPARATOR, MOST_PARTY_BYTES, MOST_SHARE_DIGITS}
 
 -- what stands before the first `=`, and after it
@@ -21,7 +22,7 @@ pub record IsPair (word : List ℕ) : Type 0 where
   pub separated : Contains word SEPARATOR
   pub named : 0 < length (party_of word)
   pub short : length (party_of word) ≤ MOST_PARTY_BYTES
-  pub printable : All (λ byte. (32 ≤ byte) × (byte ≤ 126)) (party_of word)
+  pub printable : All IsPrintableByte (party_of word)
   pub numbered : 0 < length (digits_of word)
   pub few : length (digits_of word) ≤ MOST_SHARE_DIGITS
   pub digits : All IsAsciiDigit (digits_of word)

@@ -1,9 +1,12 @@
 -- The rows of a book, as they are written and as they read back.
+use Rattle.std.proofs.KnownBytes.{Appends-trans, Keeps-refl, append_known-grown}
+use Rattle.std.specs.Io.KnownBytes.{Appends, append_known}
+use Rattle.std.specs.Prelude.{None, Option, Some}
 use Rattle.std.proofs.Common.{◌≡◌, ◌∙◌, ◌-◌, ◌+◌, ◌<◌, ◌≤◌, ◌++◌, ◌∷◌, [], ℕ, Bool, true, false, List, length, map, take, drop, get_or, codes, ap, sym, subst, refl, arith, append_assoc, suc, All}
 use Rattle.std.specs.Prelude.{◌==◌, flat_map, if◌then◌else◌, zip}
 use Rattle.std.proofs.lemmas.Grind.{flat_map-append, get_or_after_one}
 use Rattle.std.proofs.Math.Seq.{take-add}
-use Rattle.std.proofs.lemmas.List.{flat_map_more, length-drop, map-append, take_all, take_more}
+use Rattle.std.proofs.lemmas.List.{flat_map_more, length-drop, map-append, map_push, take_all, take_more}
 use Rattle.std.proofs.lemmas.List.Elements.{All-append, All-cons, All-map, All-nil}
 use Rattle.std.proofs.lemmas.Slice.Zip.{get_or-zip, length-zip}
 use Rattle.csv.specs.Reading.{default_config, records, strip_bom}
@@ -24,51 +27,46 @@ blocks_more block xs i d lt =
 
 module _ (usage : List UsageLine) (parties : List (List ℕ)) (book : List (List (ℕ × ℕ))) where
   -- the accounts from 1 on, each with its party
-  abbrev accounts : List (List ℕ × List (ℕ × ℕ))
+  abbrev pub accounts : List (List ℕ × List (ℕ × ℕ))
   accounts = zip (drop 1 parties) (drop 1 book)
 
   -- the rows of one of them
-  abbrev rows_for : List ℕ × List (ℕ × ℕ) → List (List (List ℕ))
+  abbrev pub rows_for : List ℕ × List (ℕ × ℕ) → List (List (List ℕ))
   rows_for e = payee_rows usage e.0 e.1
 
   -- the text of their first statements
-  abbrev first_statements : ℕ → List ℕ
+  abbrev pub first_statements : ℕ → List ℕ
   first_statements n = text_of (flat_map rows_for (take n accounts))
 
   -- the statement of one account more
-  pub statements_more : (account : ℕ) (before after party : List ℕ) (statement : List (ℕ × ℕ)) → 0 < account → account < length parties → account < length book
+  pub statements_more : (account : ℕ) (party : List ℕ) (statement : List (ℕ × ℕ)) → 0 < account → account < length parties → account < length book
       → get_or parties account [] ≡ party → get_or book account [] ≡ statement
-      → before ≡ first_statements (account - 1) → after ≡ before ++ text_of (payee_rows usage party statement)
-      → after ≡ first_statements (account + 1 - 1)
-  statements_more account before after party statement some in_parties in_book whose which so_far wrote =
+      → first_statements (account - 1) ++ text_of (payee_rows usage party statement) ≡ first_statements (account + 1 - 1)
+  statements_more account party statement some in_parties in_book whose which =
       let place : 1 + (account - 1) ≡ account = omega arith in
       let whose_at : get_or (drop 1 parties) (account - 1) [] ≡ party = get_or_after_one parties (account - 1) [] ∙ (ap (λ k. get_or parties k []) place ∙ whose) in
       let which_at : get_or (drop 1 book) (account - 1) [] ≡ statement = get_or_after_one book (account - 1) [] ∙ (ap (λ k. get_or book k []) place ∙ which) in
       let at : get_or accounts (account - 1) ([], []) ≡ (party, statement) =
       get_or-zip (drop 1 parties) (drop 1 book) (account - 1) ([], []) (omega (arith, length-drop 1 parties)) (omega (arith, length-drop 1 book))
       ∙ cc (whose_at, which_at) in
-      wrote
-      ∙ (ap (λ text. text ++ text_of (payee_rows usage party statement)) so_far
-      ∙ (ap (λ e. first_statements (account - 1) ++ text_of (rows_for e)) (sym at)
+      ap (λ e. first_statements (account - 1) ++ text_of (rows_for e)) (sym at)
       ∙ (blocks_more rows_for accounts (account - 1) ([], [])
       (omega (arith, length-zip (drop 1 parties) (drop 1 book), length-drop 1 parties, length-drop 1 book))
-      ∙ ap first_statements (let same : account - 1 + 1 ≡ account + 1 - 1 = omega arith in same))))
+      ∙ ap first_statements (let same : account - 1 + 1 ≡ account + 1 - 1 = omega arith in same))
 
   -- all statements, and the rows below them
-  pub whole_text : (reasons : List Reason) (account : ℕ) (before residue after : List ℕ) → length book ≤ account
-      → before ≡ first_statements (account - 1) → residue ≡ before ++ text_of (residue_rows usage reasons (get_or book 0 []))
-      → after ≡ residue ++ text_of_row (run_row usage)
-      → after ≡ text_of (rows_of_book book usage parties reasons)
-  whole_text reasons account before residue after past so_far wrote_residue wrote =
+  pub whole_text : (reasons : List Reason) (account : ℕ) → length book ≤ account
+      → (first_statements (account - 1) ++ text_of (residue_rows usage reasons (get_or book 0 []))) ++ text_of_row (run_row usage)
+      ≡ text_of (rows_of_book book usage parties reasons)
+  whole_text reasons account past =
       let payees = flat_map rows_for accounts in
       let below = residue_rows usage reasons (get_or book 0 []) in
-      let all : before ≡ text_of payees =
-      so_far ∙ ap (λ l. text_of (flat_map rows_for l))
+      let all : first_statements (account - 1) ≡ text_of payees =
+      ap (λ l. text_of (flat_map rows_for l))
       (take_all (account - 1) accounts (omega (arith, length-zip (drop 1 parties) (drop 1 book), length-drop 1 book))) in
       let joined : (payees ++ below) ++ run_row usage ∷ [] ≡ payees ++ (below ++ run_row usage ∷ []) = append_assoc payees below (run_row usage ∷ []) in
-      wrote
-      ∙ (ap (λ text. text ++ text_of_row (run_row usage)) (wrote_residue ∙ (ap (λ text. text ++ text_of below) all ∙ sym (flat_map-append text_of_row payees below)))
-      ∙ (flat_map_more text_of_row [] (payees ++ below) (run_row usage) ∙ ap text_of joined))
+      ap (λ text. text ++ text_of_row (run_row usage)) (ap (λ text. text ++ text_of below) all ∙ sym (flat_map-append text_of_row payees below))
+      ∙ (flat_map_more text_of_row [] (payees ++ below) (run_row usage) ∙ ap text_of joined)
 
 -- a row whose first field is one letter
 abbrev HasLetter : List (List ℕ) → Type 0
@@ -137,15 +135,41 @@ module _ (usage : List UsageLine) where
       (All-append HasLetter residue (run_row usage ∷ []) (residue_letters reasons (get_or book 0 []))
       (All-cons HasLetter (run_row usage) [] (82, _, refl, refl, refl) (All-nil HasLetter))))
 
--- the postings up to a place, and those from there up to a later one
-pub postings_more : {X : Type 0} (row : X → List (List ℕ)) (before now after : List ℕ) (postings : List X) (i j : ℕ) → i ≤ j
-    → now ≡ before ++ text_of (map row (take i postings))
-    → after ≡ now ++ text_of (map row (take (j - i) (drop i postings)))
-    → after ≡ before ++ text_of (map row (take j postings))
-postings_more row before now after postings i j le first next =
-    next
-    ∙ ap (λ text. text ++ text_of (map row (take (j - i) (drop i postings)))) first
-    ∙ append_assoc before _ _
-    ∙ ap (λ text. before ++ text) (sym (flat_map-append text_of_row (map row (take i postings)) (map row (take (j - i) (drop i postings))))
+-- the rows of the postings up to a place, and of those from there up to a later one
+pub postings_joined : {X : Type 0} (row : X → List (List ℕ)) (postings : List X) (i j : ℕ) → i ≤ j
+    → text_of (map row (take i postings)) ++ text_of (map row (take (j - i) (drop i postings))) ≡ text_of (map row (take j postings))
+postings_joined row postings i j le =
+    sym (flat_map-append text_of_row (map row (take i postings)) (map row (take (j - i) (drop i postings))))
     ∙ ap text_of (sym (map-append row (take i postings) (take (j - i) (drop i postings)))
-    ∙ ap (map row) (sym (take-add i (j - i) postings) ∙ ap (λ n. take n postings) (omega (arith, le)))))
+    ∙ ap (map row) (sym (take-add i (j - i) postings) ∙ ap (λ n. take n postings) (omega (arith, le))))
+
+-- no rows on their way to an output
+pub no_rows : (known : Option (List ℕ)) (rows : List ℕ) → rows ≡ [] → Appends known (append_known known rows) []
+no_rows None rows none = tt
+no_rows (Some held) rows none = ap (λ l. held ++ l) none
+
+-- rows that have come to the output
+pub rows_passed_on : (start known new : Option (List ℕ)) (rows all : List ℕ) → Appends start (append_known known rows) all → Appends known new rows → Appends start new all
+rows_passed_on None known new rows all so_far passed = tt
+rows_passed_on (Some held) None new rows all so_far passed = absurd so_far
+rows_passed_on (Some held) (Some known) None rows all so_far passed = absurd passed
+rows_passed_on (Some held) (Some known) (Some new) rows all so_far passed = passed ∙ so_far
+
+-- rows on their way to an output, with more of them
+pub rows_more : (start known : Option (List ℕ)) (old new before more : List ℕ) → Appends start (append_known known old) before → new ≡ old ++ more
+    → Appends start (append_known known new) (before ++ more)
+rows_more start known old new before more so_far is =
+    Appends-trans start (append_known known old) (append_known known new) before more so_far (append_known-grown (append_known known old) known old new more (Keeps-refl (append_known known old)) is)
+
+-- the rows of the postings up to a place, and of one more
+pub postings_next : {X : Type 0} (row : X → List (List ℕ)) (postings : List X) (i : ℕ) (d : X) → i < length postings
+    → text_of (map row (take i postings)) ++ text_of_row (row (get_or postings i d)) ≡ text_of (map row (take (i + 1) postings))
+postings_next row postings i d lt =
+    flat_map_more text_of_row [] (map row (take i postings)) (row (get_or postings i d))
+    ∙ ap text_of (sym (map_push row (take i postings) (get_or postings i d)) ∙ ap (map row) (sym (take_more postings i d lt)))
+
+-- all postings, and the row below them
+pub postings_all : {X : Type 0} (row : X → List (List ℕ)) (postings : List X) (i : ℕ) (last : List (List ℕ)) → length postings ≤ i
+    → text_of (map row (take i postings)) ++ text_of_row last ≡ text_of (map row postings ++ last ∷ [])
+postings_all row postings i last past =
+    ap (λ l. text_of (map row l) ++ text_of_row last) (take_all i postings past) ∙ flat_map_more text_of_row [] (map row postings) last

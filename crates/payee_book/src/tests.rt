@@ -84,25 +84,6 @@ fn writes_the_statements(rt: HostRuntime) -> Result<(), Fail> {
 }
 
 #[test]
-fn writes_over_what_the_memory_held(rt: HostRuntime) -> Result<(), Fail> {
-    let alloc = rt.alloc();
-    let table = b"usage,work,territory,right,amount\nu1,W1,276,P,100\n";
-    let usage = Usage::read(alloc, table)?;
-    let mut book = Book::open(alloc, 1)?;
-    assert!(rt; book.accounts() == 1);
-    book.post(0, 0, 100)?;
-    assert_lines(&rt, &book, usage.len());
-    let nobody = [Vec::new(alloc)];
-    let reasons = [Reason::Work];
-    assert!(rt; reasons.len() == usage.len() && book.accounts() == 1);
-    let memory = Vec::from_slice(alloc, table)?;
-    let text = book.text_over(memory, &usage, &nobody, &reasons)?;
-    let want = "M,WORK,u1,100\nT,,1,100\nR,,1,100\n";
-    assert_eq!(rt; text.as_slice(), want.as_bytes());
-    Ok(())
-}
-
-#[test]
 fn takes_the_most_accounts(rt: HostRuntime) -> Result<(), Fail> {
     let mut book = Book::open(rt.alloc(), 65_535)?;
     assert_eq!(rt; book.accounts(), 65_535);

@@ -1,5 +1,6 @@
 //! The statements as CSV.
 
+ghost use Rattle.std.specs.Io.KnownBytes.{Appends, append_known};
 ghost use Rattle.std.specs.Prelude.{◌≡◌, ◌≤◌, ◌<◌, ◌++◌, ◌∷◌, [], All, OnOk, IfOk, codes, decimal, length, map, sum_by};
 ghost use Rattle.csv_table.specs.Table.{rows_of};
 ghost use Rattle.csv_table.specs.Written.{text_of, text_of_row};
@@ -13,6 +14,7 @@ use csv_table::RowWriter;
 use itoa::Buffer;
 use line_split::{RESIDUE, Reason, Usage};
 use std::alloc::{AllocError, Global};
+use std::io::{self, Write};
 
 impl Book {
     /// The statements as CSV, four fields a row: for each account from 1 on that has postings,
@@ -32,48 +34,56 @@ impl Book {
         ensures rows { IfOk result (λ text. text.items ≡ text_of (rows_of_book self.now usage.now (map (λ party. party.items) parties.now) reasons.now)) }
         ensures reads_back { IfOk result (λ text. rows_of text.items ≡ rows_of_book self.now usage.now (map (λ party. party.items) parties.now) reasons.now) }
     {
-        self.text_over(Vec::new(alloc), usage, parties, reasons)
+        let rows = RowWriter::with_room(alloc)?;
+        let mut text = Vec::new(alloc);
+        match self.print(rows, usage, parties, reasons, &mut text) {
+            Ok(()) => Ok(text),
+            // Writing into memory fails only where memory does.
+            Err(_) => Err(AllocError),
+        }
     }
 
-    /// The same, written into this memory, whatever it holds.
-    pub fn text_over(
+    /// Prints the same to an output, by the page. `rows` are none yet, with room, as they are made by
+    /// `RowWriter::with_room`.
+    pub fn print<W: Write>(
         &self,
-        memory: Vec<u8>,
+        mut rows: RowWriter,
         usage: &Usage,
         parties: &[Vec<u8>],
         reasons: &[Reason],
-    ) -> Result<Vec<u8>, AllocError>
+        out: &mut W,
+    ) -> io::Result<()>
+        requires anew { rows ≡ [] }
         requires parties { length parties.now ≡ length self.now }
         requires reasons { length reasons.now ≡ length usage.now }
         requires lines { All (All (λ posting. posting.0 < length usage.now)) self.now }
-        ensures rows { IfOk result (λ text. text.items ≡ text_of (rows_of_book self.now usage.now (map (λ party. party.items) parties.now) reasons.now)) }
-        ensures reads_back { IfOk result (λ text. rows_of text.items ≡ rows_of_book self.now usage.now (map (λ party. party.items) parties.now) reasons.now) }
+        ensures { OnOk result (Appends (W.contents out.old) (W.contents out.new) (text_of (rows_of_book self.now usage.now (map (λ party. party.items) parties.now) reasons.now))) }
     {
-        let mut out = RowWriter::over(memory);
         for account in 1..self.accounts() {
             let party = parties[account as usize].as_slice();
-            write_payee(&mut out, usage, party, self.lines(account))?;
+            write_payee(&mut rows, usage, party, self.lines(account), out)?;
         }
-        write_residue(&mut out, usage, reasons, self.lines(RESIDUE))?;
-        write_run(&mut out, usage)?;
-        out.into_text()
+        write_residue(&mut rows, usage, reasons, self.lines(RESIDUE), out)?;
+        write_run(&mut rows, usage)?;
+        rows.pass_on(out)
     }
 }
 
 /// How many usage lines are looked up before their rows are written. They lie far apart in memory, and
 /// look-ups that follow one another do not wait for each other.
-const LOOKED_UP_AT_ONCE: usize = 16;
+const LOOKED_UP_AT_ONCE: usize = 128;
 
-/// A payee's statement, where it has a posting.
-fn write_payee(
-    out: &mut RowWriter,
+/// A payee's statement, where it has a posting. Full pages go on to `out`.
+fn write_payee<W: Write>(
+    rows: &mut RowWriter,
     usage: &Usage,
     party: &[u8],
     statement: &[(u64, u64)],
-) -> Result<(), AllocError>
+    out: &mut W,
+) -> io::Result<()>
     requires lines { All (λ posting. posting.0 < length usage.now) statement.now }
     requires small { All (λ posting. posting.1 ≤ MOST_AMOUNT) statement.now }
-    ensures { OnOk result (out.new ≡ out.old ++ text_of (payee_rows usage.now party.now statement.now)) }
+    ensures { OnOk result (Appends (append_known (W.contents out.old) rows.old) (append_known (W.contents out.new) rows.new) (text_of (payee_rows usage.now party.now statement.now))) }
 {
     if statement.is_empty() {
         return Ok(());
@@ -81,60 +91,63 @@ fn write_payee(
     let mut written = 0;
     while written < statement.len() {
         let end = statement.len().min(written + LOOKED_UP_AT_ONCE);
-        write_postings(out, usage, party, &statement[written..end])?;
+        write_postings(rows, usage, party, &statement[written..end])?;
+        rows.pass_on_page(out)?;
         written = end;
     }
-    write_total(out, "S", party, statement)
+    Ok(write_total(rows, "S", party, statement)?)
 }
 
 /// Some of a payee's postings, as many as are looked up at once.
 fn write_postings(
-    out: &mut RowWriter,
+    rows: &mut RowWriter,
     usage: &Usage,
     party: &[u8],
     postings: &[(u64, u64)],
 ) -> Result<(), AllocError>
     requires lines { All (λ posting. posting.0 < length usage.now) postings.now }
     requires few { length postings.now ≤ LOOKED_UP_AT_ONCE }
-    ensures { OnOk result (out.new ≡ out.old ++ text_of (map (posting_row usage.now (codes "L") party.now) postings.now)) }
+    ensures { OnOk result (rows.new ≡ rows.old ++ text_of (map (posting_row usage.now (codes "L") party.now) postings.now)) }
 {
     let mut names: [&[u8]; LOOKED_UP_AT_ONCE] = [b""; LOOKED_UP_AT_ONCE];
     for place in 0..postings.len() {
         names[place] = usage_of(usage, postings[place].0);
     }
     for place in 0..postings.len() {
-        write_posting(out, "L", party, names[place], postings[place].1)?;
+        write_posting(rows, "L", party, names[place], postings[place].1)?;
     }
     Ok(())
 }
 
-/// The residue's statement.
-fn write_residue(
-    out: &mut RowWriter,
+/// The residue's statement. Full pages go on to `out`.
+fn write_residue<W: Write>(
+    rows: &mut RowWriter,
     usage: &Usage,
     reasons: &[Reason],
     statement: &[(u64, u64)],
-) -> Result<(), AllocError>
+    out: &mut W,
+) -> io::Result<()>
     requires reasons { length reasons.now ≡ length usage.now }
     requires lines { All (λ posting. posting.0 < length usage.now) statement.now }
     requires small { All (λ posting. posting.1 ≤ MOST_AMOUNT) statement.now }
-    ensures { OnOk result (out.new ≡ out.old ++ text_of (residue_rows usage.now reasons.now statement.now)) }
+    ensures { OnOk result (Appends (append_known (W.contents out.old) rows.old) (append_known (W.contents out.new) rows.new) (text_of (residue_rows usage.now reasons.now statement.now))) }
 {
     for posting in statement {
         let reason = word_of(reasons[posting.0 as usize]);
         let name = usage_of(usage, posting.0);
-        write_posting(out, "M", reason.as_bytes(), name, posting.1)?;
+        write_posting(rows, "M", reason.as_bytes(), name, posting.1)?;
+        rows.pass_on_page(out)?;
     }
-    write_total(out, "T", b"", statement)
+    Ok(write_total(rows, "T", b"", statement)?)
 }
 
 /// What the usage lines come to.
-fn write_run(out: &mut RowWriter, usage: &Usage) -> Result<(), AllocError>
-    ensures { OnOk result (out.new ≡ out.old ++ text_of_row (run_row usage.now)) }
+fn write_run(rows: &mut RowWriter, usage: &Usage) -> Result<(), AllocError>
+    ensures { OnOk result (rows.new ≡ rows.old ++ text_of_row (run_row usage.now)) }
 {
     let mut lines = Buffer::new();
     let mut amount = Buffer::new();
-    out.row(&[
+    rows.row(&[
         b"R",
         b"",
         lines.format(usage.len()).as_bytes(),
@@ -164,32 +177,32 @@ fn usage_of(usage: &Usage, line: u64) -> &[u8]
 
 /// A posting.
 fn write_posting<'a>(
-    out: &mut RowWriter,
+    rows: &mut RowWriter,
     kind: &str,
     whose: &'a [u8],
     usage: &'a [u8],
     amount: u64,
 ) -> Result<(), AllocError>
-    ensures { OnOk result (out.new ≡ out.old ++ text_of_row (kind.now ∷ whose.now ∷ usage.now ∷ decimal amount ∷ [])) }
+    ensures { OnOk result (rows.new ≡ rows.old ++ text_of_row (kind.now ∷ whose.now ∷ usage.now ∷ decimal amount ∷ [])) }
 {
     let mut digits = Buffer::new();
     let amount = digits.format(amount);
-    out.row(&[kind.as_bytes(), whose, usage, amount.as_bytes()])
+    rows.row(&[kind.as_bytes(), whose, usage, amount.as_bytes()])
 }
 
 /// What a statement comes to.
 fn write_total(
-    out: &mut RowWriter,
+    rows: &mut RowWriter,
     kind: &str,
     whose: &[u8],
     statement: &[(u64, u64)],
 ) -> Result<(), AllocError>
     requires { All (λ posting. posting.1 ≤ MOST_AMOUNT) statement.now }
-    ensures { OnOk result (out.new ≡ out.old ++ text_of_row (total_row kind.now whose.now statement.now)) }
+    ensures { OnOk result (rows.new ≡ rows.old ++ text_of_row (total_row kind.now whose.now statement.now)) }
 {
     let mut count = Buffer::new();
     let mut total = Buffer::new();
-    out.row(&[
+    rows.row(&[
         kind.as_bytes(),
         whose,
         count.format(statement.len()).as_bytes(),

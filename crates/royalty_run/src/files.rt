@@ -1,16 +1,17 @@
 //! A distribution run over files.
 
-ghost use Rattle.std.specs.Prelude.{◌≤◌, IfOk, IfErr, length};
+ghost use Rattle.std.specs.Io.KnownBytes.{Appends};
+ghost use Rattle.std.specs.Prelude.{◌≡◌, ◌≤◌, ℕ, List, IfOk, IfErr, OnOk, length};
 ghost use Rattle.settle_run.specs.Settled.{AreStatements};
 ghost use Rattle.royalty_run.specs.declared.files.TheConstants.{MOST_BYTES};
 ghost use Rattle.royalty_run.specs.Status.{IsOfFile, IsOfFiles, IsRefusal};
 
 use crate::failure::Failure;
 use crate::run_command::RunWords;
-use settle_run::settle_and_free;
+use settle_run::settle_to;
 use std::alloc::Global;
 use std::fs::{self, OpenFile};
-use std::io::{self, ErrorKind, Read};
+use std::io::{self, ErrorKind, Read, Write};
 use std::rt::Files;
 use std::sync::Wait;
 use std::thread::Threads;
@@ -18,16 +19,18 @@ use std::thread::Threads;
 /// The most bytes that a file of a run has.
 pub const MOST_BYTES: u64 = 268_435_456;
 
-/// The statements of a run over three files. All are read, in the order of the fields, before any is
-/// looked into.
-pub fn settle_files<R: Files + Threads + Wait + Sync>(
+/// Prints the statements of a run over three files. All are read, in the order of the fields, before any
+/// is looked into.
+pub fn settle_files<R: Files + Threads + Wait + Sync, W: Write>(
     rt: &R,
     alloc: Global,
     asked: RunWords,
-) -> Result<Vec<u8>, Failure>
-    ensures statements { IfOk result (λ text. AreStatements text.items) }
+    out: &mut W,
+) -> Result<io::Result<()>, Failure>
+    ensures statements { IfOk result (λ printed. OnOk printed ((text : List ℕ) × Appends (W.contents out.old) (W.contents out.new) text × AreStatements text)) }
     ensures failure { IfErr result IsRefusal }
     ensures file { IfErr result (IsOfFiles asked) }
+    ensures silent { IfErr result (λ _. out.new ≡ out.old) }
 {
     let RunWords {
         tis,
@@ -38,7 +41,7 @@ pub fn settle_files<R: Files + Threads + Wait + Sync>(
     let tis = read_file(rt, alloc, tis)?;
     let cwr = read_file(rt, alloc, cwr)?;
     let usage = read_file(rt, alloc, usage)?;
-    settle_and_free(rt, alloc, tis, cwr, usage, plan).map_err(Failure::of_run)
+    settle_to(rt, alloc, tis, cwr, usage, plan, out).map_err(Failure::of_run)
 }
 
 /// The bytes of a file, where it can be read and is no larger than the most bytes.

@@ -1,7 +1,7 @@
 //! What the program does with its words, and the status that it answers.
 
-ghost use Rattle.std.specs.Prelude.{◌≡◌, ◌≢◌, ◌≤◌, ◌⊎◌, ℕ, List, IfOk, IfErr, OnOk, map, string_bytes};
-ghost use Rattle.std.specs.Io.KnownBytes.{Appends};
+ghost use Rattle.std.specs.Prelude.{◌≡◌, ◌≢◌, ◌≤◌, ◌⊎◌, ℕ, List, IfOk, IfErr, IsOk, OnOk, map, string_bytes};
+ghost use Rattle.std.specs.Io.KnownBytes.{Appends, Keeps};
 ghost use Rattle.royalty_run.specs.Asked.{IsDivision};
 ghost use Rattle.royalty_run.specs.Answered.{IsAnswered};
 ghost use Rattle.royalty_run.specs.Status.{IsFailureOf, IsRefusal, failure_of_kind};
@@ -52,8 +52,8 @@ pub fn program<R: Files + Threads + Wait + Sync, W: Write, E: Write>(
     ensures quiet { result ≡ 0 → err.new ≡ err.old }
     ensures silent { (result ≡ 1) ⊎ ((result ≡ 2) ⊎ (result ≡ 3)) → out.new ≡ out.old }
 {
-    match answer(rt, alloc, words) {
-        Ok(text) => match print(text.as_slice(), out) {
+    match answer(rt, alloc, words, out) {
+        Ok(printed) => match see_through(printed, out) {
             Ok(()) => 0,
             Err(_) => Failure::Output.report(err),
         },
@@ -61,37 +61,40 @@ pub fn program<R: Files + Threads + Wait + Sync, W: Write, E: Write>(
     }
 }
 
-/// What is to be printed: the rows of a division, the statements of a run, or help.
-fn answer<R: Files + Threads + Wait + Sync>(
+/// Prints the rows of a division, the statements of a run, or help.
+fn answer<R: Files + Threads + Wait + Sync, W: Write>(
     rt: &R,
     alloc: Global,
     words: &[String],
-) -> Result<Vec<u8>, Failure>
-    ensures answered { IfOk result (λ text. IsAnswered (map string_bytes words.now) text.items) }
+    out: &mut W,
+) -> Result<io::Result<()>, Failure>
+    ensures answered { IfOk result (λ printed. OnOk printed ((text : List ℕ) × Appends (W.contents out.old) (W.contents out.new) text × IsAnswered (map string_bytes words.now) text)) }
     ensures failure { IfErr result IsRefusal }
     ensures pairs { IsDivision (map string_bytes words.now) → IfErr result (IsFailureOf (map string_bytes words.now)) }
+    ensures silent { IfErr result (λ _. out.new ≡ out.old) }
 {
     match read_words(alloc, words) {
         Ok(Asked::Division(asked)) => {
             match split_words(alloc, asked.amount, asked.pairs.as_slice()) {
-                Ok(text) => Ok(text),
+                Ok(text) => Ok(out.write_all(text.as_slice())),
                 Err(fault) => Err(Failure::of(fault)),
             }
         }
-        Ok(Asked::Run(asked)) => settle_files(rt, alloc, asked),
+        Ok(Asked::Run(asked)) => settle_files(rt, alloc, asked, out),
         Err(error) if error.kind() == ErrorKind::OutOfMemory => Err(Failure::Room),
         Err(error) if error.use_stderr() => Err(Failure::Words(error)),
         Err(help) => match format!(in alloc; "{help}") {
-            Ok(text) => Ok(text.into_bytes()),
+            Ok(text) => Ok(out.write_all(text.as_bytes())),
             Err(_) => Err(Failure::Room),
         },
     }
 }
 
-/// Writes the whole text, and sees it through to the output.
-fn print<W: Write>(text: &[u8], out: &mut W) -> io::Result<()>
-    ensures { OnOk result (Appends (W.contents out.old) (W.contents out.new) text.now) }
+/// Sees what was printed through to the output, where nothing was refused.
+fn see_through<W: Write>(printed: io::Result<()>, out: &mut W) -> io::Result<()>
+    ensures printed { IsOk result → IsOk printed }
+    ensures kept { Keeps (W.contents out.old) (W.contents out.new) }
 {
-    out.write_all(text)?;
+    printed?;
     out.flush()
 }

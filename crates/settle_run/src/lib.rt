@@ -7,4 +7,4 @@ mod statements;
 mod tests;
 
 pub use fault::Fault;
-pub use statements::{settle, settle_and_free};
+pub use statements::{settle, settle_to};

@@ -1,19 +1,26 @@
 //! A distribution run: three files in, the statements of all payees and of the residue out.
 
-ghost use Rattle.std.specs.Prelude.{◌≡◌, ◌<◌, ◌≤◌, ◌++◌, ℕ, All, IfErr, IfOk, OnOk, [], length, map, slice_index_or};
+ghost use Rattle.std.specs.Io.KnownBytes.{Appends};
+ghost use Rattle.std.specs.Prelude.{◌≡◌, ◌<◌, ◌≤◌, ◌+◌, ◌-◌, ◌++◌, ℕ, List, All, IfErr, IfOk, None, OnOk, Some, [], length, map, slice_get, slice_index_or};
 ghost use Rattle.std.specs.List.{AllPairs};
+ghost use Rattle.csv_table.specs.Written.{text_of};
+ghost use Rattle.cwr_share.specs.Found.{IsLookUp};
 ghost use Rattle.cwr_share.specs.Registered.{IsRegistered};
+ghost use Rattle.line_split.specs.UsageLine.{UsageLine};
 ghost use Rattle.line_split.specs.declared.TheConstants.{MOST_AMOUNT};
 ghost use Rattle.payee_book.specs.Run.{IsBookOf, portion_of, posting_of};
-ghost use Rattle.payee_book.specs.Text.{residue_rows};
+ghost use Rattle.payee_book.specs.Text.{residue_rows, rows_of_book};
+ghost use Rattle.settle_run.specs.declared.statements.TheConstants.{LOOKED_UP_AT_ONCE};
 ghost use Rattle.settle_run.specs.Settled.{AreStatementsFor, AreStatementsOf, IsFaultOf, division_by, reason_of};
 
 use crate::fault::Fault;
-use cwr_share::Registry;
+use csv_table::RowWriter;
+use cwr_share::{Registry, Work};
 use line_split::{Account, MOST_CLAIMS, Portions, RESIDUE, Reason, Usage, split};
 use payee_book::Book;
 use split_run::Plan;
 use std::alloc::{AllocError, Global};
+use std::io::{self, Write};
 use std::sync::Wait;
 use std::thread::Threads;
 use tis_tree::TisTable;
@@ -35,46 +42,53 @@ pub fn settle<R: Threads + Wait + Sync>(
     let territories = TisTable::read(alloc, tis)?;
     let registry = Registry::read(alloc, cwr)?;
     let lines = Usage::read(alloc, usage)?;
-    let memory = Vec::new(alloc);
-    Ok(statements(alloc, memory, &territories, &registry, &lines)?)
+    let (book, reasons) = settled(alloc, &territories, &registry, &lines)?;
+    Ok(book.text(alloc, &lines, registry.parties(), reasons.as_slice())?)
 }
 
-/// The same of inputs that are no longer needed: the territories and the CWR file are freed as soon as
-/// they are read, and the statements are written into the memory of the usage lines.
-pub fn settle_and_free<R: Threads + Wait + Sync>(
+/// Prints the same to an output, by the page. The inputs are given away, and each is freed as soon as it
+/// is read. Once the first page is printed no memory is asked for.
+pub fn settle_to<R: Threads + Wait + Sync, W: Write>(
     _rt: &R,
     alloc: Global,
     tis: Vec<u8>,
     cwr: Vec<u8>,
     usage: Vec<u8>,
     _plan: Plan,
-) -> Result<Vec<u8>, Fault>
-    ensures statements { IfOk result (λ text. AreStatementsOf tis.items cwr.items usage.items text.items) }
+    out: &mut W,
+) -> Result<io::Result<()>, Fault>
+    ensures statements { IfOk result (λ printed. OnOk printed ((text : List ℕ) × Appends (W.contents out.old) (W.contents out.new) text × AreStatementsOf tis.items cwr.items usage.items text)) }
     ensures fault { IfErr result (IsFaultOf tis.items cwr.items usage.items) }
+    ensures silent { IfErr result (λ _. out.new ≡ out.old) }
 {
     let territories = TisTable::read(alloc, tis.as_slice())?;
     drop(tis);
     let registry = Registry::read(alloc, cwr.as_slice())?;
     drop(cwr);
     let lines = Usage::read(alloc, usage.as_slice())?;
-    // The statements are longer than the table of usage lines that they come from, and its memory is at hand.
-    Ok(statements(alloc, usage, &territories, &registry, &lines)?)
+    drop(usage);
+    let (book, reasons) = settled(alloc, &territories, &registry, &lines)?;
+    let rows = RowWriter::with_room(alloc)?;
+    Ok(book.print(rows, &lines, registry.parties(), reasons.as_slice(), out))
 }
 
-/// The statements of usage lines by these territories and registrations, written into this memory.
-fn statements(
+/// The book of usage lines by these territories and registrations, and the reason of each line that has a
+/// residue. With the parties they are what the text of the statements is made of.
+fn settled(
     alloc: Global,
-    memory: Vec<u8>,
     tis: &TisTable,
     registry: &Registry,
     usage: &Usage,
-) -> Result<Vec<u8>, AllocError>
+) -> Result<(Book, Vec<Reason>), AllocError>
     requires sound { IsRegistered registry.now }
-    ensures { IfOk result (λ text. AreStatementsFor tis.now registry.now usage.now text.items) }
+    ensures accounts { IfOk result (λ settled. length settled.0 ≡ length registry.now.parties) }
+    ensures lines { IfOk result (λ settled. All (All (λ posting. posting.0 < length usage.now)) settled.0) }
+    ensures reasons { IfOk result (λ settled. length settled.1.items ≡ length usage.now) }
+    ensures statements { IfOk result (λ settled. AreStatementsFor tis.now registry.now usage.now (text_of (rows_of_book settled.0 usage.now registry.now.parties settled.1.items))) }
 {
     let book = book_of(alloc, tis, registry, usage)?;
     let reasons = reasons_of(alloc, tis, registry, usage, book.lines(RESIDUE))?;
-    book.text_over(memory, usage, registry.parties(), reasons.as_slice())
+    Ok((book, reasons))
 }
 
 /// How many postings a usage line is expected to come to, at most, where all accounts have as many. Room
@@ -95,13 +109,41 @@ fn book_of(
     let mut book = Book::with_room(alloc, registry.accounts(), room)?;
     let mut claims = registry.scratch(alloc)?;
     let mut portions = Portions::room(alloc, MOST_CLAIMS + 1)?;
-    for place in 0..usage.len() {
-        let line = usage.line(place);
-        let _ = registry.claims(tis, &line, &mut claims);
-        split(line.amount, &claims, &mut portions);
-        post_line(&mut book, place as u64, portions.list())?;
+    let mut done = 0;
+    while done < usage.len() {
+        let end = usage.len().min(done + LOOKED_UP_AT_ONCE);
+        let works = works_of(registry, usage, done, end);
+        for place in done..end {
+            let line = usage.line(place);
+            let _ = registry.claims_to(works[place - done], tis, &line, &mut claims);
+            split(line.amount, &claims, &mut portions);
+            post_line(&mut book, place as u64, portions.list())?;
+        }
+        done = end;
     }
     Ok(book)
+}
+
+/// How many works are looked up before the claims to them are worked out. They lie far apart in memory, and
+/// look-ups that follow one another do not wait for each other.
+const LOOKED_UP_AT_ONCE: usize = 16;
+
+/// The works of the lines from one place to another, as many as are looked up at once.
+fn works_of<'a>(
+    registry: &'a Registry,
+    usage: &Usage,
+    from: usize,
+    end: usize,
+) -> [Option<Work<'a>>; LOOKED_UP_AT_ONCE]
+    requires within { end ≤ length usage.now }
+    requires few { end ≤ from + LOOKED_UP_AT_ONCE }
+    ensures { (place : ℕ) (line : UsageLine) → from ≤ place → place < end → slice_get usage.now place ≡ Some line → IsLookUp registry.now line.work (slice_index_or result (place - from) None) }
+{
+    let mut works = [None; LOOKED_UP_AT_ONCE];
+    for place in from..end {
+        works[place - from] = registry.find(usage.line(place).work);
+    }
+    works
 }
 
 /// Posts those portions of a line that are not 0.

@@ -4,6 +4,7 @@
 use super::*;
 use split_run::Plan;
 use std::alloc::Global;
+use std::io::{self, Write};
 use std::process::Abort;
 use std::sync::Wait;
 use std::test::Fail;
@@ -51,8 +52,7 @@ T,,2,37
 R,,3,157
 ";
 
-/// The statements of a run, or what it is refused for: of inputs that are lent, and the same of inputs
-/// that are given away.
+/// The statements of a run, or what it is refused for: as one text, and the same as it is printed.
 fn outcome<R: Threads + Wait + Sync>(
     rt: &R,
     alloc: Global,
@@ -65,11 +65,17 @@ fn outcome<R: Threads + Wait + Sync>(
     let tis = Vec::from_slice(alloc, tis)?;
     let cwr = Vec::from_slice(alloc, cwr)?;
     let usage = Vec::from_slice(alloc, usage)?;
-    let given = told(alloc, settle_and_free(rt, alloc, tis, cwr, usage, plan))?;
+    let mut printed = Vec::new(alloc);
+    let given = match settle_to(rt, alloc, tis, cwr, usage, plan, &mut printed) {
+        Ok(Ok(())) => told(alloc, Ok(printed))?,
+        Ok(Err(_)) => return Err(Fail::new("memory refused a write")),
+        Err(fault) if printed.is_empty() => told(alloc, Err(fault))?,
+        Err(_) => return Err(Fail::new("a refused run has printed something")),
+    };
     if lent.as_str() == given.as_str() {
         Ok(lent)
     } else {
-        Err(Fail::new("inputs that are given away have another outcome"))
+        Err(Fail::new("what is printed is another outcome"))
     }
 }
 
@@ -225,4 +231,64 @@ fn refuses_the_usage_lines_last(rt: HostRuntime) -> Result<(), Fail> {
     let uses = "usage,work,territory,right,amount\nu,W,276,X,1\n";
     let fault = "3 Some(1) the usage lines: the right of row 1 is not P, M or S";
     assert_outcome(&rt, rt.alloc(), [TERRITORIES, TWO_PARTIES, uses], fault)
+}
+
+/// An output that takes so many bytes and then refuses. It counts what is written to it.
+#[derive(Drop)]
+struct Narrow {
+    room: usize,
+    writes: u64,
+    longest: usize,
+}
+
+impl Write for Narrow {
+    fn write(&mut self, buf: &[u8]) -> io::Result<usize> {
+        if self.room == 0 {
+            return Err(io::Error::from(io::ErrorKind::BrokenPipe));
+        }
+        let taken = buf.len().min(self.room);
+        self.room -= taken;
+        self.writes = self.writes.saturating_add(1);
+        self.longest = self.longest.max(buf.len());
+        Ok(taken)
+    }
+
+    fn flush(&mut self) -> io::Result<()> {
+        Ok(())
+    }
+}
+
+#[test]
+fn prints_many_pages(rt: HostRuntime) -> Result<(), Fail> {
+    let alloc = rt.alloc();
+    let mut uses = Vec::from_slice(alloc, b"usage,work,territory,right,amount\n")?;
+    for line in 0..12_000u64 {
+        let row = format!(in alloc; "use {line},W1,276,P,100\n")?;
+        uses.extend_from_slice(row.as_bytes())?;
+    }
+    let uses = String::from_utf8(uses).unwrap_or(String::new(alloc));
+    let Some(plan) = Plan::new(1, 1, 1) else {
+        return Err(Fail::new("no plan"));
+    };
+    let text = outcome(&rt, alloc, [TERRITORIES, TWO_PARTIES, uses.as_str()], plan)?;
+    assert!(rt; text.len() > 300_000);
+    for room in [0, 1, 131_072, text.len() - 1, text.len()] {
+        let tis = Vec::from_slice(alloc, TERRITORIES.as_bytes())?;
+        let cwr = Vec::from_slice(alloc, TWO_PARTIES.as_bytes())?;
+        let usage = Vec::from_slice(alloc, uses.as_bytes())?;
+        let mut out = Narrow {
+            room,
+            writes: 0,
+            longest: 0,
+        };
+        let Ok(printed) = settle_to(&rt, alloc, tis, cwr, usage, plan, &mut out) else {
+            return Err(Fail::new("a run is refused for its output"));
+        };
+        assert_eq!(rt; printed.is_ok(), room == text.len(), "{room}");
+        assert!(rt; out.longest < 200_000);
+        if printed.is_ok() {
+            assert_eq!(rt; out.writes, 3);
+        }
+    }
+    Ok(())
 }

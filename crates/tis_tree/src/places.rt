@@ -4,13 +4,14 @@ ghost use Rattle.std.specs.Prelude.{◌≡◌, ◌<◌, ◌||◌, ◌==◌, ℕ,
 ghost use Rattle.tis_tree.specs.Compiled.{has_bit};
 ghost use Rattle.tis_tree.specs.declared.TheConstants.{MOST_ROWS};
 
-/// How many words hold a bit for each place.
-const WORDS: usize = 32;
+/// How many words a set has. 32 have a bit for each place. With one more, the words of neighbouring sets
+/// that hold the same places are no power of two apart, so that a cache keeps more of them.
+const WORDS: usize = 33;
 
 /// A set of places of rows.
 #[derive(Drop)]
 pub(crate) struct Places {
-    pub(crate) words: [u64; 32],
+    pub(crate) words: [u64; WORDS],
 }
 
 impl Places {
@@ -18,7 +19,7 @@ impl Places {
     pub(crate) fn none() -> Places
         ensures { (place : ℕ) → place < MOST_ROWS → has_bit result.words place ≡ false }
     {
-        Places { words: [0; 32] }
+        Places { words: [0; WORDS] }
     }
 
     /// Whether the set has a place.

@@ -1,9 +1,11 @@
-use Rattle.std.proofs.Common.{◌≡◌, ◌++◌, codes, map, take}
+use Rattle.std.proofs.Common.{codes, map, take}
+use Rattle.std.specs.Io.KnownBytes.{Appends, append_known}
 use Rattle.csv_table.specs.Written.{text_of}
 use Rattle.payee_book.specs.Text.{posting_row, reason_at}
 use Rattle.payee_book.proofs.text.write_residue.Given as goal
 
 -- the postings so far are written
 abbrev pub invariant-loop-posting : goal.invariant-loop-posting
-invariant-loop-posting l =
-    l.out ≡ l.fn.out ++ text_of (map (λ posting. posting_row l.usage (codes "M") (reason_at l.reasons posting.0) posting) (take l.posting-index l.statement))
+invariant-loop-posting g l =
+    Appends (append_known (g.W.Write.contents l.fn.out) l.fn.rows) (append_known (g.W.Write.contents l.out) l.rows)
+    (text_of (map (λ posting. posting_row l.usage (codes "M") (reason_at l.reasons posting.0) posting) (take l.posting-index l.statement)))

@@ -1,0 +1,21 @@
+use Rattle.std.proofs.Common.{◌∙◌, ap, arith, map, sym}
+use Rattle.cwr_share.specs.Compiled.{Kept}
+use Rattle.cwr_share.specs.Registered.{Registered}
+use Rattle.cwr_share.proofs.CompiledLemmas.{found_nowhere, looked_up, registration_at}
+use Rattle.cwr_share.proofs.registry.Registry.find.Goals as goal
+
+pub returns-in_err-place : goal.returns-in_err-place
+returns-in_err-place c =
+    rw (c.from_residual.ensures, ap (λ (r : Registered). r.works) (sym c.self.view_is))
+    (found_nowhere c.args.number.now (map (λ party. party.items) c.self.inside.parties.items) c.self.inside.works.keys c.self.inside.registrations c.in_err-place.ensures.index)
+
+pub returns : goal.returns
+returns c =
+    let registrations = c.self.inside.registrations in
+    let (registration, there) = registration_at registrations c.in_ok-place.place (omega (arith, c.in_ok-place.ensures.within, c.self.invariant.1.paired)) in
+    record {
+      registration = registration;
+      up = looked_up c.self.inside.works.keys registrations c.self.inside.parties.items c.args.self.now c.args.number.now c.in_ok-place.place registration
+          c.self.invariant.0 c.self.invariant.1 c.self.view_is c.in_ok-place.ensures.index c.in_ok-place.ensures.within there;
+      exact = c.lines_of.ensures registration ∙ ap (λ (r : Kept). r.lines) (sym there);
+    }

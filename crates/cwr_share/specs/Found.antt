@@ -1,0 +1,26 @@
+-- What a registry has for a work, as a look-up finds it.
+use Rattle.std.specs.Prelude.{ℕ, ◌≡◌, ◌≤◌, List, Option, Some, None, length}
+use Rattle.cwr_share.specs.Compiled.{InterestsRise, IsKept, Kept, kept_lines}
+use Rattle.cwr_share.specs.declared.TheConstants.{MOST_SHARES}
+use Rattle.cwr_share.specs.declared.claim_line.ClaimLine.{ClaimLine}
+use Rattle.cwr_share.specs.declared.registry.Work.{Work}
+use Rattle.cwr_share.specs.Registered.{Registered}
+use Rattle.cwr_share.specs.Registrations.{find_work}
+
+-- A registry has this registration of a work.
+pub record LookedUp (registered : Registered) (work : List ℕ) (registration : Kept) : Type 0 where
+  pub works : find_work work registered.works ≡ Some (kept_lines registered.parties registration)
+  pub kept : IsKept registered.parties registration
+  pub rise : InterestsRise (kept_lines registered.parties registration)
+  pub few : length (kept_lines registered.parties registration) ≤ MOST_SHARES
+
+-- these are its share lines, as its claims are worked out
+pub record IsFound (registered : Registered) (work : List ℕ) (lines : List ClaimLine) : Type 0 where
+  pub registration : Kept
+  pub up : LookedUp registered work registration
+  pub exact : lines ≡ registration.lines
+
+-- this is what a look-up of a work finds: nothing, where there is no registration of it
+abbrev pub IsLookUp : Registered → List ℕ → Option Work → Type 0
+IsLookUp registered work None = find_work work registered.works ≡ None
+IsLookUp registered work (Some found) = IsFound registered work found.lines.now
