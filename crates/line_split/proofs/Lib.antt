@@ -10,5 +10,6 @@ pub mod FirstPlaces
 pub mod ByAccount
 pub mod Over
 mod UsageRows
+pub mod OneTable
 mod KeptLemmas
 pub mod PortionAccounts

@@ -1,10 +1,16 @@
-//! What the portions are in the terms of apportionment. A law has no body: its contract is the law.
+//! What the portions are in the terms of apportionment, what a table of usage lines keeps to, and the
+//! limits. A law has no body: its contract is the law.
 
 ghost use Rattle.std.specs.Prelude.{◌≡◌, ◌<◌, ℕ, List, [], ◌∷◌, ◌++◌, map, sum_by};
-ghost use Rattle.line_split.specs.declared.TheConstants.{MOST_CLAIMED, RESIDUE};
+ghost use Rattle.line_split.specs.declared.TheConstants.{FULL_SHARE, MOST_AMOUNT, MOST_CLAIMED, MOST_CLAIMS, RESIDUE};
+ghost use Rattle.line_split.specs.declared.line_fault.LineFault.{LineFault};
+ghost use Rattle.line_split.specs.declared.line_fault.LineFault.TheVariants.{Memory};
+ghost use Rattle.line_split.specs.declared.usage.TheConstants.{MOST_LINES, MOST_TEXT_BYTES};
 ghost use Rattle.line_split.specs.Claims.{base_of, participants_of, total_of};
 ghost use Rattle.line_split.specs.LargestRemainder.{portions_of};
 ghost use Rattle.line_split.specs.FairSplit.{IsFairSplit};
+ghost use Rattle.line_split.specs.UsageLine.{UsageLine};
+ghost use Rattle.line_split.specs.UsageTable.{IsFaultOf, IsTableOf};
 
 /// The portions add up to the amount; each is its exact share rounded down or up; and a unit left
 /// over goes to a greater remainder before a smaller one, among equal ones to the earlier place
@@ -27,4 +33,26 @@ pub fn law_over_goes_to_the_residue()
 /// No other portions are fair.
 pub fn law_fair_portions_are_these()
     ensures { (amount : ℕ) (claims portions : List (ℕ × ℕ)) → IsFairSplit amount claims portions → portions ≡ portions_of amount claims }
+{}
+
+/// The rows of a table are one list of usage lines.
+pub fn law_rows_are_one_list_of_lines()
+    ensures { (rows : List (List (List ℕ))) (lines other : List UsageLine) → IsTableOf rows lines → IsTableOf rows other → lines ≡ other }
+{}
+
+/// Rows that are a table of usage lines are refused for nothing but want of memory.
+pub fn law_a_table_of_lines_has_no_fault()
+    ensures { (rows : List (List (List ℕ))) (lines : List UsageLine) (fault : LineFault) → IsTableOf rows lines → IsFaultOf rows fault → fault ≡ Memory }
+{}
+
+/// The residue's account and the limits, as numbers: claims in hundredths of a per cent, amounts in
+/// minor units.
+pub fn law_the_limits()
+    ensures residue { RESIDUE ≡ 0 }
+    ensures most_claims { MOST_CLAIMS ≡ 256 }
+    ensures full_share { FULL_SHARE ≡ 10000 }
+    ensures most_claimed { MOST_CLAIMED ≡ 10006 }
+    ensures most_amount { MOST_AMOUNT ≡ 1000000000000 }
+    ensures most_lines { MOST_LINES ≡ 1000000 }
+    ensures most_text_bytes { MOST_TEXT_BYTES ≡ 64 }
 {}

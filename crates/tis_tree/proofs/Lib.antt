@@ -2,6 +2,7 @@ pub mod Bits
 pub mod Compiling
 pub mod Enclosing
 mod GroupWords
+pub mod OneTable
 pub mod Pieces
 mod TisWalks
 pub mod WorkedOut

@@ -1,8 +1,12 @@
-//! What containment of territories keeps to, whatever the table. A law has an empty body: its
-//! contract is the law.
+//! What tables of territories and their containment keep to, whatever the table. A law has an empty
+//! body: its contract is the law.
 
 ghost use Rattle.std.specs.Prelude.{◌≡◌, ◌↔◌, ◌++◌, ◌∷◌, [], true, ℕ, List};
+ghost use Rattle.tis_tree.specs.declared.TheConstants.{MOST_ROWS};
+ghost use Rattle.tis_tree.specs.declared.tis_fault.TisFault.{TisFault};
+ghost use Rattle.tis_tree.specs.declared.tis_fault.TisFault.TheVariants.{Memory};
 ghost use Rattle.tis_tree.specs.Territories.{AreTerritories, Encloses, IsKnown, encloses};
+ghost use Rattle.tis_tree.specs.TisRows.{IsFaultOf, IsTableOf};
 
 /// A code contains itself where it has a row, and only there.
 pub fn law_a_code_contains_itself()
@@ -32,4 +36,19 @@ pub fn law_a_later_row_changes_nothing()
 /// What contains what can be worked out, by looking from the last row back.
 pub fn law_containment_can_be_worked_out()
     ensures { (table : List (ℕ × List ℕ)) (group land : ℕ) → AreTerritories table → (encloses table group land ≡ true) ↔ Encloses table group land }
+{}
+
+/// The rows of a table are one list of territories.
+pub fn law_rows_are_one_table()
+    ensures { (rows : List (List (List ℕ))) (table other : List (ℕ × List ℕ)) → IsTableOf rows table → IsTableOf rows other → table ≡ other }
+{}
+
+/// Rows that are a table of territories are refused for nothing but want of memory.
+pub fn law_a_table_has_no_fault()
+    ensures { (rows : List (List (List ℕ))) (table : List (ℕ × List ℕ)) (fault : TisFault) → IsTableOf rows table → IsFaultOf rows fault → fault ≡ Memory }
+{}
+
+/// A table has at most 2,048 rows.
+pub fn law_the_limits()
+    ensures most_rows { MOST_ROWS ≡ 2048 }
 {}

@@ -1,0 +1,51 @@
+-- Rows are a table of usage lines in one way only, and a table has no fault but want of memory.
+use Rattle.std.proofs.Common.{◌≡◌, ◌≤◌, ◌<◌, ◌+◌, ℕ, List, ◌∷◌, ◌++◌, length, All, ap, refl, subst, inl, inr, arith, length-append}
+use Rattle.std.proofs.Math.Seq.{get_or-append_seam}
+use Rattle.std.proofs.lemmas.List.{length-map}
+use Rattle.line_split.specs.UsageLine.{UsageLine, line_of}
+use Rattle.line_split.specs.UsageTable.{IsFaultOf, IsFaultOfRow, IsFirstFault, IsLine, IsTableOf}
+use Rattle.line_split.specs.declared.usage.TheConstants.{MOST_LINES}
+use Rattle.line_split.specs.declared.line_fault.LineFault.{LineFault}
+use Rattle.line_split.specs.declared.line_fault.LineFault.TheVariants.{Csv, Fields, Territory, Right, Amount, Lines, Memory}
+
+-- the rows of a table are one list of lines
+pub one_table : (rows : List (List (List ℕ))) (lines other : List UsageLine) → IsTableOf rows lines → IsTableOf rows other → lines ≡ other
+one_table rows lines other is too =
+    let same : is.rows_below ≡ too.rows_below = cc in
+    rw (is.same, too.same, same) refl
+
+-- a row that is a line is refused for nothing but want of memory
+sound_row : (row : List (List ℕ)) (number : ℕ) (fault : LineFault) → IsLine row → number ≤ MOST_LINES → IsFaultOfRow number row fault → fault ≡ Memory
+sound_row row number (Csv n) line few refused = absurd (refused.2 line.whole)
+sound_row row number (Fields n) line few refused = absurd (refused.3 line.texts)
+sound_row row number (Territory n) line few refused = absurd (refused.4 line.territory)
+sound_row row number (Right n) line few refused = absurd (refused.5 line.right)
+sound_row row number (Amount n) line few refused = absurd (refused.6 line.amount)
+sound_row row number Lines line few refused = absurd (omega arith)
+sound_row row number Memory line few refused = refl
+
+-- among rows that are lines, each is one
+row_between : (before : List (List (List ℕ))) (row : List (List ℕ)) (after : List (List (List ℕ))) → All IsLine (before ++ row ∷ after) → IsLine row
+row_between before row after sound =
+    let within : length before < length (before ++ row ∷ after) = omega (arith, length-append before (row ∷ after)) in
+    rw get_or-append_seam at (sound (length before) row within)
+
+-- no row of a table is the first that is refused, but for want of memory
+no_first_fault : (rows : List (List (List ℕ))) (lines : List UsageLine) (fault : LineFault) → IsTableOf rows lines → IsFirstFault rows fault → fault ≡ Memory
+no_first_fault rows lines fault is first =
+    let same : is.rows_below ≡ first.before ++ first.row ∷ first.after = cc in
+    sound_row first.row (length first.before + 1) fault
+    (row_between first.before first.row first.after (subst (All IsLine) same is.sound))
+    (omega (arith, is.few, ap length is.same, length-map is.rows_below line_of, ap length same, length-append first.before (first.row ∷ first.after)))
+    first.refused
+
+-- rows that are a table are refused for nothing but want of memory
+pub no_fault : (rows : List (List (List ℕ))) (lines : List UsageLine) (fault : LineFault) → IsTableOf rows lines → IsFaultOf rows fault → fault ≡ Memory
+no_fault rows lines (Csv n) is (inl (first, none)) = absurd (none is.rows_below is.headed)
+no_fault rows lines (Csv n) is (inr first) = no_first_fault rows lines (Csv n) is first
+no_fault rows lines (Fields n) is first = no_first_fault rows lines (Fields n) is first
+no_fault rows lines (Territory n) is first = no_first_fault rows lines (Territory n) is first
+no_fault rows lines (Right n) is first = no_first_fault rows lines (Right n) is first
+no_fault rows lines (Amount n) is first = no_first_fault rows lines (Amount n) is first
+no_fault rows lines Lines is first = no_first_fault rows lines Lines is first
+no_fault rows lines Memory is fault = refl

@@ -1,0 +1,5 @@
+use Rattle.line_split.proofs.OneTable.{no_fault}
+use Rattle.line_split.proofs.laws.law_a_table_of_lines_has_no_fault.Goals as goal
+
+pub returns : goal.returns
+returns c = no_fault
