@@ -1,5 +1,9 @@
-//! What holds of every run of a mailbox. Each law is a function with nothing to do; its contract is the law.
+//! What holds of every run of a mailbox, and its limits. Each law is a function with nothing to do; its contract
+//! is the law.
 
+ghost use Rattle.std.specs.Prelude.{◌≡◌};
+ghost use Rattle.queue_core.specs.declared.TheConstants.{MOST_AMOUNT, MOST_NODES, MOST_POSTS, MOST_SENDERS};
+ghost use Rattle.queue_core.specs.declared.words.TheConstants.{NULL};
 ghost use Rattle.queue_core.specs.Received.{AllAreReceivedInOrder};
 ghost use Rattle.queue_core.specs.Shows.{OpeningShows};
 
@@ -14,4 +18,13 @@ pub fn law_abstract_runs()
 /// it, nothing is filled, in flight or held, and no node was ever given back.
 pub fn law_opening()
     ensures { OpeningShows }
+{}
+
+/// The limits of a mailbox, and the word of a link to no node.
+pub fn law_the_limits()
+    ensures most_senders { MOST_SENDERS ≡ 8 }
+    ensures most_nodes { MOST_NODES ≡ 64 }
+    ensures most_posts { MOST_POSTS ≡ 1000000 }
+    ensures most_amount { MOST_AMOUNT ≡ 1000000000000 }
+    ensures null { NULL ≡ 0 }
 {}

@@ -1,6 +1,7 @@
 //! How a distribution run is shared out.
 #![tactic(auto)]
 
+pub mod laws;
 mod plan;
 #[cfg(test)]
 mod tests;
