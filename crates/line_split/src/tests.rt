@@ -44,6 +44,11 @@ fn divides_the_worked_examples(rt: HostRuntime) -> Result<(), Fail> {
     assert_eq!(rt; residue_last.as_slice(), [(1, 2), (0, 1)].as_slice());
     let scaled = divided(&rt, alloc, 10, &[(1, 5001), (2, 5002)])?;
     assert_eq!(rt; scaled.as_slice(), [(1, 5), (2, 5), (0, 0)].as_slice());
+    let most_claimed = divided(&rt, alloc, 100, &[(1, 5003), (2, 5003)])?;
+    assert_eq!(rt;
+        most_claimed.as_slice(),
+        [(1, 50), (2, 50), (0, 0)].as_slice()
+    );
     let over = divided(&rt, alloc, 100, &[(1, 5003), (2, 5004)])?;
     assert_eq!(rt; over.as_slice(), [(1, 0), (2, 0), (0, 100)].as_slice());
     let most = divided(&rt, alloc, MOST_AMOUNT, &[(1, 1)])?;

@@ -132,3 +132,33 @@ fn an_end_mark_and_its_words(rt: HostRuntime) -> Result<(), Fail> {
     );
     Ok(())
 }
+
+/// A link is a node plus 1, a line word the line plus 1, and a turn says how often the node was given back.
+/// Node 0 was given back once, holds the line 7 and leads to node 2, with the line 11; that leads to node 3,
+/// with the end mark, which the head is. The stub leads to node 0, and the reader holds that.
+#[test]
+fn the_words_of_a_mailbox_in_use(rt: HostRuntime) -> Result<(), Fail> {
+    let alloc = rt.alloc();
+    let mut core = Core::open(alloc, 2, 1)?;
+    assert_take(&rt, &mut core, &post(0, 5, 10), None);
+    assert_take(&rt, &mut core, &TAKE, Some(Took::Held(0)));
+    assert_eq!(rt; core.step(Step::GiveBack(0)), Stepped::Moved);
+    assert_take(&rt, &mut core, &post(0, 7, 20), Some(Took::Held(0)));
+    assert_take(&rt, &mut core, &post(1, 11, 30), Some(Took::Held(0)));
+    let last = [
+        Step::EndLine(1),
+        Step::StoreAmount(1),
+        Step::StoreNull(1),
+        Step::SwapHead(1),
+        Step::StoreLink(1),
+        Step::LoadNext,
+        Step::LoadNext,
+    ];
+    assert_take(&rt, &mut core, &last, Some(Took::Held(0)));
+    let words = format!(in alloc; "{core}")?;
+    assert_eq!(rt;
+        words.as_str(),
+        "head 4\nnode 0 3 1 8 20 held\nnode 1 0 0 0 0\nnode 2 4 0 12 30\nnode 3 0 0 0 0\nnode 4 1 0 0 0\n"
+    );
+    Ok(())
+}

@@ -55,6 +55,7 @@ fn knows_what_contains_what(rt: HostRuntime) -> Result<(), Fail> {
             assert_eq!(rt; table.known(code), expected, "{number}");
         }
     }
+    assert!(rt; Code::of(1).is_some() && Code::of(9_999).is_some());
     assert!(rt; Code::of(0).is_none() && Code::of(10_000).is_none());
     Ok(())
 }
@@ -65,7 +66,7 @@ fn refuses_a_table_for_its_first_fault(rt: HostRuntime) -> Result<(), Fail> {
     assert_eq!(rt; refusal(alloc, b""), Some((1, Some(0))));
     assert_eq!(rt; refusal(alloc, b"code\n"), Some((1, Some(0))));
     assert_eq!(rt; refusal(alloc, b"code,groups"), None);
-    let table: [(&[u8], Option<(u8, Option<u64>)>); 18] = [
+    let table: [(&[u8], Option<(u8, Option<u64>)>); 20] = [
         (b"276,2136\n2136,\n", Some((4, Some(1)))),
         (b"2136,\n2136,\n", Some((3, Some(2)))),
         (b"0,\n", Some((2, Some(1)))),
@@ -84,6 +85,8 @@ fn refuses_a_table_for_its_first_fault(rt: HostRuntime) -> Result<(), Fail> {
         (b"2136,\n276,2136 0\n", Some((4, Some(2)))),
         (b"2136,\n\xff,\n", Some((2, Some(2)))),
         (b"2136,\n2136,9\n", Some((3, Some(2)))),
+        (b"9999,\n1,9999\n", None),
+        (b"10000,\n", Some((2, Some(1)))),
     ];
     for (rows, expected) in table {
         assert_eq!(rt; refusal_of_rows(alloc, rows)?, expected);
