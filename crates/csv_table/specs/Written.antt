@@ -1,5 +1,5 @@
 -- A CSV text in the making.
-use Rattle.std.specs.Prelude.{ℕ, ◌≡◌, true, false, List, ◌++◌, flat_map, Vec}
+use Rattle.std.specs.Prelude.{ℕ, ◌≡◌, Bool, true, false, List, [], ◌++◌, flat_map, length, Vec}
 use Rattle.csv.specs.Writing.{row_text, default_writer, with_flexible, writer_setup, writer_under, writer_pending, fields_written, has_written}
 use Rattle.csv.specs.declared.writer.Writer.{Writer}
 use Rattle.csv.specs.declared.writer.WriterBuilder.{WriterBuilder}
@@ -26,3 +26,21 @@ pub record IsBetweenRows (out : Writer (Vec ℕ Global)) : Type 0 where
   pub setup : writer_setup out ≡ any_width
   pub fields : fields_written out ≡ 0
   pub clean : has_written out ≡ false
+
+-- Rows that wait to be passed on: their text, how many bytes of it have left the buffer of the writer of the crate csv, and whether a row or a write was refused.
+pub record Page : Type 0 where
+  pub text : List ℕ
+  pub ready : ℕ
+  pub has_failed : Bool
+
+-- no rows yet, and none was refused
+abbrev pub empty_page : Page
+empty_page = record { text = []; ready = 0; has_failed = false }
+
+-- the page of a writer into a vector
+abbrev pub page_of : Writer (Vec ℕ Global) → Bool → Page
+page_of out has_failed = record { text = written out; ready = length (writer_under out).items; has_failed = has_failed }
+
+-- how many bytes have to be ready before a page goes on
+abbrev pub page_bytes : ℕ
+page_bytes = 131072

@@ -4,8 +4,8 @@
 //! an output by the page, so that it is never in memory whole.
 
 ghost use Rattle.std.specs.Io.KnownBytes.{Appends, Keeps, append_known};
-ghost use Rattle.std.specs.Prelude.{◌≡◌, ◌++◌, [], OnOk, IfOk, map};
-ghost use Rattle.csv_table.specs.Written.{IsBetweenRows, text_of_row, written};
+ghost use Rattle.std.specs.Prelude.{◌≡◌, ◌≤◌, ◌<◌, ◌++◌, true, false, OnOk, OnErr, IfOk, length, map};
+ghost use Rattle.csv_table.specs.Written.{empty_page, page_bytes, text_of_row};
 
 use csv::{Writer, WriterBuilder};
 use std::alloc::{AllocError, Global};
@@ -25,12 +25,12 @@ pub struct RowWriter {
 }
 
 impl Model for RowWriter {
-    ghost use Rattle.std.specs.Prelude.{ℕ, List, ◌≡◌, false};
-    ghost use Rattle.csv_table.specs.Written.{IsBetweenRows, written};
+    ghost use Rattle.std.specs.Prelude.{◌≡◌, false};
+    ghost use Rattle.csv_table.specs.Written.{IsBetweenRows, Page, page_of};
 
-    ghost Value = { List ℕ };
+    ghost Value = { Page };
 
-    ghost view = { λ b. written b.out };
+    ghost view = { λ b. page_of b.out b.has_failed };
 
     ghost invariant = { λ b. b.has_failed ≡ false → IsBetweenRows b.out };
 }
@@ -38,7 +38,7 @@ impl Model for RowWriter {
 impl RowWriter {
     /// No rows yet.
     pub fn new(alloc: Global) -> RowWriter
-        ensures { result ≡ [] }
+        ensures { result ≡ empty_page }
     {
         RowWriter::over(alloc, Vec::new(alloc))
     }
@@ -46,14 +46,14 @@ impl RowWriter {
     /// No rows yet, with memory for two pages. Where the text goes on by the page, and no rows longer
     /// than a page are added meanwhile, no more is needed.
     pub fn with_room(alloc: Global) -> Result<RowWriter, AllocError>
-        ensures { IfOk result (λ rows. rows ≡ []) }
+        ensures { IfOk result (λ rows. rows ≡ empty_page) }
     {
         Ok(RowWriter::over(alloc, Vec::with_capacity(alloc, 2 * PAGE_BYTES)?))
     }
 
     /// No rows yet, to be written into this memory, whatever it holds.
     fn over(alloc: Global, mut memory: Vec<u8>) -> RowWriter
-        ensures { result ≡ [] }
+        ensures { result ≡ empty_page }
     {
         memory.clear();
         RowWriter {
@@ -65,7 +65,9 @@ impl RowWriter {
 
     /// Adds a row. Writing into memory fails only where memory does, and then for good.
     pub fn row(&mut self, fields: &[&[u8]]) -> Result<(), AllocError>
-        ensures { OnOk result (self.new ≡ self.old ++ text_of_row (map (λ field. field.now) fields.now)) }
+        ensures row { OnOk result (self.new.text ≡ self.old.text ++ text_of_row (map (λ field. field.now) fields.now)) }
+        ensures sound { OnOk result ((self.old.has_failed ≡ false) × (self.new.has_failed ≡ false)) }
+        ensures refused { OnErr result (self.new.has_failed ≡ true) }
     {
         if self.has_failed {
             return Err(AllocError);
@@ -80,8 +82,10 @@ impl RowWriter {
     /// Writes the text of the rows to an output, and begins anew with the same memory. After a write that
     /// was refused no more rows are taken.
     pub fn pass_on<W: Write>(&mut self, to: &mut W) -> io::Result<()>
-        ensures text { OnOk result (Appends (W.contents to.old) (W.contents to.new) self.old) }
-        ensures anew { OnOk result (self.new ≡ []) }
+        ensures text { OnOk result (Appends (W.contents to.old) (W.contents to.new) self.old.text) }
+        ensures sound { OnOk result (self.old.has_failed ≡ false) }
+        ensures anew { OnOk result (self.new ≡ empty_page) }
+        ensures refused { OnErr result (self.new.has_failed ≡ true) }
     {
         let alloc = self.alloc;
         let mut refused = RowWriter::new(alloc);
@@ -92,9 +96,14 @@ impl RowWriter {
         Ok(())
     }
 
-    /// The same, but only where the text has come to a page: 131072 bytes.
+    /// The same, but only where the text has come to a page: 131072 bytes of it have left the buffer of
+    /// the writer of `csv`, which holds back 8192 at most.
     pub fn pass_on_page<W: Write>(&mut self, to: &mut W) -> io::Result<()>
-        ensures { OnOk result (Keeps (append_known (W.contents to.old) self.old) (append_known (W.contents to.new) self.new)) }
+        ensures kept { OnOk result (Keeps (append_known (W.contents to.old) self.old.text) (append_known (W.contents to.new) self.new.text)) }
+        ensures part { self.old.ready ≤ length self.old.text }
+        ensures early { OnOk result (self.old.ready < page_bytes → (self.new ≡ self.old) × (to.new ≡ to.old)) }
+        ensures passed { OnOk result (page_bytes ≤ self.old.ready → Appends (W.contents to.old) (W.contents to.new) self.old.text × (self.old.has_failed ≡ false) × (self.new ≡ empty_page)) }
+        ensures refused { OnErr result (self.new.has_failed ≡ true) }
     {
         if self.out.get_ref().len() < PAGE_BYTES {
             return Ok(());
@@ -104,7 +113,8 @@ impl RowWriter {
 
     /// The text of the rows. After a row that was refused there is none.
     pub fn into_text(self) -> Result<Vec<u8>, AllocError>
-        ensures { IfOk result (λ text. text.items ≡ self) }
+        ensures text { IfOk result (λ text. text.items ≡ self.text) }
+        ensures sound { OnOk result (self.has_failed ≡ false) }
     {
         if self.has_failed {
             return Err(AllocError);

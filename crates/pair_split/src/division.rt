@@ -135,7 +135,7 @@ fn rows(alloc: Global, words: &[String], portions: &[(Account, u64)]) -> Result<
 
 /// Writes the row of one portion.
 fn write_row(out: &mut RowWriter, kind: &str, party: &str, portion: u64) -> Result<(), PairFault>
-    ensures row { OnOk result (out.new ≡ out.old ++ row_of kind.now party.now portion) }
+    ensures row { OnOk result (out.new.text ≡ out.old.text ++ row_of kind.now party.now portion) }
     ensures memory { IfErr result (λ fault. fault ≡ PairFault.Memory) }
 {
     let mut digits = Buffer::new();

@@ -3,7 +3,7 @@
 ghost use Rattle.std.specs.Io.KnownBytes.{Appends, append_known};
 ghost use Rattle.std.specs.Prelude.{◌≡◌, ◌≤◌, ◌<◌, ◌++◌, ◌∷◌, [], All, OnOk, IfOk, codes, decimal, length, map, sum_by};
 ghost use Rattle.csv_table.specs.Table.{rows_of};
-ghost use Rattle.csv_table.specs.Written.{text_of, text_of_row};
+ghost use Rattle.csv_table.specs.Written.{empty_page, text_of, text_of_row};
 ghost use Rattle.line_split.specs.declared.TheConstants.{MOST_AMOUNT};
 ghost use Rattle.payee_book.specs.declared.text.TheConstants.{LOOKED_UP_AT_ONCE};
 ghost use Rattle.payee_book.specs.Text.{payee_rows, posting_row, reason_text, residue_rows, rows_of_book, run_row, total_row, usage_at};
@@ -53,7 +53,7 @@ impl Book {
         reasons: &[Reason],
         out: &mut W,
     ) -> io::Result<()>
-        requires anew { rows ≡ [] }
+        requires anew { rows ≡ empty_page }
         requires parties { length parties.now ≡ length self.now }
         requires reasons { length reasons.now ≡ length usage.now }
         requires lines { All (All (λ posting. posting.0 < length usage.now)) self.now }
@@ -83,7 +83,7 @@ fn write_payee<W: Write>(
 ) -> io::Result<()>
     requires lines { All (λ posting. posting.0 < length usage.now) statement.now }
     requires small { All (λ posting. posting.1 ≤ MOST_AMOUNT) statement.now }
-    ensures { OnOk result (Appends (append_known (W.contents out.old) rows.old) (append_known (W.contents out.new) rows.new) (text_of (payee_rows usage.now party.now statement.now))) }
+    ensures { OnOk result (Appends (append_known (W.contents out.old) rows.old.text) (append_known (W.contents out.new) rows.new.text) (text_of (payee_rows usage.now party.now statement.now))) }
 {
     if statement.is_empty() {
         return Ok(());
@@ -107,7 +107,7 @@ fn write_postings(
 ) -> Result<(), AllocError>
     requires lines { All (λ posting. posting.0 < length usage.now) postings.now }
     requires few { length postings.now ≤ LOOKED_UP_AT_ONCE }
-    ensures { OnOk result (rows.new ≡ rows.old ++ text_of (map (posting_row usage.now (codes "L") party.now) postings.now)) }
+    ensures { OnOk result (rows.new.text ≡ rows.old.text ++ text_of (map (posting_row usage.now (codes "L") party.now) postings.now)) }
 {
     let mut names: [&[u8]; LOOKED_UP_AT_ONCE] = [b""; LOOKED_UP_AT_ONCE];
     for place in 0..postings.len() {
@@ -130,7 +130,7 @@ fn write_residue<W: Write>(
     requires reasons { length reasons.now ≡ length usage.now }
     requires lines { All (λ posting. posting.0 < length usage.now) statement.now }
     requires small { All (λ posting. posting.1 ≤ MOST_AMOUNT) statement.now }
-    ensures { OnOk result (Appends (append_known (W.contents out.old) rows.old) (append_known (W.contents out.new) rows.new) (text_of (residue_rows usage.now reasons.now statement.now))) }
+    ensures { OnOk result (Appends (append_known (W.contents out.old) rows.old.text) (append_known (W.contents out.new) rows.new.text) (text_of (residue_rows usage.now reasons.now statement.now))) }
 {
     for posting in statement {
         let reason = word_of(reasons[posting.0 as usize]);
@@ -143,7 +143,7 @@ fn write_residue<W: Write>(
 
 /// What the usage lines come to.
 fn write_run(rows: &mut RowWriter, usage: &Usage) -> Result<(), AllocError>
-    ensures { OnOk result (rows.new ≡ rows.old ++ text_of_row (run_row usage.now)) }
+    ensures { OnOk result (rows.new.text ≡ rows.old.text ++ text_of_row (run_row usage.now)) }
 {
     let mut lines = Buffer::new();
     let mut amount = Buffer::new();
@@ -183,7 +183,7 @@ fn write_posting<'a>(
     usage: &'a [u8],
     amount: u64,
 ) -> Result<(), AllocError>
-    ensures { OnOk result (rows.new ≡ rows.old ++ text_of_row (kind.now ∷ whose.now ∷ usage.now ∷ decimal amount ∷ [])) }
+    ensures { OnOk result (rows.new.text ≡ rows.old.text ++ text_of_row (kind.now ∷ whose.now ∷ usage.now ∷ decimal amount ∷ [])) }
 {
     let mut digits = Buffer::new();
     let amount = digits.format(amount);
@@ -198,7 +198,7 @@ fn write_total(
     statement: &[(u64, u64)],
 ) -> Result<(), AllocError>
     requires { All (λ posting. posting.1 ≤ MOST_AMOUNT) statement.now }
-    ensures { OnOk result (rows.new ≡ rows.old ++ text_of_row (total_row kind.now whose.now statement.now)) }
+    ensures { OnOk result (rows.new.text ≡ rows.old.text ++ text_of_row (total_row kind.now whose.now statement.now)) }
 {
     let mut count = Buffer::new();
     let mut total = Buffer::new();

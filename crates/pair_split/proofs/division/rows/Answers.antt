@@ -10,7 +10,7 @@ pub loop-place-preserved : goal.loop-place-preserved
 loop-place-preserved c =
     let words = map string_bytes c.args.words.now in
     let in_words : c.loop-place.place < length (map string_bytes c.args.words.now) = omega (arith, c.loop-place-test.true, length-map c.args.words.now string_bytes) in
-    let wrote : c.write_row.new.out ≡ c.loop-place.out ++ row_of (codes "P") c.party_of-party.result.now (get_or c.args.portions.now c.loop-place.place (0, 0)).1 = c.in_ok-write_row.ensures.row in
+    let wrote : c.write_row.new.out.text ≡ c.loop-place.out.text ++ row_of (codes "P") c.party_of-party.result.now (get_or c.args.portions.now c.loop-place.place (0, 0)).1 = c.in_ok-write_row.ensures.row in
     let party : c.party_of-party.result.now ≡ party_of (word_at (map string_bytes c.args.words.now) c.loop-place.place) = c.party_of-party.ensures ∙ ap party_of c.word.ensures in
     wrote
     ∙ (ap (λ (text : List ℕ). text ++ row_of (codes "P") c.party_of-party.result.now (get_or c.args.portions.now c.loop-place.place (0, 0)).1) c.loop-place.invariant
@@ -23,12 +23,12 @@ returns-in-Ok-clause-text c =
     let n = length c.args.words.now in
     let all : c.loop-place.place ≡ length c.args.words.now = omega (arith, c.loop-place-test.false, c.loop-place.auto.place-end) in
     let same : length (map string_bytes c.args.words.now) ≡ length c.args.words.now = length-map c.args.words.now string_bytes in
-    let wrote : c.write_row-2.new.out ≡ c.loop-place.out ++ row_of (codes "M") [] (get_or c.args.portions.now (length c.args.words.now) (0, 0)).1 = c.in_ok-write_row-2.ensures.row in
-    let so_far : c.loop-place.out ≡ flat_map row (take (length c.args.words.now) (zip (labels_of (map string_bytes c.args.words.now)) c.args.portions.now)) =
+    let wrote : c.write_row-2.new.out.text ≡ c.loop-place.out.text ++ row_of (codes "M") [] (get_or c.args.portions.now (length c.args.words.now) (0, 0)).1 = c.in_ok-write_row-2.ensures.row in
+    let so_far : c.loop-place.out.text ≡ flat_map row (take (length c.args.words.now) (zip (labels_of (map string_bytes c.args.words.now)) c.args.portions.now)) =
     c.loop-place.invariant ∙ ap (λ (k : ℕ). flat_map row (take k (zip (labels_of (map string_bytes c.args.words.now)) c.args.portions.now))) all in
     let last : get_or (labels_of (map string_bytes c.args.words.now)) (length c.args.words.now) ([], []) ≡ (codes "M", []) =
     ap (λ (k : ℕ). get_or (labels_of (map string_bytes c.args.words.now)) k ([], [])) (sym same) ∙ label_last (map string_bytes c.args.words.now) in
-    c.in-Ok.ensures
+    c.in-Ok.ensures.text
     ∙ (wrote
     ∙ (ap (λ (text : List ℕ). text ++ row_of (codes "M") [] (get_or c.args.portions.now (length c.args.words.now) (0, 0)).1) so_far
     ∙ (rows_more (labels_of (map string_bytes c.args.words.now)) c.args.portions.now (length c.args.words.now) (codes "M", [])

@@ -5,4 +5,4 @@ use Rattle.pair_split.proofs.division.rows.Given as goal
 
 -- the rows so far are written
 abbrev pub invariant-loop-place : goal.invariant-loop-place
-invariant-loop-place l = l.out ≡ flat_map (λ e. row_of e.0.0 e.0.1 e.1.1) (take l.place (zip (labels_of (map string_bytes l.words)) l.portions))
+invariant-loop-place l = l.out.text ≡ flat_map (λ e. row_of e.0.0 e.0.1 e.1.1) (take l.place (zip (labels_of (map string_bytes l.words)) l.portions))

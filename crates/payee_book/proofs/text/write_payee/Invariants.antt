@@ -8,7 +8,7 @@ use Rattle.payee_book.proofs.text.write_payee.Given as goal
 abbrev pub invariant-loop-written : goal.invariant-loop-written
 invariant-loop-written g l = record {
   within : l.written ≤ length l.statement;
-  rows : Appends (append_known (g.W.Write.contents l.fn.out) l.fn.rows) (append_known (g.W.Write.contents l.out) l.rows)
+  rows : Appends (append_known (g.W.Write.contents l.fn.out) l.fn.rows.text) (append_known (g.W.Write.contents l.out) l.rows.text)
       (text_of (map (posting_row l.usage (codes "L") l.party) (take l.written l.statement)));
 }
 

@@ -14,4 +14,4 @@ invariant-loop-place l = record {
 
 -- the postings so far are written
 abbrev pub invariant-loop-place-2 : goal.invariant-loop-place-2
-invariant-loop-place-2 l = l.rows ≡ l.fn.rows ++ text_of (map (posting_row l.usage (codes "L") l.party) (take l.place l.postings))
+invariant-loop-place-2 l = l.rows.text ≡ l.fn.rows.text ++ text_of (map (posting_row l.usage (codes "L") l.party) (take l.place l.postings))

@@ -8,5 +8,5 @@ use Rattle.payee_book.proofs.book.Book.print.Given as goal
 -- the statements of the accounts so far are written
 abbrev pub invariant-loop-account : goal.invariant-loop-account
 invariant-loop-account g l =
-    Appends (g.W.Write.contents l.fn.out) (append_known (g.W.Write.contents l.out) l.rows)
+    Appends (g.W.Write.contents l.fn.out) (append_known (g.W.Write.contents l.out) l.rows.text)
     (text_of (flat_map (λ e. payee_rows l.usage e.0 e.1) (take (l.account - 1) (zip (drop 1 (map (λ party. party.items) l.parties)) (drop 1 l.self)))))
