@@ -2,6 +2,7 @@
 #![tactic(auto)]
 
 pub mod forms;
+pub mod laws;
 mod row_writer;
 mod rows;
 #[cfg(test)]

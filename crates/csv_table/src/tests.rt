@@ -43,15 +43,50 @@ fn passes_rows_on_by_the_page(rt: HostRuntime) -> Result<(), Fail> {
     rows.pass_on(&mut out)?;
     assert_eq!(rt; out.as_slice(), b"before\na,b\n".as_slice());
     let field = [b'x'; 100];
-    for _ in 0..2000 {
+    let mut pages = Vec::new(rt.alloc());
+    for _ in 0..5000 {
+        let had = out.len();
         rows.row(&[&field])?;
+        rows.pass_on_page(&mut out)?;
+        if out.len() > had {
+            pages.push(out.len() - had)?;
+        }
     }
-    rows.pass_on_page(&mut out)?;
-    assert_eq!(rt; out.len(), 11 + 2000 * 101);
-    rows.row(&[b"c"])?;
-    let mut full = [0; 1];
-    assert!(rt; rows.pass_on(&mut full.as_mut_slice()).is_err());
-    assert!(rt; rows.row(&[b"d"]).is_err() && rows.into_text().is_err());
+    // The buffer of the crate `csv` holds back 8192 bytes at most, and a row has 101.
+    assert_eq!(rt; pages.len(), 3);
+    assert!(rt;
+        pages
+            .iter()
+            .all(|bytes| *bytes >= 131_072 && *bytes <= 139_365)
+    );
+    rows.pass_on(&mut out)?;
+    assert_eq!(rt; out.len(), 11 + 5000 * 101);
+    Ok(())
+}
+
+#[test]
+fn knows_when_a_page_is_full(rt: HostRuntime) -> Result<(), Fail> {
+    // A field as long as the buffer of the crate `csv` goes past it, and only the end of its row stays there.
+    for (ready, passed) in [(131_071, 0), (131_072, 131_073)] {
+        let field = vec![in rt.alloc(); b'x'; ready]?;
+        let mut rows = RowWriter::new(rt.alloc());
+        let mut out = Vec::new(rt.alloc());
+        rows.row(&[field.as_slice()])?;
+        rows.pass_on_page(&mut out)?;
+        assert_eq!(rt; out.len(), passed);
+    }
+    Ok(())
+}
+
+#[test]
+fn takes_no_rows_after_a_refused_write(rt: HostRuntime) -> Result<(), Fail> {
+    let field = vec![in rt.alloc(); b'x'; 131_072]?;
+    let mut rows = RowWriter::new(rt.alloc());
+    rows.row(&[field.as_slice()])?;
+    assert!(rt; rows.pass_on_page(&mut [0; 1].as_mut_slice()).is_err());
+    let mut out = Vec::new(rt.alloc());
+    assert!(rt; rows.row(&[b"a"]).is_err() && rows.pass_on(&mut out).is_err());
+    assert!(rt; out.is_empty() && rows.into_text().is_err());
     Ok(())
 }
 
@@ -84,7 +119,8 @@ fn knows_the_forms_of_fields(rt: HostRuntime) -> Result<(), Fail> {
         Some(u64::MAX)
     );
     assert_eq!(rt; number_up_to(b"18446744073709551616", u64::MAX), None);
-    assert_eq!(rt; code(b"2136"), Some(2136));
+    assert_eq!(rt; code(b"9999"), Some(9999));
+    assert_eq!(rt; code(b"10000"), None);
     assert_eq!(rt; code(b"0001"), Some(1));
     assert_eq!(rt; code(b"00001"), None);
     assert_eq!(rt; code(b"0"), None);

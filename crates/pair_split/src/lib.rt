@@ -2,6 +2,7 @@
 #![tactic(auto)]
 
 mod division;
+pub mod laws;
 mod pair;
 mod pair_fault;
 #[cfg(test)]

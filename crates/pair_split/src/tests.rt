@@ -36,6 +36,21 @@ fn names_the_fault_of_words(rt: HostRuntime) -> Result<(), Fail> {
 }
 
 #[test]
+fn knows_the_limits_of_a_word(rt: HostRuntime) -> Result<(), Fail> {
+    let alloc = rt.alloc();
+    for (line, fault) in [
+        ("ABCDEFGHI=10000", None),
+        ("ABCDEFGHIJ=10000", Some(PairFault::Pair(1))),
+        ("A=010000", Some(PairFault::Pair(1))),
+        ("A=10001", Some(PairFault::Share(1))),
+    ] {
+        let words = words(alloc, line)?;
+        assert_eq!(rt; split_words(alloc, 5, words.as_slice()).err(), fault);
+    }
+    Ok(())
+}
+
+#[test]
 fn says_the_fault(rt: HostRuntime) -> Result<(), Fail> {
     let alloc = rt.alloc();
     for (fault, want) in [
