@@ -4,6 +4,7 @@ pub mod FieldLemmas
 pub mod FileLemmas
 pub mod LawLemmas
 pub mod LineLemmas
+pub mod OneRegistry
 pub mod OrderLemmas
 pub mod PartyLemmas
 pub mod PartyWorks

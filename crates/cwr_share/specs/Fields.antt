@@ -1,5 +1,5 @@
 -- The forms of the fields of a line: CWR 2.2, transaction records.
-use Rattle.std.specs.Prelude.{ℕ, ◌≡◌, ◌≤◌, ◌<◌, ◌-◌, ◌⊎◌, ◌==◌, ◌∷◌, List, All, [], codes, length, reverse, slice_index, slice_range, if◌then◌else◌}
+use Rattle.std.specs.Prelude.{ℕ, ◌≡◌, ◌<◌, ◌-◌, ◌⊎◌, ◌==◌, ◌∷◌, List, All, [], codes, length, reverse, slice_index, slice_range, if◌then◌else◌}
 use Rattle.csv_table.specs.Forms.{IsCode, IsNumber, IsPrintableByte, number_of}
 use Rattle.cwr_share.specs.declared.fields.Field.{Field}
 use Rattle.cwr_share.specs.declared.fields.ShareFields.{ShareFields}

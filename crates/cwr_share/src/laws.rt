@@ -5,10 +5,13 @@ ghost use Rattle.line_split.specs.LargestRemainder.{portions_of};
 ghost use Rattle.line_split.specs.declared.TheConstants.{RESIDUE};
 ghost use Rattle.line_split.specs.UsageLine.{UsageLine};
 ghost use Rattle.line_split.specs.declared.usage.Right.{Right};
+ghost use Rattle.cwr_share.specs.CwrFile.{IsFaultOf, IsFileOf};
 ghost use Rattle.cwr_share.specs.ClaimsOn.{claim_of, claims_among, claims_on, covers, reason_against, renamed, share_for, share_in, sum_below};
 ghost use Rattle.cwr_share.specs.Records.{ends_registration, opens_registration};
-ghost use Rattle.cwr_share.specs.Registered.{Registered};
+ghost use Rattle.cwr_share.specs.Registered.{IsRegistered, Registered};
 ghost use Rattle.cwr_share.specs.Registrations.{ShareLine, find_work, share_lines_of, shares_in_force, work_of};
+ghost use Rattle.cwr_share.specs.declared.cwr_fault.CwrFault.{CwrFault};
+ghost use Rattle.cwr_share.specs.declared.cwr_fault.CwrFault.TheVariants.{Memory};
 
 /// A line that covers the land decides for its interest and party over all lines before it: so an
 /// exclusion takes the land out, and an inclusion after it brings it back.
@@ -56,4 +59,19 @@ pub fn law_names_do_not_matter()
     ensures { (name : List ℕ → List ℕ) → ((text other : List ℕ) → name text ≡ name other → text ≡ other)
         → (table : List (ℕ × List ℕ)) (land : ℕ) (right : Right) (lines : List ShareLine) (payees : List (List ℕ))
         → claims_among table land right (map (renamed name) lines) (map name payees) ≡ claims_among table land right lines payees }
+{}
+
+/// All registries of one file answer alike: each work has the same share lines in them, and the parties
+/// have the same accounts.
+pub fn law_a_file_has_one_registry()
+    ensures works { (lines : List (List ℕ)) (registered other : Registered) → IsFileOf lines registered → IsFileOf lines other
+        → (work : List ℕ) → find_work work registered.works ≡ find_work work other.works }
+    ensures parties { (lines : List (List ℕ)) (registered other : Registered) → IsFileOf lines registered → IsFileOf lines other
+        → IsRegistered registered → IsRegistered other → registered.parties ≡ other.parties }
+{}
+
+/// A file that is its registrations is refused for nothing but want of memory.
+pub fn law_a_file_of_registrations_has_no_fault()
+    ensures { (lines : List (List ℕ)) (registered : Registered) (fault : CwrFault) → IsFileOf lines registered → IsRegistered registered
+        → IsFaultOf lines fault → fault ≡ Memory }
 {}

@@ -1,0 +1,185 @@
+-- A file has one registry: its works find the same share lines, and it has the same parties. And a file of registrations is refused for nothing but memory.
+use Rattle.std.proofs.Common.{◌≡◌, ◌∙◌, ◌∷◌, ◌++◌, ◌<◌, ◌≤◌, ◌+◌, ℕ, Bool, true, false, List, [], All, Contains, Some, count_by, length, slice_index_or, ap, ◌⊎◌, sym, subst, refl, inl, inr, arith, nat_eq}
+use Rattle.std.specs.Cmp.{IsTotalOrder}
+use Rattle.std.specs.Cmp.Lexicographic.{nat_list_cmp_total, pointwise}
+use Rattle.std.specs.List.Sorted.{IsStrictlySortedBy}
+use Rattle.std.specs.declared.cmp.Ordering.{Ordering}
+use Rattle.std.specs.declared.cmp.Ordering.TheVariants.{Less}
+use Rattle.std.proofs.lemmas.Cmp.{tied_itself}
+use Rattle.std.proofs.Math.Seq.{get_or-append_seam, take-append_seam}
+use Rattle.std.proofs.lemmas.List.{length-append}
+use Rattle.std.proofs.lemmas.List.Elements.{All-cons, All-contains, All-tail, All-weaker, Contains-get_or}
+use Rattle.std.proofs.lemmas.Map.Keys.{sorted_tail}
+use Rattle.std.proofs.lemmas.Map.Views.{All-after_first}
+use Rattle.std.proofs.lemmas.Slice.Eq.{bytes_eq-Decides}
+use Rattle.cwr_share.specs.CwrFile.{AreSound, IsFaultOf, IsFaultOfLine, IsFaultOfOpening, IsFaultOfShare, IsFileOf, IsFirstFault, IsOpening, IsPartyInForce, IsShareRecord, IsSound}
+use Rattle.cwr_share.specs.Records.{is_share_line, share_fields}
+use Rattle.cwr_share.specs.Registered.{IsRegistered, Registered}
+use Rattle.cwr_share.specs.Registrations.{ShareLine, find_work}
+use Rattle.cwr_share.specs.declared.cwr_fault.CwrFault.{CwrFault}
+use Rattle.cwr_share.specs.declared.cwr_fault.CwrFault.TheVariants.{Short, Share, Mark, Land, Party, Work, Many, Accounts, Memory}
+use Rattle.cwr_share.specs.declared.fields.ShareFields.{ShareFields}
+use Rattle.cwr_share.proofs.PartyLemmas.{contains_cases, contains_later}
+use Rattle.cwr_share.proofs.PartyWorks.{find_once}
+
+module _ {K : Type 0} {order : K → K → Ordering} (total : IsTotalOrder order) where
+  -- nothing comes before itself
+  not_before_itself : (x y : K) → order x y ≡ Less → ¬ (x ≡ y)
+  not_before_itself x y less same =
+      let itself : order y y ≡ Less = subst (λ z. order z y ≡ Less) same less in
+      let level = tied_itself total y in
+      cc
+
+  -- the elements of a list that come after one are among those after it
+  among_later : (y : K) (xs ys : List K) → All (λ x. order y x ≡ Less) xs → All (Contains (y ∷ ys)) xs → All (Contains ys) xs
+  among_later y xs ys above inside k d within =
+      elim (contains_cases y ys (slice_index_or xs k d) (inside k d within)) [
+        | inl is ↦ absurd (not_before_itself y (slice_index_or xs k d) (above k d within) is)
+        | inr later ↦ later
+      ]
+
+  -- what comes after the first of a list in order comes after what is before that
+  after_before : (x y : K) (xs : List K) → order y x ≡ Less → IsStrictlySortedBy order (x ∷ xs) → All (λ z. order y z ≡ Less) (x ∷ xs)
+  after_before x y xs less rising =
+      All-cons (λ z. order y z ≡ Less) x xs less (λ k d within. total.trans y x (slice_index_or xs k d) less (All-after_first order x xs rising k d within))
+
+  -- an element of a list in order is its first or comes after that
+  first_or_after : (x y : K) (ys : List K) → IsStrictlySortedBy order (y ∷ ys) → Contains (y ∷ ys) x → (y ≡ x) ⊎ ((order y x ≡ Less) × Contains ys x)
+  first_or_after x y ys rising inside = elim (contains_cases y ys x inside) [
+    | inl is ↦ inl is
+    | inr later ↦ inr (All-contains (λ z. order y z ≡ Less) ys x (All-after_first order y ys rising) later, later)
+  ]
+
+  -- where the first elements are one, the later ones are among the later ones
+  later_among : (x y : K) (xs ys : List K) → y ≡ x → IsStrictlySortedBy order (x ∷ xs) → All (Contains (y ∷ ys)) (x ∷ xs) → All (Contains ys) xs
+  later_among x y xs ys same rising inside =
+      among_later y xs ys (subst (λ z. All (λ w. order z w ≡ Less) xs) (sym same) (All-after_first order x xs rising)) (All-tail (Contains (y ∷ ys)) x xs inside)
+
+  -- elements in order that are all among others in order are no more than these
+  pub length-among : (xs ys : List K) → IsStrictlySortedBy order xs → IsStrictlySortedBy order ys → All (Contains ys) xs → length xs ≤ length ys
+  length-among [] ys rising rises inside = omega arith
+  length-among (x ∷ xs) [] rising rises inside = absurd (omega (arith, (inside 0 x (omega arith)).1))
+  length-among (x ∷ xs) (y ∷ ys) rising rises inside =
+      on (first_or_after x y ys rises (inside 0 x (omega arith))) (length-among xs ys (sorted_tail order x xs rising) (sorted_tail order y ys rises))
+      (length-among (x ∷ xs) ys rising (sorted_tail order y ys rises))
+    where
+      on : (y ≡ x) ⊎ ((order y x ≡ Less) × Contains ys x) → (All (Contains ys) xs → length xs ≤ length ys) → (All (Contains ys) (x ∷ xs) → length (x ∷ xs) ≤ length ys)
+          → length (x ∷ xs) ≤ length (y ∷ ys)
+      on (inl same) fewer all = omega (arith, fewer (later_among x y xs ys same rising inside))
+      on (inr (less, later)) fewer all = omega (arith, all (among_later y (x ∷ xs) ys (after_before x y xs less rising) inside))
+
+  -- two lists in order with the same elements are one
+  pub one-in_order : (xs ys : List K) → IsStrictlySortedBy order xs → IsStrictlySortedBy order ys → All (Contains ys) xs → All (Contains xs) ys → xs ≡ ys
+  one-in_order [] [] rising rises inside back = refl
+  one-in_order [] (y ∷ ys) rising rises inside back = absurd (omega (arith, (back 0 y (omega arith)).1))
+  one-in_order (x ∷ xs) [] rising rises inside back = absurd (omega (arith, (inside 0 x (omega arith)).1))
+  one-in_order (x ∷ xs) (y ∷ ys) rising rises inside back =
+      let same = on (first_or_after x y ys rises (inside 0 x (omega arith))) (first_or_after y x xs rising (back 0 y (omega arith))) in
+      let later = one-in_order xs ys (sorted_tail order x xs rising) (sorted_tail order y ys rises)
+          (later_among x y xs ys same rising inside) (later_among y x ys xs (sym same) rises back) in
+      cc
+    where
+      on : (y ≡ x) ⊎ ((order y x ≡ Less) × Contains ys x) → (x ≡ y) ⊎ ((order x y ≡ Less) × Contains xs y) → y ≡ x
+      on (inl same) other = same
+      on (inr above) (inl same) = sym same
+      on (inr (less, later)) (inr (more, after)) = absurd (not_before_itself x x (total.trans x y x more less) refl)
+
+-- what a work finds is one of the works
+found_inside : (works : List (List ℕ × List ShareLine)) (work : List ℕ) (lines : List ShareLine) → find_work work works ≡ Some lines → Contains works (work, lines)
+found_inside [] work lines found = cc
+found_inside ((name, list) ∷ works) work lines found = on (pointwise nat_eq name work) refl (found_inside works work lines)
+  where
+    on : (told : Bool) → pointwise nat_eq name work ≡ told → (find_work work works ≡ Some lines → Contains works (work, lines)) → Contains ((name, list) ∷ works) (work, lines)
+    on true is later =
+        let same : name ≡ work = (bytes_eq-Decides name work).0 is in
+        let here : Some list ≡ Some lines = rw is at found in
+        (0, omega arith, cc)
+    on false is later = contains_later (name, list) works (work, lines) (later (rw is at found))
+
+-- the works of two registries of a file find the same
+pub one_works : (lines : List (List ℕ)) (registered other : Registered) → IsFileOf lines registered → IsFileOf lines other
+    → (work : List ℕ) → find_work work registered.works ≡ find_work work other.works
+one_works lines registered other of other_of work = of.in_force work ∙ sym (other_of.in_force work)
+
+-- the parties of a registry are those in force
+module _ (lines : List (List ℕ)) (registered : Registered) (of : IsFileOf lines registered) (is : IsRegistered registered) where
+  in_force_of_payee : (party : List ℕ) → Contains is.payees party → IsPartyInForce lines party
+  in_force_of_payee party inside =
+      let (work, shares, here, at) = (is.exact.exact party).0 inside in
+      (work, shares, sym (of.in_force work) ∙ find_once registered.works work shares is.once here, at)
+
+  payee_in_force : (party : List ℕ) → IsPartyInForce lines party → Contains is.payees party
+  payee_in_force party (work, shares, found, at) = (is.exact.exact party).1 (work, shares, found_inside registered.works work shares (of.in_force work ∙ found), at)
+
+-- the payees of a registry of a file are payees of any other
+same_payees : (lines : List (List ℕ)) (registered other : Registered) → IsFileOf lines registered → IsFileOf lines other
+    → (is : IsRegistered registered) (other_is : IsRegistered other) → All (Contains other_is.payees) is.payees
+same_payees lines registered other of other_of is other_is k d within =
+    let payee = slice_index_or is.payees k d in
+    payee_in_force lines other other_of other_is payee (in_force_of_payee lines registered of is payee (Contains-get_or is.payees k d within))
+
+-- two registries of a file have the same accounts
+pub one_parties : (lines : List (List ℕ)) (registered other : Registered) → IsFileOf lines registered → IsFileOf lines other
+    → IsRegistered registered → IsRegistered other → registered.parties ≡ other.parties
+one_parties lines registered other of other_of is other_is =
+    let same = one-in_order nat_list_cmp_total is.payees other_is.payees is.exact.rising other_is.exact.rising
+        (same_payees lines registered other of other_of is other_is) (same_payees lines other registered other_of of other_is is) in
+    is.accounts ∙ ap (λ (payees : List (List ℕ)). [] ∷ payees) same ∙ sym other_is.accounts
+
+-- the first line of a registration that is as it has to be is not refused
+opening_stands : (line : List ℕ) (number : ℕ) (fault : CwrFault) → IsOpening line → ¬ IsFaultOfOpening line number fault
+opening_stands line number (Short n) sound fault = fault.1 sound.long
+opening_stands line number (Work n) sound fault = fault.2 sound.work
+opening_stands line number (Share n) sound fault = fault
+opening_stands line number (Mark n) sound fault = fault
+opening_stands line number (Land n) sound fault = fault
+opening_stands line number (Party n) sound fault = fault
+opening_stands line number (Many n) sound fault = fault
+opening_stands line number Accounts sound fault = fault
+opening_stands line number Memory sound fault = fault
+
+-- nor is such a share line
+share_stands : (earlier : ℕ) (fields : ShareFields) (line : List ℕ) (number : ℕ) (fault : CwrFault) → IsShareRecord earlier fields line
+    → ¬ IsFaultOfShare earlier fields line number fault
+share_stands earlier fields line number (Short n) sound fault = fault.1 sound.long
+share_stands earlier fields line number (Party n) sound fault = fault.2 sound.party
+share_stands earlier fields line number (Share n) sound fault = fault.3 sound.shares
+share_stands earlier fields line number (Mark n) sound fault = fault.4 sound.mark
+share_stands earlier fields line number (Land n) sound fault = fault.5 sound.land
+share_stands earlier fields line number (Many n) sound fault = absurd (omega (arith, fault.6, sound.few))
+share_stands earlier fields line number (Work n) sound fault = fault
+share_stands earlier fields line number Accounts sound fault = fault
+share_stands earlier fields line number Memory sound fault = fault
+
+-- a sound line is not refused
+line_stands : (before : List (List ℕ)) (line : List ℕ) (number : ℕ) (fault : CwrFault) → IsSound before line → ¬ IsFaultOfLine before line number fault
+line_stands before line number fault sound (inl (opens, refused)) = opening_stands line number fault (sound.opening opens) refused
+line_stands before line number fault sound (inr (is_share, body, stands, refused)) =
+    share_stands (count_by is_share_line body) (share_fields line) line number fault (sound.share body stands is_share) refused
+
+-- sound lines have no first fault
+lines_stand : (lines : List (List ℕ)) (fault : CwrFault) → AreSound lines → ¬ IsFirstFault lines fault
+lines_stand lines fault sound first =
+    line_stands first.before first.line (length first.before + 1) fault
+    (at_split lines first.before first.line first.after first.split sound) first.refused
+  where
+    at_split : (lines before : List (List ℕ)) (line : List ℕ) (after : List (List ℕ)) → lines ≡ before ++ line ∷ after → AreSound lines → IsSound before line
+    at_split lines before line after split sound =
+        let within : length before < length (before ++ line ∷ after) = rw length-append (omega arith) in
+        let here = subst AreSound split sound (length before) within in
+        rw (take-append_seam before (line ∷ after), get_or-append_seam before line after []) at here
+
+-- a file that is its registrations is refused for nothing but want of memory
+pub no_fault : (lines : List (List ℕ)) (registered : Registered) (fault : CwrFault) → IsFileOf lines registered → IsRegistered registered
+    → IsFaultOf lines fault → fault ≡ Memory
+no_fault lines registered Memory of is refused = refl
+no_fault lines registered Accounts of is refused =
+    absurd (omega (arith, is.few_payees, refused.many, length-among nat_list_cmp_total refused.parties is.payees refused.rising is.exact.rising
+    (All-weaker (IsPartyInForce lines) (Contains is.payees) (payee_in_force lines registered of is) refused.parties refused.each)))
+no_fault lines registered (Short n) of is refused = absurd (lines_stand lines (Short n) of.sound refused)
+no_fault lines registered (Share n) of is refused = absurd (lines_stand lines (Share n) of.sound refused)
+no_fault lines registered (Mark n) of is refused = absurd (lines_stand lines (Mark n) of.sound refused)
+no_fault lines registered (Land n) of is refused = absurd (lines_stand lines (Land n) of.sound refused)
+no_fault lines registered (Party n) of is refused = absurd (lines_stand lines (Party n) of.sound refused)
+no_fault lines registered (Work n) of is refused = absurd (lines_stand lines (Work n) of.sound refused)
+no_fault lines registered (Many n) of is refused = absurd (lines_stand lines (Many n) of.sound refused)
