@@ -76,7 +76,7 @@ module _ {K : Type 0} {order : K → K → Ordering} (total : IsTotalOrder order
   one-in_order (x ∷ xs) (y ∷ ys) rising rises inside back =
       let same = on (first_or_after x y ys rises (inside 0 x (omega arith))) (first_or_after y x xs rising (back 0 y (omega arith))) in
       let later = one-in_order xs ys (sorted_tail order x xs rising) (sorted_tail order y ys rises)
-          (later_among x y xs ys same rising inside) (later_among y x ys xs (sym same) rises back) in
+      (later_among x y xs ys same rising inside) (later_among y x ys xs (sym same) rises back) in
       cc
     where
       on : (y ≡ x) ⊎ ((order y x ≡ Less) × Contains ys x) → (x ≡ y) ⊎ ((order x y ≡ Less) × Contains xs y) → y ≡ x
@@ -123,7 +123,7 @@ pub one_parties : (lines : List (List ℕ)) (registered other : Registered) → 
     → IsRegistered registered → IsRegistered other → registered.parties ≡ other.parties
 one_parties lines registered other of other_of is other_is =
     let same = one-in_order nat_list_cmp_total is.payees other_is.payees is.exact.rising other_is.exact.rising
-        (same_payees lines registered other of other_of is other_is) (same_payees lines other registered other_of of other_is is) in
+    (same_payees lines registered other of other_of is other_is) (same_payees lines other registered other_of of other_is is) in
     is.accounts ∙ ap (λ (payees : List (List ℕ)). [] ∷ payees) same ∙ sym other_is.accounts
 
 -- the first line of a registration that is as it has to be is not refused
@@ -174,8 +174,13 @@ pub no_fault : (lines : List (List ℕ)) (registered : Registered) (fault : CwrF
     → IsFaultOf lines fault → fault ≡ Memory
 no_fault lines registered Memory of is refused = refl
 no_fault lines registered Accounts of is refused =
-    absurd (omega (arith, is.few_payees, refused.many, length-among nat_list_cmp_total refused.parties is.payees refused.rising is.exact.rising
-    (All-weaker (IsPartyInForce lines) (Contains is.payees) (payee_in_force lines registered of is) refused.parties refused.each)))
+    absurd (omega (
+      arith,
+      is.few_payees,
+      refused.many,
+      length-among nat_list_cmp_total refused.parties is.payees refused.rising is.exact.rising
+          (All-weaker (IsPartyInForce lines) (Contains is.payees) (payee_in_force lines registered of is) refused.parties refused.each),
+    ))
 no_fault lines registered (Short n) of is refused = absurd (lines_stand lines (Short n) of.sound refused)
 no_fault lines registered (Share n) of is refused = absurd (lines_stand lines (Share n) of.sound refused)
 no_fault lines registered (Mark n) of is refused = absurd (lines_stand lines (Mark n) of.sound refused)

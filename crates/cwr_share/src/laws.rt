@@ -10,8 +10,11 @@ ghost use Rattle.cwr_share.specs.ClaimsOn.{claim_of, claims_among, claims_on, co
 ghost use Rattle.cwr_share.specs.Records.{ends_registration, opens_registration};
 ghost use Rattle.cwr_share.specs.Registered.{IsRegistered, Registered};
 ghost use Rattle.cwr_share.specs.Registrations.{ShareLine, find_work, share_lines_of, shares_in_force, work_of};
+ghost use Rattle.cwr_share.specs.declared.TheConstants.{MOST_PARTIES, MOST_SHARES};
 ghost use Rattle.cwr_share.specs.declared.cwr_fault.CwrFault.{CwrFault};
 ghost use Rattle.cwr_share.specs.declared.cwr_fault.CwrFault.TheVariants.{Memory};
+ghost use Rattle.cwr_share.specs.declared.fields.TheConstants.{SPT, SWT, TYPE, WORK};
+ghost use Rattle.cwr_share.specs.declared.numbers.TheConstants.{MOST_PARTY_BYTES, MOST_WORK_BYTES};
 
 /// A line that covers the land decides for its interest and party over all lines before it: so an
 /// exclusion takes the land out, and an inclusion after it brings it back.
@@ -74,4 +77,31 @@ pub fn law_a_file_has_one_registry()
 pub fn law_a_file_of_registrations_has_no_fault()
     ensures { (lines : List (List ℕ)) (registered : Registered) (fault : CwrFault) → IsFileOf lines registered → IsRegistered registered
         → IsFaultOf lines fault → fault ≡ Memory }
+{}
+
+/// The fields that are read stand where CWR 2.2 has them, by their first and their last bytes.
+pub fn law_the_fields_stand_where_cwr_has_them()
+    ensures record_type { TYPE ≡ record { first = 1; last = 3 } }
+    ensures work { WORK ≡ record { first = 82; last = 95 } }
+    ensures spt_party { SPT.party ≡ record { first = 20; last = 28 } }
+    ensures spt_performing { SPT.performing ≡ record { first = 35; last = 39 } }
+    ensures spt_mechanical { SPT.mechanical ≡ record { first = 40; last = 44 } }
+    ensures spt_synchronisation { SPT.synchronisation ≡ record { first = 45; last = 49 } }
+    ensures spt_mark { SPT.mark ≡ record { first = 50; last = 50 } }
+    ensures spt_territory { SPT.territory ≡ record { first = 51; last = 54 } }
+    ensures swt_party { SWT.party ≡ record { first = 20; last = 28 } }
+    ensures swt_performing { SWT.performing ≡ record { first = 29; last = 33 } }
+    ensures swt_mechanical { SWT.mechanical ≡ record { first = 34; last = 38 } }
+    ensures swt_synchronisation { SWT.synchronisation ≡ record { first = 39; last = 43 } }
+    ensures swt_mark { SWT.mark ≡ record { first = 44; last = 44 } }
+    ensures swt_territory { SWT.territory ≡ record { first = 45; last = 48 } }
+{}
+
+/// How much a file may have: the share lines of a registration and the parties in force, and the bytes
+/// of a work number and of a party number.
+pub fn law_the_limits_of_a_file()
+    ensures share_lines { MOST_SHARES ≡ 256 }
+    ensures parties { MOST_PARTIES ≡ 511 }
+    ensures work_number { MOST_WORK_BYTES ≡ 14 }
+    ensures party_number { MOST_PARTY_BYTES ≡ 9 }
 {}
