@@ -15,11 +15,12 @@ use Rattle.std.proofs.lemmas.Map.Keys.{Less-from_sorted}
 use Rattle.std.proofs.lemmas.Map.Lookups.{exact_bytes}
 use Rattle.std.proofs.lemmas.Option.{cond_some, none-some}
 use Rattle.std.proofs.lemmas.Slice.Eq.{bytes_eq-Decides}
-use Rattle.cwr_share.specs.Compiled.{AreKept, InterestsRise, IsCompiled, IsExtent, IsKept, Kept, WorkNumber, kept_lines, line_by, lines_at, lines_of_party, part, places_in, registered_as, with_place}
+use Rattle.cwr_share.specs.Compiled.{AreKept, AreWorkNumbers, InterestsRise, IsCompiled, IsExtent, IsKept, Kept, WorkNumber, kept_lines, line_by, lines_at, lines_of_party, part, places_in, registered_as, with_place}
 use Rattle.cwr_share.specs.Found.{LookedUp}
 use Rattle.cwr_share.specs.Registered.{IsRegistered, IsShareLine, Registered}
 use Rattle.cwr_share.specs.Registrations.{ShareLine, find_work}
 use Rattle.cwr_share.specs.declared.share_line.KeptShare.{KeptShare}
+use Rattle.cwr_share.specs.declared.numbers.TheConstants.{MOST_WORK_BYTES}
 use Rattle.cwr_share.specs.declared.TheConstants.{MOST_SHARES}
 use Rattle.cwr_share.specs.declared.claim_line.ClaimLine.{ClaimLine}
 use Rattle.cwr_share.specs.declared.registrations.Extent.{Extent}
@@ -472,6 +473,15 @@ module _ (work : List ℕ) where
           | inr past ↦ ltb-false n (length works) past
           | inl inside ↦ absurd (none-some n (index ∙ rw inside refl))
         ])
+
+    -- nor has one that is longer than the works
+    pub found_too_long : (works : List WorkNumber) (registrations : List Kept) → AreWorkNumbers works → MOST_WORK_BYTES < length work → find_work work (entries parties works registrations) ≡ None
+    found_too_long [] registrations short long = refl
+    found_too_long (key ∷ works) [] short long = refl
+    found_too_long (key ∷ works) (first ∷ registrations) short long =
+        let fits : length key.items ≤ MOST_WORK_BYTES = short 0 key (omega arith) in
+        let other = other_text work key.items (λ same. omega (arith, fits, long, ap (λ (text : List ℕ). length text) same)) in
+        rw (turned key, other) (found_too_long works registrations (All-tail (λ (work : WorkNumber). length work.items ≤ MOST_WORK_BYTES) key works short) long)
 
 -- what holds of the share lines of each work holds of those of a registration
 pub entry_at : (parties : List (List ℕ)) (Holds : List ShareLine → Type 0) (works : List WorkNumber) (registrations : List Kept) (place : ℕ) (registration : Kept) → length works ≡ length registrations

@@ -20,13 +20,16 @@ use Rattle.csv_table.proofs.Codes.{code_small}
 use Rattle.csv_table.specs.Forms.{number_of}
 use Rattle.line_split.proofs.Enumerated.{enumerate_from_push}
 use Rattle.line_split.specs.declared.TheConstants.{FULL_SHARE}
-use Rattle.cwr_share.specs.Compiled.{InterestsRise, WorkNumber}
+use Rattle.cwr_share.specs.Compiled.{AreWorkNumbers, InterestsRise, WorkNumber}
 use Rattle.cwr_share.specs.CwrFile.{AreSound, HasTooMany, IsFaultOf, IsFaultOfLine, IsFaultOfShare, IsFirstFault, IsOpening, IsShareRecord, IsSound, StandsIn}
 use Rattle.cwr_share.specs.Fields.{IsShare, field_of, share_of}
 use Rattle.cwr_share.specs.Lines.{before_line, cut_at_line_feeds, lines_of}
 use Rattle.cwr_share.specs.Reading.{AreShareLines, HasInForce, IsOpenWith, IsReadTo, IsTable, works_of}
 use Rattle.cwr_share.specs.Records.{ends_registration, is_share_line, opens_interest, opens_registration, share_fields, type_of}
 use Rattle.cwr_share.specs.Registered.{IsShareLine}
+use Rattle.cwr_share.specs.declared.fields.TheConstants.{WORK}
+use Rattle.cwr_share.specs.declared.numbers.TheConstants.{MOST_WORK_BYTES}
+use Rattle.cwr_share.proofs.FieldLemmas.{field_fits}
 use Rattle.cwr_share.specs.Registrations.{ShareLine, find_work, registrations_of, share_line_of, share_lines_of, shares_in_force, work_of}
 use Rattle.cwr_share.specs.declared.TheConstants.{MOST_SHARES}
 use Rattle.cwr_share.specs.declared.cwr_fault.CwrFault.TheVariants.{Short, Share, Mark, Land, Party, Work, Many, Accounts, Memory}
@@ -671,6 +674,7 @@ pub in_force_alike : (lines : List (List ℕ)) (old new : Reading) → IsAlike o
 in_force_alike lines old new same forced = record {
   table = record {
     paired = ap length same.works ∙ (forced.table.paired ∙ sym (ap length same.registrations));
+    short = subst AreWorkNumbers (sym same.works) forced.table.short;
     lists = subst (λ (l : List (Vec ShareLine Global)). All (λ lines. AreShareLines lines.items) l) (sym same.registrations) forced.table.lists;
   };
   in_force = λ work. ap (λ (works : List WorkNumber). find_work work (works_of works new.registrations.items)) same.works
@@ -693,6 +697,7 @@ read_start reading none works registrations = read_as [] reading None none sound
     forced = record {
       table = record {
         paired = ap length works ∙ sym (ap length registrations);
+        short = subst AreWorkNumbers (sym works) (All-nil (λ (work : WorkNumber). length work.items ≤ MOST_WORK_BYTES));
         lists = subst (λ (l : List (Vec ShareLine Global)). All (λ lines. AreShareLines lines.items) l) (sym registrations) (All-nil (λ (lines : Vec ShareLine Global). AreShareLines lines.items));
       };
       in_force = λ work. ap (λ (keys : List WorkNumber). find_work work (works_of keys reading.registrations.items)) works;
@@ -859,6 +864,8 @@ ended_new lines old new registration was fresh works registrations read =
     table : IsTable new
     table = record {
       paired = rw (works, registrations, length_push old.works.keys registration.work, length_push old.registrations.items registration.shares, stands.4.table.paired) refl;
+      short = subst AreWorkNumbers (sym works)
+          (All-push (λ (work : WorkNumber). length work.items ≤ MOST_WORK_BYTES) old.works.keys registration.work stands.4.table.short (rw stands.5.work (omega (arith, field_fits WORK stands.1))));
       lists = subst (λ (l : List (Vec ShareLine Global)). All (λ lines. AreShareLines lines.items) l) (sym registrations)
           (All-push (λ (lines : Vec ShareLine Global). AreShareLines lines.items) old.registrations.items registration.shares stands.4.table.lists stands.5.sound);
     }
@@ -882,6 +889,7 @@ ended_known lines old new registration was known works registrations read =
     table : IsTable new
     table = record {
       paired = ap length works ∙ (stands.4.table.paired ∙ (sym (length-set old.registrations.items place registration.shares) ∙ sym (ap length registrations)));
+      short = subst AreWorkNumbers (sym works) stands.4.table.short;
       lists = subst (λ (l : List (Vec ShareLine Global)). All (λ lines. AreShareLines lines.items) l) (sym registrations)
           (All-set (λ (lines : Vec ShareLine Global). AreShareLines lines.items) old.registrations.items place registration.shares stands.5.sound stands.4.table.lists);
     }

@@ -11,7 +11,7 @@ use Rattle.std.proofs.lemmas.Slice.Zip.{get_or-zip, length-zip}
 use Rattle.std.proofs.lemmas.List.Elements.{All-map, All-weaker}
 use Rattle.std.proofs.lemmas.List.{get_or-map, get_or_default, length-map, map_push}
 use Rattle.cwr_share.specs.Parties.{AreAccountsOf, HasMany, HasManyFound, IsAmong, IsPartyFound}
-use Rattle.cwr_share.specs.Compiled.{AreKept, InterestsRise, IsKept, Kept, WorkNumber, kept_lines, registered_as}
+use Rattle.cwr_share.specs.Compiled.{AreKept, AreWorkNumbers, InterestsRise, IsKept, Kept, WorkNumber, kept_lines, registered_as}
 use Rattle.cwr_share.specs.Reading.{AreShareLines, works_of}
 use Rattle.cwr_share.specs.declared.TheConstants.{MOST_SHARES}
 use Rattle.cwr_share.specs.declared.cwr_fault.CwrFault.{CwrFault}
@@ -148,11 +148,12 @@ module _ (works : List WorkNumber) (lists : List (Vec ShareLine Global)) (paired
 
 -- and it is kept for its claims
 pub kept_for_claims : (works : List WorkNumber) (lists : List (Vec ShareLine Global)) (registrations : List Kept) (parties : List (Vec ℕ Global)) → length works ≡ length lists
-    → All (λ lines. AreShareLines lines.items) lists → map (kept_lines (items_of parties)) registrations ≡ items_of lists
+    → AreWorkNumbers works → All (λ lines. AreShareLines lines.items) lists → map (kept_lines (items_of parties)) registrations ≡ items_of lists
     → All (IsKept (items_of parties)) registrations
     → AreKept works registrations parties
-kept_for_claims works lists registrations parties paired sound same kept = record {
+kept_for_claims works lists registrations parties paired short sound same kept = record {
   paired = paired ∙ sym (length-map lists (λ (lines : Vec ShareLine Global). lines.items)) ∙ sym (ap length same) ∙ length-map registrations (kept_lines (items_of parties));
+  short = short;
   kept = kept;
   rise = rise;
 }

@@ -13,11 +13,16 @@ use Rattle.cwr_share.specs.declared.registrations.Extent.{Extent}
 use Rattle.cwr_share.specs.declared.share_line.KeptShare.{KeptShare}
 use Rattle.cwr_share.specs.Registered.{Registered}
 use Rattle.std.specs.declared.alloc.Global.{Global}
+use Rattle.cwr_share.specs.declared.numbers.TheConstants.{MOST_WORK_BYTES}
 use Rattle.arrayvec.specs.ArrayVec.{ArrayVec}
 
 -- the work number that a registration is found by
 abbrev pub WorkNumber : Type 0
 WorkNumber = ArrayVec ℕ
+
+-- they are no longer than the field of a work number
+abbrev pub AreWorkNumbers : List WorkNumber → Type 0
+AreWorkNumbers works = All (λ work. length work.items ≤ MOST_WORK_BYTES) works
 
 -- a kept share line, where these are the parties of the accounts
 abbrev pub line_by : List (List ℕ) → KeptShare → ShareLine
@@ -174,5 +179,6 @@ pub record IsKept (parties : List (List ℕ)) (kept : Kept) : Type 0 where
 -- each work has one registration, which is kept for its claims
 pub record AreKept (works : List WorkNumber) (registrations : List Kept) (parties : List (Vec ℕ Global)) : Type 0 where
   pub paired : length works ≡ length registrations
+  pub short : AreWorkNumbers works
   pub kept : All (IsKept (map (λ party. party.items) parties)) registrations
   pub rise : All (λ registration. InterestsRise (kept_lines (map (λ party. party.items) parties) registration)) registrations

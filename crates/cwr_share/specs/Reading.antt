@@ -1,7 +1,7 @@
 -- What the lines so far came to, while a file is read.
 use Rattle.std.specs.Prelude.{ℕ, ◌≡◌, ◌≤◌, ◌++◌, ◌∷◌, List, All, count_by, length, map, zip, Option, Some, None, Vec, false, true}
 use Rattle.std.specs.declared.alloc.Global.{Global}
-use Rattle.cwr_share.specs.Compiled.{InterestsRise, WorkNumber}
+use Rattle.cwr_share.specs.Compiled.{AreWorkNumbers, InterestsRise, WorkNumber}
 use Rattle.cwr_share.specs.CwrFile.{AreSound, StandsIn}
 use Rattle.cwr_share.specs.Records.{ends_registration, opens_interest, opens_registration}
 use Rattle.cwr_share.specs.Registered.{IsShareLine}
@@ -23,6 +23,7 @@ pub record AreShareLines (lines : List ShareLine) : Type 0 where
 -- each work has one list of share lines
 pub record IsTable (reading : Reading) : Type 0 where
   pub paired : length reading.works.keys ≡ length reading.registrations.items
+  pub short : AreWorkNumbers reading.works.keys
   pub lists : All (λ lines. AreShareLines lines.items) reading.registrations.items
 
 -- the registrations that have ended are those of these lines

@@ -1,13 +1,9 @@
-//! Submitter work numbers and interested party numbers, and how one is looked up.
+//! Submitter work numbers and interested party numbers.
 
-ghost use Rattle.std.proofs.Common.{ap};
-ghost use Rattle.std.specs.Cmp.Lexicographic.{bytes_decides, nat_list_eq_equiv, pointwise};
-ghost use Rattle.std.specs.Hash as fed;
-ghost use Rattle.std.specs.Prelude.{◌≡◌, ◌≤◌, length, nat_eq};
+ghost use Rattle.std.specs.Prelude.{◌≡◌, ◌≤◌, ◌<◌, IfNone, IfSome, length};
 
 use crate::fields::{SPT, WORK};
 use arrayvec::ArrayVec;
-use indexmap::Equivalent;
 
 /// The most bytes of a work number: those of its field.
 pub(crate) const MOST_WORK_BYTES: usize = WORK.last - WORK.first + 1;
@@ -29,18 +25,10 @@ pub(crate) fn in_place<const MOST: usize>(text: &[u8]) -> ArrayVec<u8, MOST>
     ArrayVec::try_from(text).unwrap()
 }
 
-/// A text of any length that may be a number.
-#[derive(Clone, Copy, PartialEq, Eq, Hash)]
-pub(crate) struct Sought<'a>(pub(crate) &'a [u8]);
-
-impl<'a, const MOST: usize> Equivalent<ArrayVec<u8, MOST>> for Sought<'a> {
-    ghost equivalent = { λ sought number. pointwise nat_eq sought.0.now number.items };
-
-    ghost respects_hash = { λ sought number same. ap (fed.slice fed.u8) ((bytes_decides sought.0.now number.items).0 same) };
-
-    ghost respects_eq = { λ sought number other. nat_list_eq_equiv.congr sought.0.now number.items other.items };
-
-    fn equivalent(&self, number: &ArrayVec<u8, MOST>) -> bool {
-        self.0 == number.as_slice()
-    }
+/// The same of a text of any length, where it is no longer than a number.
+pub(crate) fn in_place_if_short<const MOST: usize>(text: &[u8]) -> Option<ArrayVec<u8, MOST>>
+    ensures some { IfSome result (λ number. number.items ≡ text.now) }
+    ensures none { IfNone result (MOST < length text.now) }
+{
+    ArrayVec::try_from(text).ok()
 }

@@ -10,7 +10,7 @@ ghost use Rattle.cwr_share.specs.Registered.{IsShareLine};
 ghost use Rattle.cwr_share.specs.declared.TheConstants.{MOST_PARTIES};
 ghost use Rattle.cwr_share.specs.declared.cwr_fault.CwrFault.TheVariants.{Accounts, Memory};
 
-use crate::numbers::{PartyNumber, Sought, in_place};
+use crate::numbers::{PartyNumber, in_place};
 use crate::share_line::Share;
 use crate::{CwrFault, MOST_PARTIES};
 use indexmap::IndexSet;
@@ -56,8 +56,8 @@ fn add_parties(
         × All (λ text. Contains (texts_of found.old) text ⊎ Contains (map (λ share. share.party) shares.now) text) (texts_of found.new))) }
 {
     for share in shares {
-        let party = share.party.as_slice();
-        if !seen.contains(Sought(party)) {
+        if !seen.contains(&share.party) {
+            let party = share.party.as_slice();
             seen.insert(in_place(party))?;
             found.insert(Vec::from_slice(alloc, party)?)?;
             if found.len() > MOST_PARTIES {
@@ -97,12 +97,12 @@ pub(crate) fn numbers_of(
 }
 
 /// The account of a party: its place among the numbers, where it has one.
-pub(crate) fn account_among(numbers: &IndexSet<PartyNumber>, party: &[u8]) -> Option<Account>
+pub(crate) fn account_among(numbers: &IndexSet<PartyNumber>, party: &PartyNumber) -> Option<Account>
     requires few { length numbers.now.keys ≤ MOST_PARTIES + 1 }
-    ensures some { IfSome result (λ account. (account < length numbers.now.keys) × (slice_index_or (map (λ number. number.items) numbers.now.keys) account [] ≡ party.now)) }
-    ensures none { IfNone result (¬ Contains (map (λ number. number.items) numbers.now.keys) party.now) }
+    ensures some { IfSome result (λ account. (account < length numbers.now.keys) × (slice_index_or (map (λ number. number.items) numbers.now.keys) account [] ≡ party.now.items)) }
+    ensures none { IfNone result (¬ Contains (map (λ number. number.items) numbers.now.keys) party.now.items) }
 {
-    match numbers.get_index_of(Sought(party)) {
+    match numbers.get_index_of(party) {
         Some(place) => Some(place as Account),
         None => None,
     }

@@ -1,6 +1,7 @@
 //! A CWR file as it is read, line by line.
 
 ghost use Rattle.std.specs.Prelude.{◌≡◌, ◌≤◌, ◌<◌, ◌+◌, ◌++◌, ◌∷◌, ◌⊎◌, [], ℕ, List, All, IfOk, IfErr, IfSome, None, OnOk, length, ◌^◌, true};
+ghost use Rattle.cwr_share.specs.Compiled.{AreWorkNumbers};
 ghost use Rattle.cwr_share.specs.CwrFile.{HasTooMany, IsFaultOfLine, IsFaultOfOpening, IsFileOf};
 ghost use Rattle.cwr_share.specs.Parties.{HasManyFound};
 ghost use Rattle.cwr_share.specs.Reading.{AreShareLines, HasInForce, IsReadTo, IsTable, works_of};
@@ -158,6 +159,7 @@ fn registry_of(
 ) -> Result<Registry, CwrFault>
     requires paired { length works.keys ≡ length lists.items }
     requires lists { All (λ lines. AreShareLines lines.items) lists.items }
+    requires short { AreWorkNumbers works.keys }
     ensures works { IfOk result (λ registry. registry.works ≡ works_of works.keys lists.items) }
     ensures fault { IfErr result (λ fault. (fault ≡ Memory) ⊎ ((fault ≡ Accounts) × HasManyFound (works_of works.keys lists.items))) }
 {

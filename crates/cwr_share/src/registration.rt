@@ -69,7 +69,7 @@ impl Registration {
         self.order.clear();
         for place in 0..shares.len() {
             let share = &shares[place];
-            if let Some(account) = account_among(numbers, share.party.as_slice()) {
+            if let Some(account) = account_among(numbers, &share.party) {
                 self.shares.push(share.kept(account))?;
                 add_place(&mut self.order, account, place as u16)?;
             }

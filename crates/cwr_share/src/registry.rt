@@ -13,7 +13,7 @@ ghost use Rattle.cwr_share.specs.Registered.{IsRegistered};
 use crate::CwrFault;
 use crate::claim_line::{ClaimLine, claims};
 use crate::lines::Lines;
-use crate::numbers::{Sought, WorkNumber};
+use crate::numbers::{WorkNumber, in_place_if_short};
 use crate::parties::account_of;
 use crate::reading::Reading;
 use crate::registrations::Registrations;
@@ -147,7 +147,9 @@ impl Registry {
     pub fn find(&self, number: &[u8]) -> Option<Work<'_>>
         ensures { IsLookUp self.now number.now result }
     {
-        let place = self.works.get_index_of(Sought(number))?;
+        let works = &self.works;
+        let number: WorkNumber = in_place_if_short(number)?;
+        let place = works.get_index_of(&number)?;
         Some(Work {
             lines: self.registrations.lines_of(place),
         })

@@ -28,18 +28,18 @@ returns-then-len-gt-MOST_PARTIES-clause-fault c =
 pub loop-share-preserved : goal.loop-share-preserved
 loop-share-preserved c = elim c.if-not-contains.branch [
   | then-not-contains+in_ok-insert+in_ok-from_slice+in_ok-insert-2+else-len-gt-MOST_PARTIES w ↦
-      let party = w.in_ok-from_slice.ensures.items ∙ c.as_slice-party.ensures.value ∙ ap (λ (share : ShareLine). share.party) c.share.view_is in
+      let party = w.in_ok-from_slice.ensures.items ∙ w.as_slice-party.ensures.value ∙ ap (λ (share : ShareLine). share.party) c.share.view_is in
       let added = party_by_key (λ (text : Vec ℕ Global). text.items) (texts_of c.args.found.now) c.args.shares.now c.loop-share.share-index c.share-item.result c.loop-share.found.keys
       c.loop-share-test.true c.share-item.is c.loop-share.invariant.added w.in_ok-from_slice.field-0 party in
       let number = w.in_place.ensures ∙ sym w.in_ok-from_slice.ensures.items in
       let seen = seen_more (λ (text : Vec ℕ Global). text.items) (λ number other. pointwise nat_eq number.items other.items) c.loop-share.found.keys w.in_ok-from_slice.field-0 c.loop-share.seen.keys w.in_place.result (sym number) c.loop-share.invariant.seen in
       let short = each_more (λ (text : Vec ℕ Global). text.items) (λ text. length text ≤ MOST_PARTY_BYTES) c.loop-share.found.keys w.in_ok-from_slice.field-0 c.loop-share.invariant.short
-      (omega (arith, c.as_slice-party.ensures.fits, ap (λ (text : List ℕ). length text) w.in_ok-from_slice.ensures.items)) in
+      (omega (arith, w.as_slice-party.ensures.fits, ap (λ (text : List ℕ). length text) w.in_ok-from_slice.ensures.items)) in
       rw (w.found-is, w.seen-is) (record { added = rw (← w.in_ok-insert-2.ensures.keys) at added; few = omega arith; seen = rw (w.in_ok-insert.ensures.keys, w.in_ok-insert-2.ensures.keys) seen; short = rw w.in_ok-insert-2.ensures.keys short })
   | else-not-contains w ↦
       let added = party_by_found (λ (text : Vec ℕ Global). text.items) (texts_of c.args.found.now) c.args.shares.now c.loop-share.share-index c.share-item.result c.loop-share.found.keys
-      c.loop-share-test.true c.share-item.is c.loop-share.invariant.added c.as_slice-party.result.now (c.as_slice-party.ensures.value ∙ ap (λ (share : ShareLine). share.party) c.share.view_is)
-      (seen_text (texts_of c.loop-share.found) c.loop-share.seen.keys c.as_slice-party.result.now c.loop-share.invariant.seen (sym c.contains.ensures ∙ w.if-not-contains.false)) in
+      c.loop-share-test.true c.share-item.is c.loop-share.invariant.added c.share.inside.party.items (ap (λ (share : ShareLine). share.party) c.share.view_is)
+      (seen_text (texts_of c.loop-share.found) c.loop-share.seen.keys c.share.inside.party.items c.loop-share.invariant.seen (sym c.contains.ensures ∙ w.if-not-contains.false)) in
       rw (w.found-is, w.seen-is) (record { added = added; few = c.loop-share.invariant.few; seen = c.loop-share.invariant.seen; short = c.loop-share.invariant.short })
 ]
 

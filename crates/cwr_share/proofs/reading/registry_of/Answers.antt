@@ -93,7 +93,7 @@ of-requires-clause-sound c =
 
 pub of-requires-clause-kept : goal.of-requires-clause-kept
 of-requires-clause-kept c =
-    kept_for_claims c.args.works.keys c.args.lists.items c.loop-shares.registrations c.in_ok-parties.parties.items c.requires.paired c.requires.lists (all c) c.loop-shares.invariant.kept
+    kept_for_claims c.args.works.keys c.args.lists.items c.loop-shares.registrations c.in_ok-parties.parties.items c.requires.paired c.requires.short c.requires.lists (all c) c.loop-shares.invariant.kept
 
 pub returns-clause-works : goal.returns-clause-works
 returns-clause-works c =

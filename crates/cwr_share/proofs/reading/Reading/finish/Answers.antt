@@ -16,6 +16,9 @@ registry_of-requires-clause-paired c = (c.in_ok-end.ensures.1 c.requires.0 c.req
 pub registry_of-requires-clause-lists : goal.registry_of-requires-clause-lists
 registry_of-requires-clause-lists c = (c.in_ok-end.ensures.1 c.requires.0 c.requires.1).table.lists
 
+pub registry_of-requires-clause-short : goal.registry_of-requires-clause-short
+registry_of-requires-clause-short c = (c.in_ok-end.ensures.1 c.requires.0 c.requires.1).table.short
+
 pub returns-clause-registry : goal.returns-clause-registry
 returns-clause-registry c =
     IfOk-weaker c.registry_of.result _ _

@@ -38,7 +38,7 @@ loop-place-preserved c =
     let place = c.loop-place.place in
     let line = c.index-shares-place.result in
     let inside : place < length lines = omega arith in
-    let party : c.as_slice.result.now ≡ line.party = c.as_slice.ensures.value ∙ ap (λ (line : ShareLine). line.party) c.share.view_is in
+    let party : c.share.inside.party.items ≡ line.party = ap (λ (line : ShareLine). line.party) c.share.view_is in
     let gathered = c.loop-place.invariant.gathered in
     let ordered = in_their_order parties (take place lines) c.loop-place.self.order.items gathered in
     elim c.match-account_among.branch [
@@ -69,7 +69,7 @@ as_many parties lines kept same = sym (length-map kept (line_by parties)) ∙ ap
 pub add_lines-requires-clause-within : goal.add_lines-requires-clause-within
 add_lines-requires-clause-within c =
     let gathered = c.loop-place.invariant.gathered in
-    rw (c.as_slice-2.ensures.value, c.as_slice-3.ensures.value, gathered.exact, as_many (map (λ (number : ArrayVec ℕ). number.items) c.args.numbers.now.keys) (take c.loop-place.place c.args.shares.now) c.loop-place.self.shares.items c.loop-place.invariant.kept)
+    rw (c.as_slice.ensures.value, c.as_slice-2.ensures.value, gathered.exact, as_many (map (λ (number : ArrayVec ℕ). number.items) c.args.numbers.now.keys) (take c.loop-place.place c.args.shares.now) c.loop-place.self.shares.items c.loop-place.invariant.kept)
     (each_in_order (λ (entry : Placed). entry.place < length (take c.loop-place.place c.args.shares.now)) gathered.payees gathered.compiled.within)
 
 pub add_lines-requires-clause-own : goal.add_lines-requires-clause-own
@@ -79,7 +79,7 @@ add_lines-requires-clause-own c =
     let gathered = c.loop-place.invariant.gathered in
     let compiled = subst (λ lines. IsCompiled parties lines gathered.payees) (sym c.loop-place.invariant.kept) gathered.compiled in
     let filled = subst (All IsShareLine) (sym (c.loop-place.invariant.kept ∙ take_all c.loop-place.place c.args.shares.now (omega arith))) c.requires.filled in
-    rw (c.as_slice-2.ensures.value, c.as_slice-3.ensures.value, gathered.exact)
+    rw (c.as_slice.ensures.value, c.as_slice-2.ensures.value, gathered.exact)
     (each_in_order (λ (entry : Placed). HoldsAt (λ share. share.account ≡ entry.account) kept entry.place) gathered.payees
     (own_places parties kept gathered.payees c.requires.rising filled compiled))
 
@@ -90,7 +90,7 @@ module _ (c : goal.In_ok-add_lines) where
       let gathered = c.loop-place.invariant.gathered in
       let payees = gathered.payees in
       let ordered = in_their_order (map (λ (number : ArrayVec ℕ). number.items) c.args.numbers.now.keys) (take c.loop-place.place c.args.shares.now) c.loop-place.self.order.items gathered in
-      let lines = (rw (c.as_slice-2.ensures.value, c.as_slice-3.ensures.value) at c.in_ok-add_lines.ensures) payees ordered in
+      let lines = (rw (c.as_slice.ensures.value, c.as_slice-2.ensures.value) at c.in_ok-add_lines.ensures) payees ordered in
       lines ∙ ap (λ (l : List ClaimLine). l ++ lines_of_payees (map (line_by []) c.loop-place.self.shares.items) payees) c.loop-place.invariant.none
 
 pub returns-clause-kept : goal.returns-clause-kept
