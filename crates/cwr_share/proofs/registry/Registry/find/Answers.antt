@@ -22,7 +22,7 @@ returns c =
     let number = c.in_ok-number.number.items in
     let (registration, there) = registration_at registrations c.in_ok-place.place (omega (arith, c.in_ok-place.ensures.within, c.self.invariant.1.paired)) in
     let up = looked_up c.self.inside.works.keys registrations c.self.inside.parties.items c.args.self.now number c.in_ok-place.place registration
-        c.self.invariant.0 c.self.invariant.1 c.self.view_is c.in_ok-place.ensures.index c.in_ok-place.ensures.within there in
+    c.self.invariant.0 c.self.invariant.1 c.self.view_is c.in_ok-place.ensures.index c.in_ok-place.ensures.within there in
     record {
       registration = registration;
       up = subst (λ work. LookedUp c.args.self.now work registration) c.in_ok-number.ensures.some up;
