@@ -1,2 +1,3 @@
 mod BookLemmas
+mod OneText
 mod SettleLemmas

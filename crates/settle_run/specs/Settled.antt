@@ -36,6 +36,13 @@ pub record IsReading (territories_file registrations_file usage_file : List ℕ)
   pub accounts : IsRegistered registered
   pub uses : usage.IsTableOf (rows_of usage_file) lines
 
+-- no input has a fault: each was read whole
+pub record HaveNoFault (territories_file registrations_file usage_file : List ℕ) : Type 0 where
+  pub table : List (ℕ × List ℕ)
+  pub registered : Registered
+  pub lines : List UsageLine
+  pub read : IsReading territories_file registrations_file usage_file table registered lines
+
 -- The text of the statements of lines: each account's statement is what dividing each line by the claims on it comes to, and together they come to all amounts.
 pub record AreStatementsFor (table : List (ℕ × List ℕ)) (registered : Registered) (lines : List UsageLine) (text : List ℕ) : Type 0 where
   pub statements : List (List (ℕ × ℕ))
@@ -61,15 +68,3 @@ IsFaultOf territories_file registrations_file usage_file (Usage fault) =
     × ((registered : Registered) × cwr.IsFileOf (lines_of registrations_file) registered × IsRegistered registered)
     × usage.IsFaultOf (rows_of usage_file) fault × (fault ≢ line_fault.Memory)
 IsFaultOf territories_file registrations_file usage_file Room = ⊤
-
--- the text is the statements of three inputs
-abbrev pub AreStatements : List ℕ → Type 0
-AreStatements text =
-    (territories_file : List ℕ) × (registrations_file : List ℕ) × (usage_file : List ℕ)
-    × AreStatementsOf territories_file registrations_file usage_file text
-
--- and the fault is one of three inputs
-abbrev pub HasFault : Fault → Type 0
-HasFault fault =
-    (territories_file : List ℕ) × (registrations_file : List ℕ) × (usage_file : List ℕ)
-    × IsFaultOf territories_file registrations_file usage_file fault

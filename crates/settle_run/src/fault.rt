@@ -21,7 +21,7 @@ pub enum Fault {
     /// The table of usage lines is refused.
     #[error("the usage lines: {0}")]
     Usage(LineFault),
-    /// Memory or a thread was refused.
+    /// Memory was refused.
     #[error("out of room")]
     Room,
 }

@@ -11,7 +11,7 @@ ghost use Rattle.line_split.specs.declared.TheConstants.{MOST_AMOUNT};
 ghost use Rattle.payee_book.specs.Run.{IsBookOf, portion_of, posting_of};
 ghost use Rattle.payee_book.specs.Text.{residue_rows, rows_of_book};
 ghost use Rattle.settle_run.specs.declared.statements.TheConstants.{LOOKED_UP_AT_ONCE};
-ghost use Rattle.settle_run.specs.Settled.{AreStatementsFor, AreStatementsOf, IsFaultOf, division_by, reason_of};
+ghost use Rattle.settle_run.specs.Settled.{AreStatementsFor, AreStatementsOf, HaveNoFault, IsFaultOf, division_by, reason_of};
 
 use crate::fault::Fault;
 use csv_table::RowWriter;
@@ -47,7 +47,8 @@ pub fn settle<R: Threads + Wait + Sync>(
 }
 
 /// Prints the same to an output, by the page. The inputs are given away, and each is freed as soon as it
-/// is read. Once the first page is printed no memory is asked for.
+/// is read. Once the first page is printed no memory is asked for. Where the output refuses a write, no
+/// input has a fault, and what it took before is the beginning of the statements.
 pub fn settle_to<R: Threads + Wait + Sync, W: Write>(
     _rt: &R,
     alloc: Global,
@@ -58,6 +59,7 @@ pub fn settle_to<R: Threads + Wait + Sync, W: Write>(
     out: &mut W,
 ) -> Result<io::Result<()>, Fault>
     ensures statements { IfOk result (λ printed. OnOk printed ((text : List ℕ) × Appends (W.contents out.old) (W.contents out.new) text × AreStatementsOf tis.items cwr.items usage.items text)) }
+    ensures read { IfOk result (λ _. HaveNoFault tis.items cwr.items usage.items) }
     ensures fault { IfErr result (IsFaultOf tis.items cwr.items usage.items) }
     ensures silent { IfErr result (λ _. out.new ≡ out.old) }
 {

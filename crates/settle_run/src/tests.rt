@@ -233,10 +233,11 @@ fn refuses_the_usage_lines_last(rt: HostRuntime) -> Result<(), Fail> {
     assert_outcome(&rt, rt.alloc(), [TERRITORIES, TWO_PARTIES, uses], fault)
 }
 
-/// An output that takes so many bytes and then refuses. It counts what is written to it.
+/// An output that takes so many bytes, which it keeps, and then refuses. It counts what is written to it.
 #[derive(Drop)]
 struct Narrow {
     room: usize,
+    kept: Vec<u8>,
     writes: u64,
     longest: usize,
 }
@@ -247,6 +248,7 @@ impl Write for Narrow {
             return Err(io::Error::from(io::ErrorKind::BrokenPipe));
         }
         let taken = buf.len().min(self.room);
+        self.kept.extend_from_slice(&buf[..taken])?;
         self.room -= taken;
         self.writes = self.writes.saturating_add(1);
         self.longest = self.longest.max(buf.len());
@@ -278,6 +280,7 @@ fn prints_many_pages(rt: HostRuntime) -> Result<(), Fail> {
         let usage = Vec::from_slice(alloc, uses.as_bytes())?;
         let mut out = Narrow {
             room,
+            kept: Vec::new(alloc),
             writes: 0,
             longest: 0,
         };
@@ -285,6 +288,8 @@ fn prints_many_pages(rt: HostRuntime) -> Result<(), Fail> {
             return Err(Fail::new("a run is refused for its output"));
         };
         assert_eq!(rt; printed.is_ok(), room == text.len(), "{room}");
+        assert_eq!(rt; out.kept.len(), room);
+        assert!(rt; text.as_bytes().starts_with(out.kept.as_slice()), "{room}");
         assert!(rt; out.longest < 200_000);
         if printed.is_ok() {
             assert_eq!(rt; out.writes, 3);

@@ -1,0 +1,24 @@
+use Rattle.std.proofs.Common.{◌≡◌, ℕ, List, refl}
+use Rattle.csv_table.specs.Table.{rows_of}
+use Rattle.cwr_share.proofs.OneRegistry as registrations
+use Rattle.cwr_share.specs.Lines.{lines_of}
+use Rattle.line_split.proofs.OneTable as uses
+use Rattle.tis_tree.proofs.OneTable as territories
+use Rattle.settle_run.specs.Settled.{HaveNoFault, IsFaultOf}
+use Rattle.settle_run.specs.declared.fault.Fault.{Fault}
+use Rattle.settle_run.specs.declared.fault.Fault.TheVariants.{Tis, Cwr, Usage, Room}
+use Rattle.settle_run.proofs.laws.law_inputs_with_statements_have_no_fault.Goals as goal
+
+-- each input that was read is refused for nothing but want of memory, which is no fault of an input
+no_fault : (territories_file registrations_file usage_file : List ℕ) (fault : Fault) → HaveNoFault territories_file registrations_file usage_file
+    → IsFaultOf territories_file registrations_file usage_file fault → fault ≡ Room
+no_fault territories_file registrations_file usage_file (Tis fault) sound refused =
+    absurd (refused.1 (territories.no_fault (rows_of territories_file) sound.table fault sound.read.territories refused.0))
+no_fault territories_file registrations_file usage_file (Cwr fault) sound refused =
+    absurd (refused.2 (registrations.no_fault (lines_of registrations_file) sound.registered fault sound.read.registrations sound.read.accounts refused.1))
+no_fault territories_file registrations_file usage_file (Usage fault) sound refused =
+    absurd (refused.3 (uses.no_fault (rows_of usage_file) sound.lines fault sound.read.uses refused.2))
+no_fault territories_file registrations_file usage_file Room sound refused = refl
+
+pub returns-clause-sound : goal.returns-clause-sound
+returns-clause-sound c = no_fault
