@@ -5,3 +5,4 @@ pub mod SplitLemmas
 pub mod Walked
 pub mod RunLemmas
 pub mod RunWalked
+pub mod OverLemmas

@@ -2,12 +2,12 @@
 use Rattle.std.proofs.Common.{◌≡◌, ◌≢◌, ◌∙◌, ◌≤◌, ◌<◌, ◌++◌, ◌==◌, zero, suc, ap, ap₂, sym, subst, ℕ, List, [], ◌∷◌, length, cond, is_some, Option, Some, None, true, false, refl, inl, inr, arith, codes, ℤ, pos, Result, Ok, Err}
 use Rattle.std.specs.List.{slice_index_or}
 use Rattle.std.specs.Str.{bytes_eq}
-use Rattle.std.specs.Option.{IfNone, IfSome, IsSome, option_map}
+use Rattle.std.specs.Option.{IfNone, IfSome, IsSome, option_map, unwrap_or}
 use Rattle.std.specs.Result.{IfErr, IsErrAnd}
 use Rattle.std.specs.Borrow.{Bor}
 use Rattle.std.proofs.lemmas.Slice.Eq.{bytes_eq-Decides}
 use Rattle.std.proofs.lemmas.List.Elements.{All-nil}
-use Rattle.clap.specs.Words.{AddsArg, App, HasKind, HasMatchesOf, IsParsedFrom, IsPlain, IsPlainArg, IsUnsignedIn, NarrowsTo, Row, Rule, Text, app_of, args_of, fault_of, first_of, first_value, found_of, groups_of, is_simple, is_simple_and_free, kind_of, matches_of, new_app, one_of, one_text, rows_of, rule_of, with_rule}
+use Rattle.clap.specs.Words.{AddsArg, App, HasKind, HasMatchesOf, IsAmong, IsParsedFrom, IsPlain, IsPlainArg, IsUnsignedIn, Kinds, NarrowsTo, Rule, Text, app_of, args_of, fault_of, first_of, first_value, found_of, groups_of, is_simple, is_simple_and_free, kind_of, matches_of, new_app, one_of, one_text, rows_of, rule_of, with_rule}
 use Rattle.clap.specs.Built.{IsAuto}
 use Rattle.clap.specs.declared.builder.arg.Arg.{Arg}
 use Rattle.clap.specs.declared.builder.command.Command.{Command}
@@ -15,6 +15,7 @@ use Rattle.clap.specs.declared.builder.command.Command.TheViews.{out-Command as 
 use Rattle.clap.specs.declared.builder.value_parser.ValueParser.{ValueParser}
 use Rattle.clap.specs.declared.builder.value_parser.ValueParser.TheVariants as vp
 use Rattle.clap.specs.declared.error.Error.{Error}
+use Rattle.clap.specs.declared.error.kind.ErrorKind.{ErrorKind}
 use Rattle.clap.specs.declared.error.kind.ErrorKind.TheVariants as kinds
 use Rattle.clap.specs.declared.parser.matches.ArgMatches.{ArgMatches}
 use Rattle.clap.proofs.CallerLemmas.{added_plain, required_has_value}
@@ -22,10 +23,13 @@ use Rattle.clap.proofs.CallerReads.{required_reads}
 use Rattle.clap.proofs.WalkLemmas.{first_value-rows, one_text-rows}
 use Rattle.split_run.specs.Plans.{Planned}
 use Rattle.split_run.specs.declared.TheConstants.{MOST_NODES, MOST_THREADS}
-use Rattle.royalty_run.specs.Asked.{AreRunWords, number_in}
+use Rattle.pair_split.specs.Pair.{word_at}
+use Rattle.royalty_run.specs.Answered.{AreReadFrom, AreReadInOrder}
+use Rattle.royalty_run.specs.Asked.{AreAccepted, AreRunWords, AskForHelp, IsErrorOf, number_given, number_in, path_given}
+use Rattle.royalty_run.specs.declared.run_command.RunWords.{RunWords}
 use Rattle.royalty_run.specs.RequiredArg.{IsRequiredArg}
-use Rattle.royalty_run.specs.RunCommand.{IsRunCommand, file_rule, number_rule}
-use Rattle.royalty_run.proofs.RunWalked.{rows_6, run_free, run_kinds_no_help, run_matches, run_simple}
+use Rattle.royalty_run.specs.RunCommand.{IsRunCommand, file_rule, number_rule, run_app}
+use Rattle.royalty_run.proofs.RunWalked.{rows_6, run_free, run_matches, run_simple}
 use Rattle.royalty_run.proofs.SplitLemmas.{ReadsU64, required_same, unsigned_reads}
 
 -- ---- the command
@@ -218,41 +222,115 @@ some_by (Some x) refuses holds = refl
 
 -- ---- what the words give
 
--- a parse of the words of a run finds the six options with their values
-pub rows_are : (c : Command) (m : ArgMatches) (words : List Text) → IsRunCommand c → HasMatchesOf (app_of c) words m → (r : AreRunWords words)
-    → rows_of (found_of m) ≡ rows_6 r.tis r.cwr r.usage r.workers r.readers r.nodes
-rows_are c m words s found r = (found (ap is_simple s.shape ∙ run_simple)).0 ∙ ap (λ (a : App). matches_of a words) s.shape ∙ run_matches words r
+-- a parse finds what clap's reading of the words has
+pub rows_are : (c : Command) (m : ArgMatches) (words : List Text) → IsRunCommand c → HasMatchesOf (app_of c) words m → rows_of (found_of m) ≡ matches_of run_app words
+rows_are c m words s found = (found (ap is_simple s.shape ∙ run_simple)).0 ∙ ap (λ (a : App). matches_of a words) s.shape
 
--- the path of an option is its value
-pub path_given : (m : ArgMatches) (rows : List Row) (name value : Text) (r : Option (Bor Text)) (v : Bor Text) → rows_of (found_of m) ≡ rows
-    → first_of name rows ≡ Some value → option_map (λ s. s.now) r ≡ first_value (found_of m) name → r ≡ Some v → v.now ≡ value
-path_given m rows name value r v are at got is =
-    let shown : option_map (λ (s : Bor Text). s.now) r ≡ Some value = got ∙ first_value-rows (found_of m) name ∙ ap (first_of name) are ∙ at in
-    let given : Some v.now ≡ Some value = ap (option_map (λ (s : Bor Text). s.now)) (sym is) ∙ shown in
-    cc
+-- the path of an option is the one that it is given
+pub path_is : (m : ArgMatches) (words : List Text) (name : Text) (r : Option (Bor Text)) (v : Bor Text) → rows_of (found_of m) ≡ matches_of run_app words
+    → option_map (λ s. s.now) r ≡ first_value (found_of m) name → r ≡ Some v → v.now ≡ path_given name words
+unfolding path_given
+path_is m words name r v are got is =
+    let shown : first_of name (matches_of run_app words) ≡ Some v.now =
+    sym (got ∙ first_value-rows (found_of m) name ∙ ap (first_of name) are) ∙ ap (option_map (λ (s : Bor Text). s.now)) is in
+    sym (ap (λ (o : Option Text). unwrap_or o []) shown)
 
--- and its number the one that the value writes
-pub number_given : (m : ArgMatches) (rows : List Row) (name value : Text) (r : Option ℕ) (n : ℕ) → rows_of (found_of m) ≡ rows
-    → one_of name rows ≡ Some value → IsNumberOf m name r → r ≡ Some n → n ≡ number_in value
-number_given m rows name value r n are at reads is =
-    let text : one_text (found_of m) name ≡ Some value = one_text-rows (found_of m) name ∙ ap (one_of name) are ∙ at in
-    let read : ReadsU64 value (Some n) = subst (ReadsU64 value) is (reads value text) in
-    read.0.1
+-- and so is its number
+number_is : (m : ArgMatches) (words : List Text) (name text : Text) (r : Option ℕ) (n : ℕ) → rows_of (found_of m) ≡ matches_of run_app words
+    → one_text (found_of m) name ≡ Some text → IsNumberOf m name r → r ≡ Some n → n ≡ number_given name words
+unfolding number_given
+number_is m words name text r n are found reads is =
+    let read : ReadsU64 text (Some n) = subst (ReadsU64 text) is (reads text found) in
+    let shown : one_of name (matches_of run_app words) ≡ Some text = sym (one_text-rows (found_of m) name ∙ ap (one_of name) are) ∙ found in
+    read.0.1 ∙ sym (ap (λ (o : Option Text). number_in (unwrap_or o [])) shown)
+
+-- the three numbers
+pub workers_are : (c : Command) (m : ArgMatches) (words : List Text) (r : Option ℕ) (n : ℕ) → IsRunCommand c → IsParsedFrom c m
+    → rows_of (found_of m) ≡ matches_of run_app words → IsNumberOf m (codes "workers") r → r ≡ Some n → n ≡ number_given (codes "workers") words
+workers_are c m words r n s p are reads is =
+    let text = number_text c m (codes "workers") MOST_THREADS s.workers 3 s p s.needs_workers (rw s.args refl) (omega arith) s.few_workers in
+    number_is m words (codes "workers") text.0 r n are text.1 reads is
+
+pub readers_are : (c : Command) (m : ArgMatches) (words : List Text) (r : Option ℕ) (n : ℕ) → IsRunCommand c → IsParsedFrom c m
+    → rows_of (found_of m) ≡ matches_of run_app words → IsNumberOf m (codes "readers") r → r ≡ Some n → n ≡ number_given (codes "readers") words
+readers_are c m words r n s p are reads is =
+    let text = number_text c m (codes "readers") MOST_THREADS s.readers 4 s p s.needs_readers (rw s.args refl) (omega arith) s.few_readers in
+    number_is m words (codes "readers") text.0 r n are text.1 reads is
+
+pub nodes_are : (c : Command) (m : ArgMatches) (words : List Text) (r : Option ℕ) (n : ℕ) → IsRunCommand c → IsParsedFrom c m
+    → rows_of (found_of m) ≡ matches_of run_app words → IsNumberOf m (codes "nodes") r → r ≡ Some n → n ≡ number_given (codes "nodes") words
+nodes_are c m words r n s p are reads is =
+    let text = number_text c m (codes "nodes") MOST_NODES s.nodes 5 s p s.needs_nodes (rw s.args refl) (omega arith) s.few_nodes in
+    number_is m words (codes "nodes") text.0 r n are text.1 reads is
 
 -- a plan by its three numbers
 pub same_plan : (plan : Planned) (a b c x y z : ℕ) → plan ≡ record { workers = a; readers = b; nodes = c } → a ≡ x → b ≡ y → c ≡ z
     → plan ≡ record { workers = x; readers = y; nodes = z }
 same_plan plan a b c x y z is e f g = rw (e, f, g) at is
 
--- a parse that fails does not ask for help
-pub run_error_given : (c : Command) (words : List Text) (e : Error) → IsRunCommand c
-    → (is_simple_and_free (app_of c) ≡ true → HasKind (fault_of (app_of c) words) e) → AreRunWords words
-    → (kind_of e ≢ kinds.DisplayHelp) × (kind_of e ≢ kinds.DisplayVersion)
-run_error_given c words e s fails r =
-    run_kinds_no_help words (kind_of e) r (subst (λ (a : App). HasKind (fault_of a words) e) s.shape (fails (ap is_simple_and_free s.shape ∙ run_free)))
+-- ---- the plain form
 
--- and neither does want of memory
-pub memory_given : {T : Type 0} (r : Result T Error) → IsErrAnd r (λ e. kind_of e ≡ kinds.OutOfMemory)
-    → IfErr r (λ e. (kind_of e ≢ kinds.DisplayHelp) × (kind_of e ≢ kinds.DisplayVersion))
-memory_given (Ok x) is = absurd is
-memory_given (Err e) is = (λ help. let bad : kinds.OutOfMemory ≡ kinds.DisplayHelp = sym is ∙ help in cc, λ version. let bad : kinds.OutOfMemory ≡ kinds.DisplayVersion = sym is ∙ version in cc)
+-- an option's path and number are the word after it
+path_in_order : (words : List Text) (r : AreRunWords words) (name : Text) (k : ℕ) (word : Text)
+    → first_of name (rows_6 r.tis r.cwr r.usage r.workers r.readers r.nodes) ≡ Some word → word_at words k ≡ word → path_given name words ≡ word_at words k
+unfolding path_given
+path_in_order words r name k word found at =
+    ap (λ (o : Option Text). unwrap_or o []) (ap (first_of name) (run_matches words r) ∙ found) ∙ sym at
+
+number_in_order : (words : List Text) (r : AreRunWords words) (name : Text) (k : ℕ) (word : Text)
+    → one_of name (rows_6 r.tis r.cwr r.usage r.workers r.readers r.nodes) ≡ Some word → word_at words k ≡ word → number_given name words ≡ number_in (word_at words k)
+unfolding number_given
+number_in_order words r name k word found at =
+    ap (λ (o : Option Text). number_in (unwrap_or o [])) (ap (one_of name) (run_matches words r) ∙ found) ∙ ap number_in (sym at)
+
+pub tis_in_order : (words : List Text) → AreRunWords words → path_given (codes "tis") words ≡ word_at words 2
+tis_in_order words r = path_in_order words r (codes "tis") 2 r.tis refl (ap (λ l. word_at l 2) r.form)
+
+pub cwr_in_order : (words : List Text) → AreRunWords words → path_given (codes "cwr") words ≡ word_at words 4
+cwr_in_order words r = path_in_order words r (codes "cwr") 4 r.cwr refl (ap (λ l. word_at l 4) r.form)
+
+pub usage_in_order : (words : List Text) → AreRunWords words → path_given (codes "usage") words ≡ word_at words 6
+usage_in_order words r = path_in_order words r (codes "usage") 6 r.usage refl (ap (λ l. word_at l 6) r.form)
+
+-- so what is read of the plain form are its words
+pub read_in_order : (words : List Text) (asked : RunWords) → AreRunWords words → AreReadFrom words asked → AreReadInOrder words asked
+read_in_order words asked r read = record {
+  tis = read.tis ∙ tis_in_order words r;
+  cwr = read.cwr ∙ cwr_in_order words r;
+  usage = read.usage ∙ usage_in_order words r;
+  plan = same_plan asked.plan _ _ _ _ _ _ read.plan
+      (number_in_order words r (codes "workers") 8 r.workers refl (ap (λ l. word_at l 8) r.form))
+      (number_in_order words r (codes "readers") 10 r.readers refl (ap (λ l. word_at l 10) r.form))
+      (number_in_order words r (codes "nodes") 12 r.nodes refl (ap (λ l. word_at l 12) r.form));
+}
+
+-- ---- the error of a parse that fails
+
+pub error_is : (c : Command) (words : List Text) (e : Error) → IsRunCommand c
+    → (is_simple_and_free (app_of c) ≡ true → HasKind (fault_of (app_of c) words) e) → IsErrorOf words e
+unfolding IsErrorOf
+error_is c words e s fails = subst (λ (a : App). HasKind (fault_of a words) e) s.shape (fails (ap is_simple_and_free s.shape ∙ run_free))
+
+-- want of memory may come at any words
+pub memory_is : {T : Type 0} (words : List Text) (r : Result T Error) → IsErrAnd r (λ e. kind_of e ≡ kinds.OutOfMemory) → IfErr r (IsErrorOf words)
+unfolding IsErrorOf
+memory_is words (Ok x) is = absurd is
+memory_is words (Err e) is = inl is
+
+-- an error of words that ask for no help asks for none
+pub no_help_given : (words : List Text) (e : Error) → IsErrorOf words e → ¬ AskForHelp words → (kind_of e ≢ kinds.DisplayHelp) × (kind_of e ≢ kinds.DisplayVersion)
+unfolding IsErrorOf AskForHelp
+no_help_given words e (inl memory) none = (
+  λ help. let bad : kinds.OutOfMemory ≡ kinds.DisplayHelp = sym memory ∙ help in cc,
+  λ version. let bad : kinds.OutOfMemory ≡ kinds.DisplayVersion = sym memory ∙ version in cc,
+)
+no_help_given words e (inr among) none = (
+  λ help. none (inl (subst (λ (k : ErrorKind). IsAmong k (fault_of run_app words)) help among)),
+  λ version. none (inr (subst (λ (k : ErrorKind). IsAmong k (fault_of run_app words)) version among)),
+)
+
+-- and of words that are accepted there is none but want of memory
+pub accepted_is_memory : (words : List Text) (e : Error) → IsErrorOf words e → AreAccepted words → kind_of e ≡ kinds.OutOfMemory
+unfolding IsErrorOf AreAccepted
+accepted_is_memory words e (inl memory) accepted = memory
+accepted_is_memory words e (inr among) accepted = absurd (subst (λ (some : Kinds). IsAmong (kind_of e) some) accepted among)

@@ -1,14 +1,13 @@
 -- What a parse finds in the words of a run, and why it may fail.
-use Rattle.std.proofs.Common.{◌≡◌, ◌≢◌, ◌∙◌, ◌⊎◌, List, [], ◌∷◌, Some, None, sym, subst, ap, refl, inl, inr, arith, true, false, codes}
+use Rattle.std.proofs.Common.{◌≡◌, ◌∙◌, List, [], ◌∷◌, Some, None, sym, subst, ap, refl, inl, inr, arith, true, false, codes}
 use Rattle.std.specs.List.{fold}
-use Rattle.clap.specs.Words.{IsAmong, Row, Rule, Shape, Text, built, fault_of, is_simple, is_simple_and_free, matches_of}
+use Rattle.clap.specs.Words.{Row, Rule, Shape, Text, built, fault_of, is_simple, is_simple_and_free, matches_of}
 use Rattle.clap.specs.Faults.{defaults_fault, turn_fault, walk_fault}
 use Rattle.clap.specs.Walk.{Walk, after_step, finished, idle, next, nothing_held, option, plain_word, walk, walk_from, walked}
 use Rattle.clap.specs.declared.builder.value_parser.ValueParser.TheVariants as vp
-use Rattle.clap.specs.declared.error.kind.ErrorKind.{ErrorKind}
 use Rattle.clap.specs.declared.error.kind.ErrorKind.TheVariants as kinds
 use Rattle.split_run.specs.declared.TheConstants.{MOST_NODES, MOST_THREADS}
-use Rattle.royalty_run.specs.Asked.{AreRunWords, IsValue}
+use Rattle.royalty_run.specs.Asked.{AreRunWords, AskForHelp, IsValue}
 use Rattle.royalty_run.specs.RunCommand.{run_app}
 use Rattle.royalty_run.proofs.NoHelp.{NoHelp, fault_after, in_turn, no_kind, one_kind, values_no_help}
 use Rattle.royalty_run.proofs.ValueWords.{row, turn_step, value_met}
@@ -253,8 +252,10 @@ fault_no_help words r =
     (subst (λ (w : Walk). NoHelp (fault_after run_app w)) (sym (walks_all r.tis r.cwr r.usage r.workers r.readers r.nodes are))
     (nodes_after r.tis r.cwr r.usage r.workers r.readers r.nodes)))
 
--- so an error that has one of the kinds asks for neither
-pub run_kinds_no_help : (words : List Text) (k : ErrorKind) → AreRunWords words → (k ≡ kinds.OutOfMemory) ⊎ IsAmong k (fault_of run_app words)
-    → (k ≢ kinds.DisplayHelp) × (k ≢ kinds.DisplayVersion)
-run_kinds_no_help words k r (inl memory) = (λ e. cc, λ e. cc)
-run_kinds_no_help words k r (inr among) = (fault_no_help words r).asks k among
+-- so the words ask for no help
+pub no_help : (words : List Text) → AreRunWords words → ¬ AskForHelp words
+unfolding AskForHelp
+no_help words r asks = elim asks [
+  | inl help ↦ ((fault_no_help words r).asks kinds.DisplayHelp help).0 refl
+  | inr version ↦ ((fault_no_help words r).asks kinds.DisplayVersion version).1 refl
+]

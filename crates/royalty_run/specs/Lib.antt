@@ -1,5 +1,6 @@
 pub mod Answered
 pub mod Asked
+pub mod Files
 pub mod RequiredArg
 pub mod RunCommand
 pub mod SplitCommand

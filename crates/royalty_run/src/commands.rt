@@ -1,10 +1,10 @@
 //! The whole command line, and what its words ask for.
 
-ghost use Rattle.std.specs.Prelude.{◌≡◌, ◌≢◌, ◌⊎◌, IfOk, IfErr, map, string_bytes};
+ghost use Rattle.std.specs.Prelude.{◌≡◌, ◌≢◌, IfOk, IfErr, codes, drop, map, string_bytes};
 ghost use Rattle.clap.specs.Words.{kind_of};
 ghost use Rattle.clap.specs.declared.error.kind.ErrorKind.TheVariants as kinds;
-ghost use Rattle.royalty_run.specs.Asked.{IsDivision, IsRun};
-ghost use Rattle.royalty_run.specs.Answered.{IsDivisionOf, IsInRange, IsNamedBy, IsRunOf};
+ghost use Rattle.royalty_run.specs.Asked.{IsDivision, IsErrorOf, IsRun};
+ghost use Rattle.royalty_run.specs.Answered.{IsDivisionOf, IsInRange, IsNamedBy, IsRunInOrder, IsRunOf};
 ghost use Rattle.pair_split.specs.Pair.{word_at};
 
 use crate::run_command::{RunWords, read_run, run_command};
@@ -40,8 +40,10 @@ pub fn read_words(alloc: Global, words: &[String]) -> Result<Asked, Error>
     ensures named { IfOk result (IsNamedBy (word_at (map string_bytes words.now) 1)) }
     ensures in_range { IfOk result IsInRange }
     ensures division { IsDivision (map string_bytes words.now) → IfOk result (IsDivisionOf (map string_bytes words.now)) }
-    ensures run { IsRun (map string_bytes words.now) → IfOk result (IsRunOf (map string_bytes words.now)) }
-    ensures no_help { IsDivision (map string_bytes words.now) ⊎ IsRun (map string_bytes words.now) → IfErr result (λ error. (kind_of error ≢ kinds.DisplayHelp) × (kind_of error ≢ kinds.DisplayVersion)) }
+    ensures run { word_at (map string_bytes words.now) 1 ≡ codes "run" → IfOk result (IsRunOf (map string_bytes words.now)) }
+    ensures in_order { IsRun (map string_bytes words.now) → IfOk result (IsRunInOrder (map string_bytes words.now)) }
+    ensures error { word_at (map string_bytes words.now) 1 ≡ codes "run" → IfErr result (IsErrorOf (drop 1 (map string_bytes words.now))) }
+    ensures no_help { IsDivision (map string_bytes words.now) → IfErr result (λ error. (kind_of error ≢ kinds.DisplayHelp) × (kind_of error ≢ kinds.DisplayVersion)) }
 {
     if words.len() < 2 {
         return Err(refusal(alloc, words)?);

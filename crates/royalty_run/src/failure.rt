@@ -1,11 +1,14 @@
 //! Why the program has no answer.
 
-ghost use Rattle.std.specs.Prelude.{◌≡◌};
+ghost use Rattle.std.specs.Io.KnownBytes.{Appends};
+ghost use Rattle.std.specs.Prelude.{◌≡◌, IfSome, OnOk};
+ghost use Rattle.std.specs.Fmt.{WritesOnOk};
+ghost use Rattle.royalty_run.specs.Status.{fault_text};
 
 use pair_split::PairFault;
 use settle_run::Fault;
 use std::fmt;
-use std::io::Write;
+use std::io::{self, Write};
 
 /// Why there is no answer. Its text is what the program writes to standard error, with its end of
 /// line.
@@ -19,7 +22,7 @@ pub enum Failure {
     Pairs(PairFault),
     /// An input of a run is refused.
     Input(Fault),
-    /// Memory or a thread was refused.
+    /// Memory was refused.
     Room,
     /// The file of this path cannot be read, or is too large.
     File(String),
@@ -28,6 +31,10 @@ pub enum Failure {
 }
 
 impl fmt::Display for Failure {
+    ghost use Rattle.royalty_run.specs.Status.{text_of};
+
+    ghost output = { text_of };
+
     fn fmt<W: fmt::Write>(&self, f: &mut fmt::Formatter<W>) -> fmt::Result {
         match self {
             Failure::Words(error) => write!(f, "{error}"),
@@ -58,7 +65,9 @@ fn write_fault<W: fmt::Write>(
     number: u8,
     at: &str,
     place: Option<u64>,
-) -> fmt::Result {
+) -> fmt::Result
+    ensures { WritesOnOk W.write_str_gives f.old result (fault_text what.now number at.now place) f.new }
+{
     match place {
         Some(place) => write!(f, "royalty_run: {what} fault {number} at {at}{place}\n"),
         None => write!(f, "royalty_run: {what} fault {number}\n"),
@@ -66,7 +75,7 @@ fn write_fault<W: fmt::Write>(
 }
 
 impl Failure {
-    ghost use Rattle.royalty_run.specs.Status.{failure_of_fault, failure_of_run, status_of};
+    ghost use Rattle.royalty_run.specs.Status.{failure_of_fault, failure_of_run, status_of, text_of};
 
     /// What a fault of the pairs is to the program: want of memory is no fault of theirs.
     pub fn of(fault: PairFault) -> Failure
@@ -80,7 +89,7 @@ impl Failure {
         }
     }
 
-    /// What a fault of a run is to the program: want of memory or of a thread is no fault of an input.
+    /// What a fault of a run is to the program: want of memory is no fault of an input.
     pub fn of_run(fault: Fault) -> Failure
         ensures { result ≡ failure_of_run fault }
     {
@@ -107,8 +116,15 @@ impl Failure {
     pub fn report<E: Write>(&self, err: &mut E) -> u8
         ensures { result ≡ status_of self.now }
     {
-        let _ = write!(err, "{self}");
-        let _ = err.flush();
+        let _ = self.tell(err);
         self.status()
+    }
+
+    /// Writes the text of the failure, and sees it through.
+    fn tell<E: Write>(&self, err: &mut E) -> io::Result<()>
+        ensures { OnOk result (IfSome (text_of self.now) (Appends (E.contents err.old) (E.contents err.new))) }
+    {
+        write!(err, "{self}")?;
+        err.flush()
     }
 }

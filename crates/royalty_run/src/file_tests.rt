@@ -1,8 +1,10 @@
 //! The command `run`, over files that the tests make.
 
 use crate::program::program;
+use std::alloc::Global;
 use std::env;
 use std::fs::{self, OpenFile};
+use std::io::{self, Write};
 use std::rt::{Env, Files};
 use std::sync::Wait;
 use std::test::Fail;
@@ -73,34 +75,137 @@ fn path_of<R: Env + AllocGlobal>(rt: &R, name: &str) -> Result<String, Fail> {
     Ok(format!(in rt.alloc(); "{}/royalty_run-{name}", folder.display())?)
 }
 
-/// The answer of a run over three files with these texts, which are made and removed.
+/// Three files of a run, which a test makes and removes.
+#[derive(Drop)]
+struct Made {
+    tis: String,
+    cwr: String,
+    usage: String,
+}
+
+impl Made {
+    fn of<R: Files + Env + AllocGlobal>(
+        rt: &R,
+        test: &str,
+        inputs: [&str; 3],
+    ) -> Result<Made, Fail> {
+        let alloc = rt.alloc();
+        let [tis, cwr, usage] = inputs;
+        let made = Made {
+            tis: path_of(rt, format!(in alloc; "{test}-tis")?.as_str())?,
+            cwr: path_of(rt, format!(in alloc; "{test}-cwr")?.as_str())?,
+            usage: path_of(rt, format!(in alloc; "{test}-usage")?.as_str())?,
+        };
+        fs::write(rt, made.tis.as_str(), tis)?;
+        fs::write(rt, made.cwr.as_str(), cwr)?;
+        fs::write(rt, made.usage.as_str(), usage)?;
+        Ok(made)
+    }
+
+    /// The words of a run over the files, with its options in the order of the help.
+    fn in_order(&self, alloc: Global) -> Result<String, Fail> {
+        let Made { tis, cwr, usage } = self;
+        Ok(format!(in alloc;
+            "r run --tis {tis} --cwr {cwr} --usage {usage} --workers 2 --readers 1 --nodes 64"
+        )?)
+    }
+
+    /// The same words in another order.
+    fn turned_round(&self, alloc: Global) -> Result<String, Fail> {
+        let Made { tis, cwr, usage } = self;
+        Ok(format!(in alloc;
+            "r run --nodes 64 --readers 1 --workers 2 --usage {usage} --cwr {cwr} --tis {tis}"
+        )?)
+    }
+
+    /// The same with some values after a `=`.
+    fn with_equals_signs(&self, alloc: Global) -> Result<String, Fail> {
+        let Made { tis, cwr, usage } = self;
+        Ok(format!(in alloc;
+            "r run --usage={usage} --nodes=64 --tis={tis} --workers 2 --cwr {cwr} --readers=1"
+        )?)
+    }
+
+    fn remove<R: Files>(self, rt: &R) -> Result<(), Fail> {
+        fs::remove_file(rt, self.tis.as_str())?;
+        fs::remove_file(rt, self.cwr.as_str())?;
+        fs::remove_file(rt, self.usage.as_str())?;
+        Ok(())
+    }
+}
+
+/// The answer of a run over three files with these texts.
 fn answer_over<R: Files + Env + AllocGlobal + Threads + Wait + Sync>(
     rt: &R,
     test: &str,
     inputs: [&str; 3],
 ) -> Result<String, Fail> {
-    let alloc = rt.alloc();
-    let [tis, cwr, usage] = inputs;
-    let paths = [
-        path_of(rt, format!(in alloc; "{test}-tis")?.as_str())?,
-        path_of(rt, format!(in alloc; "{test}-cwr")?.as_str())?,
-        path_of(rt, format!(in alloc; "{test}-usage")?.as_str())?,
-    ];
-    fs::write(rt, paths[0].as_str(), tis)?;
-    fs::write(rt, paths[1].as_str(), cwr)?;
-    fs::write(rt, paths[2].as_str(), usage)?;
-    let files = format!(in alloc;
-        "--tis {} --cwr {} --usage {}",
-        paths[0], paths[1], paths[2]
-    )?;
-    let text = answer(
-        rt,
-        format!(in alloc; "r run {files} --workers 2 --readers 1 --nodes 64")?.as_str(),
-    )?;
-    for path in &paths {
-        fs::remove_file(rt, path.as_str())?;
-    }
+    let made = Made::of(rt, test, inputs)?;
+    let text = answer(rt, made.in_order(rt.alloc())?.as_str())?;
+    made.remove(rt)?;
     Ok(text)
+}
+
+/// The answers of a run over three files, its options in another order and with `=`.
+fn answers_spelt_otherwise<R: Files + Env + AllocGlobal + Threads + Wait + Sync>(
+    rt: &R,
+    test: &str,
+    inputs: [&str; 3],
+) -> Result<String, Fail> {
+    let made = Made::of(rt, test, inputs)?;
+    let turned = answer(rt, made.turned_round(rt.alloc())?.as_str())?;
+    let joined = answer(rt, made.with_equals_signs(rt.alloc())?.as_str())?;
+    made.remove(rt)?;
+    Ok(format!(in rt.alloc(); "{turned}{joined}")?)
+}
+
+/// An output that takes so many bytes, which it keeps, and then refuses.
+#[derive(Drop)]
+struct Narrow {
+    room: usize,
+    kept: Vec<u8>,
+}
+
+impl Write for Narrow {
+    fn write(&mut self, buf: &[u8]) -> io::Result<usize> {
+        if self.room == 0 {
+            return Err(io::Error::from(io::ErrorKind::BrokenPipe));
+        }
+        let taken = buf.len().min(self.room);
+        self.kept.extend_from_slice(&buf[..taken])?;
+        self.room -= taken;
+        Ok(taken)
+    }
+
+    fn flush(&mut self) -> io::Result<()> {
+        Ok(())
+    }
+}
+
+/// What a run tells of an output that takes so many bytes: its status, what the output took, and what it
+/// says of that.
+fn answer_through<R: Files + Env + AllocGlobal + Threads + Wait + Sync>(
+    rt: &R,
+    test: &str,
+    room: usize,
+) -> Result<String, Fail> {
+    let alloc = rt.alloc();
+    let made = Made::of(rt, test, [TERRITORIES, TWO_PARTIES, USES])?;
+    let line = made.in_order(alloc)?;
+    let mut words = Vec::new(alloc);
+    for word in line.as_str().split(' ') {
+        words.push(String::from_str(alloc, word)?)?;
+    }
+    let mut out = Narrow {
+        room,
+        kept: Vec::new(alloc),
+    };
+    let mut err = Vec::new(alloc);
+    let status = program(rt, alloc, words.as_slice(), &mut out, &mut err);
+    made.remove(rt)?;
+    let kept = String::from_utf8(out.kept).unwrap_or(String::new(alloc));
+    let err = String::from_utf8(err).unwrap_or(String::new(alloc));
+    Ok(format!(in alloc; "{status}\n{kept}{err}")?)
 }
 
 #[test]
@@ -109,6 +214,34 @@ fn prints_the_statements(rt: HostRuntime) -> Result<(), Fail> {
     assert_eq!(rt;
         text.as_str(),
         format!(in rt.alloc(); "0\n{STATEMENTS}")?.as_str()
+    );
+    Ok(())
+}
+
+#[test]
+fn prints_the_statements_however_the_options_are_spelt(rt: HostRuntime) -> Result<(), Fail> {
+    let text = answers_spelt_otherwise(&rt, "spelt", [TERRITORIES, TWO_PARTIES, USES])?;
+    assert_eq!(rt;
+        text.as_str(),
+        format!(in rt.alloc(); "0\n{STATEMENTS}0\n{STATEMENTS}")?.as_str()
+    );
+    Ok(())
+}
+
+#[test]
+fn an_output_that_refuses_has_the_beginning(rt: HostRuntime) -> Result<(), Fail> {
+    let alloc = rt.alloc();
+    for room in [0, 1, 30, STATEMENTS.len() - 1] {
+        let begun = &STATEMENTS[..room];
+        assert_eq!(rt;
+            answer_through(&rt, "narrow", room)?.as_str(),
+            format!(in alloc; "4\n{begun}royalty_run: cannot write\n")?.as_str()
+        );
+    }
+    let whole = answer_through(&rt, "narrow", STATEMENTS.len())?;
+    assert_eq!(rt;
+        whole.as_str(),
+        format!(in alloc; "0\n{STATEMENTS}")?.as_str()
     );
     Ok(())
 }

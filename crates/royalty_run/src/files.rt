@@ -1,9 +1,8 @@
 //! A distribution run over files.
 
 ghost use Rattle.std.specs.Io.KnownBytes.{Appends};
-ghost use Rattle.std.specs.Prelude.{◌≡◌, ◌≤◌, ℕ, List, IfOk, IfErr, OnOk, length};
-ghost use Rattle.settle_run.specs.Settled.{AreStatements};
-ghost use Rattle.royalty_run.specs.declared.files.TheConstants.{MOST_BYTES};
+ghost use Rattle.std.specs.Prelude.{◌≡◌, ◌≤◌, ℕ, List, IfOk, IfErr, IfSome, OnOk, length, string_bytes};
+ghost use Rattle.royalty_run.specs.Files.{AreStatementsOver, HaveNoFaultOver, on_disk};
 ghost use Rattle.royalty_run.specs.Status.{IsOfFile, IsOfFiles, IsRefusal};
 
 use crate::failure::Failure;
@@ -19,17 +18,64 @@ use std::thread::Threads;
 /// The most bytes that a file of a run has.
 pub const MOST_BYTES: u64 = 268_435_456;
 
+/// Where the files of a run are read from.
+pub trait Source {
+    // The file of a path has these bytes.
+    ghost holds: { Self → List ℕ → List ℕ → Type 0 };
+
+    /// The bytes of the file of a path. A file of more than the most bytes cannot be read.
+    fn read(&self, alloc: Global, path: &str) -> io::Result<Vec<u8>>
+        ensures bytes { IfOk result (λ bytes. holds self.now path.now bytes.items) }
+        ensures few { IfOk result (λ bytes. length bytes.items ≤ 268435456) };
+}
+
+/// The files of the system.
+#[derive(Drop)]
+pub struct Disk<'a, R> {
+    pub rt: &'a R,
+}
+
+impl<'a, R: Files> Source for Disk<'a, R> {
+    ghost holds = { λ _. on_disk };
+
+    fn read(&self, alloc: Global, path: &str) -> io::Result<Vec<u8>> {
+        let file = fs::open(self.rt, path)?;
+        let size = file.metadata()?.len();
+        if size > MOST_BYTES {
+            return Err(io::Error::from(ErrorKind::FileTooLarge));
+        }
+        read_whole(alloc, file, size as usize + 1)
+    }
+}
+
+/// All that a reader has to give, where that is no more than the most bytes. A pipe does not say its size, and a
+/// file may grow meanwhile, so a byte more is asked for, which tells that nothing was cut off.
+pub fn read_whole<S: Read + Drop>(alloc: Global, from: S, room: usize) -> io::Result<Vec<u8>>
+    ensures whole { IfOk result (λ bytes. IfSome (S.remaining from) (λ all. bytes.items ≡ all)) }
+    ensures few { IfOk result (λ bytes. length bytes.items ≤ 268435456) }
+{
+    let mut bytes = Vec::with_capacity(alloc, room)?;
+    from.take(MOST_BYTES + 1).read_to_end(&mut bytes)?;
+    if bytes.len() as u64 > MOST_BYTES {
+        return Err(io::Error::from(ErrorKind::FileTooLarge));
+    }
+    Ok(bytes)
+}
+
 /// Prints the statements of a run over three files. All are read, in the order of the fields, before any
 /// is looked into.
-pub fn settle_files<R: Files + Threads + Wait + Sync, W: Write>(
+pub fn settle_files<R: Threads + Wait + Sync, S: Source, W: Write>(
     rt: &R,
     alloc: Global,
+    files: &S,
     asked: RunWords,
     out: &mut W,
 ) -> Result<io::Result<()>, Failure>
-    ensures statements { IfOk result (λ printed. OnOk printed ((text : List ℕ) × Appends (W.contents out.old) (W.contents out.new) text × AreStatements text)) }
+    ensures statements { IfOk result (λ printed. OnOk printed ((text : List ℕ) × Appends (W.contents out.old) (W.contents out.new) text
+        × AreStatementsOver (S.holds files.now) (string_bytes asked.tis) (string_bytes asked.cwr) (string_bytes asked.usage) text)) }
+    ensures read { IfOk result (λ _. HaveNoFaultOver (S.holds files.now) (string_bytes asked.tis) (string_bytes asked.cwr) (string_bytes asked.usage)) }
     ensures failure { IfErr result IsRefusal }
-    ensures file { IfErr result (IsOfFiles asked) }
+    ensures files { IfErr result (IsOfFiles (S.holds files.now) asked) }
     ensures silent { IfErr result (λ _. out.new ≡ out.old) }
 {
     let RunWords {
@@ -38,37 +84,23 @@ pub fn settle_files<R: Files + Threads + Wait + Sync, W: Write>(
         usage,
         plan,
     } = asked;
-    let tis = read_file(rt, alloc, tis)?;
-    let cwr = read_file(rt, alloc, cwr)?;
-    let usage = read_file(rt, alloc, usage)?;
-    settle_to(rt, alloc, tis, cwr, usage, plan, out).map_err(Failure::of_run)
+    let tis = read_file(files, alloc, tis)?;
+    let cwr = read_file(files, alloc, cwr)?;
+    let usage = read_file(files, alloc, usage)?;
+    match settle_to(rt, alloc, tis, cwr, usage, plan, out) {
+        Ok(printed) => Ok(printed),
+        Err(fault) => Err(Failure::of_run(fault)),
+    }
 }
 
-/// The bytes of a file, where it can be read and is no larger than the most bytes.
-fn read_file<R: Files>(rt: &R, alloc: Global, path: String) -> Result<Vec<u8>, Failure>
-    ensures few { IfOk result (λ bytes. length bytes.items ≤ MOST_BYTES) }
+/// The bytes of the file of a path.
+fn read_file<S: Source>(files: &S, alloc: Global, path: String) -> Result<Vec<u8>, Failure>
+    ensures bytes { IfOk result (λ bytes. S.holds files.now (string_bytes path) bytes.items) }
     ensures failure { IfErr result (IsOfFile path) }
 {
-    match bytes_of(rt, alloc, path.as_str()) {
+    match files.read(alloc, path.as_str()) {
         Ok(bytes) => Ok(bytes),
         Err(error) if error.kind() == ErrorKind::OutOfMemory => Err(Failure::Room),
         Err(_) => Err(Failure::File(path)),
     }
-}
-
-fn bytes_of<R: Files>(rt: &R, alloc: Global, path: &str) -> io::Result<Vec<u8>>
-    ensures { IfOk result (λ bytes. length bytes.items ≤ MOST_BYTES) }
-{
-    let file = fs::open(rt, path)?;
-    let size = file.metadata()?.len();
-    if size > MOST_BYTES {
-        return Err(io::Error::from(ErrorKind::FileTooLarge));
-    }
-    let mut bytes = Vec::with_capacity(alloc, size as usize + 1)?;
-    // a pipe does not say its size, and a file may grow meanwhile
-    file.take(MOST_BYTES + 1).read_to_end(&mut bytes)?;
-    if bytes.len() as u64 > MOST_BYTES {
-        return Err(io::Error::from(ErrorKind::FileTooLarge));
-    }
-    Ok(bytes)
 }

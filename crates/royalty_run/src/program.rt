@@ -1,18 +1,20 @@
 //! What the program does with its words, and the status that it answers.
 
-ghost use Rattle.std.specs.Prelude.{◌≡◌, ◌≢◌, ◌≤◌, ◌⊎◌, ℕ, List, IfOk, IfErr, IsOk, OnOk, map, string_bytes};
+ghost use Rattle.std.specs.Prelude.{◌≡◌, ◌≢◌, ◌≤◌, ◌⊎◌, ℕ, List, IfOk, IfErr, IsOk, OnErr, OnOk, map, string_bytes};
 ghost use Rattle.std.specs.Io.KnownBytes.{Appends, Keeps};
-ghost use Rattle.royalty_run.specs.Asked.{IsDivision};
+ghost use Rattle.royalty_run.specs.Asked.{AreRun, IsDivision};
 ghost use Rattle.royalty_run.specs.Answered.{IsAnswered};
-ghost use Rattle.royalty_run.specs.Status.{IsFailureOf, IsRefusal, failure_of_kind};
+ghost use Rattle.royalty_run.specs.Files.{on_disk};
+ghost use Rattle.royalty_run.specs.Status.{IsFailureOf, IsOfRun, IsRefusal, failure_of_kind, status_of};
+ghost use Rattle.royalty_run.specs.declared.failure.Failure.TheVariants.{Room};
 
 use crate::commands::{Asked, read_words};
 use crate::failure::Failure;
-use crate::files::settle_files;
+use crate::files::{Disk, Source, settle_files};
 use clap::error::ErrorKind;
 use pair_split::split_words;
 use std::alloc::Global;
-use std::env;
+use std::env::{self, Args};
 use std::io::{self, Write};
 use std::rt::{Env, Files};
 use std::sync::Wait;
@@ -21,9 +23,16 @@ use std::thread::Threads;
 /// The words of the command line, the first of which is the program's own name.
 pub fn words_of<R: Env + AllocGlobal>(rt: &R) -> Result<Vec<String>, Failure> {
     match env::args(rt) {
-        Ok(words) => words.collect(rt.alloc()).map_err(|_| Failure::Room),
+        Ok(words) => listed(rt.alloc(), words),
         Err(error) => Err(no_words(error.kind())),
     }
+}
+
+/// The words in one list. Only memory can be refused.
+fn listed(alloc: Global, words: Args<Global>) -> Result<Vec<String>, Failure>
+    ensures { IfErr result (λ failure. failure ≡ Room) }
+{
+    words.collect(alloc).map_err(|_| Failure::Room)
 }
 
 /// Why the words cannot be had, by the kind of the error.
@@ -39,7 +48,7 @@ pub(crate) fn no_words(kind: io::ErrorKind) -> Failure
 /// Does what the words ask for, of which the first is the program's own name. The answer goes to
 /// `out`, and what went wrong to `err`. The status is 0 where the answer was printed or help was
 /// asked for, 1 where an input file is refused for what is in it, 2 where the words are refused, 3 for
-/// want of memory or of a thread, and 4 where a file cannot be read or `out` refused a write.
+/// want of memory, and 4 where a file cannot be read or `out` refused a write.
 pub fn program<R: Files + Threads + Wait + Sync, W: Write, E: Write>(
     rt: &R,
     alloc: Global,
@@ -48,11 +57,25 @@ pub fn program<R: Files + Threads + Wait + Sync, W: Write, E: Write>(
     err: &mut E,
 ) -> u8
     ensures known { result ≤ 4 }
-    ensures printed { result ≡ 0 → (text : List ℕ) × Appends (W.contents out.old) (W.contents out.new) text × IsAnswered (map string_bytes words.now) text }
+    ensures printed { result ≡ 0 → (text : List ℕ) × Appends (W.contents out.old) (W.contents out.new) text × IsAnswered on_disk (map string_bytes words.now) text }
     ensures quiet { result ≡ 0 → err.new ≡ err.old }
     ensures silent { (result ≡ 1) ⊎ ((result ≡ 2) ⊎ (result ≡ 3)) → out.new ≡ out.old }
+    ensures accepted { AreRun (map string_bytes words.now) → result ≢ 2 }
 {
-    match answer(rt, alloc, words, out) {
+    let printed = answer(rt, alloc, &Disk { rt }, words, out);
+    end(printed, out, err)
+}
+
+/// Sees an answer through to the output, or says what failed, and answers the status.
+fn end<W: Write, E: Write>(answer: Result<io::Result<()>, Failure>, out: &mut W, err: &mut E) -> u8
+    ensures failed { IfErr answer (λ failure. result ≡ status_of failure) }
+    ensures silent { OnErr answer (out.new ≡ out.old) }
+    ensures answered { OnOk answer ((result ≡ 0) ⊎ (result ≡ 4)) }
+    ensures printed { result ≡ 0 → IfOk answer IsOk }
+    ensures kept { result ≡ 0 → Keeps (W.contents out.old) (W.contents out.new) }
+    ensures quiet { result ≡ 0 → err.new ≡ err.old }
+{
+    match answer {
         Ok(printed) => match see_through(printed, out) {
             Ok(()) => 0,
             Err(_) => Failure::Output.report(err),
@@ -61,15 +84,18 @@ pub fn program<R: Files + Threads + Wait + Sync, W: Write, E: Write>(
     }
 }
 
-/// Prints the rows of a division, the statements of a run, or help.
-fn answer<R: Files + Threads + Wait + Sync, W: Write>(
+/// Prints the rows of a division, the statements of a run over these files, or help.
+fn answer<R: Threads + Wait + Sync, S: Source, W: Write>(
     rt: &R,
     alloc: Global,
+    files: &S,
     words: &[String],
     out: &mut W,
 ) -> Result<io::Result<()>, Failure>
-    ensures answered { IfOk result (λ printed. OnOk printed ((text : List ℕ) × Appends (W.contents out.old) (W.contents out.new) text × IsAnswered (map string_bytes words.now) text)) }
+    ensures answered { IfOk result (λ printed. OnOk printed ((text : List ℕ) × Appends (W.contents out.old) (W.contents out.new) text
+        × IsAnswered (S.holds files.now) (map string_bytes words.now) text)) }
     ensures failure { IfErr result IsRefusal }
+    ensures run { AreRun (map string_bytes words.now) → IfErr result IsOfRun }
     ensures pairs { IsDivision (map string_bytes words.now) → IfErr result (IsFailureOf (map string_bytes words.now)) }
     ensures silent { IfErr result (λ _. out.new ≡ out.old) }
 {
@@ -80,7 +106,7 @@ fn answer<R: Files + Threads + Wait + Sync, W: Write>(
                 Err(fault) => Err(Failure::of(fault)),
             }
         }
-        Ok(Asked::Run(asked)) => settle_files(rt, alloc, asked, out),
+        Ok(Asked::Run(asked)) => settle_files(rt, alloc, files, asked, out),
         Err(error) if error.kind() == ErrorKind::OutOfMemory => Err(Failure::Room),
         Err(error) if error.use_stderr() => Err(Failure::Words(error)),
         Err(help) => match format!(in alloc; "{help}") {

@@ -1,10 +1,8 @@
 //! The grammar of the command `run`, and what its words ask for.
 
 ghost use Rattle.std.specs.Prelude.{◌≡◌, ◌≢◌, ◌≤◌, ℕ, IfOk, IfErr, Some, codes, map, string_bytes};
-ghost use Rattle.clap.specs.Words.{kind_of};
-ghost use Rattle.clap.specs.declared.error.kind.ErrorKind.TheVariants as kinds;
 ghost use Rattle.clap.specs.declared.builder.value_parser.ValueParser.TheVariants as vp;
-ghost use Rattle.royalty_run.specs.Asked.{AreRunWords};
+ghost use Rattle.royalty_run.specs.Asked.{IsErrorOf};
 ghost use Rattle.royalty_run.specs.Answered.{AreReadFrom};
 ghost use Rattle.clap.specs.Words.{rule_of};
 ghost use Rattle.royalty_run.specs.RequiredArg.{IsRequiredArg};
@@ -49,8 +47,8 @@ pub struct RunWords {
 /// Reads the words of a run, the first of which is `run`. They are a command of their own, as those of a
 /// division are.
 pub fn read_run(alloc: Global, words: &[String]) -> Result<RunWords, Error>
-    ensures read { AreRunWords (map string_bytes words.now) → IfOk result (AreReadFrom (map string_bytes words.now)) }
-    ensures no_help { AreRunWords (map string_bytes words.now) → IfErr result (λ error. (kind_of error ≢ kinds.DisplayHelp) × (kind_of error ≢ kinds.DisplayVersion)) }
+    ensures read { IfOk result (AreReadFrom (map string_bytes words.now)) }
+    ensures error { IfErr result (IsErrorOf (map string_bytes words.now)) }
 {
     let matches = run_command(alloc)?.try_get_matches_from(words)?;
     let tis = String::from_str(alloc, matches.get_str("tis").unwrap())?;

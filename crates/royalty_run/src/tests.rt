@@ -74,6 +74,63 @@ impl Write for Narrow {
     }
 }
 
+/// An output that holds its bytes back until they are brought through.
+#[derive(Drop)]
+struct Held {
+    back: Vec<u8>,
+    through: Vec<u8>,
+}
+
+impl Write for Held {
+    fn write(&mut self, buf: &[u8]) -> io::Result<usize> {
+        self.back.extend_from_slice(buf)?;
+        Ok(buf.len())
+    }
+
+    fn flush(&mut self) -> io::Result<()> {
+        self.through.extend_from_slice(self.back.as_slice())?;
+        self.back.clear();
+        Ok(())
+    }
+}
+
+/// What comes through two outputs that hold their bytes back.
+fn brought_through<R: Files + AllocGlobal + Threads + Wait + Sync>(
+    rt: &R,
+    line: &str,
+) -> Result<Answer, Fail> {
+    let alloc = rt.alloc();
+    let words = words(alloc, line)?;
+    let mut out = Held {
+        back: Vec::new(alloc),
+        through: Vec::new(alloc),
+    };
+    let mut err = Held {
+        back: Vec::new(alloc),
+        through: Vec::new(alloc),
+    };
+    let status = program(rt, alloc, words.as_slice(), &mut out, &mut err);
+    Ok(Answer {
+        status,
+        out: out.through,
+        err: err.through,
+    })
+}
+
+#[test]
+fn brings_its_text_through(rt: HostRuntime) -> Result<(), Fail> {
+    let answer = brought_through(&rt, "r split 3 A=5000")?;
+    assert_eq!(rt; answer.out.as_slice(), b"P,A,2\nM,,1\n".as_slice());
+    assert_eq!(rt; answer.status, 0);
+    let answer = brought_through(&rt, "r split 5 A=1 A=2")?;
+    assert_eq!(rt;
+        answer.err.as_slice(),
+        b"royalty_run: pair fault 2 at 2\n".as_slice()
+    );
+    assert_eq!(rt; answer.status, 2);
+    Ok(())
+}
+
 #[test]
 fn divides_as_in_the_examples(rt: HostRuntime) -> Result<(), Fail> {
     for (line, want) in [
@@ -111,6 +168,10 @@ fn refuses_pairs_by_number_and_place(rt: HostRuntime) -> Result<(), Fail> {
         ("r split 5 A=1 B", "royalty_run: pair fault 1 at 2\n"),
         ("r split 5 A=1 A=2 =3", "royalty_run: pair fault 1 at 3\n"),
         ("r split 5 TENLETTERS=1", "royalty_run: pair fault 1 at 1\n"),
+        (
+            "r split 5 NINE_BYTE=1 B",
+            "royalty_run: pair fault 1 at 2\n",
+        ),
         ("r split 5 A=+1", "royalty_run: pair fault 1 at 1\n"),
         ("r split 5 A=000001", "royalty_run: pair fault 1 at 1\n"),
         ("r split 5 A=1=2", "royalty_run: pair fault 1 at 1\n"),
@@ -140,6 +201,26 @@ fn refuses_words_and_shows_help(rt: HostRuntime) -> Result<(), Fail> {
         assert!(rt; answer.out.is_empty(), "{line}");
         assert!(rt; !answer.err.is_empty(), "{line}");
     }
+    // what is said is of the word that is wrong, wherever it stands
+    for (line, word) in [
+        ("r splti 5 A=1", "'splti'"),
+        ("r split five A=1", "'five'"),
+        ("r split 5 A=1 --tis x", "'--tis'"),
+        (
+            "r run --tis a --cwr b --usage c --workers 1 --readers 1 --nodes 65",
+            "'65'",
+        ),
+        (
+            "r run --tis a --cwr b --usage c --workers 1 --readers 1 --nods 6",
+            "'--nods'",
+        ),
+    ] {
+        let answer = run(&rt, line)?;
+        assert!(rt;
+            str::from_utf8(answer.err.as_slice())?.contains(word),
+            "{line}"
+        );
+    }
     for line in ["r --help", "r help split", "r split --help"] {
         let answer = run(&rt, line)?;
         assert_eq!(rt; answer.status, 0, "{line}");
@@ -156,6 +237,8 @@ fn tells_what_the_words_are(rt: HostRuntime) -> Result<(), Fail> {
             "r --help",
             "  1  an input file is refused for what is in it\n",
         ),
+        ("r help split", "Usage: royalty_run split"),
+        ("r help run", "Usage: royalty_run run"),
         (
             "r --help",
             "  4  a file cannot be read, or the output refused a write\n",

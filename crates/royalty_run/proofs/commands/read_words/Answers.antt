@@ -1,7 +1,8 @@
 use Rattle.std.proofs.Common.{All, map, drop, ap, ◌∙◌}
 use Rattle.std.specs.Prelude.{string_bytes}
-use Rattle.royalty_run.specs.Asked.{AreRunWords, IsValue, number_in}
+use Rattle.royalty_run.specs.Asked.{IsValue, number_in}
 use Rattle.royalty_run.specs.Answered.{AreReadFrom}
+use Rattle.royalty_run.proofs.RunLemmas.{read_in_order}
 use Rattle.royalty_run.proofs.Shifted.{mapped_others, one_on, others, third, two_on}
 use Rattle.royalty_run.proofs.commands.read_words.Goals as goal
 
@@ -14,9 +15,13 @@ returns-in_ok-read_split-in-split-clause-division c asked =
     )
 
 pub returns-in_ok-read_run-in-run-clause-run : goal.returns-in_ok-read_run-in-run-clause-run
-returns-in_ok-read_run-in-run-clause-run c asked =
+returns-in_ok-read_run-in-run-clause-run c command =
     let words = c.args.words.now in
-    let shifted = mapped_others string_bytes words in
-    let options : AreRunWords (map string_bytes (others words)) = rw shifted asked.options in
-    let read : AreReadFrom (map string_bytes (others words)) c.in_ok-read_run-in-run.field-0 = c.in_ok-read_run-in-run.ensures.read options in
-    rw shifted at read
+    let read : AreReadFrom (map string_bytes (others words)) c.in_ok-read_run-in-run.field-0 = c.in_ok-read_run-in-run.ensures.read in
+    rw (mapped_others string_bytes words) at read
+
+pub returns-in_ok-read_run-in-run-clause-in_order : goal.returns-in_ok-read_run-in-run-clause-in_order
+returns-in_ok-read_run-in-run-clause-in_order c asked =
+    let words = c.args.words.now in
+    let read : AreReadFrom (map string_bytes (others words)) c.in_ok-read_run-in-run.field-0 = c.in_ok-read_run-in-run.ensures.read in
+    read_in_order (drop 1 (map string_bytes words)) c.in_ok-read_run-in-run.field-0 asked.options (rw (mapped_others string_bytes words) at read)

@@ -1,0 +1,37 @@
+-- The statements of the files that a run names, by the words that name them.
+use Rattle.std.proofs.Common.{◌≡◌, ◌∙◌, ◌+◌, ℕ, List, [], codes, drop, subst}
+use Rattle.std.proofs.lemmas.Grind.{get_or_after_one}
+use Rattle.std.specs.Prelude.{string_bytes}
+use Rattle.pair_split.specs.Pair.{word_at}
+use Rattle.royalty_run.specs.Answered.{AreReadFrom}
+use Rattle.royalty_run.specs.Asked.{IsRun, path_given}
+use Rattle.royalty_run.specs.Files.{AreStatementsOver}
+use Rattle.royalty_run.specs.declared.run_command.RunWords.{RunWords}
+use Rattle.royalty_run.proofs.RunLemmas.{cwr_in_order, tis_in_order, usage_in_order}
+
+-- statements stay those of paths that are the same
+at_paths : (holds : List ℕ → List ℕ → Type 0) (text tis cwr usage tis' cwr' usage' : List ℕ) → tis ≡ tis' → cwr ≡ cwr' → usage ≡ usage'
+    → AreStatementsOver holds tis cwr usage text → AreStatementsOver holds tis' cwr' usage' text
+at_paths holds text tis cwr usage tis' cwr' usage' same_tis same_cwr same_usage over =
+    subst (λ (u : List ℕ). AreStatementsOver holds tis' cwr' u text) same_usage
+    (subst (λ (c : List ℕ). AreStatementsOver holds tis' c usage text) same_cwr
+    (subst (λ (t : List ℕ). AreStatementsOver holds t cwr usage text) same_tis over))
+
+-- by the paths that the options are given
+pub over_given : (holds : List ℕ → List ℕ → Type 0) (words : List (List ℕ)) (asked : RunWords) (text : List ℕ) → AreReadFrom words asked
+    → AreStatementsOver holds (string_bytes asked.tis) (string_bytes asked.cwr) (string_bytes asked.usage) text
+    → AreStatementsOver holds (path_given (codes "tis") words) (path_given (codes "cwr") words) (path_given (codes "usage") words) text
+over_given holds words asked text read over = at_paths holds text _ _ _ _ _ _ read.tis read.cwr read.usage over
+
+-- a word after the first
+word_on : (words : List (List ℕ)) (k : ℕ) → word_at (drop 1 words) k ≡ word_at words (1 + k)
+word_on words k = get_or_after_one words k []
+
+-- and in the plain form by the words after the options
+pub over_in_order : (holds : List ℕ → List ℕ → Type 0) (words : List (List ℕ)) (asked : RunWords) (text : List ℕ) → IsRun words → AreReadFrom (drop 1 words) asked
+    → AreStatementsOver holds (string_bytes asked.tis) (string_bytes asked.cwr) (string_bytes asked.usage) text
+    → AreStatementsOver holds (word_at words 3) (word_at words 5) (word_at words 7) text
+over_in_order holds words asked text run read over = at_paths holds text _ _ _ _ _ _
+    (read.tis ∙ tis_in_order (drop 1 words) run.options ∙ word_on words 2)
+    (read.cwr ∙ cwr_in_order (drop 1 words) run.options ∙ word_on words 4)
+    (read.usage ∙ usage_in_order (drop 1 words) run.options ∙ word_on words 6) over

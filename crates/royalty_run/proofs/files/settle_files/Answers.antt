@@ -1,0 +1,59 @@
+use Rattle.std.proofs.Common.{ℕ, List}
+use Rattle.std.proofs.lemmas.Result.{on_ok_weaker}
+use Rattle.std.specs.Prelude.{string_bytes}
+use Rattle.settle_run.specs.declared.fault.Fault.{Fault}
+use Rattle.settle_run.specs.declared.fault.Fault.TheVariants.{Tis, Cwr, Usage, Room}
+use Rattle.royalty_run.specs.Files.{AreInputs, IsFaultOver}
+use Rattle.royalty_run.specs.Status.{IsOfFiles, failure_of_run}
+use Rattle.royalty_run.specs.declared.run_command.RunWords.{RunWords}
+use Rattle.royalty_run.proofs.files.settle_files.Goals as goal
+
+-- a fault of the files is why the run fails, where it is no want of memory
+fails : (holds : List ℕ → List ℕ → Type 0) (asked : RunWords) (fault : Fault)
+    → IsFaultOver holds (string_bytes asked.tis) (string_bytes asked.cwr) (string_bytes asked.usage) fault → IsOfFiles holds asked (failure_of_run fault)
+fails holds asked (Tis fault) is = is
+fails holds asked (Cwr fault) is = is
+fails holds asked (Usage fault) is = is
+fails holds asked Room is = tt
+
+pub returns-in-Ok-clause-statements : goal.returns-in-Ok-clause-statements
+returns-in-Ok-clause-statements g c =
+    let asked = c.args.asked in
+    let inputs : AreInputs (g.S.Source.holds c.args.files.now) (string_bytes asked.tis) (string_bytes asked.cwr) (string_bytes asked.usage) = record {
+      territories_file = c.in_ok-tis.tis.items;
+      registrations_file = c.in_ok-cwr.cwr.items;
+      usage_file = c.in_ok-usage.usage.items;
+      territories = c.in_ok-tis.ensures.bytes;
+      registrations = c.in_ok-cwr.ensures.bytes;
+      uses = c.in_ok-usage.ensures.bytes;
+    } in
+    on_ok_weaker c.in-Ok.printed (λ wrote. (wrote.0, wrote.1, record { inputs = inputs; statements = wrote.2 })) c.in-Ok.ensures.statements
+
+pub returns-in-Ok-clause-read : goal.returns-in-Ok-clause-read
+returns-in-Ok-clause-read g c = record {
+  inputs = record {
+    territories_file = c.in_ok-tis.tis.items;
+    registrations_file = c.in_ok-cwr.cwr.items;
+    usage_file = c.in_ok-usage.usage.items;
+    territories = c.in_ok-tis.ensures.bytes;
+    registrations = c.in_ok-cwr.ensures.bytes;
+    uses = c.in_ok-usage.ensures.bytes;
+  };
+  sound = c.in-Ok.ensures.read;
+}
+
+pub returns-in-Err-clause-files : goal.returns-in-Err-clause-files
+returns-in-Err-clause-files g c =
+    let asked = c.args.asked in
+    let over : IsFaultOver (g.S.Source.holds c.args.files.now) (string_bytes asked.tis) (string_bytes asked.cwr) (string_bytes asked.usage) c.in-Err.fault = record {
+      inputs = record {
+        territories_file = c.in_ok-tis.tis.items;
+        registrations_file = c.in_ok-cwr.cwr.items;
+        usage_file = c.in_ok-usage.usage.items;
+        territories = c.in_ok-tis.ensures.bytes;
+        registrations = c.in_ok-cwr.ensures.bytes;
+        uses = c.in_ok-usage.ensures.bytes;
+      };
+      fault_of = c.in-Err.ensures.fault;
+    } in
+    rw c.of_run.ensures (fails (g.S.Source.holds c.args.files.now) asked c.in-Err.fault over)
