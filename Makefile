@@ -3,7 +3,7 @@
 help:
 	@echo 'make demo     prove and build the program, make the statements of the example'
 	@echo 'make build    prove and build the program, leave it as out/royalty_run'
-	@echo 'make test     the gate: prove every crate from nothing, refuse every wrong body, run every test'
+	@echo 'make test     the gate: prove every crate from nothing, refuse every wrong body, run every test and the program'
 	@echo 'make compare  run the program and a plain Rust one on small made-up inputs, good and bad, and compare'
 	@echo 'make bench    run both on a million usage lines, print times and peak memory'
 	@echo 'make explore  go through every state of a small mailbox, with the model in Python'
@@ -25,6 +25,7 @@ demo: build
 
 test:
 	rt ci
+	tests/program.sh crates/royalty_run/out/royalty_run
 
 compare: build
 	python3 bench/compare.py --program out/royalty_run --cases 2000

@@ -1,0 +1,66 @@
+#!/usr/bin/env bash
+# The program as it is started by a shell: its statuses, its two streams, and what a test in the language cannot
+# make: a pipe over the limit, an argument that is not UTF-8, and a machine with little memory.
+#
+#   tests/program.sh PROGRAM
+set -euo pipefail
+program=$(realpath "$1")
+examples=$(realpath "$(dirname "$0")/../examples")
+room=$(mktemp -d)
+trap 'rm -rf "$room"' EXIT
+cd "$room"
+cp "$examples/territories.csv" "$examples/works.cwr" "$examples/usage.csv" .
+most=268435456
+failed=0
+
+# check NAME STATUS OUT ERR WORD..: the program, run with these words, ends with the status and writes these two
+# texts. A text of `*` may be anything but nothing.
+check() {
+    local name=$1 status=$2 out=$3 err=$4 got=0
+    shift 4
+    "$@" >out 2>err || got=$?
+    if [ "$got" != "$status" ] || ! is_text "$out" out || ! is_text "$err" err; then
+        echo "program.sh: $name: status $got, wanted $status; it wrote:"
+        head -c 400 out err
+        failed=$((failed + 1))
+    fi
+}
+
+is_text() {
+    if [ "$1" = '*' ]; then [ -s "$2" ]; else printf '%b' "$1" | cmp -s - "$2"; fi
+}
+
+plan=(--workers 2 --readers 1 --nodes 16)
+files=(--tis territories.csv --cwr works.cwr --usage usage.csv)
+
+check 'a division' 0 'P,A,2\nM,,1\n' '' "$program" split 3 A=5000
+check 'a run' 0 "$(sed 's/\\/\\\\/g' "$examples/statements.csv")\n" '' "$program" run "${files[@]}" "${plan[@]}"
+check 'a run with = and in another order' 0 "$(sed 's/\\/\\\\/g' "$examples/statements.csv")\n" '' \
+    "$program" run --nodes=16 --usage=usage.csv --readers 1 --cwr works.cwr --workers=2 --tis=territories.csv
+check 'help' 0 '*' '' "$program" --help
+check 'a bad table' 1 '' 'royalty_run: tis fault 1 at row 0\n' "$program" run --tis usage.csv --cwr works.cwr --usage usage.csv "${plan[@]}"
+check 'a wrong word' 2 '' '*' "$program" splti
+check 'a wrong pair' 2 '' 'royalty_run: pair fault 2 at 2\n' "$program" split 5 A=1 A=2
+check 'an argument that is not UTF-8' 2 '' 'royalty_run: an argument is not UTF-8\n' "$program" split 5 $'\xff=1'
+check 'a file that is not there' 4 '' 'royalty_run: cannot read absent\n' "$program" run --tis absent --cwr works.cwr --usage usage.csv "${plan[@]}"
+check 'an output that is full' 4 '' 'royalty_run: cannot write\n' bash -c '"$0" split 3 A=5000 >/dev/full' "$program"
+
+# A table of so many bytes comes through a pipe: of the most it is read and refused for its first row, and of one
+# more it is not cut short but not read at all.
+mkfifo pipe
+for bytes in $most $((most + 1)); do
+    { head -c "$bytes" /dev/zero >pipe 2>/dev/null || true; } &
+    if [ "$bytes" = "$most" ]; then
+        check 'a pipe of the most bytes' 1 '' 'royalty_run: tis fault 1 at row 0\n' "$program" run --tis pipe --cwr works.cwr --usage usage.csv "${plan[@]}"
+    else
+        check 'a pipe of one byte more' 4 '' 'royalty_run: cannot read pipe\n' "$program" run --tis pipe --cwr works.cwr --usage usage.csv "${plan[@]}"
+    fi
+    wait
+done
+
+# Memory is refused for a large file, and for the words.
+truncate -s "$most" large
+check 'little memory' 3 '' 'royalty_run: out of room\n' bash -c 'ulimit -v 65536; exec "$0" "$@"' "$program" run --tis large --cwr works.cwr --usage usage.csv "${plan[@]}"
+
+[ "$failed" = 0 ] || { echo "program.sh: $failed failed"; exit 1; }
+echo 'program.sh: ok'
