@@ -43,6 +43,8 @@ check 'a wrong word' 2 '' '*' "$program" splti
 check 'a wrong pair' 2 '' 'royalty_run: pair fault 2 at 2\n' "$program" split 5 A=1 A=2
 check 'an argument that is not UTF-8' 2 '' 'royalty_run: an argument is not UTF-8\n' "$program" split 5 $'\xff=1'
 check 'a file that is not there' 4 '' 'royalty_run: cannot read absent\n' "$program" run --tis absent --cwr works.cwr --usage usage.csv "${plan[@]}"
+printf 'code\n' >'territories.csv '
+check 'a path that ends in a blank' 1 '' 'royalty_run: tis fault 1 at row 0\n' "$program" run --tis 'territories.csv ' --cwr works.cwr --usage usage.csv "${plan[@]}"
 check 'an output that is full' 4 '' 'royalty_run: cannot write\n' bash -c '"$0" split 3 A=5000 >/dev/full' "$program"
 
 # A table of so many bytes comes through a pipe: of the most it is read and refused for its first row, and of one

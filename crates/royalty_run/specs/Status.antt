@@ -1,18 +1,18 @@
 -- What a failure stands for, and the status that the program answers.
-use Rattle.std.specs.Prelude.{ℕ, ◌≡◌, ◌≢◌, ◌⊎◌, ◌++◌, [], ⊤, List, Option, Some, None, String, codes, decimal, string_bytes}
+use Rattle.std.specs.Prelude.{ℕ, ◌≡◌, ◌≢◌, ◌⊎◌, ◌++◌, [], ⊤, List, Option, Some, None, String, codes, decimal, drop, string_bytes}
 use Rattle.std.specs.declared.alloc.Global.{Global}
 use Rattle.clap.specs.Words.{kind_of}
 use Rattle.clap.specs.declared.error.kind.ErrorKind.TheVariants as kinds
 use Rattle.std.specs.declared.io.ErrorKind as io
 use Rattle.std.specs.declared.io.ErrorKind.TheVariants as io_kind
-use Rattle.royalty_run.specs.Asked.{pairs_of}
+use Rattle.pair_split.specs.Pair.{word_at}
+use Rattle.royalty_run.specs.Asked.{AreAccepted, IsDivision, pairs_of, path_given}
 use Rattle.pair_split.specs.PairFault.{IsFaultOf}
 use Rattle.pair_split.specs.PairFault as pair
 use Rattle.tis_tree.specs.TisRows as tis
 use Rattle.cwr_share.specs.CwrFile as cwr
 use Rattle.line_split.specs.UsageTable as usage
 use Rattle.royalty_run.specs.Files.{IsFaultOver}
-use Rattle.royalty_run.specs.declared.run_command.RunWords.{RunWords}
 use Rattle.royalty_run.specs.declared.failure.Failure.{Failure}
 use Rattle.royalty_run.specs.declared.failure.Failure.TheVariants.{Words, NotText, Pairs, Input, Room, File, Output}
 use Rattle.settle_run.specs.declared.fault.Fault.{Fault}
@@ -55,32 +55,40 @@ IsRefusal (Words error) =
     (kind_of error ≢ kinds.OutOfMemory) × (kind_of error ≢ kinds.DisplayHelp) × (kind_of error ≢ kinds.DisplayVersion)
 IsRefusal (Pairs f) = f ≢ fault.Memory
 IsRefusal (Input f) = f ≢ input.Room
-IsRefusal _ = ⊤
+IsRefusal Room = ⊤
+IsRefusal (File path) = ⊤
+IsRefusal _ = ⊥
 
 -- a file fails for want of memory or by its own name
 abbrev pub IsOfFile : String Global → Failure → Type 0
 IsOfFile path Room = ⊤
-IsOfFile path (File name) = name ≡ path
+IsOfFile path (File name) = string_bytes name ≡ string_bytes path
 IsOfFile path _ = ⊥
 
--- a run fails for the first fault of the first of its files that has one, for want of memory, or for a file that cannot be read
-abbrev pub IsOfFiles : (holds : List ℕ → List ℕ → Type 0) → RunWords → Failure → Type 0
-IsOfFiles holds asked (Input fault) = IsFaultOver holds (string_bytes asked.tis) (string_bytes asked.cwr) (string_bytes asked.usage) fault
-IsOfFiles holds asked Room = ⊤
-IsOfFiles holds asked (File name) = (name ≡ asked.tis) ⊎ ((name ≡ asked.cwr) ⊎ (name ≡ asked.usage))
-IsOfFiles holds asked _ = ⊥
+-- a run over the files of these paths fails for the first fault of the first of them that has one, for want of memory, or for one that cannot be read
+abbrev pub IsOfPaths : (holds : List ℕ → List ℕ → Type 0) → (tis cwr usage : List ℕ) → Failure → Type 0
+IsOfPaths holds tis cwr usage (Input fault) = IsFaultOver holds tis cwr usage fault
+IsOfPaths holds tis cwr usage Room = ⊤
+IsOfPaths holds tis cwr usage (File name) = (string_bytes name ≡ tis) ⊎ ((string_bytes name ≡ cwr) ⊎ (string_bytes name ≡ usage))
+IsOfPaths holds tis cwr usage _ = ⊥
 
--- a run that clap accepts does not fail for its words
-abbrev pub IsOfRun : Failure → Type 0
-IsOfRun (Input fault) = ⊤
-IsOfRun Room = ⊤
-IsOfRun (File name) = ⊤
-IsOfRun _ = ⊥
+-- and the words of a run fail for that, or for themselves where clap does not accept them
+abbrev pub IsOfRun : (holds : List ℕ → List ℕ → Type 0) → List (List ℕ) → Failure → Type 0
+IsOfRun holds words (Words error) = ¬ AreAccepted words
+IsOfRun holds words failure = IsOfPaths holds (path_given (codes "tis") words) (path_given (codes "cwr") words) (path_given (codes "usage") words) failure
 
--- the fault of the pairs is one of the words PARTY=SHARE
-abbrev pub IsFailureOf : List (List ℕ) → Failure → Type 0
-IsFailureOf words (Pairs fault) = IsFaultOf (pairs_of words) fault
-IsFailureOf words _ = ⊤
+-- a division fails for its pairs, which then have that fault, for other words, or for want of memory
+abbrev pub IsOfDivision : List (List ℕ) → Failure → Type 0
+IsOfDivision words (Pairs fault) = IsFaultOf (pairs_of words) fault
+IsOfDivision words (Words error) = ⊤
+IsOfDivision words Room = ⊤
+IsOfDivision words _ = ⊥
+
+-- the words of a command line fail for this
+pub record FailFor (holds : List ℕ → List ℕ → Type 0) (words : List (List ℕ)) (failure : Failure) : Type 0 where
+  pub refusal : IsRefusal failure
+  pub division : IsDivision words → IsOfDivision words failure
+  pub run : word_at words 1 ≡ codes "run" → IsOfRun holds (drop 1 words) failure
 
 -- want of memory is no fault of the pairs
 abbrev pub failure_of_fault : PairFault → Failure

@@ -159,7 +159,8 @@ fn answers_spelt_otherwise<R: Files + Env + AllocGlobal + Threads + Wait + Sync>
     Ok(format!(in rt.alloc(); "{turned}{joined}")?)
 }
 
-/// An output that takes so many bytes, which it keeps, and then refuses.
+/// An output that takes so many bytes, refuses once, and then takes all that is still written. It keeps its
+/// bytes.
 #[derive(Drop)]
 struct Narrow {
     room: usize,
@@ -169,6 +170,7 @@ struct Narrow {
 impl Write for Narrow {
     fn write(&mut self, buf: &[u8]) -> io::Result<usize> {
         if self.room == 0 {
+            self.room = usize::MAX;
             return Err(io::Error::from(io::ErrorKind::BrokenPipe));
         }
         let taken = buf.len().min(self.room);

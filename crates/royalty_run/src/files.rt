@@ -3,7 +3,7 @@
 ghost use Rattle.std.specs.Io.KnownBytes.{Appends};
 ghost use Rattle.std.specs.Prelude.{◌≡◌, ◌≤◌, ℕ, List, IfOk, IfErr, IfSome, OnOk, length, string_bytes};
 ghost use Rattle.royalty_run.specs.Files.{AreStatementsOver, HaveNoFaultOver, on_disk};
-ghost use Rattle.royalty_run.specs.Status.{IsOfFile, IsOfFiles, IsRefusal};
+ghost use Rattle.royalty_run.specs.Status.{IsOfFile, IsOfPaths, IsRefusal};
 
 use crate::failure::Failure;
 use crate::run_command::RunWords;
@@ -75,7 +75,7 @@ pub fn settle_files<R: Threads + Wait + Sync, S: Source, W: Write>(
         × AreStatementsOver (S.holds files.now) (string_bytes asked.tis) (string_bytes asked.cwr) (string_bytes asked.usage) text)) }
     ensures read { IfOk result (λ _. HaveNoFaultOver (S.holds files.now) (string_bytes asked.tis) (string_bytes asked.cwr) (string_bytes asked.usage)) }
     ensures failure { IfErr result IsRefusal }
-    ensures files { IfErr result (IsOfFiles (S.holds files.now) asked) }
+    ensures files { IfErr result (IsOfPaths (S.holds files.now) (string_bytes asked.tis) (string_bytes asked.cwr) (string_bytes asked.usage)) }
     ensures silent { IfErr result (λ _. out.new ≡ out.old) }
 {
     let RunWords {

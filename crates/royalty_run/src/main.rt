@@ -13,11 +13,12 @@ mod split_command;
 mod tests;
 
 use program::{program, words_of};
+use std::env;
 use std::process::ExitCode;
 
 fn main(rt: HostRuntime) -> ExitCode {
     let mut err = rt.stderr();
-    let status = match words_of(&rt) {
+    let status = match words_of(rt.alloc(), env::args(&rt)) {
         Ok(words) => program(
             &rt,
             rt.alloc(),

@@ -1,12 +1,15 @@
 //! What the program does with its words, and the status that it answers.
 
-ghost use Rattle.std.specs.Prelude.{◌≡◌, ◌≢◌, ◌≤◌, ◌⊎◌, ℕ, List, IfOk, IfErr, IsOk, OnErr, OnOk, map, string_bytes};
+ghost use Rattle.std.specs.Prelude.{◌≡◌, ◌≢◌, ◌≤◌, ◌⊎◌, ℕ, List, IfOk, IfErr, IsOk, OnErr, OnOk, codes, drop, map, string_bytes};
 ghost use Rattle.std.specs.Io.KnownBytes.{Appends, Keeps};
 ghost use Rattle.royalty_run.specs.Asked.{AreRun, IsDivision};
 ghost use Rattle.royalty_run.specs.Answered.{IsAnswered};
 ghost use Rattle.royalty_run.specs.Files.{on_disk};
-ghost use Rattle.royalty_run.specs.Status.{IsFailureOf, IsOfRun, IsRefusal, failure_of_kind, status_of};
-ghost use Rattle.royalty_run.specs.declared.failure.Failure.TheVariants.{Room};
+ghost use Rattle.royalty_run.specs.Status.{FailFor, IsOfDivision, IsOfRun, IsRefusal, failure_of_kind, status_of};
+ghost use Rattle.royalty_run.specs.declared.failure.Failure.{Failure};
+ghost use Rattle.royalty_run.specs.declared.failure.Failure.TheVariants.{Output, Room};
+ghost use Rattle.pair_split.specs.Pair.{word_at};
+ghost use Rattle.std.specs.IoError.{error_kind};
 
 use crate::commands::{Asked, read_words};
 use crate::failure::Failure;
@@ -14,25 +17,22 @@ use crate::files::{Disk, Source, settle_files};
 use clap::error::ErrorKind;
 use pair_split::split_words;
 use std::alloc::Global;
-use std::env::{self, Args};
+use std::env::Args;
 use std::io::{self, Write};
-use std::rt::{Env, Files};
+use std::rt::Files;
 use std::sync::Wait;
 use std::thread::Threads;
 
-/// The words of the command line, the first of which is the program's own name.
-pub fn words_of<R: Env + AllocGlobal>(rt: &R) -> Result<Vec<String>, Failure> {
-    match env::args(rt) {
-        Ok(words) => listed(rt.alloc(), words),
+/// The words of the command line in one list, the first of which is the program's own name, or why there are
+/// none.
+pub fn words_of(alloc: Global, words: io::Result<Args<Global>>) -> Result<Vec<String>, Failure>
+    ensures memory { OnOk words (IfErr result (λ failure. failure ≡ Room)) }
+    ensures no_words { IfErr words (λ error. IfErr result (λ failure. failure ≡ failure_of_kind (error_kind error))) }
+{
+    match words {
+        Ok(words) => words.collect(alloc).map_err(|_| Failure::Room),
         Err(error) => Err(no_words(error.kind())),
     }
-}
-
-/// The words in one list. Only memory can be refused.
-fn listed(alloc: Global, words: Args<Global>) -> Result<Vec<String>, Failure>
-    ensures { IfErr result (λ failure. failure ≡ Room) }
-{
-    words.collect(alloc).map_err(|_| Failure::Room)
 }
 
 /// Why the words cannot be had, by the kind of the error.
@@ -61,6 +61,7 @@ pub fn program<R: Files + Threads + Wait + Sync, W: Write, E: Write>(
     ensures quiet { result ≡ 0 → err.new ≡ err.old }
     ensures silent { (result ≡ 1) ⊎ ((result ≡ 2) ⊎ (result ≡ 3)) → out.new ≡ out.old }
     ensures accepted { AreRun (map string_bytes words.now) → result ≢ 2 }
+    ensures failed { result ≢ 0 → (failure : Failure) × (result ≡ status_of failure) × ((failure ≡ Output) ⊎ FailFor on_disk (map string_bytes words.now) failure) }
 {
     let printed = answer(rt, alloc, &Disk { rt }, words, out);
     end(printed, out, err)
@@ -95,8 +96,8 @@ fn answer<R: Threads + Wait + Sync, S: Source, W: Write>(
     ensures answered { IfOk result (λ printed. OnOk printed ((text : List ℕ) × Appends (W.contents out.old) (W.contents out.new) text
         × IsAnswered (S.holds files.now) (map string_bytes words.now) text)) }
     ensures failure { IfErr result IsRefusal }
-    ensures run { AreRun (map string_bytes words.now) → IfErr result IsOfRun }
-    ensures pairs { IsDivision (map string_bytes words.now) → IfErr result (IsFailureOf (map string_bytes words.now)) }
+    ensures run { word_at (map string_bytes words.now) 1 ≡ codes "run" → IfErr result (IsOfRun (S.holds files.now) (drop 1 (map string_bytes words.now))) }
+    ensures pairs { IsDivision (map string_bytes words.now) → IfErr result (IsOfDivision (map string_bytes words.now)) }
     ensures silent { IfErr result (λ _. out.new ≡ out.old) }
 {
     match read_words(alloc, words) {

@@ -205,6 +205,7 @@ fn refuses_words_and_shows_help(rt: HostRuntime) -> Result<(), Fail> {
     for (line, word) in [
         ("r splti 5 A=1", "'splti'"),
         ("r split five A=1", "'five'"),
+        ("r help split x", "'x'"),
         ("r split 5 A=1 --tis x", "'--tis'"),
         (
             "r run --tis a --cwr b --usage c --workers 1 --readers 1 --nodes 65",
@@ -237,6 +238,8 @@ fn tells_what_the_words_are(rt: HostRuntime) -> Result<(), Fail> {
             "r --help",
             "  1  an input file is refused for what is in it\n",
         ),
+        ("r --help", "  2  the words are refused\n"),
+        ("r --help", "  3  memory was refused\n"),
         ("r help split", "Usage: royalty_run split"),
         ("r help run", "Usage: royalty_run run"),
         (
@@ -247,6 +250,19 @@ fn tells_what_the_words_are(rt: HostRuntime) -> Result<(), Fail> {
         ("r run --help", "code,groups: a TIS numeric code"),
         ("r run --help", "usage,work,territory,right,amount: a name"),
         ("r run --help", "CWR 2.2"),
+        (
+            "r run --help",
+            "P (performing), M (mechanical) or S (synchronisation)",
+        ),
+        ("r run --help", "--tis <F>      The table of territories\n"),
+        (
+            "r run --help",
+            "--cwr <F>      The registrations of works\n",
+        ),
+        ("r run --help", "--usage <F>    The usage lines\n"),
+        ("r run --help", "divide usage lines: 1 to 8 "),
+        ("r run --help", "keep statements: 1 to 8 "),
+        ("r run --help", "to an account at most: 1 to 64\n"),
         ("r run --help", "L,party,usage,amount"),
         (
             "r run --help",

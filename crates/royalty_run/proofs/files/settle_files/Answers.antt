@@ -4,17 +4,15 @@ use Rattle.std.specs.Prelude.{string_bytes}
 use Rattle.settle_run.specs.declared.fault.Fault.{Fault}
 use Rattle.settle_run.specs.declared.fault.Fault.TheVariants.{Tis, Cwr, Usage, Room}
 use Rattle.royalty_run.specs.Files.{AreInputs, IsFaultOver}
-use Rattle.royalty_run.specs.Status.{IsOfFiles, failure_of_run}
-use Rattle.royalty_run.specs.declared.run_command.RunWords.{RunWords}
+use Rattle.royalty_run.specs.Status.{IsOfPaths, failure_of_run}
 use Rattle.royalty_run.proofs.files.settle_files.Goals as goal
 
 -- a fault of the files is why the run fails, where it is no want of memory
-fails : (holds : List ℕ → List ℕ → Type 0) (asked : RunWords) (fault : Fault)
-    → IsFaultOver holds (string_bytes asked.tis) (string_bytes asked.cwr) (string_bytes asked.usage) fault → IsOfFiles holds asked (failure_of_run fault)
-fails holds asked (Tis fault) is = is
-fails holds asked (Cwr fault) is = is
-fails holds asked (Usage fault) is = is
-fails holds asked Room is = tt
+fails : (holds : List ℕ → List ℕ → Type 0) (tis cwr usage : List ℕ) (fault : Fault) → IsFaultOver holds tis cwr usage fault → IsOfPaths holds tis cwr usage (failure_of_run fault)
+fails holds tis cwr usage (Tis fault) is = is
+fails holds tis cwr usage (Cwr fault) is = is
+fails holds tis cwr usage (Usage fault) is = is
+fails holds tis cwr usage Room is = tt
 
 pub returns-in-Ok-clause-statements : goal.returns-in-Ok-clause-statements
 returns-in-Ok-clause-statements g c =
@@ -56,4 +54,4 @@ returns-in-Err-clause-files g c =
       };
       fault_of = c.in-Err.ensures.fault;
     } in
-    rw c.of_run.ensures (fails (g.S.Source.holds c.args.files.now) asked c.in-Err.fault over)
+    rw c.of_run.ensures (fails (g.S.Source.holds c.args.files.now) (string_bytes asked.tis) (string_bytes asked.cwr) (string_bytes asked.usage) c.in-Err.fault over)

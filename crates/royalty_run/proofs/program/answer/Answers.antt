@@ -1,5 +1,5 @@
 use Rattle.std.proofs.Common.{◌≡◌, ◌≢◌, ℕ, List, drop, map, codes, false, true, rules}
-use Rattle.std.proofs.lemmas.Result.{IfOk-weaker, on_ok_weaker}
+use Rattle.std.proofs.lemmas.Result.{IfErr-weaker, IfOk-weaker, on_ok_weaker}
 use Rattle.std.specs.Prelude.{string_bytes}
 use Rattle.clap.specs.Words.{kind_of}
 use Rattle.clap.specs.declared.error.kind.ErrorKind.TheVariants as kinds
@@ -9,13 +9,13 @@ use Rattle.pair_split.specs.declared.pair_fault.PairFault.{PairFault}
 use Rattle.pair_split.specs.declared.pair_fault.PairFault.TheVariants.{Pair, Name, Share, Many, Memory}
 use Rattle.royalty_run.specs.Answered.{AreReadFrom, IsAnswerTo, IsAnswered}
 use Rattle.royalty_run.specs.Asked.{AskForHelp, IsDivision, pairs_of}
-use Rattle.royalty_run.specs.Status.{IsFailureOf, failure_of_fault}
-use Rattle.royalty_run.proofs.OverLemmas.{over_given, over_in_order}
+use Rattle.royalty_run.specs.Status.{IsOfDivision, failure_of_fault}
+use Rattle.royalty_run.proofs.OverLemmas.{fails_given, over_given, over_in_order}
 use Rattle.royalty_run.proofs.RunLemmas.{accepted_is_memory, no_help_given}
 use Rattle.royalty_run.proofs.RunWalked.{no_help}
 use Rattle.royalty_run.proofs.program.answer.Goals as goal
 
-fault_stands : (words : List (List ℕ)) (f : PairFault) → IsFaultOf (pairs_of words) f → IsFailureOf words (failure_of_fault f)
+fault_stands : (words : List (List ℕ)) (f : PairFault) → IsFaultOf (pairs_of words) f → IsOfDivision words (failure_of_fault f)
 fault_stands words (Pair place) stands = stands
 fault_stands words (Name place) stands = stands
 fault_stands words (Share place) stands = stands
@@ -73,7 +73,19 @@ returns-in-Ok-format-clause-answered g c =
     on_ok_weaker c.write_all-in-Ok-format.result (λ wrote. (c.as_bytes.result.now, wrote, answered)) c.write_all-in-Ok-format.ensures.bytes
 
 pub returns-in-Err-2-clause-run : goal.returns-in-Err-2-clause-run
-returns-in-Err-2-clause-run g c asked =
+returns-in-Err-2-clause-run g c command accepted =
     let words = map string_bytes c.args.words.now in
     let not_memory : kind_of c.in-Err-2.error ≢ kinds.OutOfMemory = search rules in
-    not_memory (accepted_is_memory (drop 1 words) c.in-Err-2.error (c.in-Err-2.ensures.error asked.command) asked.accepted)
+    not_memory (accepted_is_memory (drop 1 words) c.in-Err-2.error (c.in-Err-2.ensures.error command) accepted)
+
+pub returns-in-Ok-Run-clause-run : goal.returns-in-Ok-Run-clause-run
+returns-in-Ok-Run-clause-run g c command =
+    let words = map string_bytes c.args.words.now in
+    let asked = c.in-Ok-Run.asked in
+    let read : AreReadFrom (drop 1 words) asked = rw (c.in-Ok-Run.is, c.in-Ok-Run.field-0-is) at (c.read_words.ensures.run command) in
+    IfErr-weaker c.settle_files.result _ _ (fails_given (g.S.Source.holds c.args.files.now) (drop 1 words) asked read) c.settle_files.ensures.files
+
+pub returns-in-Ok-Run-clause-pairs : goal.returns-in-Ok-Run-clause-pairs
+returns-in-Ok-Run-clause-pairs g c division =
+    let none : ⊥ = rw (c.in-Ok-Run.is, c.in-Ok-Run.field-0-is) at (c.read_words.ensures.division division) in
+    absurd none
