@@ -38,6 +38,7 @@ check 'a run' 0 "$(sed 's/\\/\\\\/g' "$examples/statements.csv")\n" '' "$program
 check 'a run with = and in another order' 0 "$(sed 's/\\/\\\\/g' "$examples/statements.csv")\n" '' \
     "$program" run --nodes=16 --usage=usage.csv --readers 1 --cwr works.cwr --workers=2 --tis=territories.csv
 check 'help' 0 '*' '' "$program" --help
+check 'the version' 0 "royalty_run 0.1.0\n$(rt version)\n" '' "$program" --version
 check 'a bad table' 1 '' 'royalty_run: tis fault 1 at row 0\n' "$program" run --tis usage.csv --cwr works.cwr --usage usage.csv "${plan[@]}"
 check 'a wrong word' 2 '' '*' "$program" splti
 check 'a wrong pair' 2 '' 'royalty_run: pair fault 2 at 2\n' "$program" split 5 A=1 A=2
@@ -47,8 +48,12 @@ printf 'code\n' >'territories.csv '
 check 'a path that ends in a blank' 1 '' 'royalty_run: tis fault 1 at row 0\n' "$program" run --tis 'territories.csv ' --cwr works.cwr --usage usage.csv "${plan[@]}"
 check 'an output that is full' 4 '' 'royalty_run: cannot write\n' bash -c '"$0" split 3 A=5000 >/dev/full' "$program"
 
-# A table of so many bytes comes through a pipe: of the most it is read and refused for its first row, and of one
-# more it is not cut short but not read at all.
+# A table of the most bytes is read and refused for its first row, and one of a byte more is not cut short but not
+# read at all: as a file, and through a pipe.
+truncate -s "$most" large
+truncate -s "$((most + 1))" larger
+check 'a file of the most bytes' 1 '' 'royalty_run: tis fault 1 at row 0\n' "$program" run --tis large --cwr works.cwr --usage usage.csv "${plan[@]}"
+check 'a file of one byte more' 4 '' 'royalty_run: cannot read larger\n' "$program" run --tis larger --cwr works.cwr --usage usage.csv "${plan[@]}"
 mkfifo pipe
 for bytes in $most $((most + 1)); do
     { head -c "$bytes" /dev/zero >pipe 2>/dev/null || true; } &
@@ -60,8 +65,7 @@ for bytes in $most $((most + 1)); do
     wait
 done
 
-# Memory is refused for a large file, and for the words.
-truncate -s "$most" large
+# Memory is refused for a large file.
 check 'little memory' 3 '' 'royalty_run: out of room\n' bash -c 'ulimit -v 65536; exec "$0" "$@"' "$program" run --tis large --cwr works.cwr --usage usage.csv "${plan[@]}"
 
 [ "$failed" = 0 ] || { echo "program.sh: $failed failed"; exit 1; }

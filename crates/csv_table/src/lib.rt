@@ -5,8 +5,6 @@ pub mod forms;
 pub mod laws;
 mod row_writer;
 mod rows;
-#[cfg(test)]
-mod tests;
 
 pub use row_writer::RowWriter;
 pub use rows::Rows;

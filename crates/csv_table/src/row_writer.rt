@@ -79,12 +79,12 @@ impl RowWriter {
         Ok(())
     }
 
-    /// Writes the text of the rows to an output, and begins anew with the same memory. After a write that
+    /// Writes the text of the rows to an output, and starts again in the same memory. After a write that
     /// was refused no more rows are taken.
-    pub fn pass_on<W: Write>(&mut self, to: &mut W) -> io::Result<()>
+    pub fn write_to<W: Write>(&mut self, to: &mut W) -> io::Result<()>
         ensures text { OnOk result (Appends (W.contents to.old) (W.contents to.new) self.old.text) }
         ensures sound { OnOk result (self.old.has_failed ≡ false) }
-        ensures anew { OnOk result (self.new ≡ empty_page) }
+        ensures emptied { OnOk result (self.new ≡ empty_page) }
         ensures refused { OnErr result (self.new.has_failed ≡ true) }
     {
         let alloc = self.alloc;
@@ -98,7 +98,7 @@ impl RowWriter {
 
     /// The same, but only where the text has come to a page: 131072 bytes of it have left the buffer of
     /// the writer of `csv`, which holds back 8192 at most.
-    pub fn pass_on_page<W: Write>(&mut self, to: &mut W) -> io::Result<()>
+    pub fn write_full_page_to<W: Write>(&mut self, to: &mut W) -> io::Result<()>
         ensures kept { OnOk result (Keeps (append_known (W.contents to.old) self.old.text) (append_known (W.contents to.new) self.new.text)) }
         ensures part { self.old.ready ≤ length self.old.text }
         ensures early { OnOk result (self.old.ready < page_bytes → (self.new ≡ self.old) × (to.new ≡ to.old)) }
@@ -108,7 +108,7 @@ impl RowWriter {
         if self.out.get_ref().len() < PAGE_BYTES {
             return Ok(());
         }
-        self.pass_on(to)
+        self.write_to(to)
     }
 
     /// The text of the rows. After a row that was refused there is none.

@@ -1,4 +1,4 @@
--- What share lines come to: those of a party, from the last one back; those of a registration, payee by payee; and the answer on a usage line.
+-- What share lines come to: those of a party, from the last one back; those of a registration, claimant by claimant; and the answer on a usage line.
 use Rattle.std.proofs.Common.{◌≡◌, ◌∙◌, ◌≤◌, ◌<◌, ◌+◌, ◌-◌, ◌++◌, ◌∷◌, ◌⊎◌, [], ℕ, Bool, true, false, List, Some, None, All, AllPairs, Contains, zero, suc, drop, filter, length, take, map, get_or, ltb, nat_eq, nat_le, not, sum_by, append-nil, ap, sym, refl, subst, inl, inr, arith}
 use Rattle.std.specs.Prelude.{Any, IsTrue, ◌↔◌, ◌==◌, ◌&&◌, if◌then◌else◌}
 use Rattle.std.specs.List.{enumerate_from, list_any, range_with_len}
@@ -23,7 +23,7 @@ use Rattle.line_split.specs.UsageLine.{UsageLine}
 use Rattle.line_split.specs.declared.usage.Right.{Right}
 use Rattle.line_split.specs.declared.usage.Right.TheVariants.{P, M, S}
 use Rattle.cwr_share.specs.ClaimsOn.{claim_of, claims_among, claims_by, claims_on, covers, deciding, is_alike, is_known, reason_against, renamed, share_for}
-use Rattle.cwr_share.specs.Compiled.{AreClaimLines, InterestsRise, IsCompiled, Kept, begins_interest, claim_line, claim_lines, claims_of_payees, kept_lines, line_by, lines_at, lines_of_party, lines_of_payees, nameless, places_in, share_under}
+use Rattle.cwr_share.specs.Compiled.{AreClaimLines, InterestsRise, IsCompiled, Kept, begins_interest, claim_line, claim_lines, claims_of_claimants, kept_lines, line_by, lines_at, lines_of_claimants, lines_of_party, nameless, places_in, share_under}
 use Rattle.cwr_share.specs.declared.claim_line.ClaimLine.{ClaimLine}
 use Rattle.cwr_share.specs.Found.{LookedUp}
 use Rattle.cwr_share.specs.Registered.{Registered}
@@ -316,141 +316,141 @@ module _ (all : List (ℕ × ℕ)) where
     pub gathered_over : MOST_CLAIMED < total + claim.1 → nat_le (total_of all) MOST_CLAIMED ≡ false
     gathered_over over = lt-leb (total_of all) MOST_CLAIMED (omega (arith, next_sum, sum_by-take-le (λ (claim : ℕ × ℕ). claim.1) all (n + 1), over))
 
-module _ (table : List (ℕ × List ℕ)) (land : ℕ) (right : Right) (lines : List ShareLine) (payees : List (ℕ × List ℕ)) where
-  -- as many claims as payees
-  pub length-claims : length (claims_of_payees table land right lines payees) ≡ length payees
-  length-claims = length-map payees _
+module _ (table : List (ℕ × List ℕ)) (land : ℕ) (right : Right) (lines : List ShareLine) (claimants : List (ℕ × List ℕ)) where
+  -- as many claims as claimants
+  pub length-claims : length (claims_of_claimants table land right lines claimants) ≡ length claimants
+  length-claims = length-map claimants _
 
-  module _ (k : ℕ) (payee : ℕ × List ℕ) (within : k < length payees) (is : payee ≡ get_or payees k payee) where
-    -- the claim of a payee
-    pub claim_at : (claim : ℕ) → claim ≡ sum_by (share_for right) (deciding table land (lines_at lines payee.1))
-        → get_or (claims_of_payees table land right lines payees) k (payee.0, claim) ≡ (payee.0, claim)
+  module _ (k : ℕ) (claimant : ℕ × List ℕ) (within : k < length claimants) (is : claimant ≡ get_or claimants k claimant) where
+    -- the claim of a claimant
+    pub claim_at : (claim : ℕ) → claim ≡ sum_by (share_for right) (deciding table land (lines_at lines claimant.1))
+        → get_or (claims_of_claimants table land right lines claimants) k (claimant.0, claim) ≡ (claimant.0, claim)
     claim_at claim sum =
-        get_or-map _ payees k payee (payee.0, claim) within
+        get_or-map _ claimants k claimant (claimant.0, claim) within
         ∙ (ap (λ (p : ℕ × List ℕ). (p.0, sum_by (share_for right) (deciding table land (lines_at lines p.1)))) (sym is)
-        ∙ ap (λ n. (payee.0, n)) (sym sum))
+        ∙ ap (λ n. (claimant.0, n)) (sym sum))
 
     -- it is behind those of lower accounts
-    pub lower_accounts : AllPairs (λ payee later. payee.0 < later.0) payees → All (λ other. other.0 < payee.0) (filter counts (take k (claims_of_payees table land right lines payees)))
+    pub lower_accounts : AllPairs (λ claimant later. claimant.0 < later.0) claimants → All (λ other. other.0 < claimant.0) (filter counts (take k (claims_of_claimants table land right lines claimants)))
     lower_accounts rising =
-        let all = claims_of_payees table land right lines payees in
-        All-filter counts (λ other. other.0 < payee.0) (take k all)
+        let all = claims_of_claimants table land right lines claimants in
+        All-filter counts (λ other. other.0 < claimant.0) (take k all)
         (λ j d kept.
         let before : j < k = omega (arith, kept, length-take-le k all (omega (arith, within, length-claims))) in
         let this : get_or (take k all) j d ≡ get_or all j d = get_or-take k all j d before in
-        let there : j < length payees = omega (arith, before, within) in
-        let other : (get_or all j d).0 ≡ (get_or payees j payee).0 = ap (λ (p : ℕ × ℕ). p.0) (get_or-map _ payees j payee d there) in
-        let lower = rising j k payee before within in
+        let there : j < length claimants = omega (arith, before, within) in
+        let other : (get_or all j d).0 ≡ (get_or claimants j claimant).0 = ap (λ (p : ℕ × ℕ). p.0) (get_or-map _ claimants j claimant d there) in
+        let lower = rising j k claimant before within in
         omega (arith, lower, ap (λ (p : ℕ × ℕ). p.0) this, other, ap (λ (p : ℕ × List ℕ). p.0) is))
 
 -- as many lines as places
-pub length-lines_of_payees : (named : List ShareLine) (payees : List (ℕ × List ℕ)) → length (lines_of_payees named payees) ≡ places_in payees
-length-lines_of_payees named [] = refl
-length-lines_of_payees named (payee ∷ later) =
-    let front = claim_lines payee.0 (lines_at named payee.1) in
+pub length-lines_of_claimants : (named : List ShareLine) (claimants : List (ℕ × List ℕ)) → length (lines_of_claimants named claimants) ≡ places_in claimants
+length-lines_of_claimants named [] = refl
+length-lines_of_claimants named (claimant ∷ later) =
+    let front = claim_lines claimant.0 (lines_at named claimant.1) in
     omega (
       arith,
-      length-append front (lines_of_payees named later),
-      length-claim_lines payee.0 (lines_at named payee.1),
-      length-lines_at named payee.1,
-      length-lines_of_payees named later,
-      sum_by-cons (λ (p : ℕ × List ℕ). length p.1) payee later,
+      length-append front (lines_of_claimants named later),
+      length-claim_lines claimant.0 (lines_at named claimant.1),
+      length-lines_at named claimant.1,
+      length-lines_of_claimants named later,
+      sum_by-cons (λ (p : ℕ × List ℕ). length p.1) claimant later,
     )
 
--- the lines of payees are of their accounts
-of_payees : (named : List ShareLine) (Holds : ℕ → Type 0) (payees : List (ℕ × List ℕ)) → All (λ payee. Holds payee.0) payees → All (λ line. Holds line.account) (lines_of_payees named payees)
-of_payees named Holds [] all = λ k d within. absurd (omega arith)
-of_payees named Holds (payee ∷ later) all =
-    All-append (λ line. Holds line.account) (claim_lines payee.0 (lines_at named payee.1)) (lines_of_payees named later)
-    (λ k d within. subst Holds (sym (of_its_account payee.0 (lines_at named payee.1) k d within)) (all 0 payee (omega arith)))
-    (of_payees named Holds later (All-tail (λ payee. Holds payee.0) payee later all))
+-- the lines of claimants are of their accounts
+of_claimants : (named : List ShareLine) (Holds : ℕ → Type 0) (claimants : List (ℕ × List ℕ)) → All (λ claimant. Holds claimant.0) claimants → All (λ line. Holds line.account) (lines_of_claimants named claimants)
+of_claimants named Holds [] all = λ k d within. absurd (omega arith)
+of_claimants named Holds (claimant ∷ later) all =
+    All-append (λ line. Holds line.account) (claim_lines claimant.0 (lines_at named claimant.1)) (lines_of_claimants named later)
+    (λ k d within. subst Holds (sym (of_its_account claimant.0 (lines_at named claimant.1) k d within)) (all 0 claimant (omega arith)))
+    (of_claimants named Holds later (All-tail (λ claimant. Holds claimant.0) claimant later all))
 
--- The lines from the first of a payee on.
-module _ (named : List ShareLine) (payees : List (ℕ × List ℕ)) (lines : List ClaimLine) (claim_lines_of : AreClaimLines named payees lines) (at n : ℕ)
-    (here : drop at lines ≡ lines_of_payees named (drop n payees)) where
-  -- where lines are left, a payee is
-  pub payee_left : at < length lines → n < length payees
-  payee_left left = elim (cases_lt n (length payees)) [
+-- The lines from the first of a claimant on.
+module _ (named : List ShareLine) (claimants : List (ℕ × List ℕ)) (lines : List ClaimLine) (claim_lines_of : AreClaimLines named claimants lines) (at n : ℕ)
+    (here : drop at lines ≡ lines_of_claimants named (drop n claimants)) where
+  -- where lines are left, a claimant is
+  pub claimant_left : at < length lines → n < length claimants
+  claimant_left left = elim (cases_lt n (length claimants)) [
     | inl inside ↦ inside
     | inr past ↦
-        let none : drop n payees ≡ [] = drop_all n payees past in
-        absurd (omega (arith, left, length-drop at lines, ap (λ (l : List ClaimLine). length l) (here ∙ ap (lines_of_payees named) none)))
+        let none : drop n claimants ≡ [] = drop_all n claimants past in
+        absurd (omega (arith, left, length-drop at lines, ap (λ (l : List ClaimLine). length l) (here ∙ ap (lines_of_claimants named) none)))
   ]
 
   -- and where none is left, none is
-  pub none_left : length lines ≤ at → length payees ≤ n
-  none_left past = elim (cases_lt n (length payees)) [
+  pub none_left : length lines ≤ at → length claimants ≤ n
+  none_left past = elim (cases_lt n (length claimants)) [
     | inr done ↦ done
     | inl inside ↦
-        let none : lines_of_payees named (drop n payees) ≡ [] = sym here ∙ drop_all at lines past in
-        let first : lines_of_payees named (drop n payees) ≡ claim_lines (get_or payees n (0, [])).0 (lines_at named (get_or payees n (0, [])).1) ++ lines_of_payees named (drop (n + 1) payees) =
-        ap (lines_of_payees named) (drop_more payees n (0, []) inside) in
-        let front = claim_lines (get_or payees n (0, [])).0 (lines_at named (get_or payees n (0, [])).1) in
+        let none : lines_of_claimants named (drop n claimants) ≡ [] = sym here ∙ drop_all at lines past in
+        let first : lines_of_claimants named (drop n claimants) ≡ claim_lines (get_or claimants n (0, [])).0 (lines_at named (get_or claimants n (0, [])).1) ++ lines_of_claimants named (drop (n + 1) claimants) =
+        ap (lines_of_claimants named) (drop_more claimants n (0, []) inside) in
+        let front = claim_lines (get_or claimants n (0, [])).0 (lines_at named (get_or claimants n (0, [])).1) in
         absurd (omega (
           arith,
           ap (λ (l : List ClaimLine). length l) (sym first ∙ none),
-          length-append front (lines_of_payees named (drop (n + 1) payees)),
-          length-claim_lines (get_or payees n (0, [])).0 (lines_at named (get_or payees n (0, [])).1),
-          length-lines_at named (get_or payees n (0, [])).1,
+          length-append front (lines_of_claimants named (drop (n + 1) claimants)),
+          length-claim_lines (get_or claimants n (0, [])).0 (lines_at named (get_or claimants n (0, [])).1),
+          length-lines_at named (get_or claimants n (0, [])).1,
           claim_lines_of.some n (0, []) inside,
         ))
   ]
 
-  module _ (inside : n < length payees) where
-    -- the payee
-    abbrev pub payee_here : ℕ × List ℕ
-    payee_here = get_or payees n (0, [])
+  module _ (inside : n < length claimants) where
+    -- the claimant
+    abbrev pub claimant_here : ℕ × List ℕ
+    claimant_here = get_or claimants n (0, [])
 
-    pub is_here : payee_here ≡ get_or payees n payee_here
-    is_here = get_or_default payees n (0, []) payee_here inside
+    pub is_here : claimant_here ≡ get_or claimants n claimant_here
+    is_here = get_or_default claimants n (0, []) claimant_here inside
 
-    -- its lines, and those of the payees after it
+    -- its lines, and those of the claimants after it
     abbrev pub others : List ClaimLine
-    others = lines_of_payees named (drop (n + 1) payees)
+    others = lines_of_claimants named (drop (n + 1) claimants)
 
-    pub first_lines : drop at lines ≡ claim_lines payee_here.0 (lines_at named payee_here.1) ++ others
-    first_lines = here ∙ ap (lines_of_payees named) (drop_more payees n (0, []) inside)
+    pub first_lines : drop at lines ≡ claim_lines claimant_here.0 (lines_at named claimant_here.1) ++ others
+    first_lines = here ∙ ap (lines_of_claimants named) (drop_more claimants n (0, []) inside)
 
-    pub other_accounts : All (λ other. ¬ (other.account ≡ payee_here.0)) others
+    pub other_accounts : All (λ other. ¬ (other.account ≡ claimant_here.0)) others
     other_accounts =
-        of_payees named (λ account. ¬ (account ≡ payee_here.0)) (drop (n + 1) payees)
+        of_claimants named (λ account. ¬ (account ≡ claimant_here.0)) (drop (n + 1) claimants)
         (λ k d within same.
-        let there : n + 1 + k < length payees = omega (arith, within, length-drop (n + 1) payees) in
-        let first : get_or payees n d ≡ payee_here = get_or_default payees n d (0, []) inside in
+        let there : n + 1 + k < length claimants = omega (arith, within, length-drop (n + 1) claimants) in
+        let first : get_or claimants n d ≡ claimant_here = get_or_default claimants n d (0, []) inside in
         let higher = claim_lines_of.rising n (n + 1 + k) d (omega arith) there in
-        omega (arith, higher, same, ap (λ (p : ℕ × List ℕ). p.0) (get_or-drop (n + 1) payees k d), ap (λ (p : ℕ × List ℕ). p.0) first))
+        omega (arith, higher, same, ap (λ (p : ℕ × List ℕ). p.0) (get_or-drop (n + 1) claimants k d), ap (λ (p : ℕ × List ℕ). p.0) first))
 
-    some_lines : 0 < length (lines_at named payee_here.1)
-    some_lines = omega (arith, length-lines_at named payee_here.1, claim_lines_of.some n (0, []) inside)
+    some_lines : 0 < length (lines_at named claimant_here.1)
+    some_lines = omega (arith, length-lines_at named claimant_here.1, claim_lines_of.some n (0, []) inside)
 
-    pub its_lines : (0 < length (lines_at named payee_here.1)) × AllPairs IsAlike (lines_at named payee_here.1)
+    pub its_lines : (0 < length (lines_at named claimant_here.1)) × AllPairs IsAlike (lines_at named claimant_here.1)
     its_lines = (some_lines, claim_lines_of.alike n (0, []) inside)
 
-    -- the first line is the payee's
-    pub its_account : (d : ClaimLine) → (get_or lines at d).account ≡ payee_here.0
+    -- the first line is the claimant's
+    pub its_account : (d : ClaimLine) → (get_or lines at d).account ≡ claimant_here.0
     its_account d =
-        let front = claim_lines payee_here.0 (lines_at named payee_here.1) in
-        let long : 0 < length front = omega (arith, length-claim_lines payee_here.0 (lines_at named payee_here.1), some_lines) in
+        let front = claim_lines claimant_here.0 (lines_at named claimant_here.1) in
+        let long : 0 < length front = omega (arith, length-claim_lines claimant_here.0 (lines_at named claimant_here.1), some_lines) in
         let first : at ≡ at + 0 = omega arith in
         ap (λ (line : ClaimLine). line.account)
         (ap (λ k. get_or lines k d) first ∙ sym (get_or-drop at lines 0 d) ∙ ap (λ (l : List ClaimLine). get_or l 0 d) first_lines ∙ get_or_append_left front others d 0 long)
-        ∙ of_its_account payee_here.0 (lines_at named payee_here.1) 0 d long
+        ∙ of_its_account claimant_here.0 (lines_at named claimant_here.1) 0 d long
 
     -- behind its lines are those of the next
-    next_payee : (count : ℕ) → count ≡ length (lines_at named payee_here.1) → drop (at + count) lines ≡ lines_of_payees named (drop (n + 1) payees)
-    next_payee count is =
-        let front = claim_lines payee_here.0 (lines_at named payee_here.1) in
-        let long : count ≡ length front = is ∙ sym (length-claim_lines payee_here.0 (lines_at named payee_here.1)) in
+    next_claimant : (count : ℕ) → count ≡ length (lines_at named claimant_here.1) → drop (at + count) lines ≡ lines_of_claimants named (drop (n + 1) claimants)
+    next_claimant count is =
+        let front = claim_lines claimant_here.0 (lines_at named claimant_here.1) in
+        let long : count ≡ length front = is ∙ sym (length-claim_lines claimant_here.0 (lines_at named claimant_here.1)) in
         sym (drop-drop count at lines) ∙ (ap (drop count) first_lines ∙ (ap (λ k. drop k (front ++ others)) long ∙ drop-append_seam front others))
 
-    -- where the claim of the first account and the number of its lines are worked out, they are the payee's, and behind its lines are those of the next
+    -- where the claim of the first account and the number of its lines are worked out, they are the claimant's, and behind its lines are those of the next
     pub claim_here : (table : List (ℕ × List ℕ)) (land : ℕ) (right : Right) (claim count : ℕ)
         → ((account : ℕ) (first : List ShareLine) (others : List ClaimLine) → drop at lines ≡ claim_lines account first ++ others → 0 < length first → AllPairs IsAlike first → All (λ other. ¬ (other.account ≡ account)) others
         → (claim ≡ sum_by (share_for right) (deciding table land first)) × (count ≡ length first))
-        → (get_or (claims_of_payees table land right named payees) n (payee_here.0, claim) ≡ (payee_here.0, claim)) × (drop (at + count) lines ≡ lines_of_payees named (drop (n + 1) payees))
+        → (get_or (claims_of_claimants table land right named claimants) n (claimant_here.0, claim) ≡ (claimant_here.0, claim)) × (drop (at + count) lines ≡ lines_of_claimants named (drop (n + 1) claimants))
     claim_here table land right claim count worked_out =
-        let (sum, long) = worked_out payee_here.0 (lines_at named payee_here.1) others first_lines its_lines.0 its_lines.1 other_accounts in
-        (claim_at table land right named payees n payee_here inside is_here claim sum, next_payee count long)
+        let (sum, long) = worked_out claimant_here.0 (lines_at named claimant_here.1) others first_lines its_lines.0 its_lines.1 other_accounts in
+        (claim_at table land right named claimants n claimant_here inside is_here claim sum, next_claimant count long)
 
 -- a test that only lines of a party pass, finds one among them
 list_any-filter : {X : Type 0} (test keep : X → Bool) → ((x : X) → test x ≡ true → keep x ≡ true) → (xs : List X) → list_any test (filter keep xs) ≡ list_any test xs
@@ -546,23 +546,23 @@ merged g (suc m) from (a ∷ accounts) rising within left_out =
     behind zero d inside low apart above = omega (arith, apart)
     behind (suc k) d inside low apart above = let more = above k d (omega (arith, inside)) in omega (arith, more, low)
 
-module _ (table : List (ℕ × List ℕ)) (land : ℕ) (right : Right) (parties : List (List ℕ)) (lines : List ShareLine) (payees : List (ℕ × List ℕ)) (compiled : IsCompiled parties lines payees) where
+module _ (table : List (ℕ × List ℕ)) (land : ℕ) (right : Right) (parties : List (List ℕ)) (lines : List ShareLine) (claimants : List (ℕ × List ℕ)) (compiled : IsCompiled parties lines claimants) where
   -- the claim of an account
   abbrev of_account : ℕ → ℕ
   of_account account = claim_of table land right lines (get_or parties account [])
 
-  -- the claims of the payees are those of their accounts
-  by_account : claims_of_payees table land right lines payees ≡ map (λ account. (account, of_account account)) (map (λ payee. payee.0) payees)
+  -- the claims of the claimants are those of their accounts
+  by_account : claims_of_claimants table land right lines claimants ≡ map (λ account. (account, of_account account)) (map (λ claimant. claimant.0) claimants)
   by_account =
-      map_agree (λ (payee : ℕ × List ℕ). (payee.0, sum_by (share_for right) (deciding table land (lines_at lines payee.1)))) (λ payee. (payee.0, of_account payee.0)) payees
+      map_agree (λ (claimant : ℕ × List ℕ). (claimant.0, sum_by (share_for right) (deciding table land (lines_at lines claimant.1)))) (λ claimant. (claimant.0, of_account claimant.0)) claimants
       (λ k d within.
-      let payee = get_or payees k d in
-      let party = get_or parties payee.0 [] in
-      ap (λ n. (payee.0, n)) (ap (λ l. sum_by (share_for right) (deciding table land l)) (compiled.exact k d within) ∙ ap (sum_by (share_for right)) (sym (deciding_of_party table land party lines))))
-      ∙ sym (map_twice (λ (payee : ℕ × List ℕ). payee.0) (λ account. (account, of_account account)) payees)
+      let claimant = get_or claimants k d in
+      let party = get_or parties claimant.0 [] in
+      ap (λ n. (claimant.0, n)) (ap (λ l. sum_by (share_for right) (deciding table land l)) (compiled.exact k d within) ∙ ap (sum_by (share_for right)) (sym (deciding_of_party table land party lines))))
+      ∙ sym (map_twice (λ (claimant : ℕ × List ℕ). claimant.0) (λ account. (account, of_account account)) claimants)
 
-  -- an account without a payee has no claim
-  no_claim : (account : ℕ) → account < length parties → ¬ Contains (map (λ payee. payee.0) payees) account → of_account account ≡ 0
+  -- an account without a claimant has no claim
+  no_claim : (account : ℕ) → account < length parties → ¬ Contains (map (λ claimant. claimant.0) claimants) account → of_account account ≡ 0
   unfolding deciding
   no_claim account inside without =
       let party = get_or parties account [] in
@@ -571,7 +571,7 @@ module _ (table : List (ℕ × List ℕ)) (land : ℕ) (right : Right) (parties 
 
   -- the claims of the accounts from 1 on
   abbrev one_by_one : List (ℕ × ℕ)
-  one_by_one = map (λ payee. (payee.0, claim_of table land right lines payee.1)) (enumerate_from 1 (drop 1 parties))
+  one_by_one = map (λ claimant. (claimant.0, claim_of table land right lines claimant.1)) (enumerate_from 1 (drop 1 parties))
 
   abbrev from_one : List (ℕ × ℕ)
   from_one = map (λ account. (account, of_account account)) (range_with_len 1 (length (drop 1 parties)))
@@ -588,19 +588,19 @@ module _ (table : List (ℕ × List ℕ)) (land : ℕ) (right : Right) (parties 
       ∙ (ap (λ (e : ℕ × List ℕ). (e.0, claim_of table land right lines e.1)) numbered
       ∙ sym (get_or-map-range_with_len (λ account. (account, of_account account)) 1 n k (1 + k) d inside refl)))
 
-  -- the claims of the payees that are not 0 are the claims of all parties that are not 0
-  pub same_claims : filter counts (claims_of_payees table land right lines payees) ≡ claims_among table land right lines (drop 1 parties)
+  -- the claims of the claimants that are not 0 are the claims of all parties that are not 0
+  pub same_claims : filter counts (claims_of_claimants table land right lines claimants) ≡ claims_among table land right lines (drop 1 parties)
   same_claims =
       let long : length (drop 1 parties) ≡ length parties - 1 = length-drop 1 parties in
-      let accounts = map (λ (payee : ℕ × List ℕ). payee.0) payees in
+      let accounts = map (λ (claimant : ℕ × List ℕ). claimant.0) claimants in
       let rising : AllPairs (λ a b. a < b) accounts = λ i j d before within.
-      let inside : j < length payees = omega (arith, within, length-map payees (λ (payee : ℕ × List ℕ). payee.0)) in
-      let first = get_or-map (λ (payee : ℕ × List ℕ). payee.0) payees i (0, []) d (omega arith) in
-      let second = get_or-map (λ (payee : ℕ × List ℕ). payee.0) payees j (0, []) d inside in
+      let inside : j < length claimants = omega (arith, within, length-map claimants (λ (claimant : ℕ × List ℕ). claimant.0)) in
+      let first = get_or-map (λ (claimant : ℕ × List ℕ). claimant.0) claimants i (0, []) d (omega arith) in
+      let second = get_or-map (λ (claimant : ℕ × List ℕ). claimant.0) claimants j (0, []) d inside in
       let lower = compiled.rising i j (0, []) before inside in
       omega (arith, first, second, lower) in
       let known : All (λ a. (1 ≤ a) × (a < 1 + length (drop 1 parties))) accounts =
-      All-map (λ a. (1 ≤ a) × (a < 1 + length (drop 1 parties))) (λ (payee : ℕ × List ℕ). payee.0) payees
+      All-map (λ a. (1 ≤ a) × (a < 1 + length (drop 1 parties))) (λ (claimant : ℕ × List ℕ). claimant.0) claimants
       (λ k d within. let (some, inside) = compiled.accounts k d within in (some, omega (arith, inside, long))) in
       ap (filter counts) by_account
       ∙ (merged of_account (length (drop 1 parties)) 1 accounts rising known (λ account some inside without. no_claim account (omega (arith, some, inside, long)) without)
@@ -718,41 +718,41 @@ module _ (table : List (ℕ × List ℕ)) (land : ℕ) where
         | inr not_it ↦ rw not_it rest
       ])
 
-module _ (parties : List (List ℕ)) (registration : Kept) (payees : List (ℕ × List ℕ)) (compiled : IsCompiled parties (kept_lines parties registration) payees)
+module _ (parties : List (List ℕ)) (registration : Kept) (claimants : List (ℕ × List ℕ)) (compiled : IsCompiled parties (kept_lines parties registration) claimants)
     (rise : InterestsRise (kept_lines parties registration)) where
-  -- the lines of a payee
+  -- the lines of a claimant
   at_places : (places : List ℕ) → lines_at (nameless registration) places ≡ map unnamed (lines_at (kept_lines parties registration) places)
   at_places places = ap (λ l. lines_at l places) (nameless_lines parties registration) ∙ lines_at_unnamed (kept_lines parties registration) places
 
-  alike_named : All (λ payee. AllPairs IsAlike (lines_at (kept_lines parties registration) payee.1)) payees
+  alike_named : All (λ claimant. AllPairs IsAlike (lines_at (kept_lines parties registration) claimant.1)) claimants
   alike_named = λ k d within. rw (compiled.exact k d within) (alike_in_party _ (kept_lines parties registration) rise)
 
-  pub alike_nameless : All (λ payee. AllPairs IsAlike (lines_at (nameless registration) payee.1)) payees
+  pub alike_nameless : All (λ claimant. AllPairs IsAlike (lines_at (nameless registration) claimant.1)) claimants
   alike_nameless = λ k d within.
-      let places = (get_or payees k d).1 in
+      let places = (get_or claimants k d).1 in
       subst (AllPairs IsAlike) (sym (at_places places)) (alike_unnamed (lines_at (kept_lines parties registration) places) (alike_named k d within))
 
-  -- the claims of the payees without the parties
+  -- the claims of the claimants without the parties
   pub same_nameless : (table : List (ℕ × List ℕ)) (land : ℕ) (right : Right)
-      → claims_of_payees table land right (nameless registration) payees ≡ claims_of_payees table land right (kept_lines parties registration) payees
+      → claims_of_claimants table land right (nameless registration) claimants ≡ claims_of_claimants table land right (kept_lines parties registration) claimants
   same_nameless table land right =
-      map_agree (λ (payee : ℕ × List ℕ). (payee.0, sum_by (share_for right) (deciding table land (lines_at (nameless registration) payee.1))))
-      (λ payee. (payee.0, sum_by (share_for right) (deciding table land (lines_at (kept_lines parties registration) payee.1)))) payees
+      map_agree (λ (claimant : ℕ × List ℕ). (claimant.0, sum_by (share_for right) (deciding table land (lines_at (nameless registration) claimant.1))))
+      (λ claimant. (claimant.0, sum_by (share_for right) (deciding table land (lines_at (kept_lines parties registration) claimant.1)))) claimants
       (λ k d within.
-      let payee = get_or payees k d in
-      ap (λ (n : ℕ). (payee.0, n))
-      (ap (λ l. sum_by (share_for right) (deciding table land l)) (at_places payee.1) ∙ sum_unnamed table land right (lines_at (kept_lines parties registration) payee.1) (alike_named k d within)))
+      let claimant = get_or claimants k d in
+      ap (λ (n : ℕ). (claimant.0, n))
+      (ap (λ l. sum_by (share_for right) (deciding table land l)) (at_places claimant.1) ∙ sum_unnamed table land right (lines_at (kept_lines parties registration) claimant.1) (alike_named k d within)))
 
 module _ (table : List (ℕ × List ℕ)) (registered : Registered) (line : UsageLine) (registration : Kept) (land : ℕ) (up : LookedUp registered line.work registration)
     (same : land ≡ line.territory) (known : is_known table line.territory ≡ true) where
-  -- the claims of its payees
+  -- the claims of its claimants
   abbrev claims_here : List (ℕ × ℕ)
-  claims_here = claims_of_payees table land line.right (nameless registration) up.kept.payees
+  claims_here = claims_of_claimants table land line.right (nameless registration) up.kept.claimants
 
   these : filter counts claims_here ≡ claims_by table registered line (kept_lines registered.parties registration)
   these =
-      rw same (ap (filter counts) (same_nameless registered.parties registration up.kept.payees up.kept.compiled up.rise table line.territory line.right)
-      ∙ same_claims table line.territory line.right registered.parties (kept_lines registered.parties registration) up.kept.payees up.kept.compiled)
+      rw same (ap (filter counts) (same_nameless registered.parties registration up.kept.claimants up.kept.compiled up.rise table line.territory line.right)
+      ∙ same_claims table line.territory line.right registered.parties (kept_lines registered.parties registration) up.kept.claimants up.kept.compiled)
 
   total : total_of (claims_by table registered line (kept_lines registered.parties registration)) ≡ total_of claims_here
   total = ap total_of (sym these) ∙ total-counts claims_here

@@ -19,7 +19,7 @@ use Rattle.cwr_share.specs.Compiled.{AreKept, AreWorkNumbers, InterestsRise, IsC
 use Rattle.cwr_share.specs.Found.{LookedUp}
 use Rattle.cwr_share.specs.Registered.{IsRegistered, IsShareLine, Registered}
 use Rattle.cwr_share.specs.Registrations.{ShareLine, find_work}
-use Rattle.cwr_share.specs.declared.share_line.KeptShare.{KeptShare}
+use Rattle.cwr_share.specs.declared.share_line.RegisteredShare.{RegisteredShare}
 use Rattle.cwr_share.specs.declared.numbers.TheConstants.{MOST_WORK_BYTES}
 use Rattle.cwr_share.specs.declared.TheConstants.{MOST_SHARES}
 use Rattle.cwr_share.specs.declared.claim_line.ClaimLine.{ClaimLine}
@@ -66,12 +66,12 @@ module _ {X : Type 0} (text : X → List ℕ) (xs : List X) (rising : IsStrictly
       by (inr high) = let no = here Greater (λ d. gap.1 k d high inside) in cc
 
 module _ (account place : ℕ) where
-  -- a payee of a lower account stays in front
-  behind_lower : (payee : ℕ × List ℕ) (later more : List (ℕ × List ℕ)) → payee.0 < account → more ≡ with_place account place later → payee ∷ more ≡ with_place account place (payee ∷ later)
-  behind_lower payee later more low rest =
-      let not_lower : ltb account payee.0 ≡ false = le-ltb account payee.0 (omega arith) in
-      let other : (account == payee.0) ≡ false = ne_eqb account payee.0 (λ same. absurd (omega arith)) in
-      rw (not_lower, other) (ap (λ (l : List (ℕ × List ℕ)). payee ∷ l) rest)
+  -- a claimant of a lower account stays in front
+  behind_lower : (claimant : ℕ × List ℕ) (later more : List (ℕ × List ℕ)) → claimant.0 < account → more ≡ with_place account place later → claimant ∷ more ≡ with_place account place (claimant ∷ later)
+  behind_lower claimant later more low rest =
+      let not_lower : ltb account claimant.0 ≡ false = le-ltb account claimant.0 (omega arith) in
+      let other : (account == claimant.0) ≡ false = ne_eqb account claimant.0 (λ same. absurd (omega arith)) in
+      rw (not_lower, other) (ap (λ (l : List (ℕ × List ℕ)). claimant ∷ l) rest)
 
 -- the first and the others of a list whose pairs are related
 pub AllPairs-head : {X : Type 0} (R : X → X → Type 0) (x : X) (xs : List X) → AllPairs R (x ∷ xs) → All (R x) xs
@@ -91,110 +91,110 @@ pub contains_cases : {X : Type 0} (x y : X) (xs : List X) → Contains (x ∷ xs
 contains_cases x y xs (zero, within, is) = inl is
 contains_cases x y xs (suc k, within, is) = inr (k, omega (arith, within), is)
 
--- payees by rising account
+-- claimants in order of account
 abbrev pub Rising : List (ℕ × List ℕ) → Type 0
-Rising payees = AllPairs (λ payee later. payee.0 < later.0) payees
+Rising claimants = AllPairs (λ claimant later. claimant.0 < later.0) claimants
 
 module _ (account place : ℕ) where
-  -- where the place goes, by the first payee
-  pub place_goes : (payee : ℕ × List ℕ) (later : List (ℕ × List ℕ))
-      → ((account < payee.0) × (with_place account place (payee ∷ later) ≡ (account, place ∷ []) ∷ payee ∷ later))
-      ⊎ (((account ≡ payee.0) × (with_place account place (payee ∷ later) ≡ (account, payee.1 ++ place ∷ []) ∷ later))
-      ⊎ ((payee.0 < account) × (with_place account place (payee ∷ later) ≡ payee ∷ with_place account place later)))
-  place_goes payee later = elim (cases_order account payee.0) [
+  -- where the place goes, by the first claimant
+  pub place_goes : (claimant : ℕ × List ℕ) (later : List (ℕ × List ℕ))
+      → ((account < claimant.0) × (with_place account place (claimant ∷ later) ≡ (account, place ∷ []) ∷ claimant ∷ later))
+      ⊎ (((account ≡ claimant.0) × (with_place account place (claimant ∷ later) ≡ (account, claimant.1 ++ place ∷ []) ∷ later))
+      ⊎ ((claimant.0 < account) × (with_place account place (claimant ∷ later) ≡ claimant ∷ with_place account place later)))
+  place_goes claimant later = elim (cases_order account claimant.0) [
     | inl is ↦
-        let not_lower : ltb account payee.0 ≡ false = le-ltb account payee.0 (omega arith) in
-        inr (inl (is, rw (not_lower, eq-eqb account payee.0 is) refl))
-    | inr (inl less) ↦ inl (less, rw (lt-ltb account payee.0 less) refl)
-    | inr (inr more) ↦ inr (inr (more, sym (behind_lower account place payee later (with_place account place later) more refl)))
+        let not_lower : ltb account claimant.0 ≡ false = le-ltb account claimant.0 (omega arith) in
+        inr (inl (is, rw (not_lower, eq-eqb account claimant.0 is) refl))
+    | inr (inl less) ↦ inl (less, rw (lt-ltb account claimant.0 less) refl)
+    | inr (inr more) ↦ inr (inr (more, sym (behind_lower account place claimant later (with_place account place later) more refl)))
   ]
 
-  -- what holds of each payee once the place is added
-  each_with_place : (P Q : ℕ × List ℕ → Type 0) → ((payee : ℕ × List ℕ) → Q payee → ¬ (payee.0 ≡ account) → P payee)
-      → ((payee : ℕ × List ℕ) → Q payee → payee.0 ≡ account → P (account, payee.1 ++ place ∷ []))
-      → (payees : List (ℕ × List ℕ)) → (All (λ payee. ¬ (payee.0 ≡ account)) payees → P (account, place ∷ []))
-      → Rising payees → All Q payees → All P (with_place account place payees)
-  each_with_place P Q same more [] new rising all = All-cons P (account, place ∷ []) [] (new (All-nil (λ (payee : ℕ × List ℕ). ¬ (payee.0 ≡ account)))) (All-nil P)
-  each_with_place P Q same more (payee ∷ later) new rising all =
-      let above : All (λ other. payee.0 < other.0) later = AllPairs-head (λ payee other. payee.0 < other.0) payee later rising in
-      let first : Q payee = All-head Q payee later all in
-      let rest : All Q later = All-tail Q payee later all in
-      let behind : account ≤ payee.0 → All P later = λ low k d within. same (get_or later k d) (rest k d within) (λ is. absurd (omega (arith, above k d within, low, is))) in
-      elim (place_goes payee later) [
+  -- what holds of each claimant once the place is added
+  each_with_place : (P Q : ℕ × List ℕ → Type 0) → ((claimant : ℕ × List ℕ) → Q claimant → ¬ (claimant.0 ≡ account) → P claimant)
+      → ((claimant : ℕ × List ℕ) → Q claimant → claimant.0 ≡ account → P (account, claimant.1 ++ place ∷ []))
+      → (claimants : List (ℕ × List ℕ)) → (All (λ claimant. ¬ (claimant.0 ≡ account)) claimants → P (account, place ∷ []))
+      → Rising claimants → All Q claimants → All P (with_place account place claimants)
+  each_with_place P Q same more [] new rising all = All-cons P (account, place ∷ []) [] (new (All-nil (λ (claimant : ℕ × List ℕ). ¬ (claimant.0 ≡ account)))) (All-nil P)
+  each_with_place P Q same more (claimant ∷ later) new rising all =
+      let above : All (λ other. claimant.0 < other.0) later = AllPairs-head (λ claimant other. claimant.0 < other.0) claimant later rising in
+      let first : Q claimant = All-head Q claimant later all in
+      let rest : All Q later = All-tail Q claimant later all in
+      let behind : account ≤ claimant.0 → All P later = λ low k d within. same (get_or later k d) (rest k d within) (λ is. absurd (omega (arith, above k d within, low, is))) in
+      elim (place_goes claimant later) [
         | inl (less, is) ↦
-            let apart : All (λ other. ¬ (other.0 ≡ account)) (payee ∷ later) =
-            All-cons (λ (other : ℕ × List ℕ). ¬ (other.0 ≡ account)) payee later (λ equal. absurd (omega (arith, less, equal))) (λ k d within equal. absurd (omega (arith, above k d within, less, equal))) in
+            let apart : All (λ other. ¬ (other.0 ≡ account)) (claimant ∷ later) =
+            All-cons (λ (other : ℕ × List ℕ). ¬ (other.0 ≡ account)) claimant later (λ equal. absurd (omega (arith, less, equal))) (λ k d within equal. absurd (omega (arith, above k d within, less, equal))) in
             rw is
-            (All-cons P (account, place ∷ []) (payee ∷ later) (new apart)
-            (All-cons P payee later (same payee first (λ equal. absurd (omega (arith, less, equal)))) (behind (omega (arith, less)))))
-        | inr (inl (equal, is)) ↦ rw is (All-cons P (account, payee.1 ++ place ∷ []) later (more payee first (sym equal)) (behind (omega (arith, equal))))
+            (All-cons P (account, place ∷ []) (claimant ∷ later) (new apart)
+            (All-cons P claimant later (same claimant first (λ equal. absurd (omega (arith, less, equal)))) (behind (omega (arith, less)))))
+        | inr (inl (equal, is)) ↦ rw is (All-cons P (account, claimant.1 ++ place ∷ []) later (more claimant first (sym equal)) (behind (omega (arith, equal))))
         | inr (inr (greater, is)) ↦
             let rest_placed = each_with_place P Q same more later
-            (λ apart. new (All-cons (λ (other : ℕ × List ℕ). ¬ (other.0 ≡ account)) payee later (λ equal. absurd (omega (arith, greater, equal))) apart))
-            (AllPairs-tail (λ payee other. payee.0 < other.0) payee later rising) rest in
-            rw is (All-cons P payee (with_place account place later) (same payee first (λ equal. absurd (omega (arith, greater, equal)))) rest_placed)
+            (λ apart. new (All-cons (λ (other : ℕ × List ℕ). ¬ (other.0 ≡ account)) claimant later (λ equal. absurd (omega (arith, greater, equal))) apart))
+            (AllPairs-tail (λ claimant other. claimant.0 < other.0) claimant later rising) rest in
+            rw is (All-cons P claimant (with_place account place later) (same claimant first (λ equal. absurd (omega (arith, greater, equal)))) rest_placed)
       ]
 
   -- the accounts still rise
-  pub rising_with_place : (payees : List (ℕ × List ℕ)) → Rising payees → Rising (with_place account place payees)
+  pub rising_with_place : (claimants : List (ℕ × List ℕ)) → Rising claimants → Rising (with_place account place claimants)
   rising_with_place [] rising = λ i j d before within. absurd (omega arith)
-  rising_with_place (payee ∷ later) rising =
-      let R : ℕ × List ℕ → ℕ × List ℕ → Type 0 = λ payee other. payee.0 < other.0 in
-      let above = AllPairs-head R payee later rising in
-      let rest = AllPairs-tail R payee later rising in
-      elim (place_goes payee later) [
+  rising_with_place (claimant ∷ later) rising =
+      let R : ℕ × List ℕ → ℕ × List ℕ → Type 0 = λ claimant other. claimant.0 < other.0 in
+      let above = AllPairs-head R claimant later rising in
+      let rest = AllPairs-tail R claimant later rising in
+      elim (place_goes claimant later) [
         | inl (less, is) ↦
             rw is
-            (AllPairs-cons R (account, place ∷ []) (payee ∷ later) (All-cons (λ other. account < other.0) payee later less (λ k d within. lt_trans less (above k d within))) rising)
-        | inr (inl (equal, is)) ↦ rw is (AllPairs-cons R (account, payee.1 ++ place ∷ []) later (λ k d within. rw equal (above k d within)) rest)
+            (AllPairs-cons R (account, place ∷ []) (claimant ∷ later) (All-cons (λ other. account < other.0) claimant later less (λ k d within. lt_trans less (above k d within))) rising)
+        | inr (inl (equal, is)) ↦ rw is (AllPairs-cons R (account, claimant.1 ++ place ∷ []) later (λ k d within. rw equal (above k d within)) rest)
         | inr (inr (greater, is)) ↦
             rw is
-            (AllPairs-cons R payee (with_place account place later)
-            (each_with_place (R payee) (R payee) (λ other low apart. low) (λ other low equal. greater) later (λ apart. greater) rest above) (rising_with_place later rest))
+            (AllPairs-cons R claimant (with_place account place later)
+            (each_with_place (R claimant) (R claimant) (λ other low apart. low) (λ other low equal. greater) later (λ apart. greater) rest above) (rising_with_place later rest))
       ]
 
-  -- one payee more at most
-  few_with_place : (payees : List (ℕ × List ℕ)) → length (with_place account place payees) ≤ length payees + 1
+  -- one claimant more at most
+  few_with_place : (claimants : List (ℕ × List ℕ)) → length (with_place account place claimants) ≤ length claimants + 1
   few_with_place [] = omega arith
-  few_with_place (payee ∷ later) = elim (place_goes payee later) [
+  few_with_place (claimant ∷ later) = elim (place_goes claimant later) [
     | inl (less, is) ↦ rw is (omega arith)
     | inr (inl (equal, is)) ↦ rw is (omega arith)
     | inr (inr (greater, is)) ↦ rw is (omega (arith, few_with_place later))
   ]
 
   -- one place more
-  places_with_place : (payees : List (ℕ × List ℕ)) → places_in (with_place account place payees) ≡ places_in payees + 1
+  places_with_place : (claimants : List (ℕ × List ℕ)) → places_in (with_place account place claimants) ≡ places_in claimants + 1
   places_with_place [] = refl
-  places_with_place (payee ∷ later) =
-      let count = λ (payee : ℕ × List ℕ). length payee.1 in
-      elim (place_goes payee later) [
-        | inl (less, is) ↦ rw is (omega (arith, sum_by-cons count (account, place ∷ []) (payee ∷ later)))
+  places_with_place (claimant ∷ later) =
+      let count = λ (claimant : ℕ × List ℕ). length claimant.1 in
+      elim (place_goes claimant later) [
+        | inl (less, is) ↦ rw is (omega (arith, sum_by-cons count (account, place ∷ []) (claimant ∷ later)))
         | inr (inl (equal, is)) ↦
-            rw is (omega (arith, sum_by-cons count (account, payee.1 ++ place ∷ []) later, sum_by-cons count payee later, length_push payee.1 place))
+            rw is (omega (arith, sum_by-cons count (account, claimant.1 ++ place ∷ []) later, sum_by-cons count claimant later, length_push claimant.1 place))
         | inr (inr (greater, is)) ↦
-            rw is (omega (arith, sum_by-cons count payee (with_place account place later), sum_by-cons count payee later, places_with_place later))
+            rw is (omega (arith, sum_by-cons count claimant (with_place account place later), sum_by-cons count claimant later, places_with_place later))
       ]
 
-  -- each account that had a payee has one
-  still_there : (payees : List (ℕ × List ℕ)) (other : ℕ) → Contains (map (λ payee. payee.0) payees) other → Contains (map (λ payee. payee.0) (with_place account place payees)) other
+  -- each account that had a claimant has one
+  still_there : (claimants : List (ℕ × List ℕ)) (other : ℕ) → Contains (map (λ claimant. claimant.0) claimants) other → Contains (map (λ claimant. claimant.0) (with_place account place claimants)) other
   still_there [] other has = absurd (omega (arith, has.1))
-  still_there (payee ∷ later) other has = elim (place_goes payee later) [
-    | inl (less, is) ↦ rw is (contains_later account other (payee.0 ∷ map (λ payee. payee.0) later) has)
-    | inr (inl (equal, is)) ↦ rw is (subst (λ a. Contains (a ∷ map (λ payee. payee.0) later) other) (sym equal) has)
+  still_there (claimant ∷ later) other has = elim (place_goes claimant later) [
+    | inl (less, is) ↦ rw is (contains_later account other (claimant.0 ∷ map (λ claimant. claimant.0) later) has)
+    | inr (inl (equal, is)) ↦ rw is (subst (λ a. Contains (a ∷ map (λ claimant. claimant.0) later) other) (sym equal) has)
     | inr (inr (greater, is)) ↦
         rw is
-        (⊎_elim (λ same. subst (Contains (payee.0 ∷ map (λ payee. payee.0) (with_place account place later))) same (contains_first payee.0 (map (λ payee. payee.0) (with_place account place later))))
-        (λ rest. contains_later payee.0 other (map (λ payee. payee.0) (with_place account place later)) (still_there later other rest))
-        (contains_cases payee.0 other (map (λ payee. payee.0) later) has))
+        (⊎_elim (λ same. subst (Contains (claimant.0 ∷ map (λ claimant. claimant.0) (with_place account place later))) same (contains_first claimant.0 (map (λ claimant. claimant.0) (with_place account place later))))
+        (λ rest. contains_later claimant.0 other (map (λ claimant. claimant.0) (with_place account place later)) (still_there later other rest))
+        (contains_cases claimant.0 other (map (λ claimant. claimant.0) later) has))
   ]
 
   -- and the account too
-  now_there : (payees : List (ℕ × List ℕ)) → Contains (map (λ payee. payee.0) (with_place account place payees)) account
+  now_there : (claimants : List (ℕ × List ℕ)) → Contains (map (λ claimant. claimant.0) (with_place account place claimants)) account
   now_there [] = contains_first account []
-  now_there (payee ∷ later) = elim (place_goes payee later) [
-    | inl (less, is) ↦ rw is (contains_first account (payee.0 ∷ map (λ payee. payee.0) later))
-    | inr (inl (equal, is)) ↦ rw is (contains_first account (map (λ payee. payee.0) later))
-    | inr (inr (greater, is)) ↦ rw is (contains_later payee.0 account (map (λ payee. payee.0) (with_place account place later)) (now_there later))
+  now_there (claimant ∷ later) = elim (place_goes claimant later) [
+    | inl (less, is) ↦ rw is (contains_first account (claimant.0 ∷ map (λ claimant. claimant.0) later))
+    | inr (inl (equal, is)) ↦ rw is (contains_first account (map (λ claimant. claimant.0) later))
+    | inr (inr (greater, is)) ↦ rw is (contains_later claimant.0 account (map (λ claimant. claimant.0) (with_place account place later)) (now_there later))
   ]
 
 -- texts are tested for being one
@@ -245,20 +245,20 @@ account_is parties account other rising within inside same = elim (cases_order a
     never a b same less = let level : slice_cmp nat_cmp b b ≡ Less = subst (λ t. slice_cmp nat_cmp t b ≡ Less) same less in let no = sym (tied_itself nat_list_cmp_total b) ∙ level in cc
 
 -- the places of an account are those of lines that are kept under it
-pub own_places : (parties : List (List ℕ)) (kept : List KeptShare) (payees : List (ℕ × List ℕ)) → IsStrictlySortedBy (slice_cmp nat_cmp) parties → All IsShareLine (map (line_by parties) kept)
-    → IsCompiled parties (map (line_by parties) kept) payees → All (λ payee. All (HoldsAt (λ share. share.account ≡ payee.0) kept) payee.1) payees
-own_places parties kept payees rising filled compiled = λ k d inside j e within f.
-    let payee = get_or payees k d in
+pub own_places : (parties : List (List ℕ)) (kept : List RegisteredShare) (claimants : List (ℕ × List ℕ)) → IsStrictlySortedBy (slice_cmp nat_cmp) parties → All IsShareLine (map (line_by parties) kept)
+    → IsCompiled parties (map (line_by parties) kept) claimants → All (λ claimant. All (HoldsAt (λ share. share.account ≡ claimant.0) kept) claimant.1) claimants
+own_places parties kept claimants rising filled compiled = λ k d inside j e within f.
+    let claimant = get_or claimants k d in
     let lines = map (line_by parties) kept in
-    let place = get_or payee.1 j e in
+    let place = get_or claimant.1 j e in
     let share = get_or kept place f in
     let line = line_by parties share in
-    let party = get_or parties payee.0 [] in
+    let party = get_or parties claimant.0 [] in
     let there : place < length lines = compiled.within k d inside j e within in
     let its : place < length kept = omega (arith, there, length-map kept (line_by parties)) in
-    let at : get_or (lines_at lines payee.1) j line ≡ line = get_or-map _ payee.1 j e line within ∙ get_or-map (line_by parties) kept place f _ its in
+    let at : get_or (lines_at lines claimant.1) j line ≡ line = get_or-map _ claimant.1 j e line within ∙ get_or-map (line_by parties) kept place f _ its in
     let exact = compiled.exact k d inside in
-    let long : length (lines_at lines payee.1) ≡ length payee.1 = length-map payee.1 _ in
+    let long : length (lines_at lines claimant.1) ≡ length claimant.1 = length-map claimant.1 _ in
     let among : j < length (lines_of_party party lines) = omega (arith, within, long, ap (λ (l : List ShareLine). length l) exact) in
     let passes = filter_passes (λ line. pointwise nat_eq line.party party) lines j line among in
     let same : get_or (lines_of_party party lines) j line ≡ line = ap (λ (l : List ShareLine). get_or l j line) (sym exact) ∙ at in
@@ -268,7 +268,7 @@ own_places parties kept payees rising filled compiled = λ k d inside j e within
       | inl among_them ↦ among_them
       | inr past ↦ absurd (omega (arith, some, ap (λ (text : List ℕ). length text) (get_or_past parties share.account [] past)))
     ] in
-    account_is parties share.account payee.0 rising known (compiled.accounts k d inside).1 whose
+    account_is parties share.account claimant.0 rising known (compiled.accounts k d inside).1 whose
 
 -- no line is compiled yet
 pub compiled_none : (parties : List (List ℕ)) → IsCompiled parties [] []
@@ -283,67 +283,67 @@ compiled_none parties = record {
   every = λ account inside has. absurd (omega (arith, has.1));
 }
 
-module _ (parties : List (List ℕ)) (lines : List ShareLine) (payees : List (ℕ × List ℕ)) (line : ShareLine) (account : ℕ)
+module _ (parties : List (List ℕ)) (lines : List ShareLine) (claimants : List (ℕ × List ℕ)) (line : ShareLine) (account : ℕ)
     (rising : IsStrictlySortedBy (slice_cmp nat_cmp) parties) (some : 0 < account) (inside : account < length parties) (whose : get_or parties account [] ≡ line.party)
-    (compiled : IsCompiled parties lines payees) where
+    (compiled : IsCompiled parties lines claimants) where
   abbrev Inside : ℕ × List ℕ → Type 0
-  Inside payee = All (λ place. place < length lines) payee.1
+  Inside claimant = All (λ place. place < length lines) claimant.1
 
   abbrev Exact : ℕ × List ℕ → Type 0
-  Exact payee = (lines_at lines payee.1 ≡ lines_of_party (get_or parties payee.0 []) lines) × Inside payee × (payee.0 < length parties)
+  Exact claimant = (lines_at lines claimant.1 ≡ lines_of_party (get_or parties claimant.0 []) lines) × Inside claimant × (claimant.0 < length parties)
 
   abbrev Longer : ℕ × List ℕ → Type 0
-  Longer payee = lines_at (lines ++ line ∷ []) payee.1 ≡ lines_of_party (get_or parties payee.0 []) (lines ++ line ∷ [])
+  Longer claimant = lines_at (lines ++ line ∷ []) claimant.1 ≡ lines_of_party (get_or parties claimant.0 []) (lines ++ line ∷ [])
 
-  -- the payees of other accounts keep their lines
-  same_lines : (payee : ℕ × List ℕ) → Exact payee → ¬ (payee.0 ≡ account) → Longer payee
-  same_lines payee (is, within, known) other =
-      let apart : ¬ (line.party ≡ get_or parties payee.0 []) = λ same. other (account_is parties payee.0 account rising known inside (sym same ∙ sym whose)) in
-      lines_at_longer lines line payee.1 within ∙ (is ∙ sym (lines_of_party_other (get_or parties payee.0 []) lines line apart))
+  -- the claimants of other accounts keep their lines
+  same_lines : (claimant : ℕ × List ℕ) → Exact claimant → ¬ (claimant.0 ≡ account) → Longer claimant
+  same_lines claimant (is, within, known) other =
+      let apart : ¬ (line.party ≡ get_or parties claimant.0 []) = λ same. other (account_is parties claimant.0 account rising known inside (sym same ∙ sym whose)) in
+      lines_at_longer lines line claimant.1 within ∙ (is ∙ sym (lines_of_party_other (get_or parties claimant.0 []) lines line apart))
 
   -- that of the account gets the line
-  more_lines : (payee : ℕ × List ℕ) → Exact payee → payee.0 ≡ account → Longer (account, payee.1 ++ length lines ∷ [])
-  more_lines payee (is, within, known) same =
-      let party : get_or parties payee.0 [] ≡ get_or parties account [] = ap (λ a. get_or parties a []) same in
-      lines_at_last lines line payee.1 within
+  more_lines : (claimant : ℕ × List ℕ) → Exact claimant → claimant.0 ≡ account → Longer (account, claimant.1 ++ length lines ∷ [])
+  more_lines claimant (is, within, known) same =
+      let party : get_or parties claimant.0 [] ≡ get_or parties account [] = ap (λ a. get_or parties a []) same in
+      lines_at_last lines line claimant.1 within
       ∙ (ap (λ l. l ++ line ∷ []) (is ∙ ap (λ p. lines_of_party p lines) party) ∙ sym (lines_of_party_more (get_or parties account []) lines line (sym whose)))
 
   -- or it is the first of the account
-  first_line : All (λ payee. ¬ (payee.0 ≡ account)) payees → Longer (account, length lines ∷ [])
+  first_line : All (λ claimant. ¬ (claimant.0 ≡ account)) claimants → Longer (account, length lines ∷ [])
   first_line none =
       let absent : ¬ Contains (map (λ line. line.party) lines) (get_or parties account []) =
-      λ has. missing payees none (compiled.every account inside has) in
+      λ has. missing claimants none (compiled.every account inside has) in
       rw (get_or_push lines line _ (length lines) refl)
       (ap (λ l. l ++ line ∷ []) (sym (lines_of_party_none (get_or parties account []) lines absent)) ∙ sym (lines_of_party_more (get_or parties account []) lines line (sym whose)))
     where
-      missing : (payees : List (ℕ × List ℕ)) → All (λ payee. ¬ (payee.0 ≡ account)) payees → ¬ Contains (map (λ payee. payee.0) payees) account
+      missing : (claimants : List (ℕ × List ℕ)) → All (λ claimant. ¬ (claimant.0 ≡ account)) claimants → ¬ Contains (map (λ claimant. claimant.0) claimants) account
       missing [] none has = absurd (omega (arith, has.1))
-      missing (payee ∷ later) none has = elim (contains_cases payee.0 account (map (λ payee. payee.0) later) has) [
-        | inl is ↦ none 0 payee (omega arith) is
-        | inr rest ↦ missing later (All-tail (λ payee. ¬ (payee.0 ≡ account)) payee later none) rest
+      missing (claimant ∷ later) none has = elim (contains_cases claimant.0 account (map (λ claimant. claimant.0) later) has) [
+        | inl is ↦ none 0 claimant (omega arith) is
+        | inr rest ↦ missing later (All-tail (λ claimant. ¬ (claimant.0 ≡ account)) claimant later none) rest
       ]
 
   -- a line more is compiled
-  pub compiled_more : IsCompiled parties (lines ++ line ∷ []) (with_place account (length lines) payees)
+  pub compiled_more : IsCompiled parties (lines ++ line ∷ []) (with_place account (length lines) claimants)
   compiled_more = record {
-    few = omega (arith, few_with_place account (length lines) payees, compiled.few, length_push lines line);
-    total = omega (arith, places_with_place account (length lines) payees, compiled.total, length_push lines line);
-    rising = rising_with_place account (length lines) payees compiled.rising;
-    accounts = each_with_place account (length lines) (λ payee. (0 < payee.0) × (payee.0 < length parties)) (λ payee. (0 < payee.0) × (payee.0 < length parties))
-        (λ payee known other. known) (λ payee known same. (some, inside)) payees (λ none. (some, inside)) compiled.rising compiled.accounts;
-    some = each_with_place account (length lines) (λ payee. 0 < length payee.1) (λ payee. 0 < length payee.1) (λ payee filled other. filled)
-        (λ payee filled same. omega (arith, length_push payee.1 (length lines))) payees (λ none. omega arith) compiled.rising compiled.some;
-    within = each_with_place account (length lines) (λ payee. All (λ place. place < length (lines ++ line ∷ [])) payee.1) Inside (λ payee all other. further payee.1 all)
-        (λ payee all same. All-push (λ place. place < length (lines ++ line ∷ [])) payee.1 (length lines) (further payee.1 all) last) payees
+    few = omega (arith, few_with_place account (length lines) claimants, compiled.few, length_push lines line);
+    total = omega (arith, places_with_place account (length lines) claimants, compiled.total, length_push lines line);
+    rising = rising_with_place account (length lines) claimants compiled.rising;
+    accounts = each_with_place account (length lines) (λ claimant. (0 < claimant.0) × (claimant.0 < length parties)) (λ claimant. (0 < claimant.0) × (claimant.0 < length parties))
+        (λ claimant known other. known) (λ claimant known same. (some, inside)) claimants (λ none. (some, inside)) compiled.rising compiled.accounts;
+    some = each_with_place account (length lines) (λ claimant. 0 < length claimant.1) (λ claimant. 0 < length claimant.1) (λ claimant filled other. filled)
+        (λ claimant filled same. omega (arith, length_push claimant.1 (length lines))) claimants (λ none. omega arith) compiled.rising compiled.some;
+    within = each_with_place account (length lines) (λ claimant. All (λ place. place < length (lines ++ line ∷ [])) claimant.1) Inside (λ claimant all other. further claimant.1 all)
+        (λ claimant all same. All-push (λ place. place < length (lines ++ line ∷ [])) claimant.1 (length lines) (further claimant.1 all) last) claimants
         (λ none. All-cons (λ place. place < length (lines ++ line ∷ [])) (length lines) [] last (λ k d within. absurd (omega arith))) compiled.rising compiled.within;
-    exact = each_with_place account (length lines) Longer Exact same_lines more_lines payees first_line compiled.rising
+    exact = each_with_place account (length lines) Longer Exact same_lines more_lines claimants first_line compiled.rising
         (λ k d within. (compiled.exact k d within, compiled.within k d within, (compiled.accounts k d within).1));
     every = λ other known has.
         elim (Contains-push_cases (map (λ line. line.party) lines) line.party (get_or parties other []) (rw map_push at has)) [
-          | inl earlier ↦ still_there account (length lines) payees other (compiled.every other known earlier)
+          | inl earlier ↦ still_there account (length lines) claimants other (compiled.every other known earlier)
           | inr is ↦
               let same : other ≡ account = account_is parties other account rising known inside (sym is ∙ sym whose) in
-              rw same (now_there account (length lines) payees)
+              rw same (now_there account (length lines) claimants)
         ];
   }
     where
@@ -354,11 +354,11 @@ module _ (parties : List (List ℕ)) (lines : List ShareLine) (payees : List (�
       further places all = λ k d within. omega (arith, all k d within, length_push lines line)
 
 -- the line at the next place is compiled
-pub compiled_next : (parties : List (List ℕ)) (lines : List ShareLine) (place : ℕ) (line : ShareLine) (account : ℕ) (payees more : List (ℕ × List ℕ))
+pub compiled_next : (parties : List (List ℕ)) (lines : List ShareLine) (place : ℕ) (line : ShareLine) (account : ℕ) (claimants more : List (ℕ × List ℕ))
     → IsStrictlySortedBy (slice_cmp nat_cmp) parties → get_or parties 0 [] ≡ [] → All IsShareLine lines
     → place < length lines → line ≡ get_or lines place line → account < length parties → get_or parties account [] ≡ line.party
-    → IsCompiled parties (take place lines) payees → more ≡ with_place account place payees → IsCompiled parties (take (place + 1) lines) more
-compiled_next parties lines place line account payees more rising residue filled within is inside whose compiled grown =
+    → IsCompiled parties (take place lines) claimants → more ≡ with_place account place claimants → IsCompiled parties (take (place + 1) lines) more
+compiled_next parties lines place line account claimants more rising residue filled within is inside whose compiled grown =
     let front : length (take place lines) ≡ place = length-take-le place lines (omega arith) in
     let party : 0 < length line.party = subst (λ (l : ShareLine). 0 < length l.party) (sym is) (filled place line within).party in
     let some : 0 < account = elim (cases_order 0 account) [
@@ -370,8 +370,8 @@ compiled_next parties lines place line account payees more rising residue filled
     ] in
     let last : take (place + 1) lines ≡ take place lines ++ line ∷ [] = take_more lines place line within ∙ ap (λ l. take place lines ++ l ∷ []) (sym is) in
     rw (grown, last)
-    (subst (λ n. IsCompiled parties (take place lines ++ line ∷ []) (with_place account n payees)) front
-    (compiled_more parties (take place lines) payees line account rising some inside whose compiled))
+    (subst (λ n. IsCompiled parties (take place lines ++ line ∷ []) (with_place account n claimants)) front
+    (compiled_more parties (take place lines) claimants line account rising some inside whose compiled))
 
 -- What lies within a list stays where more comes behind it, and what comes behind it is what comes.
 module _ {X : Type 0} (xs ys : List X) where
@@ -384,7 +384,7 @@ module _ {X : Type 0} (xs ys : List X) where
   part_added = rw (drop-append-le (length xs) xs ys (omega arith), drop_all (length xs) xs (omega arith)) (take_all (length ys) ys (omega arith))
 
 -- the line at the next place is kept
-pub kept_next : (parties : List (List ℕ)) (lines : List ShareLine) (place : ℕ) (line : ShareLine) (kept : List KeptShare) (share : KeptShare)
+pub kept_next : (parties : List (List ℕ)) (lines : List ShareLine) (place : ℕ) (line : ShareLine) (kept : List RegisteredShare) (share : RegisteredShare)
     → place < length lines → line ≡ get_or lines place line → map (line_by parties) kept ≡ take place lines → line_by parties share ≡ line
     → map (line_by parties) (kept ++ share ∷ []) ≡ take (place + 1) lines
 kept_next parties lines place line kept share within is before same =
@@ -393,7 +393,7 @@ kept_next parties lines place line kept share within is before same =
     ∙ (ap (λ (l : ShareLine). take place lines ++ l ∷ []) (same ∙ is) ∙ sym (take_more lines place line within)))
 
 -- Registrations side by side, with one more behind them.
-module _ (shares these : List KeptShare) (lines theirs : List ClaimLine) (paired : length shares ≡ length lines) (equal : length these ≡ length theirs) where
+module _ (shares these : List RegisteredShare) (lines theirs : List ClaimLine) (paired : length shares ≡ length lines) (equal : length these ≡ length theirs) where
   -- its part of each list
   abbrev pub extent_of_it : Extent
   extent_of_it = record { first = length lines; count = length theirs }
@@ -409,7 +409,7 @@ module _ (shares these : List KeptShare) (lines theirs : List ClaimLine) (paired
 
   part_of_it : part (shares ++ these) (lines ++ theirs) extent_of_it ≡ record { shares = these; lines = theirs }
   part_of_it =
-      let front = rw (paired, equal) at (part_added {X = KeptShare} shares these) in
+      let front = rw (paired, equal) at (part_added {X = RegisteredShare} shares these) in
       cc (front, part_added lines theirs)
 
   pub parts_more : (extents : List Extent) → All (IsExtent lines) extents
@@ -497,12 +497,12 @@ entry_at parties Holds (key ∷ works) (first ∷ registrations) (suc place) reg
 pub parties_rise : (registered : Registered) → IsRegistered registered → IsStrictlySortedBy (slice_cmp nat_cmp) registered.parties
 unfolding IsStrictlySortedBy
 parties_rise registered sound =
-    let filled : (party : List ℕ) → Contains sound.payees party → 0 < length party =
+    let filled : (party : List ℕ) → Contains sound.claimants party → 0 < length party =
     λ party has.
     let (work, lines, entry, among) = (sound.exact.exact party).0 has in
     let good = All-contains (λ (entry : List ℕ × List ShareLine). All IsShareLine entry.1) registered.works (work, lines) sound.shares entry in
     All-contains (λ (text : List ℕ). 0 < length text) (map (λ line. line.party) lines) party (All-map (λ (text : List ℕ). 0 < length text) (λ (line : ShareLine). line.party) lines (λ k d within. (good k d within).party)) among in
-    rw sound.accounts (recursion_from_All (λ y. slice_cmp nat_cmp [] y ≡ Less) sound.payees (λ k d within. above (get_or sound.payees k d) (filled (get_or sound.payees k d) (Contains-get_or sound.payees k d within))), sound.exact.rising)
+    rw sound.accounts (recursion_from_All (λ y. slice_cmp nat_cmp [] y ≡ Less) sound.claimants (λ k d within. above (get_or sound.claimants k d) (filled (get_or sound.claimants k d) (Contains-get_or sound.claimants k d within))), sound.exact.rising)
   where
     above : (party : List ℕ) → 0 < length party → slice_cmp nat_cmp [] party ≡ Less
     above [] some = absurd (omega arith)

@@ -11,7 +11,7 @@ use Rattle.std.proofs.lemmas.List.Folds.{find-append}
 use Rattle.std.proofs.lemmas.List.Sums.{sum_by-cons}
 use Rattle.std.proofs.lemmas.Slice.Eq.{bytes_eq-Decides}
 use Rattle.std.proofs.lemmas.Bool.Decides.{same_from_decides}
-use Rattle.line_split.specs.LargestRemainder.{portion_of, portions_of, rank_of, remainder_of, turns_of, units_left}
+use Rattle.line_split.specs.LargestRemainder.{contenders_of, portion_of, portions_of, rank_of, remainder_of, units_left}
 use Rattle.line_split.specs.declared.TheConstants.{FULL_SHARE, RESIDUE}
 use Rattle.line_split.specs.UsageLine.{UsageLine}
 use Rattle.line_split.proofs.SumBelow.{sum_by-map}
@@ -228,7 +228,7 @@ module _ (table : List (ℕ × List ℕ)) (land : ℕ) (right : Right) where
 
 -- each account's claim, 0 too
 abbrev each_claim : List (ℕ × List ℕ) → (land : ℕ) → Right → List ShareLine → (account : ℕ) → List (List ℕ) → List (ℕ × ℕ)
-each_claim table land right lines account payees = map (λ payee. (payee.0, claim_of table land right lines payee.1)) (enumerate_from account payees)
+each_claim table land right lines account claimants = map (λ claimant. (claimant.0, claim_of table land right lines claimant.1)) (enumerate_from account claimants)
 
 -- other names of the parties, no two alike
 module _ (name : List ℕ → List ℕ) (injective : (text other : List ℕ) → name text ≡ name other → text ≡ other) where
@@ -279,23 +279,23 @@ module _ (name : List ℕ → List ℕ) (injective : (text other : List ℕ) →
           ∙ sum_by-map (share_for right) (renamed name) (filter (λ line. pointwise nat_eq line.party party) (deciding table land lines))
           ∙ ap (λ (share : ShareLine → ℕ). sum_by share (filter (λ line. pointwise nat_eq line.party party) (deciding table land lines))) (λ i line. share_renamed right line i)
 
-      each_renamed : (account : ℕ) (payees : List (List ℕ)) → each_claim table land right (map (renamed name) lines) account (map name payees) ≡ each_claim table land right lines account payees
+      each_renamed : (account : ℕ) (claimants : List (List ℕ)) → each_claim table land right (map (renamed name) lines) account (map name claimants) ≡ each_claim table land right lines account claimants
       each_renamed account [] = refl
-      each_renamed account (payee ∷ payees) = cc (claim_renamed payee, each_renamed (account + 1) payees)
+      each_renamed account (claimant ∷ claimants) = cc (claim_renamed claimant, each_renamed (account + 1) claimants)
 
   -- other names change no claim
-  pub claims_renamed : (table : List (ℕ × List ℕ)) (land : ℕ) (right : Right) (lines : List ShareLine) (payees : List (List ℕ))
-      → claims_among table land right (map (renamed name) lines) (map name payees) ≡ claims_among table land right lines payees
-  claims_renamed table land right lines payees = ap (filter (λ claim. not (claim.1 == 0))) (each_renamed table land right lines 1 payees)
+  pub claims_renamed : (table : List (ℕ × List ℕ)) (land : ℕ) (right : Right) (lines : List ShareLine) (claimants : List (List ℕ))
+      → claims_among table land right (map (renamed name) lines) (map name claimants) ≡ claims_among table land right lines claimants
+  claims_renamed table land right lines claimants = ap (filter (λ claim. not (claim.1 == 0))) (each_renamed table land right lines 1 claimants)
 
 -- without share lines there are no claims
-claims_none : (table : List (ℕ × List ℕ)) (land : ℕ) (right : Right) (payees : List (List ℕ)) → claims_among table land right [] payees ≡ []
+claims_none : (table : List (ℕ × List ℕ)) (land : ℕ) (right : Right) (claimants : List (List ℕ)) → claims_among table land right [] claimants ≡ []
 unfolding deciding
-claims_none table land right payees = none 1 payees
+claims_none table land right claimants = none 1 claimants
   where
-    none : (account : ℕ) (payees : List (List ℕ)) → filter (λ (claim : ℕ × ℕ). not (claim.1 == 0)) (each_claim table land right [] account payees) ≡ []
+    none : (account : ℕ) (claimants : List (List ℕ)) → filter (λ (claim : ℕ × ℕ). not (claim.1 == 0)) (each_claim table land right [] account claimants) ≡ []
     none account [] = refl
-    none account (payee ∷ payees) = none (account + 1) payees
+    none account (claimant ∷ claimants) = none (account + 1) claimants
 
 pub no_claims_on : (table : List (ℕ × List ℕ)) (registered : Registered) (line : UsageLine) → find_work line.work registered.works ≡ Some [] → claims_on table registered line ≡ []
 no_claims_on table registered line found = go (cases_Bool (is_known table line.territory))
@@ -315,4 +315,4 @@ unclaimed amount = ap (λ (portion : ℕ). (RESIDUE, portion) ∷ []) whole
     quota = omega arith
 
     whole : portion_of amount FULL_SHARE ((RESIDUE, FULL_SHARE) ∷ []) 0 FULL_SHARE ≡ amount
-    whole = rw (le-ltb (rank_of (turns_of amount FULL_SHARE ((RESIDUE, FULL_SHARE) ∷ [])) (0, remainder_of amount FULL_SHARE FULL_SHARE)) (units_left amount FULL_SHARE ((RESIDUE, FULL_SHARE) ∷ [])) (omega (arith, quota))) (omega (arith, quota))
+    whole = rw (le-ltb (rank_of (contenders_of amount FULL_SHARE ((RESIDUE, FULL_SHARE) ∷ [])) (0, remainder_of amount FULL_SHARE FULL_SHARE)) (units_left amount FULL_SHARE ((RESIDUE, FULL_SHARE) ∷ [])) (omega (arith, quota))) (omega (arith, quota))

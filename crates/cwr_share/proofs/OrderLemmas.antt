@@ -1,4 +1,4 @@
--- How the share lines of a registration are put in order: by rising account, and those of an account from the last one back.
+-- How the share lines of a registration are put in order: in order of account, and those of an account from the last one back.
 use Rattle.std.proofs.Common.{◌≡◌, ◌==◌, ◌∙◌, ◌++◌, inl, inr, ◌<◌, ◌≤◌, ◌+◌, ◌∷◌, [], ℕ, zero, suc, List, All, ltb, true, false, drop, insert, length, map, get_or, not, ap, sym, refl, subst, arith, zero-le, Bool, Option, Some, None}
 use Rattle.std.specs.Prelude.{⊤, ◌&&◌, flat_map, if◌then◌else◌, reverse}
 use Rattle.std.specs.Option.{option_eq}
@@ -11,7 +11,7 @@ use Rattle.cwr_share.specs.Compiled.{begins_interest, claim_line, claim_lines, i
 use Rattle.cwr_share.specs.Registrations.{ShareLine}
 use Rattle.cwr_share.specs.declared.claim_line.ClaimLine.{ClaimLine}
 use Rattle.cwr_share.specs.declared.registration.Placed.{Placed}
-use Rattle.cwr_share.specs.declared.share_line.KeptShare.{KeptShare}
+use Rattle.cwr_share.specs.declared.share_line.RegisteredShare.{RegisteredShare}
 use Rattle.cwr_share.proofs.ClaimLemmas.{claim_lines_more, claim_lines_none}
 use Rattle.cwr_share.proofs.CompiledLemmas.{AllPairs-head, AllPairs-tail, Rising, place_goes}
 
@@ -19,7 +19,7 @@ use Rattle.cwr_share.proofs.CompiledLemmas.{AllPairs-head, AllPairs-tail, Rising
 abbrev at_place : ℕ → ℕ → Placed
 at_place account place = record { account = account; place = place }
 
--- the places of a payee, with an earlier one, which comes last
+-- the places of a claimant, with an earlier one, which comes last
 placed_before : (account place : ℕ) (places : List ℕ) → placed (account, place ∷ places) ≡ placed (account, places) ++ at_place account place ∷ []
 placed_before account place places =
     ap (map (at_place account)) (reverse-append (place ∷ []) places) ∙ map-append (at_place account) (reverse places) (place ∷ [])
@@ -36,12 +36,12 @@ module _ (P : Placed → Type 0) where
       (All-push P (placed (account, places)) (at_place account place)
       (each_placed account places (All-tail (λ place. P (at_place account place)) place places all)) (all 0 place (omega arith)))
 
-  -- what holds of the places of each payee holds of each in order
-  pub each_in_order : (payees : List (ℕ × List ℕ)) → All (λ payee. All (λ place. P (at_place payee.0 place)) payee.1) payees → All P (in_order payees)
+  -- what holds of the places of each claimant holds of each in order
+  pub each_in_order : (claimants : List (ℕ × List ℕ)) → All (λ claimant. All (λ place. P (at_place claimant.0 place)) claimant.1) claimants → All P (in_order claimants)
   each_in_order [] all = All-nil P
-  each_in_order (payee ∷ later) all =
-      All-append P (placed payee) (in_order later) (each_placed payee.0 payee.1 (all 0 payee (omega arith)))
-      (each_in_order later (All-tail (λ (payee : ℕ × List ℕ). All (λ place. P (at_place payee.0 place)) payee.1) payee later all))
+  each_in_order (claimant ∷ later) all =
+      All-append P (placed claimant) (in_order later) (each_placed claimant.0 claimant.1 (all 0 claimant (omega arith)))
+      (each_in_order later (All-tail (λ (claimant : ℕ × List ℕ). All (λ place. P (at_place claimant.0 place)) claimant.1) claimant later all))
 
 module _ (account place : ℕ) where
   -- a place put before the others that are of no lower account
@@ -70,24 +70,24 @@ module _ (account place : ℕ) where
       let this : ltb entry.account account ≡ true = lt-ltb entry.account account (low 0 entry (omega arith)) in
       rw this (ap (λ (l : List Placed). entry ∷ l) (put_behind front order (All-tail (λ (entry : Placed). entry.account < account) entry front low)))
 
-  -- it is the place of its payee
-  pub put_in_order : (payees : List (ℕ × List ℕ)) → Rising payees → put (in_order payees) ≡ in_order (with_place account place payees)
+  -- it is the place of its claimant
+  pub put_in_order : (claimants : List (ℕ × List ℕ)) → Rising claimants → put (in_order claimants) ≡ in_order (with_place account place claimants)
   put_in_order [] rising = refl
-  put_in_order (payee ∷ later) rising =
-      let above : All (λ other. payee.0 < other.0) later = AllPairs-head (λ payee other. payee.0 < other.0) payee later rising in
-      let high : account ≤ payee.0 → All (λ entry. account ≤ entry.account) (in_order (payee ∷ later)) =
-      λ low. each_in_order (λ entry. account ≤ entry.account) (payee ∷ later)
-      (All-cons (λ (payee : ℕ × List ℕ). All (λ place. account ≤ payee.0) payee.1) payee later (λ k d within. low) (λ k d within i e inside. omega (arith, low, above k d within))) in
-      elim (place_goes account place payee later) [
-        | inl (less, is) ↦ rw is (put_front (in_order (payee ∷ later)) (high (omega (arith, less))))
+  put_in_order (claimant ∷ later) rising =
+      let above : All (λ other. claimant.0 < other.0) later = AllPairs-head (λ claimant other. claimant.0 < other.0) claimant later rising in
+      let high : account ≤ claimant.0 → All (λ entry. account ≤ entry.account) (in_order (claimant ∷ later)) =
+      λ low. each_in_order (λ entry. account ≤ entry.account) (claimant ∷ later)
+      (All-cons (λ (claimant : ℕ × List ℕ). All (λ place. account ≤ claimant.0) claimant.1) claimant later (λ k d within. low) (λ k d within i e inside. omega (arith, low, above k d within))) in
+      elim (place_goes account place claimant later) [
+        | inl (less, is) ↦ rw is (put_front (in_order (claimant ∷ later)) (high (omega (arith, less))))
         | inr (inl (equal, is)) ↦
-            rw (is, placed_after account place payee.1)
-            (put_front (in_order (payee ∷ later)) (high (omega (arith, equal)))
-            ∙ ap (λ (a : ℕ). at_place account place ∷ (placed (a, payee.1) ++ in_order later)) (sym equal))
+            rw (is, placed_after account place claimant.1)
+            (put_front (in_order (claimant ∷ later)) (high (omega (arith, equal)))
+            ∙ ap (λ (a : ℕ). at_place account place ∷ (placed (a, claimant.1) ++ in_order later)) (sym equal))
         | inr (inr (more, is)) ↦
             rw is
-            (put_behind (placed payee) (in_order later) (each_placed (λ entry. entry.account < account) payee.0 payee.1 (λ k d within. more))
-            ∙ ap (λ (l : List Placed). placed payee ++ l) (put_in_order later (AllPairs-tail (λ payee other. payee.0 < other.0) payee later rising)))
+            (put_behind (placed claimant) (in_order later) (each_placed (λ entry. entry.account < account) claimant.0 claimant.1 (λ k d within. more))
+            ∙ ap (λ (l : List Placed). placed claimant ++ l) (put_in_order later (AllPairs-tail (λ claimant other. claimant.0 < other.0) claimant later rising)))
       ]
 
 -- what came before is of a lower account
@@ -107,7 +107,7 @@ module _ (line_of : ℕ → ShareLine) where
       claim_line entry.account (not (option_eq same_interest before (Some (entry.account, (line_of entry.place).interest)))) (line_of entry.place)
       ∷ lines_in (Some (entry.account, (line_of entry.place).interest)) order
 
-  -- the account and interest of the last of a payee's lines, which is the first of the file
+  -- the account and interest of the last of a claimant's lines, which is the first of the file
   abbrev last_of : ℕ → List ℕ → Option (ℕ × ℕ) → Option (ℕ × ℕ)
   last_of account [] before = before
   last_of account (place ∷ places) before = Some (account, (line_of place).interest)
@@ -134,25 +134,25 @@ module _ (line_of : ℕ → ShareLine) where
       ∙ (sym (append_assoc front (claim_line account (begins_interest line (map line_of places)) line ∷ []) after)
       ∙ ap (λ (l : List ClaimLine). l ++ after) (sym (claim_lines_more account line (map line_of places))))))
 
-  -- they are those of each payee
-  pub lines_of_all : (payees : List (ℕ × List ℕ)) (before : Option (ℕ × ℕ)) → Rising payees → All (λ payee. IsBelow before payee.0) payees
-      → lines_in before (in_order payees) ≡ flat_map (λ payee. claim_lines payee.0 (map line_of payee.1)) payees
+  -- they are those of each claimant
+  pub lines_of_all : (claimants : List (ℕ × List ℕ)) (before : Option (ℕ × ℕ)) → Rising claimants → All (λ claimant. IsBelow before claimant.0) claimants
+      → lines_in before (in_order claimants) ≡ flat_map (λ claimant. claim_lines claimant.0 (map line_of claimant.1)) claimants
   lines_of_all [] before rising below = refl
-  lines_of_all (payee ∷ later) before rising below =
-      lines_of_one payee.0 payee.1 before (in_order later) (below 0 payee (omega arith))
-      ∙ ap (λ (l : List ClaimLine). claim_lines payee.0 (map line_of payee.1) ++ l)
-      (lines_of_all later (last_of payee.0 payee.1 before) (AllPairs-tail (λ payee other. payee.0 < other.0) payee later rising) (still_below payee.1))
+  lines_of_all (claimant ∷ later) before rising below =
+      lines_of_one claimant.0 claimant.1 before (in_order later) (below 0 claimant (omega arith))
+      ∙ ap (λ (l : List ClaimLine). claim_lines claimant.0 (map line_of claimant.1) ++ l)
+      (lines_of_all later (last_of claimant.0 claimant.1 before) (AllPairs-tail (λ claimant other. claimant.0 < other.0) claimant later rising) (still_below claimant.1))
     where
-      still_below : (places : List ℕ) → All (λ other. IsBelow (last_of payee.0 places before) other.0) later
-      still_below [] = All-tail (λ (payee : ℕ × List ℕ). IsBelow before payee.0) payee later below
-      still_below (place ∷ places) = AllPairs-head (λ payee other. payee.0 < other.0) payee later rising
+      still_below : (places : List ℕ) → All (λ other. IsBelow (last_of claimant.0 places before) other.0) later
+      still_below [] = All-tail (λ (claimant : ℕ × List ℕ). IsBelow before claimant.0) claimant later below
+      still_below (place ∷ places) = AllPairs-head (λ claimant other. claimant.0 < other.0) claimant later rising
 
 -- the share line at a place
 abbrev pub line_at : List ShareLine → ℕ → ShareLine
 line_at lines place = get_or lines place (record { interest = 0; party = []; performing = 0; mechanical = 0; synchronisation = 0; includes = false; territory = 0 })
 
 -- one line more is added in order
-pub lines_next : (shares : List KeptShare) (order : List Placed) (n : ℕ) (d : Placed) (share : KeptShare) (before : Option (ℕ × ℕ)) (lines : List ClaimLine)
+pub lines_next : (shares : List RegisteredShare) (order : List Placed) (n : ℕ) (d : Placed) (share : RegisteredShare) (before : Option (ℕ × ℕ)) (lines : List ClaimLine)
     → n < length order → (get_or order n d).place < length shares → share ≡ get_or shares (get_or order n d).place share
     → HoldsAt (λ share. share.account ≡ (get_or order n d).account) shares (get_or order n d).place
     → (lines ++ claim_line share.account (not (option_eq same_interest before (Some (share.account, share.interest)))) (line_by [] share) ∷ [])
@@ -162,7 +162,7 @@ lines_next shares order n d share before lines within inside is own =
     let entry = get_or order n d in
     let line_of = line_at (map (line_by []) shares) in
     let rest = drop (n + 1) order in
-    let whose : share.account ≡ entry.account = ap (λ (s : KeptShare). s.account) is ∙ own share in
+    let whose : share.account ≡ entry.account = ap (λ (s : RegisteredShare). s.account) is ∙ own share in
     let line : line_by [] share ≡ line_of entry.place = ap (line_by []) is ∙ sym (get_or-map (line_by []) shares entry.place share _ inside) in
     let both : (share.account, line_by [] share) ≡ (entry.account, line_of entry.place) = cc (whose, line) in
     append_assoc lines (claim_line share.account (not (option_eq same_interest before (Some (share.account, share.interest)))) (line_by [] share) ∷ []) (lines_in line_of (Some (share.account, share.interest)) rest)
@@ -170,7 +170,7 @@ lines_next shares order n d share before lines within inside is own =
     (ap (λ (p : ℕ × ShareLine). claim_line p.0 (not (option_eq same_interest before (Some (p.0, p.1.interest)))) p.1 ∷ lines_in line_of (Some (p.0, p.1.interest)) rest) both
     ∙ ap (lines_in line_of before) (sym (drop_more order n d within)))
 
--- the lines of payees in order do not fall
+-- the lines of claimants in order do not fall
 rises_cons : (entry : Placed) (order : List Placed) → All (λ other. entry.account ≤ other.account) order → IsNonDecreasingBy (λ (other : Placed). other.account) order
     → IsNonDecreasingBy (λ (other : Placed). other.account) (entry ∷ order)
 rises_cons entry order high rises = λ i j d low within. by i j d low within
@@ -181,24 +181,24 @@ rises_cons entry order high rises = λ i j d low within. by i j d low within
     by (suc i) zero d low within = absurd (omega (arith, low))
     by (suc i) (suc j) d low within = rises i j d (omega (arith, low)) (omega (arith, within))
 
-payee_rises : (account : ℕ) (places : List ℕ) (rest : List Placed) → All (λ entry. account ≤ entry.account) rest → IsNonDecreasingBy (λ (entry : Placed). entry.account) rest
+claimant_rises : (account : ℕ) (places : List ℕ) (rest : List Placed) → All (λ entry. account ≤ entry.account) rest → IsNonDecreasingBy (λ (entry : Placed). entry.account) rest
     → IsNonDecreasingBy (λ (entry : Placed). entry.account) (placed (account, places) ++ rest)
-payee_rises account [] rest high rises = rises
-payee_rises account (place ∷ places) rest high rises =
+claimant_rises account [] rest high rises = rises
+claimant_rises account (place ∷ places) rest high rises =
     let split : placed (account, place ∷ places) ++ rest ≡ placed (account, places) ++ at_place account place ∷ rest =
     ap (λ (l : List Placed). l ++ rest) (placed_before account place places) ∙ append_assoc (placed (account, places)) (at_place account place ∷ []) rest in
     subst (IsNonDecreasingBy (λ (entry : Placed). entry.account)) (sym split)
-    (payee_rises account places (at_place account place ∷ rest) (All-cons (λ (entry : Placed). account ≤ entry.account) (at_place account place) rest (omega arith) high) (rises_cons (at_place account place) rest high rises))
+    (claimant_rises account places (at_place account place ∷ rest) (All-cons (λ (entry : Placed). account ≤ entry.account) (at_place account place) rest (omega arith) high) (rises_cons (at_place account place) rest high rises))
 
-pub in_order_rises : (payees : List (ℕ × List ℕ)) → Rising payees → IsNonDecreasingBy (λ (entry : Placed). entry.account) (in_order payees)
+pub in_order_rises : (claimants : List (ℕ × List ℕ)) → Rising claimants → IsNonDecreasingBy (λ (entry : Placed). entry.account) (in_order claimants)
 in_order_rises [] rising = λ i j d low within. absurd (omega (arith, within))
-in_order_rises (payee ∷ later) rising =
-    let above : All (λ other. payee.0 < other.0) later = AllPairs-head (λ payee other. payee.0 < other.0) payee later rising in
-    payee_rises payee.0 payee.1 (in_order later) (each_in_order (λ entry. payee.0 ≤ entry.account) later (λ k d within i e inside. omega (arith, above k d within)))
-    (in_order_rises later (AllPairs-tail (λ payee other. payee.0 < other.0) payee later rising))
+in_order_rises (claimant ∷ later) rising =
+    let above : All (λ other. claimant.0 < other.0) later = AllPairs-head (λ claimant other. claimant.0 < other.0) claimant later rising in
+    claimant_rises claimant.0 claimant.1 (in_order later) (each_in_order (λ entry. claimant.0 ≤ entry.account) later (λ k d within i e inside. omega (arith, above k d within)))
+    (in_order_rises later (AllPairs-tail (λ claimant other. claimant.0 < other.0) claimant later rising))
 
 -- Share lines are compiled, and these are their places in order.
 pub record IsGathered (parties : List (List ℕ)) (lines : List ShareLine) (order : List Placed) : Type 0 where
-  pub payees : List (ℕ × List ℕ)
-  pub compiled : IsCompiled parties lines payees
-  pub exact : order ≡ in_order payees
+  pub claimants : List (ℕ × List ℕ)
+  pub compiled : IsCompiled parties lines claimants
+  pub exact : order ≡ in_order claimants

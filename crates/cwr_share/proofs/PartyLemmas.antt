@@ -1,4 +1,4 @@
--- Texts in rising byte order, and the parties that are gathered of share lines.
+-- Texts in byte order, and the parties that are gathered of share lines.
 use Rattle.std.proofs.Common.{◌≡◌, ◌<◌, ◌≤◌, ◌+◌, ◌⊎◌, ℕ, suc, zero, true, List, [], ◌∷◌, ◌++◌, length, map, take, drop, All, Contains, slice_index_or, ap, sym, refl, subst, ◌∙◌, inl, inr, arith, position, Some}
 use Rattle.std.specs.declared.cmp.Ordering.{Ordering}
 use Rattle.std.specs.declared.cmp.Ordering.TheVariants.{Less, Equal, Greater}

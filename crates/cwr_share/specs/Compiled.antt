@@ -8,9 +8,9 @@ use Rattle.cwr_share.specs.ClaimsOn.{deciding, share_for}
 use Rattle.cwr_share.specs.Registrations.{ShareLine}
 use Rattle.cwr_share.specs.declared.registration.Placed.{Placed}
 use Rattle.cwr_share.specs.declared.claim_line.ClaimLine.{ClaimLine}
-use Rattle.cwr_share.specs.declared.registration.Registration.{Registration}
+use Rattle.cwr_share.specs.declared.registration.CompiledRegistration.{CompiledRegistration}
 use Rattle.cwr_share.specs.declared.registrations.Extent.{Extent}
-use Rattle.cwr_share.specs.declared.share_line.KeptShare.{KeptShare}
+use Rattle.cwr_share.specs.declared.share_line.RegisteredShare.{RegisteredShare}
 use Rattle.cwr_share.specs.Registered.{Registered}
 use Rattle.std.specs.declared.alloc.Global.{Global}
 use Rattle.cwr_share.specs.declared.numbers.TheConstants.{MOST_WORK_BYTES}
@@ -25,7 +25,7 @@ abbrev pub AreWorkNumbers : List WorkNumber → Type 0
 AreWorkNumbers works = All (λ work. length work.items ≤ MOST_WORK_BYTES) works
 
 -- a kept share line, where these are the parties of the accounts
-abbrev pub line_by : List (List ℕ) → KeptShare → ShareLine
+abbrev pub line_by : List (List ℕ) → RegisteredShare → ShareLine
 line_by parties share = record {
   interest = share.interest;
   party = slice_index_or parties share.account [];
@@ -38,15 +38,15 @@ line_by parties share = record {
 
 -- a registration as it is kept: its share lines, in the order of the file; and the same again, as its claims are worked out
 pub record Kept : Type 0 where
-  pub shares : List KeptShare
+  pub shares : List RegisteredShare
   pub lines : List ClaimLine
 
 -- one that stands alone
-abbrev pub whole : Registration → Kept
+abbrev pub whole : CompiledRegistration → Kept
 whole registration = record { shares = registration.shares.items; lines = registration.lines.items }
 
 -- one that stands among others, in an extent
-abbrev pub part : List KeptShare → List ClaimLine → Extent → Kept
+abbrev pub part : List RegisteredShare → List ClaimLine → Extent → Kept
 part shares lines extent = record {
   shares = take extent.count (drop extent.first shares);
   lines = take extent.count (drop extent.first lines);
@@ -77,49 +77,49 @@ lines_of_party party lines = filter (λ line. pointwise nat_eq line.party party)
 
 -- how many places there are
 abbrev pub places_in : List (ℕ × List ℕ) → ℕ
-places_in payees = sum_by (λ payee. length payee.1) payees
+places_in claimants = sum_by (λ claimant. length claimant.1) claimants
 
--- For each party that has a share line its account and the places of its lines, by rising account; the party of an account stands at its place among the parties.
-pub record IsCompiled (parties : List (List ℕ)) (lines : List ShareLine) (payees : List (ℕ × List ℕ)) : Type 0 where
-  pub few : length payees ≤ length lines
-  pub total : places_in payees ≡ length lines
-  pub rising : AllPairs (λ payee later. payee.0 < later.0) payees
-  pub accounts : All (λ payee. (0 < payee.0) × (payee.0 < length parties)) payees
-  pub some : All (λ payee. 0 < length payee.1) payees
-  pub within : All (λ payee. All (λ place. place < length lines) payee.1) payees
-  pub exact : All (λ payee. lines_at lines payee.1 ≡ lines_of_party (slice_index_or parties payee.0 []) lines) payees
+-- For each party that has a share line its account and the places of its lines, in order of account; the party of an account stands at its place among the parties.
+pub record IsCompiled (parties : List (List ℕ)) (lines : List ShareLine) (claimants : List (ℕ × List ℕ)) : Type 0 where
+  pub few : length claimants ≤ length lines
+  pub total : places_in claimants ≡ length lines
+  pub rising : AllPairs (λ claimant later. claimant.0 < later.0) claimants
+  pub accounts : All (λ claimant. (0 < claimant.0) × (claimant.0 < length parties)) claimants
+  pub some : All (λ claimant. 0 < length claimant.1) claimants
+  pub within : All (λ claimant. All (λ place. place < length lines) claimant.1) claimants
+  pub exact : All (λ claimant. lines_at lines claimant.1 ≡ lines_of_party (slice_index_or parties claimant.0 []) lines) claimants
   pub every : (account : ℕ) → account < length parties → Contains (map (λ line. line.party) lines) (slice_index_or parties account [])
-      → Contains (map (λ payee. payee.0) payees) account
+      → Contains (map (λ claimant. claimant.0) claimants) account
 
 -- the places with one more, of an account, which comes last among those of the account
 abbrev pub with_place : (account place : ℕ) → List (ℕ × List ℕ) → List (ℕ × List ℕ)
 with_place account place [] = (account, place ∷ []) ∷ []
-with_place account place (payee ∷ later) =
-    if nat_lt account payee.0 then (account, place ∷ []) ∷ payee ∷ later
-    else if account == payee.0 then (account, payee.1 ++ place ∷ []) ∷ later
-    else payee ∷ with_place account place later
+with_place account place (claimant ∷ later) =
+    if nat_lt account claimant.0 then (account, place ∷ []) ∷ claimant ∷ later
+    else if account == claimant.0 then (account, claimant.1 ++ place ∷ []) ∷ later
+    else claimant ∷ with_place account place later
 
--- the places of a payee from the last one back, each with the account
+-- the places of a claimant from the last one back, each with the account
 abbrev pub placed : ℕ × List ℕ → List Placed
-placed payee = map (λ place. record { account = payee.0; place = place }) (reverse payee.1)
+placed claimant = map (λ place. record { account = claimant.0; place = place }) (reverse claimant.1)
 
--- those of payees, one payee's after another's
+-- those of claimants, one claimant's after another's
 abbrev pub in_order : List (ℕ × List ℕ) → List Placed
-in_order payees = flat_map placed payees
+in_order claimants = flat_map placed claimants
 
--- those of payees by rising account
-pub record IsInOrder (payees : List (ℕ × List ℕ)) (order : List Placed) : Type 0 where
-  pub rising : AllPairs (λ payee later. payee.0 < later.0) payees
-  pub exact : order ≡ in_order payees
+-- those of claimants in order of account
+pub record IsInOrder (claimants : List (ℕ × List ℕ)) (order : List Placed) : Type 0 where
+  pub rising : AllPairs (λ claimant later. claimant.0 < later.0) claimants
+  pub exact : order ≡ in_order claimants
 
 -- the interests of the share lines of a registration do not fall
 abbrev pub InterestsRise : List ShareLine → Type 0
 InterestsRise lines = AllPairs (λ line later. line.interest ≤ later.interest) lines
 
 -- the claim of each of them, 0 too
-abbrev pub claims_of_payees : List (ℕ × List ℕ) → (land : ℕ) → Right → List ShareLine → List (ℕ × List ℕ) → List (ℕ × ℕ)
-claims_of_payees table land right lines payees =
-    map (λ payee. (payee.0, sum_by (share_for right) (deciding table land (lines_at lines payee.1)))) payees
+abbrev pub claims_of_claimants : List (ℕ × List ℕ) → (land : ℕ) → Right → List ShareLine → List (ℕ × List ℕ) → List (ℕ × ℕ)
+claims_of_claimants table land right lines claimants =
+    map (λ claimant. (claimant.0, sum_by (share_for right) (deciding table land (lines_at lines claimant.1)))) claimants
 
 -- a share line of an account as claims are worked out: what it gives under each right, and whether it begins an interest
 abbrev pub claim_line : (account : ℕ) → (begins : Bool) → ShareLine → ClaimLine
@@ -144,9 +144,9 @@ unfoldable pub claim_lines : (account : ℕ) → List ShareLine → List ClaimLi
 claim_lines account [] = []
 claim_lines account (line ∷ later) = claim_lines account later ++ claim_line account (begins_interest line later) line ∷ []
 
--- those of each payee, one payee's after another's
-abbrev pub lines_of_payees : List ShareLine → List (ℕ × List ℕ) → List ClaimLine
-lines_of_payees lines payees = flat_map (λ payee. claim_lines payee.0 (lines_at lines payee.1)) payees
+-- those of each claimant, one claimant's after another's
+abbrev pub lines_of_claimants : List ShareLine → List (ℕ × List ℕ) → List ClaimLine
+lines_of_claimants lines claimants = flat_map (λ claimant. claim_lines claimant.0 (lines_at lines claimant.1)) claimants
 
 -- what such a line gives under a right
 abbrev pub share_under : Right → ClaimLine → ℕ
@@ -154,14 +154,14 @@ share_under P line = line.shares.performing
 share_under M line = line.shares.mechanical
 share_under S line = line.shares.synchronisation
 
--- such lines of some payees, by rising account; a payee's share lines are alike but for their interests, which do not fall
-pub record AreClaimLines (named : List ShareLine) (payees : List (ℕ × List ℕ)) (lines : List ClaimLine) : Type 0 where
-  pub exact : lines ≡ lines_of_payees named payees
-  pub few : length payees ≤ length lines
-  pub rising : AllPairs (λ payee later. payee.0 < later.0) payees
-  pub accounts : All (λ payee. 0 < payee.0) payees
-  pub some : All (λ payee. 0 < length payee.1) payees
-  pub alike : All (λ payee. AllPairs (λ line later. (line.party ≡ later.party) × (line.interest ≤ later.interest)) (lines_at named payee.1)) payees
+-- such lines of some claimants, in order of account; a claimant's share lines are alike but for their interests, which do not fall
+pub record AreClaimLines (named : List ShareLine) (claimants : List (ℕ × List ℕ)) (lines : List ClaimLine) : Type 0 where
+  pub exact : lines ≡ lines_of_claimants named claimants
+  pub few : length claimants ≤ length lines
+  pub rising : AllPairs (λ claimant later. claimant.0 < later.0) claimants
+  pub accounts : All (λ claimant. 0 < claimant.0) claimants
+  pub some : All (λ claimant. 0 < length claimant.1) claimants
+  pub alike : All (λ claimant. AllPairs (λ line later. (line.party ≡ later.party) × (line.interest ≤ later.interest)) (lines_at named claimant.1)) claimants
 
 -- what a registry keeps: each work with its share lines, and the parties
 abbrev pub registered_as : List WorkNumber → List Kept → List (Vec ℕ Global) → Registered
@@ -172,9 +172,9 @@ registered_as works registrations parties = record {
 
 -- a registration is kept for its claims
 pub record IsKept (parties : List (List ℕ)) (kept : Kept) : Type 0 where
-  pub payees : List (ℕ × List ℕ)
-  pub compiled : IsCompiled parties (kept_lines parties kept) payees
-  pub lines : kept.lines ≡ lines_of_payees (nameless kept) payees
+  pub claimants : List (ℕ × List ℕ)
+  pub compiled : IsCompiled parties (kept_lines parties kept) claimants
+  pub lines : kept.lines ≡ lines_of_claimants (nameless kept) claimants
 
 -- each work has one registration, which is kept for its claims
 pub record AreKept (works : List WorkNumber) (registrations : List Kept) (parties : List (Vec ℕ Global)) : Type 0 where

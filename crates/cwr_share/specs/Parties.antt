@@ -34,13 +34,13 @@ IsAmong lists party = (lines : List ShareLine) × Contains lists lines × Contai
 pub record ArePartiesIn (lists : List (List ShareLine)) (texts : List (List ℕ)) : Type 0 where
   pub exact : (party : List ℕ) → Contains texts party ↔ IsAmong lists party
 
--- the parties of the lists by account, each once and in rising byte order; the residue's account has no text
+-- the parties of the lists by account, each once and in byte order; the residue's account has no text
 pub record AreAccountsOf (lists : List (List ShareLine)) (parties : List (List ℕ)) : Type 0 where
-  pub payees : List (List ℕ)
-  pub accounts : parties ≡ [] ∷ payees
+  pub claimants : List (List ℕ)
+  pub accounts : parties ≡ [] ∷ claimants
   pub rising : IsStrictlySortedBy (slice_cmp nat_cmp) parties
-  pub few : length payees ≤ MOST_PARTIES
-  pub exact : ArePartiesIn lists payees
+  pub few : length claimants ≤ MOST_PARTIES
+  pub exact : ArePartiesIn lists claimants
 
 -- the lists have more than 511 parties
 abbrev pub HasMany : List (List ShareLine) → Type 0

@@ -26,7 +26,7 @@ pub record IsShareLine (line : ShareLine) : Type 0 where
 abbrev pub IsPartyOf : List (List ℕ × List ShareLine) → List ℕ → Type 0
 IsPartyOf works party = (work : List ℕ) × (lines : List ShareLine) × Contains works (work, lines) × Contains (map (λ line. line.party) lines) party
 
--- the parties of the works, each once and in rising byte order
+-- the parties of the works, each once and in byte order
 pub record ArePartiesOf (works : List (List ℕ × List ShareLine)) (parties : List (List ℕ)) : Type 0 where
   pub rising : IsStrictlySortedBy (slice_cmp nat_cmp) parties
   pub exact : (party : List ℕ) → Contains parties party ↔ IsPartyOf works party
@@ -36,7 +36,7 @@ pub record IsRegistered (registered : Registered) : Type 0 where
   pub once : AllPairs (λ entry later. ¬ (entry.0 ≡ later.0)) registered.works
   pub few : All (λ entry. length entry.1 ≤ MOST_SHARES) registered.works
   pub shares : All (λ entry. All IsShareLine entry.1) registered.works
-  pub payees : List (List ℕ)
-  pub accounts : registered.parties ≡ [] ∷ payees
-  pub few_payees : length payees ≤ MOST_PARTIES
-  pub exact : ArePartiesOf registered.works payees
+  pub claimants : List (List ℕ)
+  pub accounts : registered.parties ≡ [] ∷ claimants
+  pub few_claimants : length claimants ≤ MOST_PARTIES
+  pub exact : ArePartiesOf registered.works claimants

@@ -7,11 +7,11 @@ ghost use Rattle.std.specs.Prelude.{◌≡◌, ◌≤◌, ◌<◌, ◌++◌, ◌
 ghost use Rattle.line_split.specs.Claims.{total_of};
 ghost use Rattle.line_split.specs.declared.TheConstants.{MOST_CLAIMED};
 ghost use Rattle.cwr_share.specs.ClaimsOn.{deciding, share_for};
-ghost use Rattle.cwr_share.specs.Compiled.{AreClaimLines, claim_lines, claims_of_payees, share_under};
+ghost use Rattle.cwr_share.specs.Compiled.{AreClaimLines, claim_lines, claims_of_claimants, share_under};
 ghost use Rattle.cwr_share.specs.Registrations.{ShareLine};
 ghost use Rattle.cwr_share.specs.declared.TheConstants.{MOST_SHARES};
 
-use crate::share_line::Shares;
+use crate::share_line::CollectionShares;
 use line_split::{Account, Claims, MOST_CLAIMED, Right};
 use tis_tree::{Code, TisTable};
 
@@ -20,7 +20,7 @@ use tis_tree::{Code, TisTable};
 pub(crate) struct ClaimLine {
     pub(crate) account: Account,
     /// What the account gets under each right, nothing where the territory is excluded.
-    pub(crate) shares: Shares,
+    pub(crate) shares: CollectionShares,
     pub(crate) territory: Code,
     /// Whether the line before it is of another interest, or of another account.
     pub(crate) begins: bool,
@@ -39,7 +39,7 @@ impl ClaimLine {
     }
 }
 
-/// Puts the claims in a land under a right into `out`, those that are not 0, by rising account, where
+/// Puts the claims in a land under a right into `out`, those that are not 0, in order of account, where
 /// these are the lines of the work. Answers whether they come to no more than 100.06 per cent; if not,
 /// `out` is empty.
 pub(crate) fn claims(
@@ -49,11 +49,11 @@ pub(crate) fn claims(
     right: Right,
     out: &mut Claims,
 ) -> bool
-    requires lines { (named : List ShareLine) × (payees : List (ℕ × List ℕ)) × AreClaimLines named payees lines.now }
+    requires lines { (named : List ShareLine) × (claimants : List (ℕ × List ℕ)) × AreClaimLines named claimants lines.now }
     requires few { length lines.now ≤ MOST_SHARES }
     requires room { length lines.now ≤ out.old.room }
-    ensures within { (named : List ShareLine) (payees : List (ℕ × List ℕ)) → AreClaimLines named payees lines.now → result ≡ nat_le (total_of (claims_of_payees tis.now land right named payees)) MOST_CLAIMED }
-    ensures claims { (named : List ShareLine) (payees : List (ℕ × List ℕ)) → AreClaimLines named payees lines.now → out.new.list ≡ (if result then filter (λ claim. not (claim.1 == 0)) (claims_of_payees tis.now land right named payees) else []) }
+    ensures within { (named : List ShareLine) (claimants : List (ℕ × List ℕ)) → AreClaimLines named claimants lines.now → result ≡ nat_le (total_of (claims_of_claimants tis.now land right named claimants)) MOST_CLAIMED }
+    ensures claims { (named : List ShareLine) (claimants : List (ℕ × List ℕ)) → AreClaimLines named claimants lines.now → out.new.list ≡ (if result then filter (λ claim. not (claim.1 == 0)) (claims_of_claimants tis.now land right named claimants) else []) }
     ensures room { out.new.room ≡ out.old.room }
 {
     out.clear();

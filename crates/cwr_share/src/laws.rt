@@ -60,8 +60,8 @@ pub fn law_claims_are_of_no_other_work()
 /// Parties by other names, each different from the others, have the same claims in the same places.
 pub fn law_names_do_not_matter()
     ensures { (name : List ℕ → List ℕ) → ((text other : List ℕ) → name text ≡ name other → text ≡ other)
-        → (table : List (ℕ × List ℕ)) (land : ℕ) (right : Right) (lines : List ShareLine) (payees : List (List ℕ))
-        → claims_among table land right (map (renamed name) lines) (map name payees) ≡ claims_among table land right lines payees }
+        → (table : List (ℕ × List ℕ)) (land : ℕ) (right : Right) (lines : List ShareLine) (claimants : List (List ℕ))
+        → claims_among table land right (map (renamed name) lines) (map name claimants) ≡ claims_among table land right lines claimants }
 {}
 
 /// All registries of one file answer alike: each work has the same share lines in them, and the parties
@@ -73,7 +73,7 @@ pub fn law_a_file_has_one_registry()
         → IsRegistered registered → IsRegistered other → registered.parties ≡ other.parties }
 {}
 
-/// A file that is its registrations is refused for nothing but want of memory.
+/// A file that is its registrations is refused for nothing but lack of memory.
 pub fn law_a_file_of_registrations_has_no_fault()
     ensures { (lines : List (List ℕ)) (registered : Registered) (fault : CwrFault) → IsFileOf lines registered → IsRegistered registered
         → IsFaultOf lines fault → fault ≡ Memory }

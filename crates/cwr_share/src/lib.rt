@@ -19,8 +19,6 @@ mod registration;
 mod registrations;
 mod registry;
 mod share_line;
-#[cfg(test)]
-mod tests;
 
 pub use cwr_fault::CwrFault;
 pub use record_type::RecordType;

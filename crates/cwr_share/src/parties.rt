@@ -11,18 +11,18 @@ ghost use Rattle.cwr_share.specs.declared.TheConstants.{MOST_PARTIES};
 ghost use Rattle.cwr_share.specs.declared.cwr_fault.CwrFault.TheVariants.{Accounts, Memory};
 
 use crate::numbers::{PartyNumber, in_place};
-use crate::share_line::Share;
+use crate::share_line::ShareRecord;
 use crate::{CwrFault, MOST_PARTIES};
 use indexmap::IndexSet;
 use line_split::Account;
 use std::alloc::{AllocError, Global};
 use std::collections::BTreeSet;
 
-/// The parties of these share lines by account, each once and in rising byte order. The residue's
+/// The parties of these share lines by account, each once and in byte order. The residue's
 /// account has no text.
 pub(crate) fn parties_of(
     alloc: Global,
-    registrations: &[Vec<Share>],
+    registrations: &[Vec<ShareRecord>],
 ) -> Result<Vec<Vec<u8>>, CwrFault>
     requires filled { All (λ lines. All IsShareLine lines.items) registrations.now }
     ensures parties { IfOk result (λ parties. AreAccountsOf (map (λ lines. lines.items) registrations.now) (map (λ party. party.items) parties.items)) }
@@ -40,7 +40,7 @@ pub(crate) fn parties_of(
 /// Adds the parties of a registration. Those that were seen before are found already.
 fn add_parties(
     alloc: Global,
-    shares: &[Share],
+    shares: &[ShareRecord],
     seen: &mut IndexSet<PartyNumber>,
     found: &mut BTreeSet<Vec<u8>>,
 ) -> Result<(), CwrFault>

@@ -13,9 +13,9 @@ use crate::fields::{SPT, SWT, ShareFields, WORK};
 use crate::numbers::{WorkNumber, in_place};
 use crate::parties::{numbers_of, parties_of};
 use crate::record_type::record_type;
-use crate::registration::Registration;
+use crate::registration::CompiledRegistration;
 use crate::registrations::Registrations;
-use crate::share_line::{Share, is_filled, trimmed};
+use crate::share_line::{ShareRecord, is_filled, trimmed};
 use crate::{CwrFault, RecordType, Registry};
 use indexmap::IndexSet;
 use std::alloc::{AllocError, Global};
@@ -25,7 +25,7 @@ use std::alloc::{AllocError, Global};
 pub(crate) struct Reading {
     works: IndexSet<WorkNumber>,
     /// The share lines of each work.
-    registrations: Vec<Vec<Share>>,
+    registrations: Vec<Vec<ShareRecord>>,
     open: Option<Open>,
 }
 
@@ -33,7 +33,7 @@ pub(crate) struct Reading {
 #[derive(Drop)]
 struct Open {
     work: WorkNumber,
-    shares: Vec<Share>,
+    shares: Vec<ShareRecord>,
     /// How many interests were opened in it.
     interest: usize,
 }
@@ -117,7 +117,7 @@ impl Reading {
         let Some(open) = self.open.as_mut() else {
             return Ok(());
         };
-        let share = Share::read(line, number, fields, open.interest, open.shares.len())?;
+        let share = ShareRecord::read(line, number, fields, open.interest, open.shares.len())?;
         open.shares.push(share)?;
         Ok(())
     }
@@ -155,7 +155,7 @@ impl Reading {
 fn registry_of(
     alloc: Global,
     works: IndexSet<WorkNumber>,
-    lists: Vec<Vec<Share>>,
+    lists: Vec<Vec<ShareRecord>>,
 ) -> Result<Registry, CwrFault>
     requires paired { length works.keys ≡ length lists.items }
     requires lists { All (λ lines. AreShareLines lines.items) lists.items }
@@ -166,9 +166,9 @@ fn registry_of(
     let mut registrations = Registrations::room(alloc, works.len())?;
     let parties = parties_of(alloc, lists.as_slice())?;
     let numbers = numbers_of(alloc, parties.as_slice())?;
-    let mut registration = Registration::new(alloc);
+    let mut registration = CompiledRegistration::new(alloc);
     for shares in &lists {
-        registration.set(shares.as_slice(), &numbers)?;
+        registration.compile(shares.as_slice(), &numbers)?;
         registrations = registrations.and(&registration)?;
     }
     Ok(Registry::of(works, registrations, parties))

@@ -5,24 +5,24 @@ ghost use Rattle.std.specs.List.{HoldsAt};
 ghost use Rattle.std.specs.List.Sorted.{IsStrictlySortedBy};
 ghost use Rattle.std.specs.Cmp.Lexicographic.{slice_cmp};
 ghost use Rattle.std.specs.Ordering.{nat_cmp};
-ghost use Rattle.cwr_share.specs.Compiled.{IsInOrder, IsKept, kept_lines, line_by, lines_of_payees, whole, with_place};
+ghost use Rattle.cwr_share.specs.Compiled.{IsInOrder, IsKept, kept_lines, line_by, lines_of_claimants, whole, with_place};
 ghost use Rattle.cwr_share.specs.Registered.{IsShareLine};
 ghost use Rattle.cwr_share.specs.declared.TheConstants.{MOST_PARTIES, MOST_SHARES};
 
 use crate::claim_line::ClaimLine;
 use crate::numbers::PartyNumber;
 use crate::parties::account_among;
-use crate::share_line::{KeptShare, Share};
+use crate::share_line::{RegisteredShare, ShareRecord};
 use indexmap::IndexSet;
 use line_split::Account;
 use std::alloc::{AllocError, Global};
 
-/// A registration in force. Its lists serve one registration after another.
+/// A registration in force, compiled. Its lists serve one registration after another.
 #[derive(Drop)]
-pub(crate) struct Registration {
+pub(crate) struct CompiledRegistration {
     /// Its share lines, in the order of the file.
-    pub(crate) shares: Vec<KeptShare>,
-    /// The same lines, by rising account and from an account's last one back.
+    pub(crate) shares: Vec<RegisteredShare>,
+    /// The same lines, in order of account and from an account's last one back.
     pub(crate) lines: Vec<ClaimLine>,
     /// The account and the place of each of these.
     order: Vec<Placed>,
@@ -35,23 +35,23 @@ pub(crate) struct Placed {
     pub(crate) place: u16,
 }
 
-impl Registration {
+impl CompiledRegistration {
     /// A registration with no share lines.
-    pub(crate) fn new(alloc: Global) -> Registration
+    pub(crate) fn new(alloc: Global) -> CompiledRegistration
         ensures { whole result ≡ record { shares = []; lines = [] } }
     {
-        Registration {
+        CompiledRegistration {
             shares: Vec::new(alloc),
             lines: Vec::new(alloc),
             order: Vec::new(alloc),
         }
     }
 
-    /// Makes it the registration with these share lines, all of whose parties have one of the given
-    /// numbers, by account.
-    pub(crate) fn set(
+    /// Compiles the registration with these share lines, all of whose parties have one of the given
+    /// numbers, by account, in the place of what it was.
+    pub(crate) fn compile(
         &mut self,
-        shares: &[Share],
+        shares: &[ShareRecord],
         numbers: &IndexSet<PartyNumber>,
     ) -> Result<(), AllocError>
         requires few { length shares.now ≤ MOST_SHARES }
@@ -85,8 +85,8 @@ impl Registration {
 
 /// Adds the place of one share line more before the others of its account.
 fn add_place(order: &mut Vec<Placed>, account: Account, place: u16) -> Result<(), AllocError>
-    requires { (payees : List (ℕ × List ℕ)) × IsInOrder payees order.old.items }
-    ensures { OnOk result ((payees : List (ℕ × List ℕ)) → IsInOrder payees order.old.items → IsInOrder (with_place account place payees) order.new.items) }
+    requires { (claimants : List (ℕ × List ℕ)) × IsInOrder claimants order.old.items }
+    ensures { OnOk result ((claimants : List (ℕ × List ℕ)) → IsInOrder claimants order.old.items → IsInOrder (with_place account place claimants) order.new.items) }
 {
     let at = order
         .as_slice()
@@ -97,13 +97,13 @@ fn add_place(order: &mut Vec<Placed>, account: Account, place: u16) -> Result<()
 
 /// Adds the share lines in this order.
 fn add_lines(
-    shares: &[KeptShare],
+    shares: &[RegisteredShare],
     order: &[Placed],
     lines: &mut Vec<ClaimLine>,
 ) -> Result<(), AllocError>
     requires within { All (λ entry. entry.place < length shares.now) order.now }
     requires own { All (λ entry. HoldsAt (λ share. share.account ≡ entry.account) shares.now entry.place) order.now }
-    ensures { OnOk result ((payees : List (ℕ × List ℕ)) → IsInOrder payees order.now → lines.new.items ≡ lines.old.items ++ lines_of_payees (map (line_by []) shares.now) payees) }
+    ensures { OnOk result ((claimants : List (ℕ × List ℕ)) → IsInOrder claimants order.now → lines.new.items ≡ lines.old.items ++ lines_of_claimants (map (line_by []) shares.now) claimants) }
 {
     let mut later = None;
     for entry in order {

@@ -5,15 +5,17 @@ ghost use Rattle.cwr_share.specs.Compiled.{Kept, whole};
 ghost use Rattle.cwr_share.specs.declared.TheConstants.{MOST_SHARES};
 
 use crate::claim_line::ClaimLine;
-use crate::registration::Registration;
-use crate::share_line::KeptShare;
+use crate::registration::CompiledRegistration;
+use crate::share_line::RegisteredShare;
 use std::alloc::{AllocError, Global};
 use std::marker::Model;
 
 /// Registrations, each a part of two lists, so that a look at one of them touches little memory.
 #[derive(Drop)]
 pub(crate) struct Registrations {
-    shares: Vec<KeptShare>,
+    /// The share lines as they came. No code looks at them again: they are what a contract says of a
+    /// registry, since the claim lines have lost the order of the file and what an exclusion would pay.
+    shares: Vec<RegisteredShare>,
     lines: Vec<ClaimLine>,
     extents: Vec<Extent>,
 }
@@ -56,7 +58,10 @@ impl Registrations {
     }
 
     /// These and one more, which comes last.
-    pub(crate) fn and(self, registration: &Registration) -> Result<Registrations, AllocError>
+    pub(crate) fn and(
+        self,
+        registration: &CompiledRegistration,
+    ) -> Result<Registrations, AllocError>
         requires few { length registration.now.lines.items ≤ MOST_SHARES }
         requires paired { length registration.now.lines.items ≡ length registration.now.shares.items }
         ensures { IfOk result (λ registrations. registrations ≡ self ++ whole registration.now ∷ []) }

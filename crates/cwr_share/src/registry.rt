@@ -2,7 +2,7 @@
 
 ghost use Rattle.std.specs.Prelude.{◌≡◌, ◌≤◌, ◌<◌, ◌↔◌, ◌⊎◌, [], ℕ, Contains, IfOk, IfErr, IfSome, IfNone, true, false, length, map, slice_index_or};
 ghost use Rattle.line_split.specs.declared.TheConstants.{MOST_CLAIMS};
-ghost use Rattle.line_split.specs.UsageLine.{seen};
+ghost use Rattle.line_split.specs.UsageLine.{usage_line_of};
 ghost use Rattle.cwr_share.specs.ClaimsOn.{claims_on, is_known, reason_against};
 ghost use Rattle.cwr_share.specs.Compiled.{AreKept, registered_as};
 ghost use Rattle.cwr_share.specs.CwrFile.{IsFaultOf, IsFileOf};
@@ -135,8 +135,8 @@ impl Registry {
     /// empty.
     pub fn claims(&self, tis: &TisTable, line: &Line<'_>, out: &mut Claims) -> Option<Reason>
         requires { MOST_CLAIMS ≤ out.old.room }
-        ensures reason { result ≡ reason_against tis.now self.now (seen line.now) }
-        ensures claims { out.new.list ≡ claims_on tis.now self.now (seen line.now) }
+        ensures reason { result ≡ reason_against tis.now self.now (usage_line_of line.now) }
+        ensures claims { out.new.list ≡ claims_on tis.now self.now (usage_line_of line.now) }
         ensures room { out.new.room ≡ out.old.room }
     {
         self.claims_to(self.find(line.work), tis, line, out)
@@ -165,8 +165,8 @@ impl Registry {
     ) -> Option<Reason>
         requires work { IsLookUp self.now line.now.work.now work }
         requires room { MOST_CLAIMS ≤ out.old.room }
-        ensures reason { result ≡ reason_against tis.now self.now (seen line.now) }
-        ensures claims { out.new.list ≡ claims_on tis.now self.now (seen line.now) }
+        ensures reason { result ≡ reason_against tis.now self.now (usage_line_of line.now) }
+        ensures claims { out.new.list ≡ claims_on tis.now self.now (usage_line_of line.now) }
         ensures room { out.new.room ≡ out.old.room }
     {
         out.clear();

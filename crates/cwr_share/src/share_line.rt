@@ -20,12 +20,12 @@ use tis_tree::Code;
 /// What a party collects in a territory, in hundredths of a per cent, or that it collects nothing
 /// there.
 #[derive(Drop)]
-pub(crate) struct Share {
+pub(crate) struct ShareRecord {
     /// How many interests were opened before it in its registration.
     pub(crate) interest: usize,
     /// The interested party number.
     pub(crate) party: PartyNumber,
-    pub(crate) shares: Shares,
+    pub(crate) shares: CollectionShares,
     /// Whether the territory is included or excluded.
     pub(crate) includes: bool,
     pub(crate) territory: Code,
@@ -33,30 +33,30 @@ pub(crate) struct Share {
 
 /// A share line as a registration keeps it: with the account of its party.
 #[derive(Clone, Copy)]
-pub(crate) struct KeptShare {
+pub(crate) struct RegisteredShare {
     pub(crate) interest: usize,
     pub(crate) account: Account,
-    pub(crate) shares: Shares,
+    pub(crate) shares: CollectionShares,
     pub(crate) includes: bool,
     pub(crate) territory: Code,
 }
 
 /// The collection shares of a share line, in hundredths of a per cent.
 #[derive(Clone, Copy, Debug, PartialEq, Eq)]
-pub(crate) struct Shares {
+pub(crate) struct CollectionShares {
     pub(crate) performing: u16,
     pub(crate) mechanical: u16,
     pub(crate) synchronisation: u16,
 }
 
 /// No share under any right.
-const NO_SHARES: Shares = Shares {
+const NO_SHARES: CollectionShares = CollectionShares {
     performing: 0,
     mechanical: 0,
     synchronisation: 0,
 };
 
-impl Model for Share {
+impl Model for ShareRecord {
     ghost use Rattle.cwr_share.specs.Registrations.{ShareLine};
 
     ghost Value = { ShareLine };
@@ -72,7 +72,7 @@ impl Model for Share {
     } };
 }
 
-impl Share {
+impl ShareRecord {
     /// Reads a share line, which has this number, below so many others of its registration.
     pub(crate) fn read(
         line: &[u8],
@@ -80,7 +80,7 @@ impl Share {
         fields: &ShareFields,
         interest: usize,
         earlier: usize,
-    ) -> Result<Share, CwrFault>
+    ) -> Result<ShareRecord, CwrFault>
         requires party { fields.now.party.last < fields.now.party.first + MOST_PARTY_BYTES }
         ensures share { IfOk result (λ share. IsShareRecord earlier fields.now line.now × (share ≡ share_line_of interest fields.now line.now)) }
         ensures fault { IfErr result (λ fault. IsFaultOfShare earlier fields.now line.now number fault) }
@@ -104,7 +104,7 @@ impl Share {
         if earlier >= MOST_SHARES {
             return Err(CwrFault::Many(number));
         }
-        Ok(Share {
+        Ok(ShareRecord {
             interest,
             party: in_place(trimmed(party)),
             shares,
@@ -114,10 +114,10 @@ impl Share {
     }
 
     /// What is kept of it, where its party has this account.
-    pub(crate) fn kept(&self, account: Account) -> KeptShare
+    pub(crate) fn kept(&self, account: Account) -> RegisteredShare
         ensures { (parties : List (List ℕ)) → slice_index_or parties account [] ≡ self.now.party → line_by parties result ≡ self.now }
     {
-        KeptShare {
+        RegisteredShare {
             interest: self.interest,
             account,
             shares: self.shares,
@@ -127,7 +127,7 @@ impl Share {
     }
 }
 
-impl KeptShare {
+impl RegisteredShare {
     /// The line in the form that claims are worked out from.
     pub(crate) fn claim_line(&self, begins: bool) -> ClaimLine
         ensures { result ≡ claim_line self.now.account begins (line_by [] self.now) }
@@ -146,14 +146,14 @@ impl KeptShare {
 }
 
 /// The three shares of a share line, where all of them are shares.
-fn shares_written(line: &[u8], fields: &ShareFields) -> Option<Shares>
+fn shares_written(line: &[u8], fields: &ShareFields) -> Option<CollectionShares>
     ensures some { IfSome result (λ shares. HasShares fields.now line.now
         × (shares.performing ≡ share_of (field_of fields.now.performing line.now))
         × (shares.mechanical ≡ share_of (field_of fields.now.mechanical line.now))
         × (shares.synchronisation ≡ share_of (field_of fields.now.synchronisation line.now))) }
     ensures none { IfNone result (¬ HasShares fields.now line.now) }
 {
-    Some(Shares {
+    Some(CollectionShares {
         performing: share_written(fields.performing.of(line))?,
         mechanical: share_written(fields.mechanical.of(line))?,
         synchronisation: share_written(fields.synchronisation.of(line))?,

@@ -1,4 +1,4 @@
--- Pairs by rising account: what a sort of distinct accounts gives, and that it is the only such list.
+-- Pairs in order of account: what a sort of distinct accounts gives, and that it is the only such list.
 use Rattle.std.proofs.Common.{◌≡◌, ℕ, zero, suc, ◌+◌, ◌<◌, ◌≤◌, inl, inr, Bool, true, ltb, eqb, List, [], ◌∷◌, ◌++◌, length, map, get_or, All, sym, ap, ◌∙◌, arith}
 use Rattle.std.specs.List.{IsDistinct, sum_by}
 use Rattle.std.specs.Ordering.{nat_cmp}

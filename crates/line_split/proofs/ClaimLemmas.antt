@@ -4,7 +4,7 @@ use Rattle.std.proofs.lemmas.List.{map-id, length-map, length_push, get_or_appen
 use Rattle.std.proofs.lemmas.List.Sums.{sum_by-cons, sum_by-le}
 use Rattle.std.proofs.lemmas.Bool.Decides.{nat_tests}
 use Rattle.line_split.specs.declared.TheConstants.{FULL_SHARE, MOST_CLAIMED}
-use Rattle.line_split.specs.FairSplit.{number_at}
+use Rattle.line_split.specs.FairSplit.{value_at}
 use Rattle.line_split.proofs.Places.{number_at_is}
 use Rattle.line_split.specs.Claims.{AreClaims, total_of, counted_claims, base_of, participants_of}
 
@@ -58,7 +58,7 @@ counted_by_limit claims total is = total-counted claims ∙ ap (λ (t : ℕ). co
 
 -- the shares of the base, by place: a claim's while there is one, then what nobody claims
 pub claim_share : (claims : List (ℕ × ℕ)) (i : ℕ) → i < length claims
-    → number_at (participants_of claims) i ≡ cond (leb (total_of claims) MOST_CLAIMED) (get_or claims i (0, 0)).1 0
+    → value_at (participants_of claims) i ≡ cond (leb (total_of claims) MOST_CLAIMED) (get_or claims i (0, 0)).1 0
 claim_share claims i lt =
     sym (number_at_is (participants_of claims) i (0, 0) (omega (arith, length-participants claims)))
     ∙ (ap (λ (e : ℕ × ℕ). e.1) (get_or_append_left (counted_claims claims) _ (0, 0) i (omega (arith, length-counted claims)))
@@ -68,7 +68,7 @@ claim_share claims i lt =
     go true = refl
     go false = ap (λ (e : ℕ × ℕ). e.1) (get_or-map (λ claim. (claim.0, 0)) claims i (0, 0) (0, 0) lt)
 
-pub residue_share : (claims : List (ℕ × ℕ)) → number_at (participants_of claims) (length claims) ≡ base_of claims - total_of (counted_claims claims)
+pub residue_share : (claims : List (ℕ × ℕ)) → value_at (participants_of claims) (length claims) ≡ base_of claims - total_of (counted_claims claims)
 residue_share claims =
     sym (number_at_is (participants_of claims) (length claims) (0, 0) (omega (arith, length-participants claims)))
     ∙ ap (λ (e : ℕ × ℕ). e.1) (get_or_push (counted_claims claims) _ (0, 0) (length claims) (length-counted claims))

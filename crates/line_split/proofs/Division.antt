@@ -1,4 +1,4 @@
--- The steps of the division: turns in a row, their order, and what the units are given to.
+-- The steps of the division: contenders in a row, their order, and what the units are given to.
 use Rattle.std.proofs.Common.{◌≡◌, ℕ, ◌+◌, ◌<◌, ◌≤◌, inl, inr, Bool, true, false, cond, eqb, ltb, List, [], ◌∷◌, ◌++◌, All, length, map, get_or, take, drop, sum_by, count_by, refl, sym, ap, ◌∙◌, subst, arith, zero-add}
 use Rattle.std.specs.List.{enumerate_from}
 use Rattle.std.specs.Ordering.{is_lt, nat_cmp}
@@ -12,36 +12,36 @@ use Rattle.std.proofs.lemmas.Map.Keys.{IsDistinct-from_apart, IsDistinct-IsPermu
 use Rattle.std.proofs.lemmas.List.{length-map, map_more, length-take-le, drop_more, get_or_at, get_or_default, get_or-map, get_or-take, same_lists}
 use Rattle.std.proofs.lemmas.List.FromFn.{length-enumerate_from}
 use Rattle.std.proofs.lemmas.List.Sums.{sum_by_more_le}
-use Rattle.line_split.specs.declared.turn.Turn.{Turn}
-use Rattle.line_split.specs.LargestRemainder.{quota_of, remainder_of, comes_before, turns_of, units_left, rank_of, portions_among, portions_of}
+use Rattle.line_split.specs.declared.contender.Contender.{Contender}
+use Rattle.line_split.specs.LargestRemainder.{quota_of, remainder_of, comes_before, contenders_of, units_left, rank_of, portions_among, portions_of}
 use Rattle.line_split.specs.Claims.{base_of, participants_of}
-use Rattle.line_split.specs.Turns.{place_of, seen, with_unit}
-use Rattle.line_split.specs.FairSplit.{number_at}
+use Rattle.line_split.specs.Contenders.{place_and_remainder, place_of, with_unit}
+use Rattle.line_split.specs.FairSplit.{value_at}
 use Rattle.line_split.proofs.Enumerated.{enumerate_from_push}
 use Rattle.line_split.proofs.SumBelow.{sum_below, bit, same_sums, sum_below-part, sum_below-front, sum_below-only, sum_below-constant, sum_by-places, sum_by-map}
 use Rattle.line_split.proofs.Ranks.{rank}
 use Rattle.line_split.proofs.Quotas.{left, remainders, quotas_fit, left_small}
-use Rattle.line_split.proofs.Places.{number_at_is, sum_by_number, units_left_is, turn_at, rank_is, length-portions, portion_at}
+use Rattle.line_split.proofs.Places.{number_at_is, sum_by_number, units_left_is, contender_at, rank_is, length-portions, portion_at}
 use Rattle.line_split.proofs.ClaimLemmas.{length-participants}
 use Rattle.line_split.proofs.Fair.{base_positive, shares_are_base, some_place}
 
--- one more turn
-pub turns_more : (amount base : ℕ) (ps : List (ℕ × ℕ)) (i : ℕ) (d : ℕ × ℕ) → i < length ps
-    → turns_of amount base (take (i + 1) ps) ≡ turns_of amount base (take i ps) ++ (i, remainder_of amount base (get_or ps i d).1) ∷ []
-turns_more amount base ps i d lt =
+-- one more contender
+pub contenders_more : (amount base : ℕ) (ps : List (ℕ × ℕ)) (i : ℕ) (d : ℕ × ℕ) → i < length ps
+    → contenders_of amount base (take (i + 1) ps) ≡ contenders_of amount base (take i ps) ++ (i, remainder_of amount base (get_or ps i d).1) ∷ []
+contenders_more amount base ps i d lt =
     ap (λ (rs : List ℕ). enumerate_from 0 rs) (map_more (λ p. remainder_of amount base p.1) ps i d lt)
     ∙ (enumerate_from_push 0 (map (λ p. remainder_of amount base p.1) (take i ps)) (remainder_of amount base (get_or ps i d).1)
-    ∙ ap (λ (k : ℕ). turns_of amount base (take i ps) ++ (k, remainder_of amount base (get_or ps i d).1) ∷ [])
+    ∙ ap (λ (k : ℕ). contenders_of amount base (take i ps) ++ (k, remainder_of amount base (get_or ps i d).1) ∷ [])
     (zero-add _ ∙ (length-map (take i ps) (λ p. remainder_of amount base p.1) ∙ length-take-le i ps (omega arith))))
 
-pub length-turns : (amount base : ℕ) (ps : List (ℕ × ℕ)) → length (turns_of amount base ps) ≡ length ps
-length-turns amount base ps = length-enumerate_from 0 _ ∙ length-map ps (λ p. remainder_of amount base p.1)
+pub length-contenders : (amount base : ℕ) (ps : List (ℕ × ℕ)) → length (contenders_of amount base ps) ≡ length ps
+length-contenders amount base ps = length-enumerate_from 0 _ ∙ length-map ps (λ p. remainder_of amount base p.1)
 
 -- the quotas of some participants and of one more fit the amount
 pub quota_fits : (amount base : ℕ) (ps : List (ℕ × ℕ)) → 0 < base → sum_by (λ p. p.1) ps ≡ base → (i : ℕ) (d : ℕ × ℕ) → i < length ps
     → sum_by (λ p. quota_of amount base p.1) (take i ps) + quota_of amount base (get_or ps i d).1 ≤ amount
 quota_fits amount base ps some whole i d lt =
-    let all = quotas_fit (length ps) amount base (number_at ps) some (sym (sum_by_number (λ x. x) ps) ∙ whole) in
+    let all = quotas_fit (length ps) amount base (value_at ps) some (sym (sum_by_number (λ x. x) ps) ∙ whole) in
     let part = sum_by_more_le (λ p. quota_of amount base p.1) ps i d lt in
     omega (arith, all, part, sum_by_number (quota_of amount base) ps)
 
@@ -53,81 +53,81 @@ unwritten {X} f xs ys i d lt is =
     ∙ get_or_at (map f (take i xs)) (get_or xs i d) (drop (i + 1) xs) d i (length-map (take i xs) f ∙ length-take-le i xs (omega arith))
 
 -- the order that the sort goes by
-abbrev pub turn_lt : Turn → Turn → Bool
-turn_lt a b = is_lt (nat_cmp b.number.0 a.number.0)
+abbrev pub contender_lt : Contender → Contender → Bool
+contender_lt a b = is_lt (nat_cmp b.number.0 a.number.0)
 
-turn_lt_order : IsStrictWeakOrder turn_lt
-turn_lt_order = ranks_by (on_total (λ (t : Turn). t.number.0) (back_total nat_cmp_total)) (λ t. t)
+contender_lt_order : IsStrictWeakOrder contender_lt
+contender_lt_order = ranks_by (on_total (λ (t : Contender). t.number.0) (back_total nat_cmp_total)) (λ t. t)
 
--- the order of turns is that of the definition
-same_order : (a b : Turn) → turn_lt a b ≡ comes_before (seen a) (seen b)
+-- the order of contenders is that of the definition
+same_order : (a b : Contender) → contender_lt a b ≡ comes_before (place_and_remainder a) (place_and_remainder b)
 same_order a b = grind (arith, nat_tests)
 
 -- of two places, the one that the other does not come before comes before it
 one_first : (a b : ℕ × ℕ) → comes_before b a ≡ false → eqb a.0 b.0 ≡ false → comes_before a b ≡ true
 one_first a b h other = grind (arith, nat_tests)
 
--- Turns that each have their own place, and the same turns in order.
-module _ (turns sorted : List Turn) (d : Turn) (moved : IsPermutation turns sorted) (up : IsSortedBy turn_lt sorted)
-    (places : (k : ℕ) → k < length turns → place_of (get_or turns k d) ≡ k) where
-  abbrev place_at : List Turn → ℕ → ℕ
+-- Contenders that each have their own place, and the same contenders in order.
+module _ (contenders sorted : List Contender) (d : Contender) (moved : IsPermutation contenders sorted) (up : IsSortedBy contender_lt sorted)
+    (places : (k : ℕ) → k < length contenders → place_of (get_or contenders k d) ≡ k) where
+  abbrev place_at : List Contender → ℕ → ℕ
   place_at list k = place_of (get_or list k d)
 
   apart : (j k e : ℕ) → j < k → k < length sorted → eqb (place_at sorted j) (place_at sorted k) ≡ false
   apart j k e less lt =
-      let distinct = IsDistinct-IsPermutation eqb nat_eq_equiv.symm (map (λ t. place_of t) turns) (map (λ t. place_of t) sorted)
-      (IsPermutation-map (λ t. place_of t) turns sorted moved) (IsDistinct-from_apart eqb (map (λ t. place_of t) turns) (λ i m e low small.
-      let in_list : m < length turns = rw (length-map turns (λ t. place_of t)) at small in
-      ne_eqb _ _ (λ same. absurd (omega (arith, same, get_or-map (λ t. place_of t) turns i d e (omega arith), get_or-map (λ t. place_of t) turns m d e in_list, places i (omega arith), places m in_list))))) in
+      let distinct = IsDistinct-IsPermutation eqb nat_eq_equiv.symm (map (λ t. place_of t) contenders) (map (λ t. place_of t) sorted)
+      (IsPermutation-map (λ t. place_of t) contenders sorted moved) (IsDistinct-from_apart eqb (map (λ t. place_of t) contenders) (λ i m e low small.
+      let in_list : m < length contenders = rw (length-map contenders (λ t. place_of t)) at small in
+      ne_eqb _ _ (λ same. absurd (omega (arith, same, get_or-map (λ t. place_of t) contenders i d e (omega arith), get_or-map (λ t. place_of t) contenders m d e in_list, places i (omega arith), places m in_list))))) in
       let other = apart_from_distinct {K = ℕ} eqb (map (λ t. place_of t) sorted) j k e distinct less (rw (length-map sorted (λ t. place_of t)) lt) in
       rw (get_or-map (λ t. place_of t) sorted j d e (omega arith), get_or-map (λ t. place_of t) sorted k d e lt) at other
 
-  -- each of the first turns in order has the place of a turn
-  pub served_place : (left i : ℕ) → left ≤ length sorted → i < length (take left sorted) → place_of (get_or (take left sorted) i d) < length turns
+  -- each of the first contenders in order has the place of a contender
+  pub served_place : (left i : ℕ) → left ≤ length sorted → i < length (take left sorted) → place_of (get_or (take left sorted) i d) < length contenders
   served_place left i le lt =
       let early : i < left = omega (arith, lt, length-take-le left sorted le) in
-      let below = All-permutation (λ t. place_of t < length turns) turns sorted moved
-      (λ k e small. rw (get_or_default turns k e d small) (omega (arith, places k small))) i d (omega (arith, early, le)) in
+      let below = All-permutation (λ t. place_of t < length contenders) contenders sorted moved
+      (λ k e small. rw (get_or_default contenders k e d small) (omega (arith, places k small))) i d (omega (arith, early, le)) in
       rw (get_or-take left sorted i d early) below
 
-  -- of the turns in order, an earlier one comes before a later one
-  in_order : (j k : ℕ) → j < length sorted → k < length sorted → comes_before (seen (get_or sorted j d)) (seen (get_or sorted k d)) ≡ ltb j k
+  -- of the contenders in order, an earlier one comes before a later one
+  in_order : (j k : ℕ) → j < length sorted → k < length sorted → comes_before (place_and_remainder (get_or sorted j d)) (place_and_remainder (get_or sorted k d)) ≡ ltb j k
   in_order j k jn kn = elim (cases_lt j k) [
     | inl less ↦
-        one_first (seen (get_or sorted j d)) (seen (get_or sorted k d))
-        (sym (same_order (get_or sorted k d) (get_or sorted j d)) ∙ sorted_far turn_lt turn_lt_order sorted up j k d (omega arith) kn)
+        one_first (place_and_remainder (get_or sorted j d)) (place_and_remainder (get_or sorted k d))
+        (sym (same_order (get_or sorted k d) (get_or sorted j d)) ∙ sorted_far contender_lt contender_lt_order sorted up j k d (omega arith) kn)
         (apart j k 0 less kn)
         ∙ sym (lt-ltb j k less)
     | inr more ↦
         sym (same_order (get_or sorted j d) (get_or sorted k d))
-        ∙ (sorted_far turn_lt turn_lt_order sorted up k j d more jn ∙ sym (le-ltb j k more))
+        ∙ (sorted_far contender_lt contender_lt_order sorted up k j d more jn ∙ sym (le-ltb j k more))
   ]
 
-  -- so a turn's rank is its place in order
-  rank_in_order : (k : ℕ) → k < length sorted → rank_of (map seen turns) (seen (get_or sorted k d)) ≡ k
+  -- so a contender's rank is its place in order
+  rank_in_order : (k : ℕ) → k < length sorted → rank_of (map place_and_remainder contenders) (place_and_remainder (get_or sorted k d)) ≡ k
   rank_in_order k lt =
-      sum_by-map (λ other. bit (comes_before other (seen (get_or sorted k d)))) seen turns
-      ∙ (sym (sum_by-IsPermutation (λ t. bit (comes_before (seen t) (seen (get_or sorted k d)))) turns sorted moved)
-      ∙ (sum_by-places (λ t. bit (comes_before (seen t) (seen (get_or sorted k d)))) sorted d
-      ∙ (same_sums (length sorted) (λ j. bit (comes_before (seen (get_or sorted j d)) (seen (get_or sorted k d)))) (λ j. bit (ltb j k))
+      sum_by-map (λ other. bit (comes_before other (place_and_remainder (get_or sorted k d)))) place_and_remainder contenders
+      ∙ (sym (sum_by-IsPermutation (λ t. bit (comes_before (place_and_remainder t) (place_and_remainder (get_or sorted k d)))) contenders sorted moved)
+      ∙ (sum_by-places (λ t. bit (comes_before (place_and_remainder t) (place_and_remainder (get_or sorted k d)))) sorted d
+      ∙ (same_sums (length sorted) (λ j. bit (comes_before (place_and_remainder (get_or sorted j d)) (place_and_remainder (get_or sorted k d)))) (λ j. bit (ltb j k))
       (λ j jn. ap bit (in_order j k jn lt))
       ∙ (sum_below-front (length sorted) k (λ _. 1) (omega arith) ∙ (sum_below-constant k 1 ∙ omega arith)))))
 
-  -- 1 for the turn of a place, if its rank is below the number of units
-  abbrev unit_of : (left i : ℕ) → Turn → ℕ
-  unit_of left i turn = cond (eqb (place_of turn) i) (bit (ltb (rank_of (map seen turns) (seen turn)) left)) 0
+  -- 1 for the contender of a place, if its rank is below the number of units
+  abbrev unit_of : (left i : ℕ) → Contender → ℕ
+  unit_of left i contender = cond (eqb (place_of contender) i) (bit (ltb (rank_of (map place_and_remainder contenders) (place_and_remainder contender)) left)) 0
 
-  -- Among the first turns in order there is that of a place where its rank is small, and it is there once.
-  pub served_once : (left i : ℕ) → left ≤ length sorted → i < length turns
-      → count_by (λ t. eqb (place_of t) i) (take left sorted) ≡ bit (ltb (rank_of (map seen turns) (seen (get_or turns i d))) left)
-  served_once left i le lt = among_first ∙ (sym among_all ∙ (sum_by-IsPermutation (unit_of left i) turns sorted moved ∙ among_turns))
+  -- Among the first contenders in order there is that of a place where its rank is small, and it is there once.
+  pub served_once : (left i : ℕ) → left ≤ length sorted → i < length contenders
+      → count_by (λ t. eqb (place_of t) i) (take left sorted) ≡ bit (ltb (rank_of (map place_and_remainder contenders) (place_and_remainder (get_or contenders i d))) left)
+  served_once left i le lt = among_first ∙ (sym among_all ∙ (sum_by-IsPermutation (unit_of left i) contenders sorted moved ∙ among_contenders))
     where
       among_first : count_by (λ t. eqb (place_of t) i) (take left sorted) ≡ sum_below left (λ k. bit (eqb (place_at sorted k) i))
       among_first =
           sum_by-places (λ t. bit (eqb (place_of t) i)) (take left sorted) d
           ∙ (ap (λ (n : ℕ). sum_below n (λ k. bit (eqb (place_at (take left sorted) k) i))) (length-take-le left sorted le)
           ∙ same_sums left (λ k. bit (eqb (place_at (take left sorted) k) i)) (λ k. bit (eqb (place_at sorted k) i))
-          (λ k small. ap (λ (t : Turn). bit (eqb (place_of t) i)) (get_or-take left sorted k d small)))
+          (λ k small. ap (λ (t : Contender). bit (eqb (place_of t) i)) (get_or-take left sorted k d small)))
 
       turned : (b c : Bool) → cond b (bit c) 0 ≡ cond c (bit b) 0
       turned true true = refl
@@ -143,16 +143,16 @@ module _ (turns sorted : List Turn) (d : Turn) (moved : IsPermutation turns sort
           ∙ turned (eqb (place_at sorted k) i) (ltb k left))
           ∙ sum_below-front (length sorted) left (λ k. bit (eqb (place_at sorted k) i)) le)
 
-      at_place : (k : ℕ) → k < length turns → (b : Bool) → eqb k i ≡ b
-          → unit_of left i (get_or turns k d) ≡ cond b (bit (ltb (rank_of (map seen turns) (seen (get_or turns k d))) left)) 0
+      at_place : (k : ℕ) → k < length contenders → (b : Bool) → eqb k i ≡ b
+          → unit_of left i (get_or contenders k d) ≡ cond b (bit (ltb (rank_of (map place_and_remainder contenders) (place_and_remainder (get_or contenders k d))) left)) 0
       at_place k small b is =
-          ap (λ (c : Bool). cond c (bit (ltb (rank_of (map seen turns) (seen (get_or turns k d))) left)) 0)
+          ap (λ (c : Bool). cond c (bit (ltb (rank_of (map place_and_remainder contenders) (place_and_remainder (get_or contenders k d))) left)) 0)
           (ap (λ (p : ℕ). eqb p i) (places k small) ∙ is)
 
-      among_turns : sum_by (unit_of left i) turns ≡ bit (ltb (rank_of (map seen turns) (seen (get_or turns i d))) left)
-      among_turns =
-          sum_by-places (unit_of left i) turns d
-          ∙ (sum_below-only (length turns) i (λ k. unit_of left i (get_or turns k d)) lt (λ k small other. at_place k small false (ne_eqb k i other))
+      among_contenders : sum_by (unit_of left i) contenders ≡ bit (ltb (rank_of (map place_and_remainder contenders) (place_and_remainder (get_or contenders i d))) left)
+      among_contenders =
+          sum_by-places (unit_of left i) contenders d
+          ∙ (sum_below-only (length contenders) i (λ k. unit_of left i (get_or contenders k d)) lt (λ k small other. at_place k small false (ne_eqb k i other))
           ∙ at_place i lt true (eq-eqb i i refl))
 
 -- Fewer units are left than there are participants.
@@ -162,7 +162,7 @@ units_fit amount base left claims ps base_is ps_is left_is =
     subst (λ (x : ℕ). x < length ps) (sym left_is)
     (subst (λ (l : List (ℕ × ℕ)). units_left amount base l < length l) (sym ps_is)
     (subst (λ (b : ℕ). units_left amount b (participants_of claims) < length (participants_of claims)) (sym base_is)
-    (rw (units_left_is amount (base_of claims) (participants_of claims)) (left_small (length (participants_of claims)) amount (base_of claims) (number_at (participants_of claims)) (base_positive claims) (shares_are_base claims) (some_place claims)))))
+    (rw (units_left_is amount (base_of claims) (participants_of claims)) (left_small (length (participants_of claims)) amount (base_of claims) (value_at (participants_of claims)) (base_positive claims) (shares_are_base claims) (some_place claims)))))
 
 -- A quota and all units left come to no more than the amount.
 pub small_portions : (amount base units : ℕ) (claims ps quotas : List (ℕ × ℕ))
@@ -172,9 +172,9 @@ small_portions amount base units claims ps quotas base_is ps_is quotas_are units
     let many : length quotas ≡ length ps =
     ap (λ (l : List (ℕ × ℕ)). length l) quotas_are ∙ length-map ps (λ p. (p.0, quota_of amount base p.1)) in
     let in_list : k < length ps = omega (arith, lt, many) in
-    let whole : sum_below (length ps) (number_at ps) ≡ base =
-    ap (λ (l : List (ℕ × ℕ)). sum_below (length l) (number_at l)) ps_is ∙ (shares_are_base claims ∙ sym base_is) in
-    let all = quotas_fit (length ps) amount base (number_at ps) (omega (arith, base_positive claims, base_is)) whole in
+    let whole : sum_below (length ps) (value_at ps) ≡ base =
+    ap (λ (l : List (ℕ × ℕ)). sum_below (length l) (value_at l)) ps_is ∙ (shares_are_base claims ∙ sym base_is) in
+    let all = quotas_fit (length ps) amount base (value_at ps) (omega (arith, base_positive claims, base_is)) whole in
     let part = sum_by_more_le (λ p. quota_of amount base p.1) ps k (0, 0) in_list in
     let here : (get_or quotas k d).1 ≡ quota_of amount base (get_or ps k (0, 0)).1 =
     ap (λ (l : List (ℕ × ℕ)). (get_or l k d).1) quotas_are
@@ -182,13 +182,13 @@ small_portions amount base units claims ps quotas base_is ps_is quotas_are units
     omega (arith, here, all, part, sum_by_number (quota_of amount base) ps, units_are)
 
 -- What the steps of the division leave are the portions by the claims.
-pub portions_made : (amount base units : ℕ) (claims ps quotas turns portions : List (ℕ × ℕ))
+pub portions_made : (amount base units : ℕ) (claims ps quotas contenders portions : List (ℕ × ℕ))
     → base ≡ base_of claims → ps ≡ participants_of claims → quotas ≡ map (λ p. (p.0, quota_of amount base p.1)) ps
-    → turns ≡ turns_of amount base ps → units ≡ units_left amount base ps → length portions ≡ length quotas
+    → contenders ≡ contenders_of amount base ps → units ≡ units_left amount base ps → length portions ≡ length quotas
     → ((k : ℕ) (d : ℕ × ℕ) → k < length quotas
-    → get_or portions k d ≡ with_unit (ltb (rank_of turns (get_or turns k d)) units) (get_or quotas k d))
+    → get_or portions k d ≡ with_unit (ltb (rank_of contenders (get_or contenders k d)) units) (get_or quotas k d))
     → portions ≡ portions_of amount claims
-portions_made amount base units claims ps quotas turns portions base_is ps_is quotas_are turns_are units_are len given =
+portions_made amount base units claims ps quotas contenders portions base_is ps_is quotas_are contenders_are units_are len given =
     same_lists portions (portions_among amount base ps) (all ∙ sym (length-portions amount base ps))
     (λ k d lt. at_place k d (omega (arith, all)) (omega (arith, len)))
     ∙ (ap (λ (b : ℕ). portions_among amount b ps) base_is ∙ ap (λ (l : List (ℕ × ℕ)). portions_among amount (base_of claims) l) ps_is)
@@ -196,32 +196,32 @@ portions_made amount base units claims ps quotas turns portions base_is ps_is qu
     all : length portions ≡ length ps
     all = len ∙ (ap (λ (l : List (ℕ × ℕ)). length l) quotas_are ∙ length-map ps (λ p. (p.0, quota_of amount base p.1)))
 
-    quota_at : (k : ℕ) (d : ℕ × ℕ) → k < length ps → get_or quotas k d ≡ ((get_or ps k (0, 0)).0, quota_of amount base (number_at ps k))
+    quota_at : (k : ℕ) (d : ℕ × ℕ) → k < length ps → get_or quotas k d ≡ ((get_or ps k (0, 0)).0, quota_of amount base (value_at ps k))
     quota_at k d lt =
         ap (λ (l : List (ℕ × ℕ)). get_or l k d) quotas_are
         ∙ (get_or-map (λ p. (p.0, quota_of amount base p.1)) ps k (0, 0) d lt
         ∙ ap (λ (share : ℕ). ((get_or ps k (0, 0)).0, quota_of amount base share)) (number_at_is ps k (0, 0) lt))
 
     rank_at : (k : ℕ) (d : ℕ × ℕ) → k < length ps
-        → rank_of turns (get_or turns k d) ≡ rank (length ps) (remainders amount base (number_at ps)) k
+        → rank_of contenders (get_or contenders k d) ≡ rank (length ps) (remainders amount base (value_at ps)) k
     rank_at k d lt =
-        ap (λ (l : List (ℕ × ℕ)). rank_of l (get_or l k d)) turns_are
-        ∙ (ap (rank_of (turns_of amount base ps)) (turn_at amount base ps k d lt) ∙ rank_is amount base ps k)
+        ap (λ (l : List (ℕ × ℕ)). rank_of l (get_or l k d)) contenders_are
+        ∙ (ap (rank_of (contenders_of amount base ps)) (contender_at amount base ps k d lt) ∙ rank_is amount base ps k)
 
     at_place : (k : ℕ) (d : ℕ × ℕ) → k < length ps → k < length quotas → get_or portions k d ≡ get_or (portions_among amount base ps) k d
     at_place k d lt lt' =
         given k d lt'
         ∙ (ap (λ (r : ℕ). with_unit (ltb r units) (get_or quotas k d)) (rank_at k d lt)
-        ∙ (ap (λ (u : ℕ). with_unit (ltb (rank (length ps) (remainders amount base (number_at ps)) k) u) (get_or quotas k d))
+        ∙ (ap (λ (u : ℕ). with_unit (ltb (rank (length ps) (remainders amount base (value_at ps)) k) u) (get_or quotas k d))
         (units_are ∙ units_left_is amount base ps)
-        ∙ (ap (with_unit (ltb (rank (length ps) (remainders amount base (number_at ps)) k) (left (length ps) amount base (number_at ps)))) (quota_at k d lt)
+        ∙ (ap (with_unit (ltb (rank (length ps) (remainders amount base (value_at ps)) k) (left (length ps) amount base (value_at ps)))) (quota_at k d lt)
         ∙ sym (portion_at amount base ps k d lt))))
 
 -- the quotas of the places before one, and its own, fit the amount
 pub quota_fits_at : (amount base : ℕ) (claims : List (ℕ × ℕ)) (i : ℕ) → base ≡ base_of claims → i < length claims + 1
-    → sum_below i (λ j. quota_of amount base (number_at (participants_of claims) j)) + quota_of amount base (number_at (participants_of claims) i) ≤ amount
+    → sum_below i (λ j. quota_of amount base (value_at (participants_of claims) j)) + quota_of amount base (value_at (participants_of claims) i) ≤ amount
 quota_fits_at amount base claims i base_is lt =
-    let all = quotas_fit (length (participants_of claims)) amount base (number_at (participants_of claims))
+    let all = quotas_fit (length (participants_of claims)) amount base (value_at (participants_of claims))
     (omega (arith, base_positive claims, base_is)) (shares_are_base claims ∙ sym base_is) in
-    let part = sum_below-part i (length (participants_of claims)) (λ j. quota_of amount base (number_at (participants_of claims) j)) (omega (arith, length-participants claims)) in
+    let part = sum_below-part i (length (participants_of claims)) (λ j. quota_of amount base (value_at (participants_of claims) j)) (omega (arith, length-participants claims)) in
     omega (arith, all, part)

@@ -7,7 +7,7 @@ use Rattle.std.proofs.lemmas.List.{get_or-map, length-map, same_lists, length_pu
 use Rattle.std.proofs.lemmas.List.Sums.{sum_by_push}
 use Rattle.line_split.specs.Claims.{total_of, counted_claims, base_of, participants_of}
 use Rattle.line_split.specs.LargestRemainder.{quota_of, portions_among, portions_of}
-use Rattle.line_split.specs.FairSplit.{number_at, StaysWithinQuota, GivesByRemainder, IsFairSplit}
+use Rattle.line_split.specs.FairSplit.{value_at, StaysWithinQuota, GivesByRemainder, IsFairSplit}
 use Rattle.line_split.proofs.SumBelow.{sum_below, bit, same_sums, sum_below-add}
 use Rattle.line_split.proofs.Ranks.{before, before_means, before_from, rank, rank_rises, first_k, count_below}
 use Rattle.line_split.proofs.Quotas.{quotas, left, remainders, portion, portions_add_up, within_quota}
@@ -21,7 +21,7 @@ pub shares_sum : (claims : List (ℕ × ℕ)) → sum_by (λ p. p.1) (participan
 shares_sum claims = sum_by_push (λ e. e.1) (counted_claims claims) _ ∙ omega arith
 
 pub shares_are_base : (claims : List (ℕ × ℕ))
-    → sum_below (length (participants_of claims)) (number_at (participants_of claims)) ≡ base_of claims
+    → sum_below (length (participants_of claims)) (value_at (participants_of claims)) ≡ base_of claims
 shares_are_base claims =
     sym (sum_by_number (λ x. x) (participants_of claims)) ∙ shares_sum claims
 
@@ -29,11 +29,11 @@ pub some_place : (claims : List (ℕ × ℕ)) → 0 < length (participants_of cl
 some_place claims = omega (arith, length_push (counted_claims claims) (0, base_of claims - total_of (counted_claims claims)))
 
 module _ (amount base : ℕ) (participants : List (ℕ × ℕ)) (some : 0 < base)
-    (whole : sum_below (length participants) (number_at participants) ≡ base) where
+    (whole : sum_below (length participants) (value_at participants) ≡ base) where
   -- a portion, by place
-  pub number_at-portions : (i : ℕ) → i < length participants
-      → number_at (portions_among amount base participants) i ≡ portion (length participants) amount base (number_at participants) i
-  number_at-portions i lt =
+  pub value_at-portions : (i : ℕ) → i < length participants
+      → value_at (portions_among amount base participants) i ≡ portion (length participants) amount base (value_at participants) i
+  value_at-portions i lt =
       sym (number_at_is (portions_among amount base participants) i (0, 0) (rw (length-portions amount base participants) lt))
       ∙ ap (λ (e : ℕ × ℕ). e.1) (portion_at amount base participants i (0, 0) lt)
 
@@ -51,20 +51,20 @@ module _ (amount base : ℕ) (participants : List (ℕ × ℕ)) (some : 0 < base
   pub portions-sum : 0 < length participants → sum_by (λ e. e.1) (portions_among amount base participants) ≡ amount
   portions-sum places =
       sum_by_number (λ x. x) (portions_among amount base participants)
-      ∙ (ap (λ (m : ℕ). sum_below m (number_at (portions_among amount base participants))) (length-portions amount base participants)
-      ∙ (same_sums (length participants) (number_at (portions_among amount base participants)) (portion (length participants) amount base (number_at participants)) number_at-portions
-      ∙ portions_add_up (length participants) amount base (number_at participants) some whole places))
+      ∙ (ap (λ (m : ℕ). sum_below m (value_at (portions_among amount base participants))) (length-portions amount base participants)
+      ∙ (same_sums (length participants) (value_at (portions_among amount base participants)) (portion (length participants) amount base (value_at participants)) value_at-portions
+      ∙ portions_add_up (length participants) amount base (value_at participants) some whole places))
 
   pub portions-within : StaysWithinQuota amount base participants (portions_among amount base participants)
-  portions-within i lt = rw (number_at-portions i lt) (within_quota (length participants) amount base (number_at participants) some whole i)
+  portions-within i lt = rw (value_at-portions i lt) (within_quota (length participants) amount base (value_at participants) some whole i)
 
   pub portions-by_remainder : GivesByRemainder amount base participants (portions_among amount base participants)
   portions-by_remainder i j in_i in_j first has =
-      rw (number_at-portions i in_i) (
-      let up = rank_rises (length participants) (remainders amount base (number_at participants)) i j in_i (before_from (remainders amount base (number_at participants)) i j first) in
-      up_with (quota_of amount base (number_at participants i)) (quota_of amount base (number_at participants j))
-      (rank (length participants) (remainders amount base (number_at participants)) i) (rank (length participants) (remainders amount base (number_at participants)) j)
-      (left (length participants) amount base (number_at participants)) up (rw (number_at-portions j in_j) at has)
+      rw (value_at-portions i in_i) (
+      let up = rank_rises (length participants) (remainders amount base (value_at participants)) i j in_i (before_from (remainders amount base (value_at participants)) i j first) in
+      up_with (quota_of amount base (value_at participants i)) (quota_of amount base (value_at participants j))
+      (rank (length participants) (remainders amount base (value_at participants)) i) (rank (length participants) (remainders amount base (value_at participants)) j)
+      (left (length participants) amount base (value_at participants)) up (rw (value_at-portions j in_j) at has)
       )
     where
       up_with : (q q' k k' units : ℕ) → k < k' → q' < q' + bit (ltb k' units) → q < q + bit (ltb k units)
@@ -118,38 +118,38 @@ quota_or_more x base p some low high =
 module _ (amount base : ℕ) (participants portions : List (ℕ × ℕ)) where
   -- whether a place has a unit more than its quota
   abbrev has_unit : ℕ → Bool
-  has_unit k = ltb (quota_of amount base (number_at participants k)) (number_at portions k)
+  has_unit k = ltb (quota_of amount base (value_at participants k)) (value_at portions k)
 
   -- its quota, and the unit where it has one
   abbrev rounded : ℕ → ℕ
-  rounded k = quota_of amount base (number_at participants k) + bit (has_unit k)
+  rounded k = quota_of amount base (value_at participants k) + bit (has_unit k)
 
   -- A fair split of an amount gives each place its portion.
-  fair_at : 0 < base → sum_below (length participants) (number_at participants) ≡ base → length portions ≡ length participants
+  fair_at : 0 < base → sum_below (length participants) (value_at participants) ≡ base → length portions ≡ length participants
       → sum_by (λ e. e.1) portions ≡ amount → StaysWithinQuota amount base participants portions
       → GivesByRemainder amount base participants portions
-      → (i : ℕ) → i < length participants → number_at portions i ≡ portion (length participants) amount base (number_at participants) i
+      → (i : ℕ) → i < length participants → value_at portions i ≡ portion (length participants) amount base (value_at participants) i
   fair_at some whole len sum within by_remainder i lt =
-      is_rounded i lt ∙ ap (λ (b : Bool). quota_of amount base (number_at participants i) + bit b)
-      (first_k (length participants) (remainders amount base (number_at participants)) has_unit
-      (left (length participants) amount base (number_at participants)) (units _ _ all) goes_down i lt)
+      is_rounded i lt ∙ ap (λ (b : Bool). quota_of amount base (value_at participants i) + bit b)
+      (first_k (length participants) (remainders amount base (value_at participants)) has_unit
+      (left (length participants) amount base (value_at participants)) (units _ _ all) goes_down i lt)
     where
-      is_rounded : (k : ℕ) → k < length participants → number_at portions k ≡ rounded k
-      is_rounded k kn = quota_or_more (amount * number_at participants k) base (number_at portions k) some (within k kn).0 (within k kn).1
+      is_rounded : (k : ℕ) → k < length participants → value_at portions k ≡ rounded k
+      is_rounded k kn = quota_or_more (amount * value_at participants k) base (value_at portions k) some (within k kn).0 (within k kn).1
 
-      all : quotas (length participants) amount base (number_at participants) + count_below (length participants) has_unit ≡ amount
+      all : quotas (length participants) amount base (value_at participants) + count_below (length participants) has_unit ≡ amount
       all =
-          sym (sum_below-add (length participants) (λ k. quota_of amount base (number_at participants k)) (λ k. bit (has_unit k)))
-          ∙ (sym (same_sums (length participants) (number_at portions) rounded is_rounded)
-          ∙ (ap (λ (m : ℕ). sum_below m (number_at portions)) (sym len) ∙ (sym (sum_by_number (λ x. x) portions) ∙ sum)))
+          sym (sum_below-add (length participants) (λ k. quota_of amount base (value_at participants k)) (λ k. bit (has_unit k)))
+          ∙ (sym (same_sums (length participants) (value_at portions) rounded is_rounded)
+          ∙ (ap (λ (m : ℕ). sum_below m (value_at portions)) (sym len) ∙ (sym (sum_by_number (λ x. x) portions) ∙ sum)))
 
       units : (q c : ℕ) → q + c ≡ amount → c ≡ amount - q
       units q c e = omega arith
 
       goes_down : (j k : ℕ) → j < length participants → k < length participants
-          → before (remainders amount base (number_at participants)) j k ≡ true → has_unit k ≡ true → has_unit j ≡ true
+          → before (remainders amount base (value_at participants)) j k ≡ true → has_unit k ≡ true → has_unit j ≡ true
       goes_down j k jn kn first has_k =
-          lt-ltb _ _ (by_remainder j k jn kn (before_means (remainders amount base (number_at participants)) j k first) (ltb-true _ _ has_k))
+          lt-ltb _ _ (by_remainder j k jn kn (before_means (remainders amount base (value_at participants)) j k first) (ltb-true _ _ has_k))
 
 -- No other portions are fair.
 pub only_fair : (amount : ℕ) (claims portions : List (ℕ × ℕ)) → IsFairSplit amount claims portions → portions ≡ portions_of amount claims

@@ -1,4 +1,4 @@
--- Rows are a table of usage lines in one way only, and a table has no fault but want of memory.
+-- Rows are a table of usage lines in one way only, and a table has no fault but lack of memory.
 use Rattle.std.proofs.Common.{◌≡◌, ◌≤◌, ◌<◌, ◌+◌, ℕ, List, ◌∷◌, ◌++◌, length, All, ap, refl, subst, inl, inr, arith, length-append}
 use Rattle.std.proofs.Math.Seq.{get_or-append_seam}
 use Rattle.std.proofs.lemmas.List.{length-map}
@@ -14,7 +14,7 @@ one_table rows lines other is too =
     let same : is.rows_below ≡ too.rows_below = cc in
     rw (is.same, too.same, same) refl
 
--- a row that is a line is refused for nothing but want of memory
+-- a row that is a line is refused for nothing but lack of memory
 sound_row : (row : List (List ℕ)) (number : ℕ) (fault : LineFault) → IsLine row → number ≤ MOST_LINES → IsFaultOfRow number row fault → fault ≡ Memory
 sound_row row number (Csv n) line few refused = absurd (refused.2 line.whole)
 sound_row row number (Fields n) line few refused = absurd (refused.3 line.texts)
@@ -30,7 +30,7 @@ row_between before row after sound =
     let within : length before < length (before ++ row ∷ after) = omega (arith, length-append before (row ∷ after)) in
     rw get_or-append_seam at (sound (length before) row within)
 
--- no row of a table is the first that is refused, but for want of memory
+-- no row of a table is the first that is refused, but for lack of memory
 no_first_fault : (rows : List (List (List ℕ))) (lines : List UsageLine) (fault : LineFault) → IsTableOf rows lines → IsFirstFault rows fault → fault ≡ Memory
 no_first_fault rows lines fault is first =
     let same : is.rows_below ≡ first.before ++ first.row ∷ first.after = cc in
@@ -39,7 +39,7 @@ no_first_fault rows lines fault is first =
     (omega (arith, is.few, ap length is.same, length-map is.rows_below line_of, ap length same, length-append first.before (first.row ∷ first.after)))
     first.refused
 
--- rows that are a table are refused for nothing but want of memory
+-- rows that are a table are refused for nothing but lack of memory
 pub no_fault : (rows : List (List (List ℕ))) (lines : List UsageLine) (fault : LineFault) → IsTableOf rows lines → IsFaultOf rows fault → fault ≡ Memory
 no_fault rows lines (Csv n) is (inl (first, none)) = absurd (none is.rows_below is.headed)
 no_fault rows lines (Csv n) is (inr first) = no_first_fault rows lines (Csv n) is first

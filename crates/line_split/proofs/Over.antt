@@ -6,7 +6,7 @@ use Rattle.std.proofs.lemmas.List.{map_push}
 use Rattle.std.proofs.lemmas.List.Sums.{sum_by-cons, sum_by_push}
 use Rattle.line_split.specs.declared.TheConstants.{RESIDUE, FULL_SHARE, MOST_CLAIMED}
 use Rattle.line_split.specs.Claims.{total_of, base_of, participants_of}
-use Rattle.line_split.specs.LargestRemainder.{quota_of, remainder_of, turns_of, rank_of, units_left, portion_of, portions_of}
+use Rattle.line_split.specs.LargestRemainder.{quota_of, remainder_of, contenders_of, rank_of, units_left, portion_of, portions_of}
 use Rattle.line_split.proofs.Enumerated.{map_same}
 use Rattle.line_split.proofs.SumBelow.{bit}
 use Rattle.line_split.proofs.ClaimLemmas.{total-nothing}
@@ -43,7 +43,7 @@ unplaced {X} {Y} g n (x ∷ xs) = ap (λ (l : List Y). g x ∷ l) (unplaced g (n
 quotas-alone : (amount base : ℕ) (ps : List (ℕ × ℕ)) → units_left amount base ps ≡ 0 → (place share : ℕ)
     → portion_of amount base ps place share ≡ quota_of amount base share
 quotas-alone amount base ps none place share =
-    let rank = rank_of (turns_of amount base ps) (place, remainder_of amount base share) in
+    let rank = rank_of (contenders_of amount base ps) (place, remainder_of amount base share) in
     let unit : bit (ltb rank (units_left amount base ps)) ≡ 0 =
     ap (λ (l : ℕ). bit (ltb rank l)) none ∙ ap bit (le-ltb rank 0 (omega arith)) in
     omega (arith, unit)

@@ -3,7 +3,7 @@ use Rattle.std.specs.Prelude.{ℕ, ◌≤◌, ◌<◌, List, [], ◌∷◌, ◌+
 use Rattle.std.specs.List.Sorted.{IsStrictlyIncreasing}
 use Rattle.line_split.specs.declared.TheConstants.{RESIDUE, MOST_CLAIMS, MOST_CLAIMED, FULL_SHARE}
 
--- at most 256 claims, by rising account, none of them the residue's and none over 100.06 per cent
+-- at most 256 claims, in order of account, none of them the residue's and none over 100.06 per cent
 pub record AreClaims (claims : List (ℕ × ℕ)) : Type 0 where
   pub few : length claims ≤ MOST_CLAIMS
   pub rising : IsStrictlyIncreasing (map (λ claim. claim.0) claims)

@@ -4,23 +4,23 @@ use Rattle.line_split.specs.Claims.{base_of, participants_of}
 use Rattle.line_split.specs.LargestRemainder.{quota_of, remainder_of}
 
 -- the number beside the account at a place
-abbrev pub number_at : List (ℕ × ℕ) → ℕ → ℕ
-number_at list i = slice_index (map (λ entry. entry.1) list) i
+abbrev pub value_at : List (ℕ × ℕ) → ℕ → ℕ
+value_at list i = slice_index (map (λ entry. entry.1) list) i
 
 -- Each portion is less than a unit away from the exact share, so it is that share, rounded down or up.
 abbrev pub StaysWithinQuota : (amount base : ℕ) → (participants portions : List (ℕ × ℕ)) → Type 0
 StaysWithinQuota amount base participants portions = (i : ℕ) → i < length participants →
-    (amount * number_at participants i < base * number_at portions i + base)
-    × (base * number_at portions i < amount * number_at participants i + base)
+    (amount * value_at participants i < base * value_at portions i + base)
+    × (base * value_at portions i < amount * value_at participants i + base)
 
 -- the participant at a place has one of the units that the quotas leave
 abbrev pub HasUnit : (amount base : ℕ) → (participants portions : List (ℕ × ℕ)) → ℕ → Type 0
-HasUnit amount base participants portions i = quota_of amount base (number_at participants i) < number_at portions i
+HasUnit amount base participants portions i = quota_of amount base (value_at participants i) < value_at portions i
 
 -- the participant at i has the better right to a unit than the one at j: a greater remainder, or an equal one and an earlier place
 abbrev pub GoesFirst : (amount base : ℕ) → List (ℕ × ℕ) → (i j : ℕ) → Type 0
 GoesFirst amount base participants i j =
-    let remainder : ℕ → ℕ = λ k. remainder_of amount base (number_at participants k) in
+    let remainder : ℕ → ℕ = λ k. remainder_of amount base (value_at participants k) in
     (remainder j < remainder i) ⊎ ((remainder i ≡ remainder j) × (i < j))
 
 -- A unit is given to nobody before one who has the better right to it.

@@ -16,21 +16,21 @@ abbrev pub units_left : (amount base : ℕ) → List (ℕ × ℕ) → ℕ
 units_left amount base participants = amount - sum_by (λ p. quota_of amount base p.1) participants
 
 -- each participant's place and remainder
-abbrev pub turns_of : (amount base : ℕ) → List (ℕ × ℕ) → List (ℕ × ℕ)
-turns_of amount base participants = enumerate_from 0 (map (λ p. remainder_of amount base p.1) participants)
+abbrev pub contenders_of : (amount base : ℕ) → List (ℕ × ℕ) → List (ℕ × ℕ)
+contenders_of amount base participants = enumerate_from 0 (map (λ p. remainder_of amount base p.1) participants)
 
--- One turn comes before another: it has a greater remainder, or an equal one and an earlier place.
+-- One contender comes before another: it has a greater remainder, or an equal one and an earlier place.
 abbrev pub comes_before : ℕ × ℕ → ℕ × ℕ → Bool
-comes_before turn other = nat_lt other.1 turn.1 || ((turn.1 == other.1) && nat_lt turn.0 other.0)
+comes_before contender other = nat_lt other.1 contender.1 || ((contender.1 == other.1) && nat_lt contender.0 other.0)
 
--- how many turns come before this one
+-- how many contenders come before this one
 abbrev pub rank_of : List (ℕ × ℕ) → ℕ × ℕ → ℕ
-rank_of turns turn = count_by (λ other. comes_before other turn) turns
+rank_of contenders contender = count_by (λ other. comes_before other contender) contenders
 
 -- the portion of the participant at a place that has this share: its quota, and a unit more where fewer come before it than units are left
 abbrev pub portion_of : (amount base : ℕ) → List (ℕ × ℕ) → (place share : ℕ) → ℕ
 portion_of amount base participants place share =
-    let rank = rank_of (turns_of amount base participants) (place, remainder_of amount base share) in
+    let rank = rank_of (contenders_of amount base participants) (place, remainder_of amount base share) in
     quota_of amount base share + (if nat_lt rank (units_left amount base participants) then 1 else 0)
 
 -- each participant's account and portion

@@ -16,8 +16,8 @@ pub record UsageLine : Type 0 where
   pub amount : ℕ
 
 -- what a program has in hand of one
-abbrev pub seen : Line → UsageLine
-seen line = record {
+abbrev pub usage_line_of : Line → UsageLine
+usage_line_of line = record {
   usage = line.usage.now;
   work = line.work.now;
   territory = line.territory;

@@ -3,8 +3,8 @@
 ghost use Rattle.std.specs.Prelude.{◌≡◌, ◌<◌, ◌≤◌, length};
 ghost use Rattle.line_split.specs.declared.TheConstants.{MOST_AMOUNT, MOST_CLAIMED};
 ghost use Rattle.line_split.specs.Claims.{AreClaims, base_of, counted_claims, participants_of, total_of};
-ghost use Rattle.line_split.specs.FairSplit.{number_at};
-ghost use Rattle.line_split.specs.LargestRemainder.{comes_before, portions_of, rank_of, remainder_of, turns_of, units_left};
+ghost use Rattle.line_split.specs.FairSplit.{value_at};
+ghost use Rattle.line_split.specs.LargestRemainder.{comes_before, contenders_of, portions_of, rank_of, remainder_of, units_left};
 
 use crate::portions::total;
 use crate::{Account, Claims, FULL_SHARE, MOST_CLAIMED};
@@ -14,7 +14,7 @@ use crate::{Account, Claims, FULL_SHARE, MOST_CLAIMED};
 pub fn portion_by_rank(amount: u64, claims: &Claims, place: usize) -> u64
     requires in_range { amount ≤ MOST_AMOUNT }
     requires place { place ≤ length claims.now.list }
-    ensures { result ≡ number_at (portions_of amount claims.now.list) place }
+    ensures { result ≡ value_at (portions_of amount claims.now.list) place }
 {
     let claims = claims.list();
     let base = u64::from(counted(claims).max(FULL_SHARE));
@@ -43,8 +43,8 @@ fn rank(amount: u64, base: u64, claims: &[(Account, u32)], place: usize) -> u64
     requires claims { AreClaims claims.now }
     requires base { base ≡ base_of claims.now }
     requires place { place ≤ length claims.now }
-    ensures { result ≡ rank_of (turns_of amount base (participants_of claims.now))
-        (place, remainder_of amount base (number_at (participants_of claims.now) place)) }
+    ensures { result ≡ rank_of (contenders_of amount base (participants_of claims.now))
+        (place, remainder_of amount base (value_at (participants_of claims.now) place)) }
 {
     let remainder = amount * share_at(claims, place) % base;
     let mut rank = 0;
@@ -56,17 +56,17 @@ fn rank(amount: u64, base: u64, claims: &[(Account, u32)], place: usize) -> u64
 }
 
 /// Whether a place with its remainder comes before another.
-fn goes_first(turn: (usize, u64), other: (usize, u64)) -> bool
-    ensures { result ≡ comes_before turn other }
+fn goes_first(contender: (usize, u64), other: (usize, u64)) -> bool
+    ensures { result ≡ comes_before contender other }
 {
-    turn.1 > other.1 || (turn.1 == other.1 && turn.0 < other.0)
+    contender.1 > other.1 || (contender.1 == other.1 && contender.0 < other.0)
 }
 
 /// A participant's share of the base.
 fn share_at(claims: &[(Account, u32)], place: usize) -> u64
     requires claims { AreClaims claims.now }
     requires place { place ≤ length claims.now }
-    ensures share { result ≡ number_at (participants_of claims.now) place }
+    ensures share { result ≡ value_at (participants_of claims.now) place }
     ensures small { result ≤ MOST_CLAIMED }
 {
     let share = if place == claims.len() {

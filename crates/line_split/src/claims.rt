@@ -55,7 +55,7 @@ impl ClaimFault {
 }
 
 /// The claims on one line, in hundredths of a per cent: at most 256 pairs of an account and its
-/// claim, by rising account, none of them the residue account's and none over 100.06 per cent. Their
+/// claim, in order of account, none of them the residue account's and none over 100.06 per cent. Their
 /// room is taken once and used for many lines.
 #[derive(Debug, Drop)]
 pub struct Claims {
@@ -67,9 +67,9 @@ impl Model for Claims {
     ghost use Rattle.std.specs.Prelude.{◌≤◌, length, vec_capacity};
     ghost use Rattle.line_split.specs.declared.TheConstants.{MOST_CLAIMS};
     ghost use Rattle.line_split.specs.Claims.{AreClaims};
-    ghost use Rattle.line_split.specs.Roomed.{Roomed};
+    ghost use Rattle.line_split.specs.WithRoom.{WithRoom};
 
-    ghost Value = { Roomed };
+    ghost Value = { WithRoom };
 
     ghost view = { λ c. record { list = c.pairs.items; room = c.room } };
 
@@ -127,7 +127,7 @@ impl Claims {
         self.room
     }
 
-    /// The pairs of an account and its claim, by rising account.
+    /// The pairs of an account and its claim, in order of account.
     pub fn list(&self) -> &[(Account, u32)]
         ensures value { result.now ≡ self.now.list }
         ensures sound { AreClaims self.now.list }

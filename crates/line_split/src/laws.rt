@@ -40,7 +40,7 @@ pub fn law_rows_are_one_list_of_lines()
     ensures { (rows : List (List (List ℕ))) (lines other : List UsageLine) → IsTableOf rows lines → IsTableOf rows other → lines ≡ other }
 {}
 
-/// Rows that are a table of usage lines are refused for nothing but want of memory.
+/// Rows that are a table of usage lines are refused for nothing but lack of memory.
 pub fn law_a_table_of_lines_has_no_fault()
     ensures { (rows : List (List (List ℕ))) (lines : List UsageLine) (fault : LineFault) → IsTableOf rows lines → IsFaultOf rows fault → fault ≡ Memory }
 {}

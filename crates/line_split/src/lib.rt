@@ -6,18 +6,14 @@
 
 mod by_rank;
 mod claims;
+mod contender;
 pub mod laws;
 mod line_fault;
 mod pairs;
 mod portions;
 mod reason;
-#[cfg(test)]
-mod tests;
 mod text;
-mod turn;
 mod usage;
-#[cfg(test)]
-mod usage_tests;
 
 pub use by_rank::portion_by_rank;
 pub use claims::{ClaimFault, Claims};

@@ -2,12 +2,12 @@
 
 ghost use Rattle.std.specs.Prelude.{◌≡◌, ℕ, ◌+◌, ◌/◌, ◌%◌, ◌<◌, ◌≤◌, length, map, vec_capacity, sum_by, All, IfOk, [], nat_lt, slice_index_or, if◌then◌else◌};
 ghost use Rattle.line_split.specs.declared.TheConstants.{MOST_AMOUNT, MOST_CLAIMED};
-ghost use Rattle.line_split.specs.declared.turn.TheConstants.{PLACES};
+ghost use Rattle.line_split.specs.declared.contender.TheConstants.{PLACES};
 ghost use Rattle.line_split.specs.Claims.{AreClaims, base_of, participants_of, total_of};
-ghost use Rattle.line_split.specs.LargestRemainder.{portions_of, quota_of, rank_of, turns_of, units_left};
-ghost use Rattle.line_split.specs.Turns.{seen, with_unit};
+ghost use Rattle.line_split.specs.LargestRemainder.{contenders_of, portions_of, quota_of, rank_of, units_left};
+ghost use Rattle.line_split.specs.Contenders.{place_and_remainder, with_unit};
 
-use crate::turn::Turn;
+use crate::contender::Contender;
 use crate::{Account, Claims, FULL_SHARE, MOST_AMOUNT, MOST_CLAIMED, RESIDUE};
 use std::alloc::{AllocError, Global};
 use std::marker::Model;
@@ -15,8 +15,8 @@ use std::marker::Model;
 /// `FULL_SHARE`, as wide as what is divided by it.
 const FULL_BASE: u64 = FULL_SHARE as u64;
 
-/// The most turns of which each is compared with each: among so few that takes less time than to put
-/// them in order.
+/// The most contenders of which each is compared with each: among so few that takes less time than to sort
+/// them.
 const MOST_RANKED: usize = 16;
 
 /// The portions of one line, in minor units, with room that is taken once and used for many lines.
@@ -24,20 +24,20 @@ const MOST_RANKED: usize = 16;
 pub struct Portions {
     /// Each participant's account, with its share of the base and in the end its portion.
     list: Vec<(Account, u64)>,
-    /// Whose turn it is for a unit that is left.
-    turns: Vec<Turn>,
+    /// The participants again, as they contend for the units that are left.
+    contenders: Vec<Contender>,
     room: usize,
 }
 
 impl Model for Portions {
     ghost use Rattle.std.specs.Prelude.{◌≤◌, vec_capacity};
-    ghost use Rattle.line_split.specs.Roomed.{Roomed};
+    ghost use Rattle.line_split.specs.WithRoom.{WithRoom};
 
-    ghost Value = { Roomed };
+    ghost Value = { WithRoom };
 
     ghost view = { λ p. record { list = p.list.items; room = p.room } };
 
-    ghost invariant = { λ p. (p.room ≤ vec_capacity p.list) × (p.room ≤ vec_capacity p.turns) };
+    ghost invariant = { λ p. (p.room ≤ vec_capacity p.list) × (p.room ≤ vec_capacity p.contenders) };
 }
 
 impl Portions {
@@ -47,7 +47,7 @@ impl Portions {
     {
         Ok(Portions {
             list: Vec::with_capacity(alloc, n)?,
-            turns: Vec::with_capacity(alloc, n)?,
+            contenders: Vec::with_capacity(alloc, n)?,
             room: n,
         })
     }
@@ -78,8 +78,8 @@ pub fn split(amount: u64, claims: &Claims, portions: &mut Portions)
 {
     let base = enter(claims.list(), &mut portions.list);
     let list = portions.list.as_mut_slice();
-    let left = round_down(amount, base, list, &mut portions.turns);
-    give_units(left, portions.turns.as_mut_slice(), list);
+    let left = round_down(amount, base, list, &mut portions.contenders);
+    give_units(left, portions.contenders.as_mut_slice(), list);
 }
 
 /// What the claims come to.
@@ -138,85 +138,90 @@ fn divided(exact: u64, base: u64) -> (u64, u64)
     }
 }
 
-/// Puts each participant's quota in the place of its share, lists its turn by what is rounded off,
+/// Puts each participant's quota in the place of its share, lists it as a contender by what is rounded off,
 /// and answers how many units the quotas leave.
-fn round_down(amount: u64, base: u64, list: &mut [(Account, u64)], turns: &mut Vec<Turn>) -> u64
+fn round_down(
+    amount: u64,
+    base: u64,
+    list: &mut [(Account, u64)],
+    contenders: &mut Vec<Contender>,
+) -> u64
     requires in_range { amount ≤ MOST_AMOUNT }
     requires some { (0 < base) × (base ≤ MOST_CLAIMED) }
     requires whole { sum_by (λ p. p.1) list.old ≡ base }
     requires few { length list.old ≤ PLACES }
-    requires room { length list.old ≤ vec_capacity turns.old }
+    requires room { length list.old ≤ vec_capacity contenders.old }
     ensures quotas { list.new ≡ map (λ p. (p.0, quota_of amount base p.1)) list.old }
-    ensures turns { map seen turns.new.items ≡ turns_of amount base list.old }
+    ensures contenders { map place_and_remainder contenders.new.items ≡ contenders_of amount base list.old }
     ensures left { result ≡ units_left amount base list.old }
-    ensures room { vec_capacity turns.new ≡ vec_capacity turns.old }
+    ensures room { vec_capacity contenders.new ≡ vec_capacity contenders.old }
 {
-    turns.clear();
+    contenders.clear();
     let mut left = amount;
     for place in 0..list.len() {
         let (quota, remainder) = divided(amount * list[place].1, base);
         list[place].1 = quota;
         left -= quota;
-        turns.push_reserved(Turn::of(remainder, place));
+        contenders.push_reserved(Contender::of(remainder, place));
     }
     left
 }
 
-/// Gives a unit to each of the first `left` turns. Where they are many, the turns are put in order.
-fn give_units(left: u64, turns: &mut [Turn], list: &mut [(Account, u64)])
-    requires few { left ≤ length turns.old }
-    requires places { (k : ℕ) (d : ℕ × ℕ) → k < length turns.old → (slice_index_or (map seen turns.old) k d).0 ≡ k }
-    requires each { length turns.old ≡ length list.old }
+/// Gives a unit to each of the first `left` contenders. Where they are many, they are sorted.
+fn give_units(left: u64, contenders: &mut [Contender], list: &mut [(Account, u64)])
+    requires few { left ≤ length contenders.old }
+    requires places { (k : ℕ) (d : ℕ × ℕ) → k < length contenders.old → (slice_index_or (map place_and_remainder contenders.old) k d).0 ≡ k }
+    requires each { length contenders.old ≡ length list.old }
     requires small { All (λ portion. portion.1 + left ≤ MOST_AMOUNT) list.old }
     ensures each { length list.new ≡ length list.old }
-    ensures given { (k : ℕ) (d : ℕ × ℕ) → k < length list.old → slice_index_or list.new k d ≡ with_unit (nat_lt (rank_of (map seen turns.old) (slice_index_or (map seen turns.old) k d)) left) (slice_index_or list.old k d) }
+    ensures given { (k : ℕ) (d : ℕ × ℕ) → k < length list.old → slice_index_or list.new k d ≡ with_unit (nat_lt (rank_of (map place_and_remainder contenders.old) (slice_index_or (map place_and_remainder contenders.old) k d)) left) (slice_index_or list.old k d) }
 {
     if left == 0 {
         return;
     }
-    if turns.len() <= MOST_RANKED {
-        give_by_rank(left, turns, list);
+    if contenders.len() <= MOST_RANKED {
+        give_by_rank(left, contenders, list);
     } else {
-        give_in_order(left, turns, list);
+        give_in_order(left, contenders, list);
     }
 }
 
-/// Gives the units, going by how many turns come before each: quick where the turns are few.
-fn give_by_rank(left: u64, turns: &[Turn], list: &mut [(Account, u64)])
-    requires each { length turns.now ≡ length list.old }
+/// Gives the units, going by how many contenders come before each: quick where the contenders are few.
+fn give_by_rank(left: u64, contenders: &[Contender], list: &mut [(Account, u64)])
+    requires each { length contenders.now ≡ length list.old }
     requires small { All (λ portion. portion.1 + left ≤ MOST_AMOUNT) list.old }
     ensures each { length list.new ≡ length list.old }
-    ensures given { (k : ℕ) (d : ℕ × ℕ) → k < length list.old → slice_index_or list.new k d ≡ with_unit (nat_lt (rank_of (map seen turns.now) (slice_index_or (map seen turns.now) k d)) left) (slice_index_or list.old k d) }
+    ensures given { (k : ℕ) (d : ℕ × ℕ) → k < length list.old → slice_index_or list.new k d ≡ with_unit (nat_lt (rank_of (map place_and_remainder contenders.now) (slice_index_or (map place_and_remainder contenders.now) k d)) left) (slice_index_or list.old k d) }
 {
-    for place in 0..turns.len() {
-        let has_unit = rank(turns, turns[place]) < left;
+    for place in 0..contenders.len() {
+        let has_unit = rank(contenders, contenders[place]) < left;
         list[place].1 += u64::from(has_unit);
     }
 }
 
-/// How many turns come before this one.
-fn rank(turns: &[Turn], turn: Turn) -> u64
-    ensures { result ≡ rank_of (map seen turns.now) (seen turn) }
+/// How many contenders come before this one.
+fn rank(contenders: &[Contender], contender: Contender) -> u64
+    ensures { result ≡ rank_of (map place_and_remainder contenders.now) (place_and_remainder contender) }
 {
     let mut rank = 0;
-    for other in turns {
-        rank += u64::from(other.comes_before(turn));
+    for other in contenders {
+        rank += u64::from(other.comes_before(contender));
     }
     rank
 }
 
-/// Gives the units, putting the turns in order.
-fn give_in_order(left: u64, turns: &mut [Turn], list: &mut [(Account, u64)])
-    requires few { left ≤ length turns.old }
-    requires places { (k : ℕ) (d : ℕ × ℕ) → k < length turns.old → (slice_index_or (map seen turns.old) k d).0 ≡ k }
-    requires each { length turns.old ≡ length list.old }
+/// Gives the units, sorting the contenders.
+fn give_in_order(left: u64, contenders: &mut [Contender], list: &mut [(Account, u64)])
+    requires few { left ≤ length contenders.old }
+    requires places { (k : ℕ) (d : ℕ × ℕ) → k < length contenders.old → (slice_index_or (map place_and_remainder contenders.old) k d).0 ≡ k }
+    requires each { length contenders.old ≡ length list.old }
     requires small { All (λ portion. portion.1 + left ≤ MOST_AMOUNT) list.old }
     ensures each { length list.new ≡ length list.old }
-    ensures given { (k : ℕ) (d : ℕ × ℕ) → k < length list.old → slice_index_or list.new k d ≡ with_unit (nat_lt (rank_of (map seen turns.old) (slice_index_or (map seen turns.old) k d)) left) (slice_index_or list.old k d) }
+    ensures given { (k : ℕ) (d : ℕ × ℕ) → k < length list.old → slice_index_or list.new k d ≡ with_unit (nat_lt (rank_of (map place_and_remainder contenders.old) (slice_index_or (map place_and_remainder contenders.old) k d)) left) (slice_index_or list.old k d) }
 {
-    turns.sort_unstable();
-    let served = &turns[..left as usize];
-    for turn in served {
-        list[turn.place()].1 += 1;
+    contenders.sort_unstable();
+    let served = &contenders[..left as usize];
+    for contender in served {
+        list[contender.place()].1 += 1;
     }
 }

@@ -3,7 +3,7 @@
 ghost use Rattle.std.specs.Prelude.{◌≡◌, ◌≤◌, ◌<◌, ◌+◌, ◌↔◌, ℕ, List, IfOk, IfErr, IfSome, IfNone, Some, length, slice_get};
 ghost use Rattle.csv_table.specs.Table.{rows_of};
 ghost use Rattle.line_split.specs.KeptLines.{line_with};
-ghost use Rattle.line_split.specs.UsageLine.{line_of, right_named, seen, IsRight};
+ghost use Rattle.line_split.specs.UsageLine.{line_of, right_named, usage_line_of, IsRight};
 ghost use Rattle.line_split.specs.UsageLines.{IsUsageLine};
 ghost use Rattle.line_split.specs.UsageTable.{IsFaultOf, IsFaultOfRow, IsLine, IsTableOf};
 
@@ -54,7 +54,7 @@ pub struct Line<'a> {
 
 /// A usage line without what its use is called.
 #[derive(Drop)]
-struct Used {
+struct UsageDetail {
     work: Text,
     territory: u16,
     right: Right,
@@ -68,7 +68,7 @@ pub struct Usage {
     /// together.
     names: Vec<Text>,
     /// The rest of each line.
-    uses: Vec<Used>,
+    details: Vec<UsageDetail>,
 }
 
 impl Model for Usage {
@@ -79,9 +79,9 @@ impl Model for Usage {
 
     ghost Value = { List UsageLine };
 
-    ghost view = { λ usage. lines_of usage.names.items usage.uses.items };
+    ghost view = { λ usage. lines_of usage.names.items usage.details.items };
 
-    ghost invariant = { λ usage. (length usage.names.items ≡ length usage.uses.items) × AreUsageLines (lines_of usage.names.items usage.uses.items) };
+    ghost invariant = { λ usage. (length usage.names.items ≡ length usage.details.items) × AreUsageLines (lines_of usage.names.items usage.details.items) };
 }
 
 impl Usage {
@@ -98,20 +98,20 @@ impl Usage {
         // All that there can be: memory that is not used costs nothing, and none is moved.
         let room = (bytes.len() / FEWEST_ROW_BYTES).min(MOST_LINES as usize);
         let mut names = Vec::with_capacity(alloc, room)?;
-        let mut uses = Vec::with_capacity(alloc, room)?;
+        let mut details = Vec::with_capacity(alloc, room)?;
         for number in 1..=MOST_LINES {
             if !rows.next()? {
-                return Ok(Usage { names, uses });
+                return Ok(Usage { names, details });
             }
-            let (name, used) = read_line(alloc, number, &rows)?;
-            if names.push(name).is_err() || uses.push(used).is_err() {
+            let (name, detail) = read_line(alloc, number, &rows)?;
+            if names.push(name).is_err() || details.push(detail).is_err() {
                 return Err(LineFault::Memory);
             }
         }
         if rows.next()? {
             return Err(LineFault::Lines);
         }
-        Ok(Usage { names, uses })
+        Ok(Usage { names, details })
     }
 
     /// How many lines there are.
@@ -119,28 +119,28 @@ impl Usage {
         ensures lines { result ≡ length self.now }
         ensures few { result ≤ MOST_LINES }
     {
-        self.uses.len()
+        self.details.len()
     }
 
     /// The line at a place, from 0.
     pub fn line(&self, i: usize) -> Line<'_>
         requires { i < length self.now }
-        ensures line { slice_get self.now i ≡ Some (seen result) }
-        ensures sound { IsUsageLine (seen result) }
+        ensures line { slice_get self.now i ≡ Some (usage_line_of result) }
+        ensures sound { IsUsageLine (usage_line_of result) }
     {
-        let used = &self.uses[i];
+        let detail = &self.details[i];
         Line {
             usage: self.names[i].as_slice(),
-            work: used.work.as_slice(),
-            territory: used.territory,
-            right: used.right,
-            amount: used.amount,
+            work: detail.work.as_slice(),
+            territory: detail.territory,
+            right: detail.right,
+            amount: detail.amount,
         }
     }
 }
 
 /// The line of the row at hand, which has this number.
-fn read_line(alloc: Global, number: u64, rows: &Rows<'_>) -> Result<(Text, Used), LineFault>
+fn read_line(alloc: Global, number: u64, rows: &Rows<'_>) -> Result<(Text, UsageDetail), LineFault>
     requires { number ≤ MOST_LINES }
     ensures line { IfOk result (λ line. IsLine rows.now.row × (line_with line.0 line.1 ≡ line_of rows.now.row)) }
     ensures fault { IfErr result (IsFaultOfRow number rows.now.row) }
@@ -163,13 +163,13 @@ fn read_line(alloc: Global, number: u64, rows: &Rows<'_>) -> Result<(Text, Used)
         return Err(LineFault::Amount(number));
     };
     let name = Text::of(alloc, usage)?;
-    let used = Used {
+    let detail = UsageDetail {
         work: Text::of(alloc, work)?,
         territory,
         right,
         amount,
     };
-    Ok((name, used))
+    Ok((name, detail))
 }
 
 /// The right that a field names.

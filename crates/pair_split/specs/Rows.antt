@@ -17,5 +17,5 @@ abbrev pub text_of : List (List ℕ × List ℕ) → List (ℕ × ℕ) → List 
 text_of labels portions = flat_map (λ e. row_of e.0.0 e.0.1 e.1.1) (zip labels portions)
 
 -- the division of an amount by words, as rows
-abbrev pub rows_of : ℕ → List (List ℕ) → List ℕ
-rows_of amount words = text_of (labels_of words) (portions_of amount (claims_of words))
+abbrev pub split_text : ℕ → List (List ℕ) → List ℕ
+split_text amount words = text_of (labels_of words) (portions_of amount (claims_of words))

@@ -5,7 +5,7 @@ ghost use Rattle.line_split.specs.declared.TheConstants.{MOST_AMOUNT};
 ghost use Rattle.line_split.specs.FirstPlace.{IsFirstPlace};
 ghost use Rattle.pair_split.specs.Pair.{IsPair, claims_of as claims_made, word_at};
 ghost use Rattle.pair_split.specs.PairFault.{AreSound, IsFaultOf, IsMalformed, IsNamedBefore};
-ghost use Rattle.pair_split.specs.Rows.{labels_of, row_of, rows_of, text_of};
+ghost use Rattle.pair_split.specs.Rows.{labels_of, row_of, split_text, text_of};
 
 use crate::pair::{is_pair, party_of, share_of, word};
 use crate::pair_fault::PairFault;
@@ -19,7 +19,7 @@ use std::alloc::{AllocError, Global};
 /// account k.
 pub fn split_words(alloc: Global, amount: u64, words: &[String]) -> Result<Vec<u8>, PairFault>
     requires { amount ≤ MOST_AMOUNT }
-    ensures rows { IfOk result (λ text. text.items ≡ rows_of amount (map string_bytes words.now)) }
+    ensures rows { IfOk result (λ text. text.items ≡ split_text amount (map string_bytes words.now)) }
     ensures sound { IfOk result (λ _. AreSound (map string_bytes words.now)) }
     ensures fault { IfErr result (IsFaultOf (map string_bytes words.now)) }
 {

@@ -5,8 +5,6 @@ mod division;
 pub mod laws;
 mod pair;
 mod pair_fault;
-#[cfg(test)]
-mod tests;
 
 pub use division::split_words;
 pub use pair::{MOST_PARTY_BYTES, MOST_SHARE_DIGITS, SEPARATOR, word};

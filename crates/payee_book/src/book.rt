@@ -10,7 +10,7 @@ use std::alloc::{AllocError, Global};
 use std::marker::Model;
 
 /// The statement of each account: its postings, pairs of a usage line's number and an amount in
-/// minor units, by rising line and amount.
+/// minor units, in order of line and amount.
 #[derive(Drop)]
 pub struct Book {
     statements: Vec<Vec<(u64, u64)>>,
@@ -94,7 +94,7 @@ impl Book {
         put(&mut self.statements[account as usize], place, posting)
     }
 
-    /// The postings of an account, by rising line and amount.
+    /// The postings of an account, in order of line and amount.
     pub fn lines(&self, account: Account) -> &[(u64, u64)]
         requires { account < length self.now }
         ensures postings { result.now ≡ slice_index_or self.now account [] }

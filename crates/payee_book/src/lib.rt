@@ -2,8 +2,6 @@
 #![tactic(auto)]
 
 mod book;
-#[cfg(test)]
-mod tests;
 mod text;
 
 pub use book::Book;

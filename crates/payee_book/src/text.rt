@@ -53,7 +53,7 @@ impl Book {
         reasons: &[Reason],
         out: &mut W,
     ) -> io::Result<()>
-        requires anew { rows ≡ empty_page }
+        requires empty { rows ≡ empty_page }
         requires parties { length parties.now ≡ length self.now }
         requires reasons { length reasons.now ≡ length usage.now }
         requires lines { All (All (λ posting. posting.0 < length usage.now)) self.now }
@@ -65,7 +65,7 @@ impl Book {
         }
         write_residue(&mut rows, usage, reasons, self.lines(RESIDUE), out)?;
         write_run(&mut rows, usage)?;
-        rows.pass_on(out)
+        rows.write_to(out)
     }
 }
 
@@ -92,7 +92,7 @@ fn write_payee<W: Write>(
     while written < statement.len() {
         let end = statement.len().min(written + LOOKED_UP_AT_ONCE);
         write_postings(rows, usage, party, &statement[written..end])?;
-        rows.pass_on_page(out)?;
+        rows.write_full_page_to(out)?;
         written = end;
     }
     Ok(write_total(rows, "S", party, statement)?)
@@ -136,7 +136,7 @@ fn write_residue<W: Write>(
         let reason = word_of(reasons[posting.0 as usize]);
         let name = usage_of(usage, posting.0);
         write_posting(rows, "M", reason.as_bytes(), name, posting.1)?;
-        rows.pass_on_page(out)?;
+        rows.write_full_page_to(out)?;
     }
     Ok(write_total(rows, "T", b"", statement)?)
 }

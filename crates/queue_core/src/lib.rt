@@ -17,8 +17,6 @@ mod sender;
 mod sender_steps;
 mod state;
 mod step;
-#[cfg(test)]
-mod tests;
 mod words;
 
 pub use item::{Item, Posted, Took};

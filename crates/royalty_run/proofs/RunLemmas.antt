@@ -311,7 +311,7 @@ pub error_is : (c : Command) (words : List Text) (e : Error) → IsRunCommand c
 unfolding IsErrorOf
 error_is c words e s fails = subst (λ (a : App). HasKind (fault_of a words) e) s.shape (fails (ap is_simple_and_free s.shape ∙ run_free))
 
--- want of memory may come at any words
+-- lack of memory may come at any words
 pub memory_is : {T : Type 0} (words : List Text) (r : Result T Error) → IsErrAnd r (λ e. kind_of e ≡ kinds.OutOfMemory) → IfErr r (IsErrorOf words)
 unfolding IsErrorOf
 memory_is words (Ok x) is = absurd is
@@ -329,7 +329,7 @@ no_help_given words e (inr among) none = (
   λ version. none (inr (subst (λ (k : ErrorKind). IsAmong k (fault_of run_app words)) version among)),
 )
 
--- and of words that are accepted there is none but want of memory
+-- and of words that are accepted there is none but lack of memory
 pub accepted_is_memory : (words : List Text) (e : Error) → IsErrorOf words e → AreAccepted words → kind_of e ≡ kinds.OutOfMemory
 unfolding IsErrorOf AreAccepted
 accepted_is_memory words e (inl memory) accepted = memory

@@ -4,7 +4,7 @@ use Rattle.line_split.specs.declared.TheConstants.{MOST_AMOUNT}
 use Rattle.royalty_run.specs.Asked.{AskForRun, IsDivision, IsRun, amount_of, number_given, number_in, pairs_of, path_given}
 use Rattle.pair_split.specs.Pair.{word_at}
 use Rattle.pair_split.specs.PairFault.{AreSound}
-use Rattle.pair_split.specs.Rows.{rows_of}
+use Rattle.pair_split.specs.Rows.{split_text}
 use Rattle.royalty_run.specs.Files.{AreStatementsOver}
 use Rattle.royalty_run.specs.declared.commands.Asked.{Asked}
 use Rattle.royalty_run.specs.declared.commands.Asked.TheVariants.{Division, Run}
@@ -59,7 +59,7 @@ IsRunInOrder words (Run asked) = AreReadInOrder (drop 1 words) asked
 pub record IsAnswerTo (words : List (List ℕ)) (text : List ℕ) : Type 0 where
   pub in_range : amount_of words ≤ MOST_AMOUNT
   pub sound : AreSound (pairs_of words)
-  pub rows : text ≡ rows_of (amount_of words) (pairs_of words)
+  pub rows : text ≡ split_text (amount_of words) (pairs_of words)
 
 -- The text answers the words, where a file of a path holds these bytes: those of a division with its rows, those of a run with the statements of the files that its options name.
 pub record IsAnswered (holds : List ℕ → List ℕ → Type 0) (words : List (List ℕ)) (text : List ℕ) : Type 0 where

@@ -20,7 +20,7 @@ use Rattle.settle_run.specs.declared.fault.Fault.TheVariants as input
 use Rattle.pair_split.specs.declared.pair_fault.PairFault.{PairFault}
 use Rattle.pair_split.specs.declared.pair_fault.PairFault.TheVariants as fault
 
--- 1 for an input that is refused, 2 for words that are, 3 for want of memory, 4 for a file that cannot be read and for an output that cannot be written
+-- 1 for an input that is refused, 2 for words that are, 3 for lack of memory, 4 for a file that cannot be read and for an output that cannot be written
 abbrev pub status_of : Failure → ℕ
 status_of (Words error) = 2
 status_of NotText = 2
@@ -49,7 +49,7 @@ text_of Room = Some (codes "royalty_run: out of room\n")
 text_of (File path) = Some (codes "royalty_run: cannot read " ++ string_bytes path ++ codes "\n")
 text_of Output = Some (codes "royalty_run: cannot write\n")
 
--- words and inputs are refused for what is wrong with them: want of memory is a failure of its own, and help is none
+-- words and inputs are refused for what is wrong with them: lack of memory is a failure of its own, and help is none
 abbrev pub IsRefusal : Failure → Type 0
 IsRefusal (Words error) =
     (kind_of error ≢ kinds.OutOfMemory) × (kind_of error ≢ kinds.DisplayHelp) × (kind_of error ≢ kinds.DisplayVersion)
@@ -59,13 +59,13 @@ IsRefusal Room = ⊤
 IsRefusal (File path) = ⊤
 IsRefusal _ = ⊥
 
--- a file fails for want of memory or by its own name
+-- a file fails for lack of memory or by its own name
 abbrev pub IsOfFile : String Global → Failure → Type 0
 IsOfFile path Room = ⊤
 IsOfFile path (File name) = string_bytes name ≡ string_bytes path
 IsOfFile path _ = ⊥
 
--- a run over the files of these paths fails for the first fault of the first of them that has one, for want of memory, or for one that cannot be read
+-- a run over the files of these paths fails for the first fault of the first of them that has one, for lack of memory, or for one that cannot be read
 abbrev pub IsOfPaths : (holds : List ℕ → List ℕ → Type 0) → (tis cwr usage : List ℕ) → Failure → Type 0
 IsOfPaths holds tis cwr usage (Input fault) = IsFaultOver holds tis cwr usage fault
 IsOfPaths holds tis cwr usage Room = ⊤
@@ -77,7 +77,7 @@ abbrev pub IsOfRun : (holds : List ℕ → List ℕ → Type 0) → List (List �
 IsOfRun holds words (Words error) = ¬ AreAccepted words
 IsOfRun holds words failure = IsOfPaths holds (path_given (codes "tis") words) (path_given (codes "cwr") words) (path_given (codes "usage") words) failure
 
--- a division fails for its pairs, which then have that fault, for other words, or for want of memory
+-- a division fails for its pairs, which then have that fault, for other words, or for lack of memory
 abbrev pub IsOfDivision : List (List ℕ) → Failure → Type 0
 IsOfDivision words (Pairs fault) = IsFaultOf (pairs_of words) fault
 IsOfDivision words (Words error) = ⊤
@@ -90,12 +90,12 @@ pub record FailFor (holds : List ℕ → List ℕ → Type 0) (words : List (Lis
   pub division : IsDivision words → IsOfDivision words failure
   pub run : word_at words 1 ≡ codes "run" → IsOfRun holds (drop 1 words) failure
 
--- want of memory is no fault of the pairs
+-- lack of memory is no fault of the pairs
 abbrev pub failure_of_fault : PairFault → Failure
 failure_of_fault fault.Memory = Room
 failure_of_fault f = Pairs f
 
--- want of memory is no fault of an input
+-- lack of memory is no fault of an input
 abbrev pub failure_of_run : Fault → Failure
 failure_of_run input.Room = Room
 failure_of_run f = Input f

@@ -14,10 +14,15 @@ use clap::{Command, Error};
 use pair_split::word;
 use std::alloc::{AllocError, Global};
 
+/// What `--version` says below the name: the version, and the kit that the program is built with.
+const VERSION: &str = "0.1.0\nrattle-kit-13b logic dac8208d650f15bf";
+
 /// What stands below the help of the whole program.
 const HELP: &str = "\
 `royalty_run run --help` says what the files of a distribution run have in them, and
 `royalty_run split --help` how an amount is divided.
+
+A refusal has a number and a place: the table of faults in docs/FORMATS.md says what to mend.
 
 Exit status:
   0  the answer was printed, or help
@@ -59,6 +64,7 @@ pub fn read_words(alloc: Global, words: &[String]) -> Result<Asked, Error>
 fn refusal(alloc: Global, words: &[String]) -> Result<Error, AllocError> {
     let mut whole = Command::new(alloc, "royalty_run")
         .bin_name("royalty_run")?
+        .version(VERSION)
         .about("Divide the money of music usage among those who are due it")
         .after_help(HELP)
         .subcommand_required(true)

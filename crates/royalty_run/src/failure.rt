@@ -74,13 +74,14 @@ fn write_fault<W: fmt::Write>(
     }
 }
 
-impl Failure {
-    ghost use Rattle.royalty_run.specs.Status.{failure_of_fault, failure_of_run, status_of, text_of};
+impl From<PairFault> for Failure {
+    ghost use Rattle.std.specs.Prelude.{◌≡◌};
+    ghost use Rattle.royalty_run.specs.Status.{failure_of_fault};
 
-    /// What a fault of the pairs is to the program: want of memory is no fault of theirs.
-    pub fn of(fault: PairFault) -> Failure
-        ensures { result ≡ failure_of_fault fault }
-    {
+    ghost from_gives = { λ fault given. given ≡ failure_of_fault fault };
+
+    /// Lack of memory is no fault of the pairs.
+    fn from(fault: PairFault) -> Failure {
         match fault {
             PairFault::Memory => Failure::Room,
             PairFault::Pair(_) | PairFault::Name(_) | PairFault::Share(_) | PairFault::Many => {
@@ -88,16 +89,25 @@ impl Failure {
             }
         }
     }
+}
 
-    /// What a fault of a run is to the program: want of memory is no fault of an input.
-    pub fn of_run(fault: Fault) -> Failure
-        ensures { result ≡ failure_of_run fault }
-    {
+impl From<Fault> for Failure {
+    ghost use Rattle.std.specs.Prelude.{◌≡◌};
+    ghost use Rattle.royalty_run.specs.Status.{failure_of_run};
+
+    ghost from_gives = { λ fault given. given ≡ failure_of_run fault };
+
+    /// Lack of memory is no fault of an input.
+    fn from(fault: Fault) -> Failure {
         match fault {
             Fault::Room => Failure::Room,
             Fault::Tis(_) | Fault::Cwr(_) | Fault::Usage(_) => Failure::Input(fault),
         }
     }
+}
+
+impl Failure {
+    ghost use Rattle.royalty_run.specs.Status.{status_of, text_of};
 
     /// The status that the program answers.
     pub fn status(&self) -> u8

@@ -1,6 +1,7 @@
 //! The command `run`, over files that the tests make.
 
 use crate::program::program;
+use run_tests::small_run::{SHORT, STATEMENTS, TERRITORIES, TWO_PARTIES, USES};
 use std::alloc::Global;
 use std::env;
 use std::fs::{self, OpenFile};
@@ -9,48 +10,6 @@ use std::rt::{Env, Files};
 use std::sync::Wait;
 use std::test::Fail;
 use std::thread::Threads;
-
-/// 9001 is a code of the examples' own.
-const TERRITORIES: &str = "code,groups\n2136,\n9001,2136\n276,9001\n840,2136\n";
-
-const USES: &str = "\
-usage,work,territory,right,amount
-u1,W1,276,P,100
-u2,W1,840,P,50
-u3,W9,276,P,7
-";
-
-/// A work of two parties: A all over the world but in 840, and B.
-const TWO_PARTIES: &str = "\
-NWR0000000000000000SONG                                                          W1
-SPU0000000000000001
-SPT0000000000000002A              060000600006000I2136
-SPT0000000000000003A                             E0840
-SPU0000000000000004
-SPT0000000000000005B              040000400004000I2136
-";
-
-/// The same, the first share line without its last byte.
-const SHORT: &str = "\
-NWR0000000000000000SONG                                                          W1
-SPU0000000000000001
-SPT0000000000000002A              060000600006000I213
-SPT0000000000000003A                             E0840
-SPU0000000000000004
-SPT0000000000000005B              040000400004000I2136
-";
-
-const STATEMENTS: &str = "\
-L,A,u1,60
-S,A,1,60
-L,B,u1,40
-L,B,u2,20
-S,B,2,60
-M,OPEN,u2,30
-M,WORK,u3,7
-T,,2,37
-R,,3,157
-";
 
 /// The status, the standard output and the standard error of a run of the program.
 fn answer<R: Files + AllocGlobal + Threads + Wait + Sync>(
@@ -296,20 +255,6 @@ fn reads_no_file_over_the_limit(rt: HostRuntime) -> Result<(), Fail> {
         text.as_str(),
         format!(in rt.alloc(); "4\nroyalty_run: cannot read {large}\n")?.as_str()
     );
-    Ok(())
-}
-
-#[test]
-fn reads_a_file_of_the_most_bytes(rt: HostRuntime) -> Result<(), Fail> {
-    let (tis, most) = (path_of(&rt, "header")?, path_of(&rt, "most")?);
-    fs::write(&rt, tis.as_str(), "code\n")?;
-    fs::create(&rt, most.as_str())?.set_len(268_435_456)?;
-    let plan = "--workers 1 --readers 1 --nodes 1";
-    let line = format!(in rt.alloc(); "r run --tis {tis} --cwr {tis} --usage {most} {plan}")?;
-    let text = answer(&rt, line.as_str())?;
-    fs::remove_file(&rt, most.as_str())?;
-    fs::remove_file(&rt, tis.as_str())?;
-    assert_eq!(rt; text.as_str(), "1\nroyalty_run: tis fault 1 at row 0\n");
     Ok(())
 }
 

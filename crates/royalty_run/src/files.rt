@@ -63,7 +63,7 @@ pub fn read_whole<S: Read + Drop>(alloc: Global, from: S, room: usize) -> io::Re
 }
 
 /// Prints the statements of a run over three files. All are read, in the order of the fields, before any
-/// is looked into.
+/// is parsed.
 pub fn settle_files<R: Threads + Wait + Sync, S: Source, W: Write>(
     rt: &R,
     alloc: Global,
@@ -89,7 +89,7 @@ pub fn settle_files<R: Threads + Wait + Sync, S: Source, W: Write>(
     let usage = read_file(files, alloc, usage)?;
     match settle_to(rt, alloc, tis, cwr, usage, plan, out) {
         Ok(printed) => Ok(printed),
-        Err(fault) => Err(Failure::of_run(fault)),
+        Err(fault) => Err(Failure::from(fault)),
     }
 }
 

@@ -48,7 +48,7 @@ pub(crate) fn no_words(kind: io::ErrorKind) -> Failure
 /// Does what the words ask for, of which the first is the program's own name. The answer goes to
 /// `out`, and what went wrong to `err`. The status is 0 where the answer was printed or help was
 /// asked for, 1 where an input file is refused for what is in it, 2 where the words are refused, 3 for
-/// want of memory, and 4 where a file cannot be read or `out` refused a write.
+/// lack of memory, and 4 where a file cannot be read or `out` refused a write.
 pub fn program<R: Files + Threads + Wait + Sync, W: Write, E: Write>(
     rt: &R,
     alloc: Global,
@@ -77,7 +77,7 @@ fn end<W: Write, E: Write>(answer: Result<io::Result<()>, Failure>, out: &mut W,
     ensures quiet { result ≡ 0 → err.new ≡ err.old }
 {
     match answer {
-        Ok(printed) => match see_through(printed, out) {
+        Ok(printed) => match flush_after(printed, out) {
             Ok(()) => 0,
             Err(_) => Failure::Output.report(err),
         },
@@ -104,7 +104,7 @@ fn answer<R: Threads + Wait + Sync, S: Source, W: Write>(
         Ok(Asked::Division(asked)) => {
             match split_words(alloc, asked.amount, asked.pairs.as_slice()) {
                 Ok(text) => Ok(out.write_all(text.as_slice())),
-                Err(fault) => Err(Failure::of(fault)),
+                Err(fault) => Err(Failure::from(fault)),
             }
         }
         Ok(Asked::Run(asked)) => settle_files(rt, alloc, files, asked, out),
@@ -118,7 +118,7 @@ fn answer<R: Threads + Wait + Sync, S: Source, W: Write>(
 }
 
 /// Sees what was printed through to the output, where nothing was refused.
-fn see_through<W: Write>(printed: io::Result<()>, out: &mut W) -> io::Result<()>
+fn flush_after<W: Write>(printed: io::Result<()>, out: &mut W) -> io::Result<()>
     ensures printed { IsOk result → IsOk printed }
     ensures kept { Keeps (W.contents out.old) (W.contents out.new) }
 {

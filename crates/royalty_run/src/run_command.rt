@@ -22,11 +22,15 @@ A file has at most 268435456 bytes. The tables are CSV with a header:
                code, P (performing), M (mechanical) or S (synchronisation), and minor units, as cents
 The registrations are a CWR 2.2 file: of NWR and REV records the submitter work number is read, of
 SPT and SWT records the party, the three collection shares, the mark I or E and the territory.
+Records of other types are skipped, and nothing checks that the file is CWR, or all of it.
 
 The answer is CSV too. A row L,party,usage,amount for each portion of a party, then its sum
 S,party,count,total; for each portion of the residue M,reason,usage,amount with the reason WORK,
 LAND, OVER or OPEN, then T,,count,total; last R,,lines,amount.
-The numbers of workers, readers and nodes have no bearing on it.
+The numbers of workers, readers and nodes have no bearing on it. A row M,WORK is a usage line whose
+work has no registration: many of them say that the wrong file, or half of one, went in.
+
+A refusal has a number and a place: the table of faults in docs/FORMATS.md says what to mend.
 
 Example:
   royalty_run run --tis territories.csv --cwr works.cwr --usage usage.csv \\

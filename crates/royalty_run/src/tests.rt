@@ -240,6 +240,8 @@ fn tells_what_the_words_are(rt: HostRuntime) -> Result<(), Fail> {
         ),
         ("r --help", "  2  the words are refused\n"),
         ("r --help", "  3  memory was refused\n"),
+        ("r --help", "table of faults in docs/FORMATS.md"),
+        ("r --version", "royalty_run 0.1.0\nrattle-kit-"),
         ("r help split", "Usage: royalty_run split"),
         ("r help run", "Usage: royalty_run run"),
         (
@@ -250,6 +252,9 @@ fn tells_what_the_words_are(rt: HostRuntime) -> Result<(), Fail> {
         ("r run --help", "code,groups: a TIS numeric code"),
         ("r run --help", "usage,work,territory,right,amount: a name"),
         ("r run --help", "CWR 2.2"),
+        ("r run --help", "Records of other types are skipped"),
+        ("r run --help", "A row M,WORK is a usage line"),
+        ("r run --help", "table of faults in docs/FORMATS.md"),
         (
             "r run --help",
             "P (performing), M (mechanical) or S (synchronisation)",
@@ -329,29 +334,35 @@ fn says_what_failed(rt: HostRuntime) -> Result<(), Fail> {
     let alloc = rt.alloc();
     for (failure, want) in [
         (
-            Failure::of(PairFault::Share(7)),
+            Failure::from(PairFault::Share(7)),
             "royalty_run: pair fault 3 at 7\n",
         ),
-        (Failure::of(PairFault::Many), "royalty_run: pair fault 4\n"),
-        (Failure::of(PairFault::Memory), "royalty_run: out of room\n"),
+        (
+            Failure::from(PairFault::Many),
+            "royalty_run: pair fault 4\n",
+        ),
+        (
+            Failure::from(PairFault::Memory),
+            "royalty_run: out of room\n",
+        ),
         (
             no_words(io::ErrorKind::InvalidData),
             "royalty_run: an argument is not UTF-8\n",
         ),
         (no_words(io::ErrorKind::Other), "royalty_run: out of room\n"),
         (
-            Failure::of_run(Fault::Tis(TisFault::Rows)),
+            Failure::from(Fault::Tis(TisFault::Rows)),
             "royalty_run: tis fault 5\n",
         ),
         (
-            Failure::of_run(Fault::Cwr(CwrFault::Accounts)),
+            Failure::from(Fault::Cwr(CwrFault::Accounts)),
             "royalty_run: cwr fault 8\n",
         ),
         (
-            Failure::of_run(Fault::Usage(LineFault::Lines)),
+            Failure::from(Fault::Usage(LineFault::Lines)),
             "royalty_run: usage fault 6\n",
         ),
-        (Failure::of_run(Fault::Room), "royalty_run: out of room\n"),
+        (Failure::from(Fault::Room), "royalty_run: out of room\n"),
     ] {
         assert_eq!(rt; format!(in alloc; "{failure}")?.as_str(), want);
     }

@@ -1,4 +1,4 @@
--- What the fault of an input is to a run: want of memory is no fault of the input.
+-- What the fault of an input is to a run: lack of memory is no fault of the input.
 use Rattle.std.specs.Prelude.{ℕ, Option, None}
 use Rattle.tis_tree.specs.TisRows as tis
 use Rattle.tis_tree.specs.declared.tis_fault.TisFault.{TisFault}

@@ -58,7 +58,7 @@ pub record AreStatementsOf (territories_file registrations_file usage_file text 
   pub read : IsReading territories_file registrations_file usage_file table registered lines
   pub statements : AreStatementsFor table registered lines text
 
--- What a run is refused for: the first input that is refused, for its first fault; the inputs before it have none. Want of memory is no fault of an input.
+-- What a run is refused for: the first input that is refused, for its first fault; the inputs before it have none. Lack of memory is no fault of an input.
 abbrev pub IsFaultOf : (territories_file registrations_file usage_file : List ℕ) → Fault → Type 0
 IsFaultOf territories_file registrations_file usage_file (Tis fault) = tis.IsFaultOf (rows_of territories_file) fault × (fault ≢ tis_fault.Memory)
 IsFaultOf territories_file registrations_file usage_file (Cwr fault) =

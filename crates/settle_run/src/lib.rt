@@ -4,8 +4,6 @@
 mod fault;
 pub mod laws;
 mod statements;
-#[cfg(test)]
-mod tests;
 
 pub use fault::Fault;
 pub use statements::{settle, settle_to};

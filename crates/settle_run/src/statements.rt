@@ -11,7 +11,7 @@ ghost use Rattle.line_split.specs.declared.TheConstants.{MOST_AMOUNT};
 ghost use Rattle.payee_book.specs.Run.{IsBookOf, portion_of, posting_of};
 ghost use Rattle.payee_book.specs.Text.{residue_rows, rows_of_book};
 ghost use Rattle.settle_run.specs.declared.statements.TheConstants.{LOOKED_UP_AT_ONCE};
-ghost use Rattle.settle_run.specs.Settled.{AreStatementsFor, AreStatementsOf, HaveNoFault, IsFaultOf, division_by, reason_of};
+ghost use Rattle.settle_run.specs.Settled.{AreStatementsFor, AreStatementsOf, HaveNoFault, IsFaultOf, IsReading, division_by, reason_of};
 
 use crate::fault::Fault;
 use csv_table::RowWriter;
@@ -39,9 +39,7 @@ pub fn settle<R: Threads + Wait + Sync>(
     ensures statements { IfOk result (λ text. AreStatementsOf tis.now cwr.now usage.now text.items) }
     ensures fault { IfErr result (IsFaultOf tis.now cwr.now usage.now) }
 {
-    let territories = TisTable::read(alloc, tis)?;
-    let registry = Registry::read(alloc, cwr)?;
-    let lines = Usage::read(alloc, usage)?;
+    let (territories, registry, lines) = read_all(alloc, tis, cwr, usage)?;
     let (book, reasons) = settled(alloc, &territories, &registry, &lines)?;
     Ok(book.text(alloc, &lines, registry.parties(), reasons.as_slice())?)
 }
@@ -63,15 +61,53 @@ pub fn settle_to<R: Threads + Wait + Sync, W: Write>(
     ensures fault { IfErr result (IsFaultOf tis.items cwr.items usage.items) }
     ensures silent { IfErr result (λ _. out.new ≡ out.old) }
 {
-    let territories = TisTable::read(alloc, tis.as_slice())?;
-    drop(tis);
-    let registry = Registry::read(alloc, cwr.as_slice())?;
-    drop(cwr);
-    let lines = Usage::read(alloc, usage.as_slice())?;
-    drop(usage);
+    let (territories, registry, lines) = read_all(alloc, tis, cwr, usage)?;
     let (book, reasons) = settled(alloc, &territories, &registry, &lines)?;
     let rows = RowWriter::with_room(alloc)?;
     Ok(book.print(rows, &lines, registry.parties(), reasons.as_slice(), out))
+}
+
+/// The bytes of an input, lent or given away.
+trait Input {
+    // these bytes
+    ghost bytes: { Self → List ℕ };
+
+    fn bytes(&self) -> &[u8]
+        ensures { result.now ≡ bytes self.now };
+}
+
+impl Input for &[u8] {
+    ghost bytes = { λ lent. lent.now };
+
+    fn bytes(&self) -> &[u8] {
+        self
+    }
+}
+
+impl Input for Vec<u8> {
+    ghost bytes = { λ given. given.items };
+
+    fn bytes(&self) -> &[u8] {
+        self.as_slice()
+    }
+}
+
+/// Reads the three inputs, in order. One that was given away is freed as soon as it is read.
+fn read_all<I: Input + Drop>(
+    alloc: Global,
+    tis: I,
+    cwr: I,
+    usage: I,
+) -> Result<(TisTable, Registry, Usage), Fault>
+    ensures read { IfOk result (λ read. IsReading (I.bytes tis) (I.bytes cwr) (I.bytes usage) read.0 read.1 read.2) }
+    ensures fault { IfErr result (IsFaultOf (I.bytes tis) (I.bytes cwr) (I.bytes usage)) }
+{
+    let territories = TisTable::read(alloc, tis.bytes())?;
+    drop(tis);
+    let registry = Registry::read(alloc, cwr.bytes())?;
+    drop(cwr);
+    let lines = Usage::read(alloc, usage.bytes())?;
+    Ok((territories, registry, lines))
 }
 
 /// The book of usage lines by these territories and registrations, and the reason of each line that has a

@@ -3,8 +3,6 @@
 
 pub mod laws;
 mod plan;
-#[cfg(test)]
-mod tests;
 
 pub use plan::Plan;
 

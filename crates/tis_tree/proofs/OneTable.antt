@@ -1,4 +1,4 @@
--- Rows are a table of territories in one way only, and a table has no fault but want of memory.
+-- Rows are a table of territories in one way only, and a table has no fault but lack of memory.
 use Rattle.std.proofs.Common.{◌≡◌, ◌≤◌, ◌<◌, ◌+◌, ℕ, List, ◌∷◌, ◌++◌, length, map, ap, refl, subst, inl, inr, arith, length-append}
 use Rattle.std.proofs.Math.Seq.{get_or-append_seam, take-append_seam}
 use Rattle.tis_tree.specs.TisRows.{AreRows, IsFaultOf, IsFaultOfRow, IsFirstFault, IsTableOf, IsTerritory, territory_of}
@@ -12,7 +12,7 @@ one_table rows table other is too =
     let same : is.below ≡ too.below = cc in
     rw (is.same, too.same, same) refl
 
--- a row that is a territory is refused for nothing but want of memory
+-- a row that is a territory is refused for nothing but lack of memory
 sound_row : (earlier : List (ℕ × List ℕ)) (row : List (List ℕ)) (number : ℕ) (fault : TisFault)
     → IsTerritory earlier row → number ≤ MOST_ROWS → IsFaultOfRow earlier number row fault → fault ≡ Memory
 sound_row earlier row number (Csv n) good few refused = absurd (refused.2 good.whole)
@@ -29,7 +29,7 @@ row_between before row after sound =
     let within : length before < length (before ++ row ∷ after) = omega (arith, length-append before (row ∷ after)) in
     rw (take-append_seam, get_or-append_seam) at (sound (length before) within)
 
--- no row of a table is the first that is refused, but for want of memory
+-- no row of a table is the first that is refused, but for lack of memory
 no_first_fault : (rows : List (List (List ℕ))) (table : List (ℕ × List ℕ)) (fault : TisFault) → IsTableOf rows table → IsFirstFault rows fault → fault ≡ Memory
 no_first_fault rows table fault is first =
     let same : is.below ≡ first.before ++ first.row ∷ first.after = cc in
@@ -38,7 +38,7 @@ no_first_fault rows table fault is first =
     (omega (arith, is.few, ap length same, length-append first.before (first.row ∷ first.after)))
     first.refused
 
--- rows that are a table are refused for nothing but want of memory
+-- rows that are a table are refused for nothing but lack of memory
 pub no_fault : (rows : List (List (List ℕ))) (table : List (ℕ × List ℕ)) (fault : TisFault) → IsTableOf rows table → IsFaultOf rows fault → fault ≡ Memory
 no_fault rows table (Csv n) is (inl (first, none)) = absurd (none is.below is.headed)
 no_fault rows table (Csv n) is (inr first) = no_first_fault rows table (Csv n) is first

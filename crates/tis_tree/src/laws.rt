@@ -43,7 +43,7 @@ pub fn law_rows_are_one_table()
     ensures { (rows : List (List (List ℕ))) (table other : List (ℕ × List ℕ)) → IsTableOf rows table → IsTableOf rows other → table ≡ other }
 {}
 
-/// Rows that are a table of territories are refused for nothing but want of memory.
+/// Rows that are a table of territories are refused for nothing but lack of memory.
 pub fn law_a_table_has_no_fault()
     ensures { (rows : List (List (List ℕ))) (table : List (ℕ × List ℕ)) (fault : TisFault) → IsTableOf rows table → IsFaultOf rows fault → fault ≡ Memory }
 {}

@@ -4,8 +4,6 @@
 mod code;
 pub mod laws;
 mod places;
-#[cfg(test)]
-mod tests;
 mod tis_fault;
 mod tis_table;
 mod words;

@@ -28,8 +28,8 @@ module _ (c : goal.After-numbers-in-loop-shares-1) where
   same_texts : map (λ (number : ArrayVec ℕ). number.items) c.in_ok-numbers.numbers.keys ≡ map (λ (party : Vec ℕ Global). party.items) c.in_ok-parties.parties.items
   same_texts = rw c.as_slice-2.ensures.value at c.in_ok-numbers.ensures
 
-pub set-requires-clause-accounts : goal.set-requires-clause-accounts
-set-requires-clause-accounts c =
+pub compile-requires-clause-accounts : goal.compile-requires-clause-accounts
+compile-requires-clause-accounts c =
     let accounts = are_accounts c in
     omega (
       arith,
@@ -39,8 +39,8 @@ set-requires-clause-accounts c =
       accounts.few,
     )
 
-pub set-requires-clause-known : goal.set-requires-clause-known
-set-requires-clause-known c =
+pub compile-requires-clause-known : goal.compile-requires-clause-known
+compile-requires-clause-known c =
     let lists = c.args.lists.items in
     let parties = map (λ (party : Vec ℕ Global). party.items) c.in_ok-parties.parties.items in
     let within = rw c.deref-shares-items.ensures.value at c.loop-shares-test.true in
@@ -52,15 +52,15 @@ set-requires-clause-known c =
 pub and-requires-clause-few : goal.and-requires-clause-few
 and-requires-clause-few c =
     let parties = map (λ (party : Vec ℕ Global). party.items) c.in_ok-parties.parties.items in
-    let registration = whole c.set.new.self in
+    let registration = whole c.compile.new.self in
     let texts : map (λ (number : ArrayVec ℕ). number.items) c.in_ok-numbers.numbers.keys ≡ parties = rw c.as_slice-2.ensures.value at c.in_ok-numbers.ensures in
     let same : kept_lines parties registration ≡ c.shares-item.result.items =
-    subst (λ (texts : List (List ℕ)). kept_lines texts (whole c.set.new.self) ≡ c.shares-item.result.items) texts
-    (rw c.as_slice-in-loop-shares.ensures.value at c.in_ok-set.ensures.shares) in
+    subst (λ (texts : List (List ℕ)). kept_lines texts (whole c.compile.new.self) ≡ c.shares-item.result.items) texts
+    (rw c.as_slice-in-loop-shares.ensures.value at c.in_ok-compile.ensures.shares) in
     let inside : c.loop-shares.shares-index < length c.args.lists.items = rw c.deref-shares-items.ensures.value at c.loop-shares-test.true in
     let is = rw c.deref-shares-items.ensures.value at c.shares-item.is in
     let few = subst (λ (lines : Vec ShareLine Global). length lines.items ≤ MOST_SHARES) (sym is) (c.requires.lists c.loop-shares.shares-index c.shares-item.result inside).few in
-    omega (arith, c.in_ok-set.ensures.paired, ap (λ (lines : List ShareLine). length lines) same, length-map registration.shares (line_by parties), few)
+    omega (arith, c.in_ok-compile.ensures.paired, ap (λ (lines : List ShareLine). length lines) same, length-map registration.shares (line_by parties), few)
 
 pub loop-shares-preserved : goal.loop-shares-preserved
 loop-shares-preserved c =
@@ -69,14 +69,14 @@ loop-shares-preserved c =
     let n = c.loop-shares.shares-index in
     let shares = c.shares-item.result in
     let texts : map (λ (number : ArrayVec ℕ). number.items) c.in_ok-numbers.numbers.keys ≡ parties = rw c.as_slice-2.ensures.value at c.in_ok-numbers.ensures in
-    let same : kept_lines parties (whole c.set.new.self) ≡ shares.items =
-    subst (λ (texts : List (List ℕ)). kept_lines texts (whole c.set.new.self) ≡ c.shares-item.result.items) texts
-    (rw c.as_slice-in-loop-shares.ensures.value at c.in_ok-set.ensures.shares) in
-    let kept : IsKept parties (whole c.set.new.self) = subst (λ (texts : List (List ℕ)). IsKept texts (whole c.set.new.self)) texts c.in_ok-set.ensures.kept in
+    let same : kept_lines parties (whole c.compile.new.self) ≡ shares.items =
+    subst (λ (texts : List (List ℕ)). kept_lines texts (whole c.compile.new.self) ≡ c.shares-item.result.items) texts
+    (rw c.as_slice-in-loop-shares.ensures.value at c.in_ok-compile.ensures.shares) in
+    let kept : IsKept parties (whole c.compile.new.self) = subst (λ (texts : List (List ℕ)). IsKept texts (whole c.compile.new.self)) texts c.in_ok-compile.ensures.kept in
     rw c.in_ok-registrations-2.ensures (record {
-      lists = lists_next parties c.loop-shares.registrations (whole c.set.new.self) (take n lists) shares same c.loop-shares.invariant.lists
+      lists = lists_next parties c.loop-shares.registrations (whole c.compile.new.self) (take n lists) shares same c.loop-shares.invariant.lists
           ∙ ap (map (λ (lines : Vec ShareLine Global). lines.items)) (sym (take_more lists n shares c.loop-shares-test.true ∙ ap (λ (next : Vec ShareLine Global). take n lists ++ next ∷ []) (sym c.shares-item.is)));
-      kept = All-push (IsKept parties) c.loop-shares.registrations (whole c.set.new.self) c.loop-shares.invariant.kept kept;
+      kept = All-push (IsKept parties) c.loop-shares.registrations (whole c.compile.new.self) c.loop-shares.invariant.kept kept;
     })
 
 -- every list has its registration

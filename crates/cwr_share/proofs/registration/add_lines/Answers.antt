@@ -17,10 +17,10 @@ loop-entry-preserved c =
     ∙ c.loop-entry.invariant)
 
 pub returns : goal.returns
-returns c = λ payees ordered.
+returns c = λ claimants ordered.
     let lines = map (line_by []) c.args.shares.now in
     let past : drop c.loop-entry.entry-index c.args.order.now ≡ [] = drop_all c.loop-entry.entry-index c.args.order.now c.loop-entry-test.false in
-    let all = lines_of_all (line_at lines) payees None ordered.rising (λ k d within. tt) in
+    let all = lines_of_all (line_at lines) claimants None ordered.rising (λ k d within. tt) in
     sym (append-nil c.loop-entry.lines.items)
     ∙ (ap (λ (rest : List Placed). c.loop-entry.lines.items ++ lines_in (line_at lines) c.loop-entry.later rest) (sym past)
     ∙ (c.loop-entry.invariant

@@ -8,16 +8,16 @@ use Rattle.cwr_share.proofs.OrderLemmas.{in_order_rises, put, put_at, put_in_ord
 use Rattle.cwr_share.proofs.registration.add_place.Goals as goal
 
 pub returns : goal.returns
-returns c = λ payees ordered.
+returns c = λ claimants ordered.
     let order = c.args.order.now.items in
     let account = c.args.account in
     let place = c.args.place in
-    let rises = subst (IsNonDecreasingBy (λ (entry : Placed). entry.account)) (sym ordered.exact) (in_order_rises payees ordered.rising) in
+    let rises = subst (IsNonDecreasingBy (λ (entry : Placed). entry.account)) (sym ordered.exact) (in_order_rises claimants ordered.rising) in
     let parted = IsPartitionedBy-ltb (λ (entry : Placed). entry.account) order account rises in
     let split = (rw c.as_slice.ensures.value at c.partition_point-at.ensures.partitioned) (λ entry. ltb entry.account account) (always_returns_same _ _ _ (λ a r f k. search rules)) parted in
     record {
-      rising = rising_with_place account place payees ordered.rising;
+      rising = rising_with_place account place claimants ordered.rising;
       exact = c.in_ok-insert.ensures.items
           ∙ (put_at account place order c.partition_point-at.result (rw c.as_slice.ensures.value at c.partition_point-at.ensures.bound) split
-          ∙ (ap (put account place) ordered.exact ∙ put_in_order account place payees ordered.rising));
+          ∙ (ap (put account place) ordered.exact ∙ put_in_order account place claimants ordered.rising));
     }

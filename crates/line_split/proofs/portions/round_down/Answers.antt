@@ -4,10 +4,10 @@ use Rattle.std.proofs.lemmas.List.{length-map, length-take-le, map_push, get_or_
 use Rattle.std.proofs.lemmas.List.Edits.{map_over_more}
 use Rattle.std.proofs.lemmas.List.Sums.{sum_by_more, sum_by_more_le}
 use Rattle.line_split.specs.declared.TheConstants.{MOST_CLAIMED}
-use Rattle.line_split.specs.declared.turn.Turn.{Turn}
-use Rattle.line_split.specs.LargestRemainder.{quota_of, remainder_of, turns_of}
-use Rattle.line_split.specs.Turns.{seen}
-use Rattle.line_split.proofs.Division.{quota_fits, turns_more, length-turns, unwritten}
+use Rattle.line_split.specs.declared.contender.Contender.{Contender}
+use Rattle.line_split.specs.LargestRemainder.{contenders_of, quota_of, remainder_of}
+use Rattle.line_split.specs.Contenders.{place_and_remainder}
+use Rattle.line_split.proofs.Division.{quota_fits, contenders_more, length-contenders, unwritten}
 use Rattle.line_split.proofs.portions.round_down.Goals as goal
 
 pub overflow_mul-amount : goal.overflow_mul-amount
@@ -30,11 +30,11 @@ overflow_sub-left c =
 pub push_reserved-requires : goal.push_reserved-requires
 push_reserved-requires c =
     let lt : c.loop-place.place < length c.args.list.now = omega (arith, c.loop-place-test.true, c.loop-place.auto.list) in
-    let many : length (map seen c.loop-place.turns.items) ≡ c.loop-place.place =
-    ap (λ (l : List (ℕ × ℕ)). length l) c.loop-place.invariant.turns
-    ∙ (length-turns c.args.amount c.args.base (take c.loop-place.place c.args.list.now)
+    let many : length (map place_and_remainder c.loop-place.contenders.items) ≡ c.loop-place.place =
+    ap (λ (l : List (ℕ × ℕ)). length l) c.loop-place.invariant.contenders
+    ∙ (length-contenders c.args.amount c.args.base (take c.loop-place.place c.args.list.now)
     ∙ length-take-le c.loop-place.place c.args.list.now (omega arith)) in
-    omega (arith, many, length-map c.loop-place.turns.items seen, c.loop-place.turns.ok.0, c.loop-place.invariant.room, c.clear.ensures.capacity)
+    omega (arith, many, length-map c.loop-place.contenders.items place_and_remainder, c.loop-place.contenders.ok.0, c.loop-place.invariant.room, c.clear.ensures.capacity)
 
 pub loop-place-preserved : goal.loop-place-preserved
 loop-place-preserved c =
@@ -50,12 +50,12 @@ loop-place-preserved c =
           ∙ map_over_more (λ (p : ℕ × ℕ). (p.0, quota_of c.args.amount c.args.base p.1)) c.args.list.now c.loop-place.list c.loop-place.place
           (get_or c.loop-place.list c.loop-place.place (0, 0)) lt c.loop-place.invariant.quotas
           (get_or_default c.loop-place.list c.loop-place.place (0, 0) (get_or c.loop-place.list c.loop-place.place (0, 0)) at_place);
-      turns = ap (λ (l : List Turn). map seen l) c.push_reserved.ensures.items
-          ∙ (map_push seen c.loop-place.turns.items c.of.result
-          ∙ (ap (λ (t : ℕ × ℕ). map seen c.loop-place.turns.items ++ t ∷ []) c.of.ensures
-          ∙ (ap (λ (l : List (ℕ × ℕ)). l ++ (c.loop-place.place, c.divided-quota.result.1) ∷ []) c.loop-place.invariant.turns
-          ∙ (ap (λ (r : ℕ). turns_of c.args.amount c.args.base (take c.loop-place.place c.args.list.now) ++ (c.loop-place.place, r) ∷ []) rest
-          ∙ sym (turns_more c.args.amount c.args.base c.args.list.now c.loop-place.place (0, 0) lt)))));
+      contenders = ap (λ (l : List Contender). map place_and_remainder l) c.push_reserved.ensures.items
+          ∙ (map_push place_and_remainder c.loop-place.contenders.items c.of.result
+          ∙ (ap (λ (t : ℕ × ℕ). map place_and_remainder c.loop-place.contenders.items ++ t ∷ []) c.of.ensures
+          ∙ (ap (λ (l : List (ℕ × ℕ)). l ++ (c.loop-place.place, c.divided-quota.result.1) ∷ []) c.loop-place.invariant.contenders
+          ∙ (ap (λ (r : ℕ). contenders_of c.args.amount c.args.base (take c.loop-place.place c.args.list.now) ++ (c.loop-place.place, r) ∷ []) rest
+          ∙ sym (contenders_more c.args.amount c.args.base c.args.list.now c.loop-place.place (0, 0) lt)))));
       left = omega (arith, fits, more, c.loop-place.invariant.left, quota);
       room = omega (arith, c.push_reserved.ensures.capacity, c.loop-place.invariant.room);
     }

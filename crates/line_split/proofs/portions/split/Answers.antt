@@ -1,12 +1,12 @@
 use Rattle.std.proofs.Common.{◌≡◌, ◌<◌, ℕ, List, length, map, get_or, sum_by, sym, ap, ◌∙◌, arith}
 use Rattle.std.proofs.lemmas.List.{length-map, take_at}
 use Rattle.line_split.specs.LargestRemainder.{portions_of, quota_of}
-use Rattle.line_split.specs.Turns.{seen}
-use Rattle.line_split.specs.declared.turn.Turn.{Turn}
+use Rattle.line_split.specs.Contenders.{place_and_remainder}
+use Rattle.line_split.specs.declared.contender.Contender.{Contender}
 use Rattle.line_split.proofs.Fair.{base_positive, portions_are_fair}
 use Rattle.line_split.proofs.ClaimLemmas.{base_small}
-use Rattle.line_split.proofs.Places.{turn_at}
-use Rattle.line_split.proofs.Division.{length-turns, portions_made, small_portions, units_fit}
+use Rattle.line_split.proofs.Places.{contender_at}
+use Rattle.line_split.proofs.Division.{length-contenders, portions_made, small_portions, units_fit}
 use Rattle.line_split.proofs.portions.split.Goals as goal
 
 pub round_down-left-requires-clause-some : goal.round_down-left-requires-clause-some
@@ -17,23 +17,23 @@ pub give_units-requires-clause-few : goal.give_units-requires-clause-few
 give_units-requires-clause-few c =
     let few = units_fit c.args.amount c.enter-base.result c.round_down-left.result c.list.result.now c.as_mut_slice-list.result.now
     c.enter-base.ensures.base (c.as_mut_slice-list.ensures.value ∙ c.enter-base.ensures.participants) c.round_down-left.ensures.left in
-    let turns = ap (λ (l : List Turn). map seen l) c.as_mut_slice.ensures.value ∙ c.round_down-left.ensures.turns in
-    omega (arith, few, length-map c.as_mut_slice.result.now seen, ap (λ (l : List (ℕ × ℕ)). length l) turns, length-turns c.args.amount c.enter-base.result c.as_mut_slice-list.result.now)
+    let contenders = ap (λ (l : List Contender). map place_and_remainder l) c.as_mut_slice.ensures.value ∙ c.round_down-left.ensures.contenders in
+    omega (arith, few, length-map c.as_mut_slice.result.now place_and_remainder, ap (λ (l : List (ℕ × ℕ)). length l) contenders, length-contenders c.args.amount c.enter-base.result c.as_mut_slice-list.result.now)
 
 pub give_units-requires-clause-places : goal.give_units-requires-clause-places
 give_units-requires-clause-places c k d lt =
-    let turns = ap (λ (l : List Turn). map seen l) c.as_mut_slice.ensures.value ∙ c.round_down-left.ensures.turns in
+    let contenders = ap (λ (l : List Contender). map place_and_remainder l) c.as_mut_slice.ensures.value ∙ c.round_down-left.ensures.contenders in
     let in_list : k < length c.as_mut_slice-list.result.now =
-    omega (arith, lt, length-map c.as_mut_slice.result.now seen, ap (λ (l : List (ℕ × ℕ)). length l) turns, length-turns c.args.amount c.enter-base.result c.as_mut_slice-list.result.now) in
-    ap (λ (l : List (ℕ × ℕ)). (get_or l k d).0) turns
-    ∙ ap (λ (turn : ℕ × ℕ). turn.0) (turn_at c.args.amount c.enter-base.result c.as_mut_slice-list.result.now k d in_list)
+    omega (arith, lt, length-map c.as_mut_slice.result.now place_and_remainder, ap (λ (l : List (ℕ × ℕ)). length l) contenders, length-contenders c.args.amount c.enter-base.result c.as_mut_slice-list.result.now) in
+    ap (λ (l : List (ℕ × ℕ)). (get_or l k d).0) contenders
+    ∙ ap (λ (contender : ℕ × ℕ). contender.0) (contender_at c.args.amount c.enter-base.result c.as_mut_slice-list.result.now k d in_list)
 
 pub give_units-requires-clause-each : goal.give_units-requires-clause-each
 give_units-requires-clause-each c =
-    let turns = ap (λ (l : List Turn). map seen l) c.as_mut_slice.ensures.value ∙ c.round_down-left.ensures.turns in
-    sym (length-map c.as_mut_slice.result.now seen)
-    ∙ (ap (λ (l : List (ℕ × ℕ)). length l) turns
-    ∙ (length-turns c.args.amount c.enter-base.result c.as_mut_slice-list.result.now
+    let contenders = ap (λ (l : List Contender). map place_and_remainder l) c.as_mut_slice.ensures.value ∙ c.round_down-left.ensures.contenders in
+    sym (length-map c.as_mut_slice.result.now place_and_remainder)
+    ∙ (ap (λ (l : List (ℕ × ℕ)). length l) contenders
+    ∙ (length-contenders c.args.amount c.enter-base.result c.as_mut_slice-list.result.now
     ∙ (sym (length-map c.as_mut_slice-list.result.now (λ p. (p.0, quota_of c.args.amount c.enter-base.result p.1)))
     ∙ sym (ap (λ (l : List (ℕ × ℕ)). length l) c.round_down-left.ensures.quotas))))
 
@@ -46,11 +46,11 @@ give_units-requires-clause-small c k d lt =
 
 pub returns-clause-portions : goal.returns-clause-portions
 returns-clause-portions c =
-    let turns = ap (λ (l : List Turn). map seen l) c.as_mut_slice.ensures.value ∙ c.round_down-left.ensures.turns in
+    let contenders = ap (λ (l : List Contender). map place_and_remainder l) c.as_mut_slice.ensures.value ∙ c.round_down-left.ensures.contenders in
     let portions : c.give_units.new.list ≡ portions_of c.args.amount c.args.claims.now.list =
     portions_made c.args.amount c.enter-base.result c.round_down-left.result c.list.result.now c.as_mut_slice-list.result.now c.round_down-left.new.list
-    (map seen c.as_mut_slice.result.now) c.give_units.new.list c.enter-base.ensures.base
-    (c.as_mut_slice-list.ensures.value ∙ c.enter-base.ensures.participants) c.round_down-left.ensures.quotas turns c.round_down-left.ensures.left
+    (map place_and_remainder c.as_mut_slice.result.now) c.give_units.new.list c.enter-base.ensures.base
+    (c.as_mut_slice-list.ensures.value ∙ c.enter-base.ensures.participants) c.round_down-left.ensures.quotas contenders c.round_down-left.ensures.left
     c.give_units.ensures.each c.give_units.ensures.given
     ∙ ap (portions_of c.args.amount) c.list.ensures.value in
     let whole : length c.give_units.new.list ≡ c.enter-base.new.list.len =

@@ -2,7 +2,7 @@ use Rattle.std.proofs.Common.{ℕ, List, length, map, ap, ◌∙◌, arith}
 use Rattle.std.proofs.lemmas.List.{length-map}
 use Rattle.std.specs.Prelude.{string_bytes}
 use Rattle.line_split.specs.Claims.{base_of, participants_of}
-use Rattle.line_split.specs.Roomed.{Roomed}
+use Rattle.line_split.specs.WithRoom.{WithRoom}
 use Rattle.line_split.proofs.Places.{length-portions}
 use Rattle.line_split.proofs.ClaimLemmas.{length-participants}
 use Rattle.pair_split.proofs.Words.{length-claims}
@@ -11,7 +11,7 @@ use Rattle.pair_split.proofs.division.split_words.Goals as goal
 pub split-requires-clause-room : goal.split-requires-clause-room
 split-requires-clause-room c =
     let claims = ap (λ (l : List (ℕ × ℕ)). length l) c.in_ok-claims.ensures.claims ∙ (length-claims (map string_bytes c.args.words.now) ∙ length-map c.args.words.now string_bytes) in
-    let room = ap (λ (p : Roomed). p.room) c.in-Ok.ensures in
+    let room = ap (λ (p : WithRoom). p.room) c.in-Ok.ensures in
     omega (arith, claims, room)
 
 pub rows-requires-clause-each : goal.rows-requires-clause-each

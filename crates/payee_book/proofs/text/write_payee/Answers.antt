@@ -21,7 +21,7 @@ loop-written-preserved g c =
       rows = Appends-kept start _ _ _
           (subst (Appends start (append_known (g.W.Write.contents c.loop-written.out) c.write_postings.new.rows.text))
           (postings_joined row c.args.statement.now c.loop-written.written c.min-end.result (omega (arith, c.min-end.ensures, c.loop-written.invariant.within))) written)
-          c.in_ok-pass_on_page.ensures.kept;
+          c.in_ok-write_full_page_to.ensures.kept;
     }
 
 pub returns : goal.returns

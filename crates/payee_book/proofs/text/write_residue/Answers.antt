@@ -26,7 +26,7 @@ loop-posting-preserved g c =
     c.loop-posting.invariant (c.in_ok-write_posting.ensures ∙ ap (λ r. c.loop-posting.rows.text ++ text_of_row r) same) in
     Appends-kept start _ _ _
     (subst (Appends start (append_known (g.W.Write.contents c.loop-posting.out) c.write_posting.new.rows.text)) (postings_next row c.args.statement.now i (0, 0) c.loop-posting-test.true) written)
-    c.in_ok-pass_on_page.ensures.kept
+    c.in_ok-write_full_page_to.ensures.kept
 
 pub returns : goal.returns
 returns g c =

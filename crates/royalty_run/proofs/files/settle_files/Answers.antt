@@ -7,7 +7,7 @@ use Rattle.royalty_run.specs.Files.{AreInputs, IsFaultOver}
 use Rattle.royalty_run.specs.Status.{IsOfPaths, failure_of_run}
 use Rattle.royalty_run.proofs.files.settle_files.Goals as goal
 
--- a fault of the files is why the run fails, where it is no want of memory
+-- a fault of the files is why the run fails, where it is no lack of memory
 fails : (holds : List ℕ → List ℕ → Type 0) (tis cwr usage : List ℕ) (fault : Fault) → IsFaultOver holds tis cwr usage fault → IsOfPaths holds tis cwr usage (failure_of_run fault)
 fails holds tis cwr usage (Tis fault) is = is
 fails holds tis cwr usage (Cwr fault) is = is
@@ -54,4 +54,4 @@ returns-in-Err-clause-files g c =
       };
       fault_of = c.in-Err.ensures.fault;
     } in
-    rw c.of_run.ensures (fails (g.S.Source.holds c.args.files.now) (string_bytes asked.tis) (string_bytes asked.cwr) (string_bytes asked.usage) c.in-Err.fault over)
+    rw c.from.ensures (fails (g.S.Source.holds c.args.files.now) (string_bytes asked.tis) (string_bytes asked.cwr) (string_bytes asked.usage) c.in-Err.fault over)

@@ -28,7 +28,7 @@ returns-in-Ok-Division-clause-pairs g c asked =
     let of_list : IsFaultOf (map string_bytes c.in-Ok-Division.asked.pairs.items) c.in-Err-split_words.fault = rw c.as_slice.ensures.value at stands in
     let pairs : map string_bytes c.in-Ok-Division.asked.pairs.items ≡ pairs_of (map string_bytes c.args.words.now) = search rules in
     let of_words : IsFaultOf (pairs_of (map string_bytes c.args.words.now)) c.in-Err-split_words.fault = rw pairs at of_list in
-    rw c.of.ensures (fault_stands (map string_bytes c.args.words.now) c.in-Err-split_words.fault of_words)
+    rw c.from.ensures (fault_stands (map string_bytes c.args.words.now) c.in-Err-split_words.fault of_words)
 
 -- words that ask for a division or a run ask for no other
 no_run : {holds : List ℕ → List ℕ → Type 0} (words : List (List ℕ)) (text : List ℕ) → ¬ (word_at words 1 ≡ codes "run") → (IsDivision words → IsAnswerTo words text) → IsAnswered holds words text

@@ -9,7 +9,7 @@ use Rattle.settle_run.specs.declared.fault.Fault.{Fault}
 use Rattle.settle_run.specs.declared.fault.Fault.TheVariants.{Tis, Cwr, Usage, Room}
 use Rattle.settle_run.proofs.laws.law_inputs_with_statements_have_no_fault.Goals as goal
 
--- each input that was read is refused for nothing but want of memory, which is no fault of an input
+-- each input that was read is refused for nothing but lack of memory, which is no fault of an input
 no_fault : (territories_file registrations_file usage_file : List ℕ) (fault : Fault) → HaveNoFault territories_file registrations_file usage_file
     → IsFaultOf territories_file registrations_file usage_file fault → fault ≡ Room
 no_fault territories_file registrations_file usage_file (Tis fault) sound refused =

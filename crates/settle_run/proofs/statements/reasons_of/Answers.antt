@@ -2,7 +2,7 @@ use Rattle.std.proofs.Common.{◌≡◌, ◌∙◌, ◌<◌, ℕ, length, map, t
 use Rattle.std.specs.Prelude.{unwrap_or}
 use Rattle.std.proofs.lemmas.List.{get_or-map, length-map, take_all, take_more}
 use Rattle.std.proofs.lemmas.Option.{get_or_from_slice_get}
-use Rattle.line_split.specs.UsageLine.{seen}
+use Rattle.line_split.specs.UsageLine.{usage_line_of}
 use Rattle.line_split.specs.declared.reason.Reason.TheVariants.{Open}
 use Rattle.settle_run.specs.Settled.{reason_of}
 use Rattle.settle_run.proofs.SettleLemmas.{AreReasons, reason_left, reason_set, rows_same}
@@ -18,7 +18,7 @@ loop-posting-preserved c =
     let p : ℕ × ℕ = get_or c.args.residue.now i (0, 0) in
     let usage = c.args.usage.now in
     let own = reason_of c.args.tis.now c.args.registry.now in
-    let line = seen c.line-line.result in
+    let line = usage_line_of c.line-line.result in
     let below : p.0 < length usage = c.requires i (0, 0) c.loop-posting-test.true in
     let is : get_or usage p.0 line ≡ line = get_or_from_slice_get usage p.0 line line c.line-line.ensures.line in
     let here : get_or (map own usage) p.0 Open ≡ unwrap_or c.claims-in-loop-posting.result Open =

@@ -2,7 +2,7 @@ use Rattle.std.proofs.Common.{◌≡◌, ◌∙◌, ◌<◌, ◌≤◌, ◌+◌,
 use Rattle.std.proofs.lemmas.Bool.{cases_lt}
 use Rattle.std.proofs.lemmas.Grind.{get_or-set_at}
 use Rattle.std.proofs.lemmas.List.{get_or-set_other, length-set}
-use Rattle.line_split.specs.UsageLine.{UsageLine, seen}
+use Rattle.line_split.specs.UsageLine.{UsageLine, usage_line_of}
 use Rattle.cwr_share.specs.Found.{IsLookUp}
 use Rattle.settle_run.proofs.statements.works_of.Goals as goal
 
@@ -26,6 +26,6 @@ found_more IsOf usage xs from place line x d after within at here before k own a
 pub loop-place-preserved : goal.loop-place-preserved
 loop-place-preserved c = record {
   enough = length-set _ _ _ ∙ c.loop-place.invariant.enough;
-  works = found_more (λ line work. IsLookUp c.args.registry.now line.work work) c.args.usage.now c.loop-place.works c.args.from c.loop-place.place (seen c.line.result) c.find.result None
+  works = found_more (λ line work. IsLookUp c.args.registry.now line.work work) c.args.usage.now c.loop-place.works c.args.from c.loop-place.place (usage_line_of c.line.result) c.find.result None
       (omega arith) (omega (arith, c.loop-place-test.true, c.requires.few, c.loop-place.invariant.enough)) c.line.ensures.line c.find.ensures c.loop-place.invariant.works;
 }

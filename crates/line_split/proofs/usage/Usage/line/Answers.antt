@@ -6,38 +6,38 @@ use Rattle.line_split.specs.UsageLine.{UsageLine}
 use Rattle.line_split.proofs.KeptLemmas.{length-lines_of, line_at}
 use Rattle.line_split.proofs.usage.Usage.line.Goals as goal
 
-pub index-used-requires : goal.index-used-requires
-index-used-requires c =
-    let all = length-lines_of c.self.inside.names.items c.self.inside.uses.items c.self.invariant.0 in
-    let inside : c.args.i < length (lines_of c.self.inside.names.items c.self.inside.uses.items) = rw c.self.view_is c.requires in
-    omega (arith, all, inside, c.self.inside.uses.ok.0)
+pub index-detail-requires : goal.index-detail-requires
+index-detail-requires c =
+    let all = length-lines_of c.self.inside.names.items c.self.inside.details.items c.self.invariant.0 in
+    let inside : c.args.i < length (lines_of c.self.inside.names.items c.self.inside.details.items) = rw c.self.view_is c.requires in
+    omega (arith, all, inside, c.self.inside.details.ok.0)
 
 pub index-requires : goal.index-requires
 index-requires c =
-    let all = length-lines_of c.self.inside.names.items c.self.inside.uses.items c.self.invariant.0 in
-    let inside : c.args.i < length (lines_of c.self.inside.names.items c.self.inside.uses.items) = rw c.self.view_is c.requires in
+    let all = length-lines_of c.self.inside.names.items c.self.inside.details.items c.self.invariant.0 in
+    let inside : c.args.i < length (lines_of c.self.inside.names.items c.self.inside.details.items) = rw c.self.view_is c.requires in
     omega (arith, all, inside, c.self.invariant.0, c.self.inside.names.ok.0)
 
 module _ (c : goal.After-result-1) where
   abbrev kept : List UsageLine
-  kept = lines_of c.self.inside.names.items c.self.inside.uses.items
+  kept = lines_of c.self.inside.names.items c.self.inside.details.items
 
   -- the line that is lent
   abbrev lent : UsageLine
   lent = record {
     usage = c.as_slice.result.now;
     work = c.as_slice-2.result.now;
-    territory = c.index-used.result.now.territory;
-    right = c.index-used.result.now.right;
-    amount = c.index-used.result.now.amount;
+    territory = c.index-detail.result.now.territory;
+    right = c.index-detail.result.now.right;
+    amount = c.index-detail.result.now.amount;
   }
 
   there : slice_get kept c.args.i ≡ Some lent
   there =
-      let all = length-lines_of c.self.inside.names.items c.self.inside.uses.items c.self.invariant.0 in
+      let all = length-lines_of c.self.inside.names.items c.self.inside.details.items c.self.invariant.0 in
       let inside : c.args.i < length kept = rw c.self.view_is c.requires in
-      let here = line_at c.self.inside.names.items c.self.inside.uses.items c.args.i c.index.result.now c.index-used.result.now c.self.invariant.0 (omega (arith, all, inside)) in
-      rw (sym c.index.ensures, sym c.index-used.ensures) at here
+      let here = line_at c.self.inside.names.items c.self.inside.details.items c.args.i c.index.result.now c.index-detail.result.now c.self.invariant.0 (omega (arith, all, inside)) in
+      rw (sym c.index.ensures, sym c.index-detail.ensures) at here
       ∙ rw (c.as_slice.ensures, c.as_slice-2.ensures) refl
 
 pub returns-clause-line : goal.returns-clause-line

@@ -10,21 +10,21 @@ use Rattle.line_split.proofs.usage.Usage.read.Goals as goal
 pub invariant_of-result : goal.invariant_of-result
 invariant_of-result c = (
   c.loop-number.invariant.paired,
-  walked_lines (rows_of c.args.bytes.now) c.loop-number.rows.left c.loop-number.number (lines_of c.loop-number.names.items c.loop-number.uses.items) c.loop-number.invariant.walked
+  walked_lines (rows_of c.args.bytes.now) c.loop-number.rows.left c.loop-number.number (lines_of c.loop-number.names.items c.loop-number.details.items) c.loop-number.invariant.walked
       (omega (arith, c.loop-number-test.true)),
 )
 
 pub returns-then-not-branch-clause-lines : goal.returns-then-not-branch-clause-lines
 returns-then-not-branch-clause-lines c =
     let none = c.in_ok-next-2.ensures.end c.if-not-branch.true in
-    walked_table (rows_of c.args.bytes.now) c.loop-number.number (lines_of c.loop-number.names.items c.loop-number.uses.items) (rw none.0 at c.loop-number.invariant.walked)
+    walked_table (rows_of c.args.bytes.now) c.loop-number.number (lines_of c.loop-number.names.items c.loop-number.details.items) (rw none.0 at c.loop-number.invariant.walked)
     (omega (arith, c.loop-number-test.true))
 
 pub returns-in_err-name-clause-fault : goal.returns-in_err-name-clause-fault
 returns-in_err-name-clause-fault c =
     let found = c.in_ok-next-2.ensures.found c.if-not-branch.false in
     let refused = walked_fault (rows_of c.args.bytes.now) c.next-in-loop-number.new.self.left c.next-in-loop-number.new.self.row c.loop-number.number
-    (lines_of c.loop-number.names.items c.loop-number.uses.items) c.in_err-name.field-0.0 (rw found at c.loop-number.invariant.walked) c.in_err-name.ensures.fault in
+    (lines_of c.loop-number.names.items c.loop-number.details.items) c.in_err-name.field-0.0 (rw found at c.loop-number.invariant.walked) c.in_err-name.ensures.fault in
     search rules
 
 pub loop-number-preserved : goal.loop-number-preserved
@@ -35,24 +35,24 @@ loop-number-preserved c =
     let good : is_ok c.push.result ≡ true = search rules in
     let good_use : is_ok c.push-else-is_err.result ≡ true = search rules in
     let names = rw good at c.push.ensures.items in
-    let uses = rw good_use at c.push-else-is_err.ensures.items in
+    let details = rw good_use at c.push-else-is_err.ensures.items in
     let more = walked_more (rows_of c.args.bytes.now) c.next-in-loop-number.new.self.left c.next-in-loop-number.new.self.row c.loop-number.number
-    (lines_of c.loop-number.names.items c.loop-number.uses.items) (line_with c.in_ok-name.name c.in_ok-name.used) (rw found at c.loop-number.invariant.walked) sound same in
-    let pushed = lines_push c.loop-number.names.items c.loop-number.uses.items c.in_ok-name.name c.in_ok-name.used paired in
-    rw (names, uses) (record {
-      paired = omega (arith, paired, length_push c.loop-number.names.items c.in_ok-name.name, length_push c.loop-number.uses.items c.in_ok-name.used);
+    (lines_of c.loop-number.names.items c.loop-number.details.items) (line_with c.in_ok-name.name c.in_ok-name.detail) (rw found at c.loop-number.invariant.walked) sound same in
+    let pushed = lines_push c.loop-number.names.items c.loop-number.details.items c.in_ok-name.name c.in_ok-name.detail paired in
+    rw (names, details) (record {
+      paired = omega (arith, paired, length_push c.loop-number.names.items c.in_ok-name.name, length_push c.loop-number.details.items c.in_ok-name.detail);
       walked = rw pushed more;
     })
 
 pub invariant_of-result-2 : goal.invariant_of-result-2
 invariant_of-result-2 c = (
   c.loop-number.invariant.paired,
-  walked_lines (rows_of c.args.bytes.now) c.loop-number.rows.left c.loop-number.number (lines_of c.loop-number.names.items c.loop-number.uses.items) c.loop-number.invariant.walked
+  walked_lines (rows_of c.args.bytes.now) c.loop-number.rows.left c.loop-number.number (lines_of c.loop-number.names.items c.loop-number.details.items) c.loop-number.invariant.walked
       (omega (arith, c.loop-number-test.false, c.loop-number.auto.number-end)),
 )
 
 pub returns-clause-lines : goal.returns-clause-lines
 returns-clause-lines c =
     let none = c.in_ok-next-3.ensures.end c.if-branch-2.false in
-    walked_table (rows_of c.args.bytes.now) c.loop-number.number (lines_of c.loop-number.names.items c.loop-number.uses.items) (rw none.0 at c.loop-number.invariant.walked)
+    walked_table (rows_of c.args.bytes.now) c.loop-number.number (lines_of c.loop-number.names.items c.loop-number.details.items) (rw none.0 at c.loop-number.invariant.walked)
     (omega (arith, c.loop-number.auto.number-end))

@@ -6,6 +6,6 @@ use Rattle.line_split.proofs.usage.Usage.read.Given as goal
 
 abbrev pub invariant-loop-number : goal.invariant-loop-number
 invariant-loop-number l = record {
-  paired : length l.names.items ≡ length l.uses.items;
-  walked : Walked (rows_of l.bytes) l.rows.left l.number (lines_of l.names.items l.uses.items);
+  paired : length l.names.items ≡ length l.details.items;
+  walked : Walked (rows_of l.bytes) l.rows.left l.number (lines_of l.names.items l.details.items);
 }

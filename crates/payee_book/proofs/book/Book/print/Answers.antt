@@ -9,7 +9,7 @@ use Rattle.payee_book.proofs.TextLemmas.{first_statements, no_rows, rows_more, r
 use Rattle.payee_book.proofs.book.Book.print.Goals as goal
 
 pub loop-account-init : goal.loop-account-init
-loop-account-init g c = no_rows (g.W.Write.contents c.args.out.now) c.args.rows.text (ap (λ (page : Page). page.text) c.requires.anew)
+loop-account-init g c = no_rows (g.W.Write.contents c.args.out.now) c.args.rows.text (ap (λ (page : Page). page.text) c.requires.empty)
 
 pub loop-account-preserved : goal.loop-account-preserved
 loop-account-preserved g c =
@@ -37,4 +37,4 @@ returns g c =
     let all = rows_more start (g.W.Write.contents c.write_residue.new.out) c.write_residue.new.rows.text c.write_run.new.rows.text (payees ++ residue) (text_of_row (run_row c.args.usage.now)) with_residue c.in_ok-write_run.ensures in
     let whole = subst (Appends start (append_known (g.W.Write.contents c.write_residue.new.out) c.write_run.new.rows.text))
     (whole_text c.args.usage.now names c.args.self.now c.args.reasons.now c.loop-account.account (omega arith)) all in
-    on_ok_weaker c.pass_on.result (rows_passed_on start _ _ c.write_run.new.rows.text _ whole) c.pass_on.ensures.text
+    on_ok_weaker c.write_to.result (rows_passed_on start _ _ c.write_run.new.rows.text _ whole) c.write_to.ensures.text

@@ -1,6 +1,0 @@
-use Rattle.std.specs.Prelude.{ℕ, List}
-
--- a list of accounts, each with its number, and for how many there is room
-pub record Roomed : Type 0 where
-  pub list : List (ℕ × ℕ)
-  pub room : ℕ

@@ -1,0 +1,45 @@
+//! A small run: its three inputs, and its statements.
+
+/// A table of territories, in which 9001 is a group of our own.
+pub const TERRITORIES: &str = "code,groups\n2136,\n9001,2136\n276,9001\n840,2136\n";
+
+/// Three usage lines, the last of a work that has no registration.
+pub const USES: &str = "\
+usage,work,territory,right,amount
+u1,W1,276,P,100
+u2,W1,840,P,50
+u3,W9,276,P,7
+";
+
+/// A work of two parties: A all over the world but in 840, and B.
+pub const TWO_PARTIES: &str = "\
+NWR0000000000000000SONG                                                          W1
+SPU0000000000000001
+SPT0000000000000002A              060000600006000I2136
+SPT0000000000000003A                             E0840
+SPU0000000000000004
+SPT0000000000000005B              040000400004000I2136
+";
+
+/// The same, the first share line without its last byte.
+pub const SHORT: &str = "\
+NWR0000000000000000SONG                                                          W1
+SPU0000000000000001
+SPT0000000000000002A              060000600006000I213
+SPT0000000000000003A                             E0840
+SPU0000000000000004
+SPT0000000000000005B              040000400004000I2136
+";
+
+/// What a run over them prints.
+pub const STATEMENTS: &str = "\
+L,A,u1,60
+S,A,1,60
+L,B,u1,40
+L,B,u2,20
+S,B,2,60
+M,OPEN,u2,30
+M,WORK,u3,7
+T,,2,37
+R,,3,157
+";

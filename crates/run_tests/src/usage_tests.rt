@@ -1,0 +1,204 @@
+//! Tables of usage lines, good and bad.
+
+use line_split::{LineFault, MOST_AMOUNT, MOST_LINES, Right, Usage};
+use std::alloc::Global;
+use std::test::Fail;
+
+/// What a table is refused for, as its number and the row's, where it is refused.
+fn refusal(alloc: Global, table: &[u8]) -> Option<(u8, Option<u64>)> {
+    match Usage::read(alloc, table) {
+        Ok(_) => None,
+        Err(fault) => Some((fault.number(), fault.place())),
+    }
+}
+
+/// What the rows below a header are refused for.
+fn refusal_of_rows(alloc: Global, rows: &str) -> Result<Option<(u8, Option<u64>)>, Fail> {
+    let mut table = Vec::from_slice(alloc, b"usage,work,territory,right,amount\n")?;
+    table.extend_from_slice(rows.as_bytes())?;
+    Ok(refusal(alloc, table.as_slice()))
+}
+
+#[test]
+fn reads_a_table(rt: HostRuntime) -> Result<(), Fail> {
+    let table = "usage,work,territory,right,amount\n\
+        u1,W1,276,P,100\n\
+        u 2,\"W,2\",0276,M,000000000000001\r\n\
+        u1,\"say \"\"W\"\"\",9999,S,1000000000000";
+    let usage = Usage::read(rt.alloc(), table.as_bytes())?;
+    assert_eq!(rt; usage.len(), 3);
+    if usage.len() == 3 {
+        let first = usage.line(0);
+        assert_eq!(rt; first.usage, b"u1".as_slice());
+        assert_eq!(rt; first.work, b"W1".as_slice());
+        assert_eq!(rt; first.territory, 276);
+        assert_eq!(rt; first.right, Right::P);
+        assert_eq!(rt; first.amount, 100);
+        let second = usage.line(1);
+        assert_eq!(rt; second.usage, b"u 2".as_slice());
+        assert_eq!(rt; second.work, b"W,2".as_slice());
+        assert_eq!(rt; second.territory, 276);
+        assert_eq!(rt; second.right, Right::M);
+        assert_eq!(rt; second.amount, 1);
+        let third = usage.line(2);
+        assert_eq!(rt; third.work, b"say \"W\"".as_slice());
+        assert_eq!(rt; third.territory, 9999);
+        assert_eq!(rt; third.right, Right::S);
+        assert_eq!(rt; third.amount, MOST_AMOUNT);
+    }
+    let none = Usage::read(rt.alloc(), b"usage,work,territory,right,amount")?;
+    assert_eq!(rt; none.len(), 0);
+    Ok(())
+}
+
+#[test]
+fn refuses_what_is_no_table(rt: HostRuntime) -> Result<(), Fail> {
+    let alloc = rt.alloc();
+    let no_header = Some((1, Some(0)));
+    assert_eq!(rt; refusal(alloc, b""), no_header);
+    assert_eq!(rt; refusal(alloc, b"\n\r\n"), no_header);
+    assert_eq!(rt; refusal(alloc, b"u1,W1,276,P,100\n"), no_header);
+    assert_eq!(rt; refusal(alloc, b"usage,work,territory,right\n"), no_header);
+    assert_eq!(rt;
+        refusal(alloc, b"usage,work,territory,right,amount,\n"),
+        no_header
+    );
+    assert_eq!(rt;
+        refusal(alloc, b"usage,work,territory,right,Amount\n"),
+        no_header
+    );
+    assert_eq!(rt; refusal(alloc, b"\x00\xff\x80\x89PNG\r\n\x1a\n"), no_header);
+    Ok(())
+}
+
+#[test]
+fn refuses_a_row_for_its_first_fault(rt: HostRuntime) -> Result<(), Fail> {
+    let alloc = rt.alloc();
+    let long = "u1234567890123456789012345678901234567890123456789012345678901234,W,276,P,1";
+    let long_work = "u,w1234567890123456789012345678901234567890123456789012345678901234,276,P,1";
+    let longest_work = "u,1234567890123456789012345678901234567890123456789012345678901234,276,P,1";
+    let table: [(&str, Option<(u8, Option<u64>)>); 31] = [
+        ("u,W,276,P", Some((1, Some(1)))),
+        ("u,W,276,P,1,", Some((1, Some(1)))),
+        ("u,W,276,P,1\nx", Some((1, Some(2)))),
+        (",W,276,P,1", Some((2, Some(1)))),
+        ("u,,276,P,1", Some((2, Some(1)))),
+        ("u,W\x7f,276,P,1", Some((2, Some(1)))),
+        ("u\t,W,276,P,1", Some((2, Some(1)))),
+        ("u,\u{e9},276,P,1", Some((2, Some(1)))),
+        ("u,\"W\nW\",276,P,1", Some((2, Some(1)))),
+        (long, Some((2, Some(1)))),
+        (&long[1..], None),
+        (long_work, Some((2, Some(1)))),
+        (longest_work, None),
+        ("u,W,0,P,1", Some((3, Some(1)))),
+        ("u,W,0000,P,1", Some((3, Some(1)))),
+        ("u,W,,P,1", Some((3, Some(1)))),
+        ("u,W,10000,P,1", Some((3, Some(1)))),
+        ("u,W,00276,P,1", Some((3, Some(1)))),
+        ("u,W,+276,P,1", Some((3, Some(1)))),
+        ("u,W,27 6,P,1", Some((3, Some(1)))),
+        ("u,W,276,X,1", Some((4, Some(1)))),
+        ("u,W,276,p,1", Some((4, Some(1)))),
+        ("u,W,276,PP,1", Some((4, Some(1)))),
+        ("u,W,276,,1", Some((4, Some(1)))),
+        ("u,W,276,P,", Some((5, Some(1)))),
+        ("u,W,276,P,+5", Some((5, Some(1)))),
+        ("u,W,276,P,-5", Some((5, Some(1)))),
+        ("u,W,276,P,1000000000001", Some((5, Some(1)))),
+        (
+            "u,W,276,P,999999999999999999999999999999",
+            Some((5, Some(1))),
+        ),
+        (",W,0,X,x", Some((2, Some(1)))),
+        ("u,W,276,X,1\nu", Some((4, Some(1)))),
+    ];
+    for (rows, expected) in table {
+        assert_eq!(rt; refusal_of_rows(alloc, rows)?, expected, "{rows}");
+    }
+    Ok(())
+}
+
+#[test]
+fn counts_rows_and_not_lines_of_text(rt: HostRuntime) -> Result<(), Fail> {
+    let alloc = rt.alloc();
+    let blank_lines = refusal_of_rows(alloc, "\n\r\nu,W,276,P,1\n\n\nu,W,276,X,1\n")?;
+    assert_eq!(rt; blank_lines, Some((4, Some(2))));
+    Ok(())
+}
+
+#[test]
+fn takes_a_million_lines_and_no_more(rt: HostRuntime) -> Result<(), Fail> {
+    let alloc = rt.alloc();
+    let mut table = Vec::from_slice(alloc, b"usage,work,territory,right,amount\n")?;
+    for _ in 0..MOST_LINES {
+        table.extend_from_slice(b"u,W,1,P,1\n")?;
+    }
+    let usage = Usage::read(alloc, table.as_slice())?;
+    assert_eq!(rt; usage.len() as u64, MOST_LINES);
+    table.extend_from_slice(b"x\n")?;
+    assert_eq!(rt; refusal(alloc, table.as_slice()), Some((6, None)));
+    Ok(())
+}
+
+#[test]
+fn says_what_is_wrong_with_a_table(rt: HostRuntime) -> Result<(), Fail> {
+    let alloc = rt.alloc();
+    for (fault, want) in [
+        (
+            LineFault::Csv(0),
+            "row 0 is not usage,work,territory,right,amount",
+        ),
+        (
+            LineFault::Fields(3),
+            "the usage or the work of row 3 is not 1 to 64 printable characters",
+        ),
+        (
+            LineFault::Territory(3),
+            "the territory of row 3 is not a number from 1 to 9999",
+        ),
+        (LineFault::Right(3), "the right of row 3 is not P, M or S"),
+        (
+            LineFault::Amount(3),
+            "the amount of row 3 is not a number from 0 to 1000000000000",
+        ),
+        (LineFault::Lines, "there are more than 1000000 lines"),
+        (LineFault::Memory, "memory ran out"),
+    ] {
+        assert_eq!(rt; format!(in alloc; "{fault}")?.as_str(), want);
+    }
+    Ok(())
+}
+
+/// The two texts of the line of a table, which has this one in both places.
+fn texts_kept(alloc: Global, text: &str) -> Result<String, Fail> {
+    let table = format!(in alloc; "usage,work,territory,right,amount\n{text},{text},276,P,1\n")?;
+    let Ok(usage) = Usage::read(alloc, table.as_bytes()) else {
+        return Err(Fail::new("a good table is refused"));
+    };
+    if usage.len() != 1 {
+        return Err(Fail::new("one line is read as another count"));
+    }
+    let line = usage.line(0);
+    let (usage, work) = (str::from_utf8(line.usage)?, str::from_utf8(line.work)?);
+    Ok(format!(in alloc; "{usage} {work}")?)
+}
+
+#[test]
+fn keeps_texts_of_any_length(rt: HostRuntime) -> Result<(), Fail> {
+    let alloc = rt.alloc();
+    for text in [
+        "a",
+        "0123456789abc",
+        "0123456789abcd",
+        "0123456789abcde",
+        "0123456789abcdefghij",
+        "0123456789abcdefghijklmnopqrstuvwxyzABCDEFGHIJKLMNOPQRSTUVWXYZ-+",
+    ] {
+        assert_eq!(rt;
+            texts_kept(alloc, text)?.as_str(),
+            format!(in alloc; "{text} {text}")?.as_str()
+        );
+    }
+    Ok(())
+}
