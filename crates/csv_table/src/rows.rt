@@ -3,7 +3,7 @@
 //! It is the crate `csv` with its default settings and no header handling: the first row is a row
 //! like any other, and rows may have any number of fields.
 
-ghost use Rattle.std.specs.Prelude.{◌≡◌, ◌∷◌, ◌↔◌, [], true, false, IfOk, OnErr, IsTrue, List, ℕ, length, map, slice_index_or};
+ghost use Rattle.std.specs.Prelude.{◌≡◌, ◌∷◌, ◌↔◌, [], true, false, IfOk, OnErr, IsTrue, length, map, slice_index_or};
 ghost use Rattle.csv_table.specs.Table.{rows_of};
 
 use csv::{ByteRecord, Reader, ReaderBuilder};

@@ -497,12 +497,12 @@ entry_at parties Holds (key ∷ works) (first ∷ registrations) (suc place) reg
 pub parties_rise : (registered : Registered) → IsRegistered registered → IsStrictlySortedBy (slice_cmp nat_cmp) registered.parties
 unfolding IsStrictlySortedBy
 parties_rise registered sound =
-    let filled : (party : List ℕ) → Contains sound.claimants party → 0 < length party =
+    let filled : (party : List ℕ) → Contains sound.numbers party → 0 < length party =
     λ party has.
     let (work, lines, entry, among) = (sound.exact.exact party).0 has in
     let good = All-contains (λ (entry : List ℕ × List ShareLine). All IsShareLine entry.1) registered.works (work, lines) sound.shares entry in
     All-contains (λ (text : List ℕ). 0 < length text) (map (λ line. line.party) lines) party (All-map (λ (text : List ℕ). 0 < length text) (λ (line : ShareLine). line.party) lines (λ k d within. (good k d within).party)) among in
-    rw sound.accounts (recursion_from_All (λ y. slice_cmp nat_cmp [] y ≡ Less) sound.claimants (λ k d within. above (get_or sound.claimants k d) (filled (get_or sound.claimants k d) (Contains-get_or sound.claimants k d within))), sound.exact.rising)
+    rw sound.accounts (recursion_from_All (λ y. slice_cmp nat_cmp [] y ≡ Less) sound.numbers (λ k d within. above (get_or sound.numbers k d) (filled (get_or sound.numbers k d) (Contains-get_or sound.numbers k d within))), sound.exact.rising)
   where
     above : (party : List ℕ) → 0 < length party → slice_cmp nat_cmp [] party ≡ Less
     above [] some = absurd (omega arith)

@@ -228,7 +228,7 @@ module _ (table : List (ℕ × List ℕ)) (land : ℕ) (right : Right) where
 
 -- each account's claim, 0 too
 abbrev each_claim : List (ℕ × List ℕ) → (land : ℕ) → Right → List ShareLine → (account : ℕ) → List (List ℕ) → List (ℕ × ℕ)
-each_claim table land right lines account claimants = map (λ claimant. (claimant.0, claim_of table land right lines claimant.1)) (enumerate_from account claimants)
+each_claim table land right lines account numbers = map (λ claimant. (claimant.0, claim_of table land right lines claimant.1)) (enumerate_from account numbers)
 
 -- other names of the parties, no two alike
 module _ (name : List ℕ → List ℕ) (injective : (text other : List ℕ) → name text ≡ name other → text ≡ other) where
@@ -279,23 +279,23 @@ module _ (name : List ℕ → List ℕ) (injective : (text other : List ℕ) →
           ∙ sum_by-map (share_for right) (renamed name) (filter (λ line. pointwise nat_eq line.party party) (deciding table land lines))
           ∙ ap (λ (share : ShareLine → ℕ). sum_by share (filter (λ line. pointwise nat_eq line.party party) (deciding table land lines))) (λ i line. share_renamed right line i)
 
-      each_renamed : (account : ℕ) (claimants : List (List ℕ)) → each_claim table land right (map (renamed name) lines) account (map name claimants) ≡ each_claim table land right lines account claimants
+      each_renamed : (account : ℕ) (numbers : List (List ℕ)) → each_claim table land right (map (renamed name) lines) account (map name numbers) ≡ each_claim table land right lines account numbers
       each_renamed account [] = refl
-      each_renamed account (claimant ∷ claimants) = cc (claim_renamed claimant, each_renamed (account + 1) claimants)
+      each_renamed account (number ∷ numbers) = cc (claim_renamed number, each_renamed (account + 1) numbers)
 
   -- other names change no claim
-  pub claims_renamed : (table : List (ℕ × List ℕ)) (land : ℕ) (right : Right) (lines : List ShareLine) (claimants : List (List ℕ))
-      → claims_among table land right (map (renamed name) lines) (map name claimants) ≡ claims_among table land right lines claimants
-  claims_renamed table land right lines claimants = ap (filter (λ claim. not (claim.1 == 0))) (each_renamed table land right lines 1 claimants)
+  pub claims_renamed : (table : List (ℕ × List ℕ)) (land : ℕ) (right : Right) (lines : List ShareLine) (numbers : List (List ℕ))
+      → claims_among table land right (map (renamed name) lines) (map name numbers) ≡ claims_among table land right lines numbers
+  claims_renamed table land right lines numbers = ap (filter (λ claim. not (claim.1 == 0))) (each_renamed table land right lines 1 numbers)
 
 -- without share lines there are no claims
-claims_none : (table : List (ℕ × List ℕ)) (land : ℕ) (right : Right) (claimants : List (List ℕ)) → claims_among table land right [] claimants ≡ []
+claims_none : (table : List (ℕ × List ℕ)) (land : ℕ) (right : Right) (numbers : List (List ℕ)) → claims_among table land right [] numbers ≡ []
 unfolding deciding
-claims_none table land right claimants = none 1 claimants
+claims_none table land right numbers = none 1 numbers
   where
-    none : (account : ℕ) (claimants : List (List ℕ)) → filter (λ (claim : ℕ × ℕ). not (claim.1 == 0)) (each_claim table land right [] account claimants) ≡ []
+    none : (account : ℕ) (numbers : List (List ℕ)) → filter (λ (claim : ℕ × ℕ). not (claim.1 == 0)) (each_claim table land right [] account numbers) ≡ []
     none account [] = refl
-    none account (claimant ∷ claimants) = none (account + 1) claimants
+    none account (number ∷ numbers) = none (account + 1) numbers
 
 pub no_claims_on : (table : List (ℕ × List ℕ)) (registered : Registered) (line : UsageLine) → find_work line.work registered.works ≡ Some [] → claims_on table registered line ≡ []
 no_claims_on table registered line found = go (cases_Bool (is_known table line.territory))

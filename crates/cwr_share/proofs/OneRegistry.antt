@@ -103,28 +103,28 @@ one_works lines registered other of other_of work = of.in_force work ∙ sym (ot
 
 -- the parties of a registry are those in force
 module _ (lines : List (List ℕ)) (registered : Registered) (of : IsFileOf lines registered) (is : IsRegistered registered) where
-  in_force_of_claimant : (party : List ℕ) → Contains is.claimants party → IsPartyInForce lines party
-  in_force_of_claimant party inside =
+  in_force_of_number : (party : List ℕ) → Contains is.numbers party → IsPartyInForce lines party
+  in_force_of_number party inside =
       let (work, shares, here, at) = (is.exact.exact party).0 inside in
       (work, shares, sym (of.in_force work) ∙ find_once registered.works work shares is.once here, at)
 
-  claimant_in_force : (party : List ℕ) → IsPartyInForce lines party → Contains is.claimants party
-  claimant_in_force party (work, shares, found, at) = (is.exact.exact party).1 (work, shares, found_inside registered.works work shares (of.in_force work ∙ found), at)
+  number_in_force : (party : List ℕ) → IsPartyInForce lines party → Contains is.numbers party
+  number_in_force party (work, shares, found, at) = (is.exact.exact party).1 (work, shares, found_inside registered.works work shares (of.in_force work ∙ found), at)
 
--- the claimants of a registry of a file are claimants of any other
-same_claimants : (lines : List (List ℕ)) (registered other : Registered) → IsFileOf lines registered → IsFileOf lines other
-    → (is : IsRegistered registered) (other_is : IsRegistered other) → All (Contains other_is.claimants) is.claimants
-same_claimants lines registered other of other_of is other_is k d within =
-    let claimant = slice_index_or is.claimants k d in
-    claimant_in_force lines other other_of other_is claimant (in_force_of_claimant lines registered of is claimant (Contains-get_or is.claimants k d within))
+-- the parties of a registry of a file are parties of any other
+same_numbers : (lines : List (List ℕ)) (registered other : Registered) → IsFileOf lines registered → IsFileOf lines other
+    → (is : IsRegistered registered) (other_is : IsRegistered other) → All (Contains other_is.numbers) is.numbers
+same_numbers lines registered other of other_of is other_is k d within =
+    let number = slice_index_or is.numbers k d in
+    number_in_force lines other other_of other_is number (in_force_of_number lines registered of is number (Contains-get_or is.numbers k d within))
 
 -- two registries of a file have the same accounts
 pub one_parties : (lines : List (List ℕ)) (registered other : Registered) → IsFileOf lines registered → IsFileOf lines other
     → IsRegistered registered → IsRegistered other → registered.parties ≡ other.parties
 one_parties lines registered other of other_of is other_is =
-    let same = one-in_order nat_list_cmp_total is.claimants other_is.claimants is.exact.rising other_is.exact.rising
-    (same_claimants lines registered other of other_of is other_is) (same_claimants lines other registered other_of of other_is is) in
-    is.accounts ∙ ap (λ (claimants : List (List ℕ)). [] ∷ claimants) same ∙ sym other_is.accounts
+    let same = one-in_order nat_list_cmp_total is.numbers other_is.numbers is.exact.rising other_is.exact.rising
+    (same_numbers lines registered other of other_of is other_is) (same_numbers lines other registered other_of of other_is is) in
+    is.accounts ∙ ap (λ (numbers : List (List ℕ)). [] ∷ numbers) same ∙ sym other_is.accounts
 
 -- the first line of a registration that is as it has to be is not refused
 opening_stands : (line : List ℕ) (number : ℕ) (fault : CwrFault) → IsOpening line → ¬ IsFaultOfOpening line number fault
@@ -176,10 +176,10 @@ no_fault lines registered Memory of is refused = refl
 no_fault lines registered Accounts of is refused =
     absurd (omega (
       arith,
-      is.few_claimants,
+      is.few_numbers,
       refused.many,
-      length-among nat_list_cmp_total refused.parties is.claimants refused.rising is.exact.rising
-          (All-weaker (IsPartyInForce lines) (Contains is.claimants) (claimant_in_force lines registered of is) refused.parties refused.each),
+      length-among nat_list_cmp_total refused.parties is.numbers refused.rising is.exact.rising
+          (All-weaker (IsPartyInForce lines) (Contains is.numbers) (number_in_force lines registered of is) refused.parties refused.each),
     ))
 no_fault lines registered (Short n) of is refused = absurd (lines_stand lines (Short n) of.sound refused)
 no_fault lines registered (Share n) of is refused = absurd (lines_stand lines (Share n) of.sound refused)

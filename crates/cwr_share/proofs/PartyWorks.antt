@@ -137,11 +137,11 @@ module _ (works : List WorkNumber) (lists : List (Vec ShareLine Global)) (paired
         once = once_works;
         few = each_work (λ lines. length lines ≤ MOST_SHARES) (λ k d within. (sound k d within).few);
         shares = each_work (All IsShareLine) (λ k d within. (sound k d within).sound);
-        claimants = accounts.claimants;
+        numbers = accounts.numbers;
         accounts = accounts.accounts;
-        few_claimants = accounts.few;
+        few_numbers = accounts.few;
         exact = record {
-          rising = sorted_tail (slice_cmp nat_cmp) [] accounts.claimants (subst (IsStrictlySortedBy (slice_cmp nat_cmp)) accounts.accounts accounts.rising);
+          rising = sorted_tail (slice_cmp nat_cmp) [] accounts.numbers (subst (IsStrictlySortedBy (slice_cmp nat_cmp)) accounts.accounts accounts.rising);
           exact = λ party. (λ inside. (among_works party).0 ((accounts.exact.exact party).0 inside), λ of_work. (accounts.exact.exact party).1 ((among_works party).1 of_work));
         };
       })
@@ -179,7 +179,7 @@ pub known_in : (lists : List (Vec ShareLine Global)) (parties : List (List ℕ))
     → All (λ line. Contains parties line.party) lines.items
 known_in lists parties lines (place, within, is) accounts k d inside =
     subst (λ (parties : List (List ℕ)). Contains parties party) (sym accounts.accounts)
-    (contains_later [] accounts.claimants party ((accounts.exact.exact party).1 (lines.items, here, (k, omega (arith, inside, length-map lines.items (λ (line : ShareLine). line.party)), at))))
+    (contains_later [] accounts.numbers party ((accounts.exact.exact party).1 (lines.items, here, (k, omega (arith, inside, length-map lines.items (λ (line : ShareLine). line.party)), at))))
   where
     party : List ℕ
     party = (slice_index_or lines.items k d).party

@@ -67,8 +67,8 @@ renamed name line = record {
 
 -- the accounts with a claim to something, each with its claim; accounts count from 1
 abbrev pub claims_among : List (ℕ × List ℕ) → (land : ℕ) → Right → List ShareLine → List (List ℕ) → List (ℕ × ℕ)
-claims_among table land right lines claimants = filter (λ claim. not (claim.1 == 0))
-    (map (λ claimant. (claimant.0, claim_of table land right lines claimant.1)) (enumerate_from 1 claimants))
+claims_among table land right lines numbers = filter (λ claim. not (claim.1 == 0))
+    (map (λ claimant. (claimant.0, claim_of table land right lines claimant.1)) (enumerate_from 1 numbers))
 
 -- the claims on a line by the share lines of its work
 abbrev pub claims_by : List (ℕ × List ℕ) → Registered → UsageLine → List ShareLine → List (ℕ × ℕ)

@@ -36,11 +36,12 @@ pub record ArePartiesIn (lists : List (List ShareLine)) (texts : List (List ℕ)
 
 -- the parties of the lists by account, each once and in byte order; the residue's account has no text
 pub record AreAccountsOf (lists : List (List ShareLine)) (parties : List (List ℕ)) : Type 0 where
-  pub claimants : List (List ℕ)
-  pub accounts : parties ≡ [] ∷ claimants
+  -- the numbers of the interested parties, in byte order
+  pub numbers : List (List ℕ)
+  pub accounts : parties ≡ [] ∷ numbers
   pub rising : IsStrictlySortedBy (slice_cmp nat_cmp) parties
-  pub few : length claimants ≤ MOST_PARTIES
-  pub exact : ArePartiesIn lists claimants
+  pub few : length numbers ≤ MOST_PARTIES
+  pub exact : ArePartiesIn lists numbers
 
 -- the lists have more than 511 parties
 abbrev pub HasMany : List (List ShareLine) → Type 0

@@ -36,7 +36,8 @@ pub record IsRegistered (registered : Registered) : Type 0 where
   pub once : AllPairs (λ entry later. ¬ (entry.0 ≡ later.0)) registered.works
   pub few : All (λ entry. length entry.1 ≤ MOST_SHARES) registered.works
   pub shares : All (λ entry. All IsShareLine entry.1) registered.works
-  pub claimants : List (List ℕ)
-  pub accounts : registered.parties ≡ [] ∷ claimants
-  pub few_claimants : length claimants ≤ MOST_PARTIES
-  pub exact : ArePartiesOf registered.works claimants
+  -- the numbers of the interested parties, in byte order
+  pub numbers : List (List ℕ)
+  pub accounts : registered.parties ≡ [] ∷ numbers
+  pub few_numbers : length numbers ≤ MOST_PARTIES
+  pub exact : ArePartiesOf registered.works numbers

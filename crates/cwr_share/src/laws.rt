@@ -60,8 +60,8 @@ pub fn law_claims_are_of_no_other_work()
 /// Parties by other names, each different from the others, have the same claims in the same places.
 pub fn law_names_do_not_matter()
     ensures { (name : List ℕ → List ℕ) → ((text other : List ℕ) → name text ≡ name other → text ≡ other)
-        → (table : List (ℕ × List ℕ)) (land : ℕ) (right : Right) (lines : List ShareLine) (claimants : List (List ℕ))
-        → claims_among table land right (map (renamed name) lines) (map name claimants) ≡ claims_among table land right lines claimants }
+        → (table : List (ℕ × List ℕ)) (land : ℕ) (right : Right) (lines : List ShareLine) (numbers : List (List ℕ))
+        → claims_among table land right (map (renamed name) lines) (map name numbers) ≡ claims_among table land right lines numbers }
 {}
 
 /// All registries of one file answer alike: each work has the same share lines in them, and the parties

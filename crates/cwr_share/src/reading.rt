@@ -1,6 +1,6 @@
 //! A CWR file as it is read, line by line.
 
-ghost use Rattle.std.specs.Prelude.{◌≡◌, ◌≤◌, ◌<◌, ◌+◌, ◌++◌, ◌∷◌, ◌⊎◌, [], ℕ, List, All, IfOk, IfErr, IfSome, None, OnOk, length, ◌^◌, true};
+ghost use Rattle.std.specs.Prelude.{◌≡◌, ◌<◌, ◌+◌, ◌++◌, ◌∷◌, ◌⊎◌, [], ℕ, List, All, IfOk, IfErr, IfSome, None, OnOk, length, ◌^◌, true};
 ghost use Rattle.cwr_share.specs.Compiled.{AreWorkNumbers};
 ghost use Rattle.cwr_share.specs.CwrFile.{HasTooMany, IsFaultOfLine, IsFaultOfOpening, IsFileOf};
 ghost use Rattle.cwr_share.specs.Parties.{HasManyFound};

@@ -1,6 +1,6 @@
 //! The registrations in force, and the claims that they give on a usage line.
 
-ghost use Rattle.std.specs.Prelude.{◌≡◌, ◌≤◌, ◌<◌, ◌↔◌, ◌⊎◌, [], ℕ, Contains, IfOk, IfErr, IfSome, IfNone, true, false, length, map, slice_index_or};
+ghost use Rattle.std.specs.Prelude.{◌≡◌, ◌≤◌, ◌<◌, ◌⊎◌, [], Contains, IfOk, IfErr, IfSome, IfNone, true, false, length, map, slice_index_or};
 ghost use Rattle.line_split.specs.declared.TheConstants.{MOST_CLAIMS};
 ghost use Rattle.line_split.specs.UsageLine.{usage_line_of};
 ghost use Rattle.cwr_share.specs.ClaimsOn.{claims_on, is_known, reason_against};
@@ -34,7 +34,7 @@ pub struct Registry {
 }
 
 impl Model for Registry {
-    ghost use Rattle.std.specs.Prelude.{◌≡◌, All, length, map, zip};
+    ghost use Rattle.std.specs.Prelude.{◌≡◌, length, map};
     ghost use Rattle.cwr_share.specs.Compiled.{AreKept, registered_as};
     ghost use Rattle.cwr_share.specs.Registered.{IsRegistered, Registered};
 

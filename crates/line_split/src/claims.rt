@@ -1,6 +1,6 @@
 //! The claims on one usage line.
 
-ghost use Rattle.std.specs.Prelude.{◌≡◌, ◌<◌, ◌≤◌, ◌++◌, ◌∷◌, [], List, ℕ, All, IfOk, IfErr, length, map};
+ghost use Rattle.std.specs.Prelude.{◌≡◌, ◌<◌, ◌≤◌, ◌++◌, ◌∷◌, [], All, IfOk, IfErr, length, map};
 ghost use Rattle.std.specs.List.Sorted.{IsPermutation, IsStrictlyIncreasing};
 ghost use Rattle.line_split.specs.declared.TheConstants.{FULL_SHARE, MOST_CLAIMED, MOST_CLAIMS, RESIDUE};
 ghost use Rattle.line_split.specs.Claims.{AreClaims};

@@ -1,6 +1,6 @@
 //! Lists of an account and its claim, as they are handed in.
 
-ghost use Rattle.std.specs.Prelude.{◌≡◌, ℕ, ◌+◌, ◌<◌, ◌↔◌, length, IfSome, IfNone, IsTrue};
+ghost use Rattle.std.specs.Prelude.{ℕ, ◌+◌, ◌<◌, ◌↔◌, length, IfSome, IfNone, IsTrue};
 ghost use Rattle.std.specs.List.Sorted.{IsPermutation, IsNonDecreasingBy};
 ghost use Rattle.line_split.specs.FirstPlace.{IsFirstPlace};
 ghost use Rattle.line_split.specs.ClaimFault.{IsOver, StandsBefore};

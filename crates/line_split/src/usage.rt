@@ -1,6 +1,6 @@
 //! The list of usage lines: what the money comes in by.
 
-ghost use Rattle.std.specs.Prelude.{◌≡◌, ◌≤◌, ◌<◌, ◌+◌, ◌↔◌, ℕ, List, IfOk, IfErr, IfSome, IfNone, Some, length, slice_get};
+ghost use Rattle.std.specs.Prelude.{◌≡◌, ◌≤◌, ◌<◌, List, IfOk, IfErr, IfSome, IfNone, Some, length, slice_get};
 ghost use Rattle.csv_table.specs.Table.{rows_of};
 ghost use Rattle.line_split.specs.KeptLines.{line_with};
 ghost use Rattle.line_split.specs.UsageLine.{line_of, right_named, usage_line_of, IsRight};

@@ -1,9 +1,9 @@
 //! The division that the words of a command line ask for.
 
-ghost use Rattle.std.specs.Prelude.{◌≡◌, ◌≤◌, ◌<◌, ◌+◌, ◌∷◌, [], ℕ, length, map, All, IfOk, IfErr, IfSome, IfNone, IsTrue, ◌↔◌, ◌++◌, OnOk, string_bytes};
+ghost use Rattle.std.specs.Prelude.{◌≡◌, ◌≤◌, ◌<◌, ◌+◌, ℕ, length, map, All, IfOk, IfErr, IfSome, IfNone, IsTrue, ◌↔◌, ◌++◌, OnOk, string_bytes};
 ghost use Rattle.line_split.specs.declared.TheConstants.{MOST_AMOUNT};
 ghost use Rattle.line_split.specs.FirstPlace.{IsFirstPlace};
-ghost use Rattle.pair_split.specs.Pair.{IsPair, claims_of as claims_made, word_at};
+ghost use Rattle.pair_split.specs.Pair.{IsPair, claims_of as claims_made};
 ghost use Rattle.pair_split.specs.PairFault.{AreSound, IsFaultOf, IsMalformed, IsNamedBefore};
 ghost use Rattle.pair_split.specs.Rows.{labels_of, row_of, split_text, text_of};
 

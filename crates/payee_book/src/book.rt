@@ -1,6 +1,6 @@
 //! The statements of all accounts.
 
-ghost use Rattle.std.specs.Prelude.{◌≡◌, true, false, ◌<◌, ◌≤◌, ◌∷◌, ℕ, List, [], All, IfOk, IfErr, OnOk, OnErr, length, map, replicate, slice_index_or, slice_set};
+ghost use Rattle.std.specs.Prelude.{◌≡◌, true, false, ◌<◌, ◌≤◌, ℕ, List, [], All, IfOk, OnOk, OnErr, length, map, replicate, slice_index_or, slice_set};
 ghost use Rattle.std.specs.List.{insert};
 ghost use Rattle.line_split.specs.declared.TheConstants.{MOST_AMOUNT};
 ghost use Rattle.payee_book.specs.Statement.{AreStatements, IsRising, comes_before, total_of, with_posting};

@@ -1,11 +1,11 @@
 //! The command `run`, over files that the tests make.
 
 use crate::program::program;
+use crate::test_outputs::{Answer, Narrow, run, words};
 use run_tests::small_run::{SHORT, STATEMENTS, TERRITORIES, TWO_PARTIES, USES};
 use std::alloc::Global;
 use std::env;
-use std::fs::{self, OpenFile};
-use std::io::{self, Write};
+use std::fs;
 use std::rt::{Env, Files};
 use std::sync::Wait;
 use std::test::Fail;
@@ -17,12 +17,7 @@ fn answer<R: Files + AllocGlobal + Threads + Wait + Sync>(
     line: &str,
 ) -> Result<String, Fail> {
     let alloc = rt.alloc();
-    let mut words = Vec::new(alloc);
-    for word in line.split(' ') {
-        words.push(String::from_str(alloc, word)?)?;
-    }
-    let (mut out, mut err) = (Vec::new(alloc), Vec::new(alloc));
-    let status = program(rt, alloc, words.as_slice(), &mut out, &mut err);
+    let Answer { status, out, err } = run(rt, line)?;
     let out = String::from_utf8(out).unwrap_or(String::new(alloc));
     let err = String::from_utf8(err).unwrap_or(String::new(alloc));
     Ok(format!(in alloc; "{status}\n{out}{err}")?)
@@ -118,31 +113,6 @@ fn answers_spelt_otherwise<R: Files + Env + AllocGlobal + Threads + Wait + Sync>
     Ok(format!(in rt.alloc(); "{turned}{joined}")?)
 }
 
-/// An output that takes so many bytes, refuses once, and then takes all that is still written. It keeps its
-/// bytes.
-#[derive(Drop)]
-struct Narrow {
-    room: usize,
-    kept: Vec<u8>,
-}
-
-impl Write for Narrow {
-    fn write(&mut self, buf: &[u8]) -> io::Result<usize> {
-        if self.room == 0 {
-            self.room = usize::MAX;
-            return Err(io::Error::from(io::ErrorKind::BrokenPipe));
-        }
-        let taken = buf.len().min(self.room);
-        self.kept.extend_from_slice(&buf[..taken])?;
-        self.room -= taken;
-        Ok(taken)
-    }
-
-    fn flush(&mut self) -> io::Result<()> {
-        Ok(())
-    }
-}
-
 /// What a run tells of an output that takes so many bytes: its status, what the output took, and what it
 /// says of that.
 fn answer_through<R: Files + Env + AllocGlobal + Threads + Wait + Sync>(
@@ -152,15 +122,8 @@ fn answer_through<R: Files + Env + AllocGlobal + Threads + Wait + Sync>(
 ) -> Result<String, Fail> {
     let alloc = rt.alloc();
     let made = Made::of(rt, test, [TERRITORIES, TWO_PARTIES, USES])?;
-    let line = made.in_order(alloc)?;
-    let mut words = Vec::new(alloc);
-    for word in line.as_str().split(' ') {
-        words.push(String::from_str(alloc, word)?)?;
-    }
-    let mut out = Narrow {
-        room,
-        kept: Vec::new(alloc),
-    };
+    let words = words(alloc, made.in_order(alloc)?.as_str())?;
+    let mut out = Narrow::with_room(alloc, room);
     let mut err = Vec::new(alloc);
     let status = program(rt, alloc, words.as_slice(), &mut out, &mut err);
     made.remove(rt)?;
@@ -240,21 +203,6 @@ fn reads_all_files_first(rt: HostRuntime) -> Result<(), Fail> {
     let text = answer(&rt, line.as_str())?;
     fs::remove_file(&rt, tis.as_str())?;
     assert_eq!(rt; text.as_str(), "4\nroyalty_run: cannot read absent\n");
-    Ok(())
-}
-
-#[test]
-fn reads_no_file_over_the_limit(rt: HostRuntime) -> Result<(), Fail> {
-    let large = path_of(&rt, "large")?;
-    fs::create(&rt, large.as_str())?.set_len(268_435_457)?;
-    let plan = "--workers 1 --readers 1 --nodes 1";
-    let line = format!(in rt.alloc(); "r run --tis {large} --cwr absent --usage absent {plan}")?;
-    let text = answer(&rt, line.as_str())?;
-    fs::remove_file(&rt, large.as_str())?;
-    assert_eq!(rt;
-        text.as_str(),
-        format!(in rt.alloc(); "4\nroyalty_run: cannot read {large}\n")?.as_str()
-    );
     Ok(())
 }
 

@@ -10,6 +10,8 @@ mod program;
 mod run_command;
 mod split_command;
 #[cfg(test)]
+mod test_outputs;
+#[cfg(test)]
 mod tests;
 
 use program::{program, words_of};

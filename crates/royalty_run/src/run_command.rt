@@ -1,6 +1,6 @@
 //! The grammar of the command `run`, and what its words ask for.
 
-ghost use Rattle.std.specs.Prelude.{◌≡◌, ◌≢◌, ◌≤◌, ℕ, IfOk, IfErr, Some, codes, map, string_bytes};
+ghost use Rattle.std.specs.Prelude.{◌≡◌, IfOk, IfErr, Some, codes, map, string_bytes};
 ghost use Rattle.clap.specs.declared.builder.value_parser.ValueParser.TheVariants as vp;
 ghost use Rattle.royalty_run.specs.Asked.{IsErrorOf};
 ghost use Rattle.royalty_run.specs.Answered.{AreReadFrom};

@@ -2,97 +2,17 @@
 
 use crate::failure::Failure;
 use crate::program::{no_words, program};
+use crate::test_outputs::{Answer, Held, Narrow, Stopped, run, words};
 use cwr_share::CwrFault;
 use line_split::LineFault;
 use pair_split::PairFault;
 use settle_run::Fault;
-use std::alloc::Global;
 use std::io::{self, Write};
 use std::rt::Files;
 use std::sync::Wait;
 use std::test::Fail;
 use std::thread::Threads;
 use tis_tree::TisFault;
-
-/// What a run of the program answers: its status, standard output and standard error.
-#[derive(Drop)]
-struct Answer {
-    status: u8,
-    out: Vec<u8>,
-    err: Vec<u8>,
-}
-
-fn words(alloc: Global, line: &str) -> Result<Vec<String>, Fail> {
-    let mut words = Vec::new(alloc);
-    for word in line.split(' ') {
-        words.push(String::from_str(alloc, word)?)?;
-    }
-    Ok(words)
-}
-
-fn run<R: Files + AllocGlobal + Threads + Wait + Sync>(rt: &R, line: &str) -> Result<Answer, Fail> {
-    let alloc = rt.alloc();
-    let words = words(alloc, line)?;
-    let mut out = Vec::new(alloc);
-    let mut err = Vec::new(alloc);
-    let status = program(rt, alloc, words.as_slice(), &mut out, &mut err);
-    Ok(Answer { status, out, err })
-}
-
-/// An output that holds its bytes back and cannot bring them through.
-#[derive(Drop)]
-struct Stopped {}
-
-impl Write for Stopped {
-    fn write(&mut self, buf: &[u8]) -> io::Result<usize> {
-        Ok(buf.len())
-    }
-
-    fn flush(&mut self) -> io::Result<()> {
-        Err(io::Error::from(io::ErrorKind::StorageFull))
-    }
-}
-
-/// An output that refuses a write, or takes so many bytes before it does.
-#[derive(Drop)]
-struct Narrow {
-    room: usize,
-}
-
-impl Write for Narrow {
-    fn write(&mut self, buf: &[u8]) -> io::Result<usize> {
-        if self.room == 0 {
-            return Err(io::Error::from(io::ErrorKind::BrokenPipe));
-        }
-        let taken = buf.len().min(self.room);
-        self.room -= taken;
-        Ok(taken)
-    }
-
-    fn flush(&mut self) -> io::Result<()> {
-        Ok(())
-    }
-}
-
-/// An output that holds its bytes back until they are brought through.
-#[derive(Drop)]
-struct Held {
-    back: Vec<u8>,
-    through: Vec<u8>,
-}
-
-impl Write for Held {
-    fn write(&mut self, buf: &[u8]) -> io::Result<usize> {
-        self.back.extend_from_slice(buf)?;
-        Ok(buf.len())
-    }
-
-    fn flush(&mut self) -> io::Result<()> {
-        self.through.extend_from_slice(self.back.as_slice())?;
-        self.back.clear();
-        Ok(())
-    }
-}
 
 /// What comes through two outputs that hold their bytes back.
 fn brought_through<R: Files + AllocGlobal + Threads + Wait + Sync>(
@@ -101,14 +21,8 @@ fn brought_through<R: Files + AllocGlobal + Threads + Wait + Sync>(
 ) -> Result<Answer, Fail> {
     let alloc = rt.alloc();
     let words = words(alloc, line)?;
-    let mut out = Held {
-        back: Vec::new(alloc),
-        through: Vec::new(alloc),
-    };
-    let mut err = Held {
-        back: Vec::new(alloc),
-        through: Vec::new(alloc),
-    };
+    let mut out = Held::new(alloc);
+    let mut err = Held::new(alloc);
     let status = program(rt, alloc, words.as_slice(), &mut out, &mut err);
     Ok(Answer {
         status,
@@ -373,36 +287,36 @@ fn says_what_failed(rt: HostRuntime) -> Result<(), Fail> {
 fn an_output_that_refuses_is_status_4(rt: HostRuntime) -> Result<(), Fail> {
     let alloc = rt.alloc();
     let good = words(alloc, "r split 100 A=3333 B=3333 C=3333")?;
-    for room in [0, 1, 25] {
+    let whole = "P,A,34\nP,B,33\nP,C,33\nM,,0\n";
+    for room in [0, 1, whole.len() - 1] {
+        let mut out = Narrow::with_room(alloc, room);
         let mut err = Vec::new(alloc);
-        let status = program(&rt, alloc, good.as_slice(), &mut Narrow { room }, &mut err);
+        let status = program(&rt, alloc, good.as_slice(), &mut out, &mut err);
         assert_eq!(rt; status, 4, "{room}");
+        assert_eq!(rt; out.kept.as_slice(), &whole.as_bytes()[..room]);
         assert_eq!(rt; err.as_slice(), b"royalty_run: cannot write\n".as_slice());
     }
     let mut err = Vec::new(alloc);
     let stopped = program(&rt, alloc, good.as_slice(), &mut Stopped {}, &mut err);
     assert_eq!(rt; stopped, 4);
-    let bad = words(alloc, "r split 5 A")?;
-    let mut out = Vec::new(alloc);
-    assert_eq!(rt;
-        program(
+    Ok(())
+}
+
+#[test]
+fn an_error_output_that_refuses_changes_no_status(rt: HostRuntime) -> Result<(), Fail> {
+    let alloc = rt.alloc();
+    for (line, room, want) in [
+        ("r split 5 A", 100, 2),
+        ("r split 100 A=3333 B=3333 C=3333", 0, 4),
+    ] {
+        let status = program(
             &rt,
             alloc,
-            bad.as_slice(),
-            &mut out,
-            &mut Narrow { room: 0 }
-        ),
-        2
-    );
-    assert_eq!(rt;
-        program(
-            &rt,
-            alloc,
-            good.as_slice(),
-            &mut Narrow { room: 0 },
-            &mut Narrow { room: 0 }
-        ),
-        4
-    );
+            words(alloc, line)?.as_slice(),
+            &mut Narrow::with_room(alloc, room),
+            &mut Narrow::with_room(alloc, 0),
+        );
+        assert_eq!(rt; status, want, "{line}");
+    }
     Ok(())
 }

@@ -45,7 +45,7 @@ by_account-requires c =
 
 pub returns-clause-parties : goal.returns-clause-parties
 returns-clause-parties c = record {
-  claimants = texts_of c.loop-shares.found;
+  numbers = texts_of c.loop-shares.found;
   accounts = c.in_ok-by_account.ensures.parties;
   rising = c.in_ok-by_account.ensures.rising;
   few = omega (arith, length-map c.loop-shares.found.keys (λ (text : Vec ℕ Global). text.items), c.loop-shares.invariant.few);

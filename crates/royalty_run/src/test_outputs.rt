@@ -1,0 +1,117 @@
+//! What the tests of the program share: the words of a command line, what a run answers, and outputs that
+//! refuse or hold back.
+
+use crate::program::program;
+use std::alloc::Global;
+use std::io::{self, Write};
+use std::rt::Files;
+use std::sync::Wait;
+use std::test::Fail;
+use std::thread::Threads;
+
+/// What a run of the program answers: its status, standard output and standard error.
+#[derive(Drop)]
+pub struct Answer {
+    pub status: u8,
+    pub out: Vec<u8>,
+    pub err: Vec<u8>,
+}
+
+/// The words of a line, which stand one space apart.
+pub fn words(alloc: Global, line: &str) -> Result<Vec<String>, Fail> {
+    let mut words = Vec::new(alloc);
+    for word in line.split(' ') {
+        words.push(String::from_str(alloc, word)?)?;
+    }
+    Ok(words)
+}
+
+/// What a run with the words of a line answers.
+pub fn run<R: Files + AllocGlobal + Threads + Wait + Sync>(
+    rt: &R,
+    line: &str,
+) -> Result<Answer, Fail> {
+    let alloc = rt.alloc();
+    let words = words(alloc, line)?;
+    let mut out = Vec::new(alloc);
+    let mut err = Vec::new(alloc);
+    let status = program(rt, alloc, words.as_slice(), &mut out, &mut err);
+    Ok(Answer { status, out, err })
+}
+
+/// An output that holds its bytes back and cannot bring them through.
+#[derive(Drop)]
+pub struct Stopped {}
+
+impl Write for Stopped {
+    fn write(&mut self, buf: &[u8]) -> io::Result<usize> {
+        Ok(buf.len())
+    }
+
+    fn flush(&mut self) -> io::Result<()> {
+        Err(io::Error::from(io::ErrorKind::StorageFull))
+    }
+}
+
+/// An output that takes so many bytes, refuses once, and then takes all that is still written. It keeps its
+/// bytes.
+#[derive(Drop)]
+pub struct Narrow {
+    room: usize,
+    pub kept: Vec<u8>,
+}
+
+impl Narrow {
+    pub fn with_room(alloc: Global, room: usize) -> Self {
+        Narrow {
+            room,
+            kept: Vec::new(alloc),
+        }
+    }
+}
+
+impl Write for Narrow {
+    fn write(&mut self, buf: &[u8]) -> io::Result<usize> {
+        if self.room == 0 {
+            self.room = usize::MAX;
+            return Err(io::Error::from(io::ErrorKind::BrokenPipe));
+        }
+        let taken = buf.len().min(self.room);
+        self.kept.extend_from_slice(&buf[..taken])?;
+        self.room -= taken;
+        Ok(taken)
+    }
+
+    fn flush(&mut self) -> io::Result<()> {
+        Ok(())
+    }
+}
+
+/// An output that holds its bytes back until they are brought through.
+#[derive(Drop)]
+pub struct Held {
+    back: Vec<u8>,
+    pub through: Vec<u8>,
+}
+
+impl Held {
+    pub fn new(alloc: Global) -> Self {
+        Held {
+            back: Vec::new(alloc),
+            through: Vec::new(alloc),
+        }
+    }
+}
+
+impl Write for Held {
+    fn write(&mut self, buf: &[u8]) -> io::Result<usize> {
+        self.back.extend_from_slice(buf)?;
+        Ok(buf.len())
+    }
+
+    fn flush(&mut self) -> io::Result<()> {
+        self.through.extend_from_slice(self.back.as_slice())?;
+        self.back.clear();
+        Ok(())
+    }
+}
