@@ -8,7 +8,7 @@ explore.py SENDERS NODES POSTS [--wrong NAME]   visits every state that any inte
                                                 a sender, and checks the whole relation between the two, the prefix property and the held nodes in each
 explore.py --vectors COUNT SEED                 prints random schedules with what each step answers, for a test of the product's own core
 
-Wrong cores, each of which the exploration refuses: no_successor (the tail is returned without a successor), link_first (the link is
+Wrong cores, each of which the exploration refuses, the last where a sender posts twice (1 1 2): no_successor (the tail is returned without a successor), link_first (the link is
 stored before the exchange), stub_left (the stub is exchanged in while it is still left), no_turn (a node is filled without a look at its turn).
 """
 import random
@@ -320,7 +320,9 @@ if __name__ == "__main__":
         at = words.index("--wrong")
         WRONG = words[at + 1]
         del words[at:at + 2]
-    if words and words[0] == "--vectors":
+    if not words:
+        sys.exit(__doc__)
+    if words[0] == "--vectors":
         vectors(int(words[1]), int(words[2]))
     else:
         try:

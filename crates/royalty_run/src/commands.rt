@@ -25,7 +25,7 @@ const HELP: &str = "\
 A refusal has a number and a place: the table of faults in docs/FORMATS.md says what to mend.
 
 Exit status:
-  0  the answer was printed, or help
+  0  the answer was printed, or help, or the version
   1  an input file is refused for what is in it
   2  the words are refused
   3  memory was refused

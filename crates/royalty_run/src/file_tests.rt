@@ -4,12 +4,11 @@ use crate::program::program;
 use crate::test_outputs::{Answer, Narrow, run, words};
 use run_tests::small_run::{SHORT, STATEMENTS, TERRITORIES, TWO_PARTIES, USES};
 use std::alloc::Global;
-use std::env;
-use std::fs;
 use std::rt::{Env, Files};
 use std::sync::Wait;
 use std::test::Fail;
 use std::thread::Threads;
+use std::{env, fs};
 
 /// The status, the standard output and the standard error of a run of the program.
 fn answer<R: Files + AllocGlobal + Threads + Wait + Sync>(

@@ -16,7 +16,7 @@ use std::alloc::{AllocError, Global};
 /// What stands below the help of `split`.
 const SPLIT_HELP: &str = "\
 The answer has a row P,party,portion for each party and last M,,portion for the residue, which has
-what nobody claims. Units left by rounding down go to the largest remainders. Shares that come to
+what no party gets. Units left by rounding down go to the largest remainders. Shares that come to
 more than 10006 leave the whole amount to the residue.
 
 Example:
@@ -82,7 +82,7 @@ fn pairs_arg<'a>(alloc: Global) -> Arg<'a>
 {
     Arg::new(alloc, "PARTY=SHARE")
         .help(
-            "A party (1 to 9 printable characters) and its share in hundredths of a per cent, as A=2500 for 25 per cent; 0 to 10000, at most 256 of them",
+            "A party (1 to 9 printable characters other than =) and its share in hundredths of a per cent, as A=2500 for 25 per cent; 0 to 10000, at most 256 of them",
         )
         .required(true)
         .action(ArgAction::Set)
