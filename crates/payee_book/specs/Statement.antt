@@ -1,5 +1,5 @@
 -- The statement of an account: its postings, pairs of a usage line's number and an amount in minor units.
-use Rattle.std.specs.Prelude.{ℕ, ◌≡◌, false, ◌≤◌, ◌<◌, ◌==◌, ◌||◌, ◌&&◌, ◌++◌, ◌∷◌, List, All, Bool, length, not, nat_lt, sum_by}
+use Rattle.std.specs.Prelude.{ℕ, ◌≡◌, false, ◌≤◌, ◌<◌, ◌==◌, ◌||◌, ◌&&◌, ◌++◌, ◌∷◌, ◌⊎◌, [], List, All, Bool, length, not, nat_lt, slice_index_or, sum_by}
 use Rattle.std.specs.List.{AllPairs, filter}
 use Rattle.line_split.specs.declared.TheConstants.{MOST_AMOUNT}
 use Rattle.payee_book.specs.declared.TheConstants.{MOST_ACCOUNTS}
@@ -27,3 +27,12 @@ pub record AreStatements (book : List (List (ℕ × ℕ))) : Type 0 where
   pub few : length book ≤ MOST_ACCOUNTS
   pub rising : All IsRising book
   pub small : All (All (λ posting. posting.1 ≤ MOST_AMOUNT)) book
+
+-- no account has postings in both books
+abbrev pub AreApart : List (List (ℕ × ℕ)) → List (List (ℕ × ℕ)) → Type 0
+AreApart one other = (account : ℕ) → account < length one → (slice_index_or one account [] ≡ []) ⊎ (slice_index_or other account [] ≡ [])
+
+-- the third book has for each account what the two had
+pub record AreJoined (one other both : List (List (ℕ × ℕ))) : Type 0 where
+  pub count : length both ≡ length one
+  pub each : (account : ℕ) → account < length one → slice_index_or both account [] ≡ slice_index_or one account [] ++ slice_index_or other account []

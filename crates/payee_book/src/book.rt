@@ -1,9 +1,9 @@
 //! The statements of all accounts.
 
-ghost use Rattle.std.specs.Prelude.{◌≡◌, true, false, ◌<◌, ◌≤◌, ℕ, List, [], All, IfOk, OnOk, OnErr, length, map, replicate, slice_index_or, slice_set};
+ghost use Rattle.std.specs.Prelude.{◌≡◌, true, false, ◌++◌, ◌<◌, ◌≤◌, ◌⊎◌, ℕ, List, [], All, IfOk, OnOk, OnErr, length, map, replicate, slice_index_or, slice_set, vec_items, vec_len};
 ghost use Rattle.std.specs.List.{insert};
 ghost use Rattle.line_split.specs.declared.TheConstants.{MOST_AMOUNT};
-ghost use Rattle.payee_book.specs.Statement.{AreStatements, IsRising, comes_before, total_of, with_posting};
+ghost use Rattle.payee_book.specs.Statement.{AreApart, AreJoined, AreStatements, IsRising, comes_before, total_of, with_posting};
 
 use line_split::{Account, MOST_AMOUNT};
 use std::alloc::{AllocError, Global};
@@ -94,6 +94,15 @@ impl Book {
         put(&mut self.statements[account as usize], place, posting)
     }
 
+    /// Puts another book's postings with these, where no account has postings in both.
+    pub fn join(&mut self, other: Book)
+        requires accounts { length other ≡ length self.old }
+        requires apart { AreApart self.old other }
+        ensures { AreJoined self.old other self.new }
+    {
+        join_all(&mut self.statements, other.statements);
+    }
+
     /// The postings of an account, in order of line and amount.
     pub fn lines(&self, account: Account) -> &[(u64, u64)]
         requires { account < length self.now }
@@ -123,6 +132,29 @@ pub(crate) fn sum(statement: &[(u64, u64)]) -> u128
         total += u128::from(posting.1);
     }
     total
+}
+
+/// Adds the postings of each account to those that it has.
+fn join_all(mine: &mut Vec<Vec<(u64, u64)>>, theirs: Vec<Vec<(u64, u64)>>)
+    requires accounts { vec_len theirs ≡ vec_len mine.old }
+    requires apart { AreApart (map (λ s. s.items) (vec_items mine.old)) (map (λ s. s.items) (vec_items theirs)) }
+    ensures { AreJoined (map (λ s. s.items) (vec_items mine.old)) (map (λ s. s.items) (vec_items theirs)) (map (λ s. s.items) (vec_items mine.new)) }
+{
+    let mut account = 0;
+    for statement in theirs {
+        add_to(&mut mine[account], statement);
+        account += 1;
+    }
+}
+
+/// Adds the postings of one statement to those of another, of which one has none.
+fn add_to(mine: &mut Vec<(u64, u64)>, theirs: Vec<(u64, u64)>)
+    requires { (mine.old.items ≡ []) ⊎ (theirs.items ≡ []) }
+    ensures { mine.new.items ≡ mine.old.items ++ theirs.items }
+{
+    if mine.is_empty() {
+        *mine = theirs;
+    }
 }
 
 /// Where a posting belongs among others: after all that it does not come before. It is looked for

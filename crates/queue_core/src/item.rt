@@ -15,7 +15,7 @@ pub enum Item {
 pub enum Posted {
     /// The item is in the mailbox.
     Sent,
-    /// The sender's next node has not been given back.
+    /// There was no room for it: the sender's earlier items are still in the way.
     Full,
 }
 
@@ -24,8 +24,8 @@ pub enum Posted {
 pub enum Took<H> {
     /// An item, held until it is given back.
     Held(H),
-    /// Nothing is in the mailbox.
+    /// Nothing was found. Once the senders are taken in: all that they sent was received.
     Empty,
-    /// Something comes, and is not linked in yet.
+    /// Something may be on its way, from a sender that was not taken in.
     Busy,
 }

@@ -10,6 +10,8 @@ mod cwr_share_tests;
 #[cfg(test)]
 mod line_split_tests;
 #[cfg(test)]
+mod mail_box_tests;
+#[cfg(test)]
 mod pair_split_tests;
 #[cfg(test)]
 mod payee_book_tests;

@@ -1,6 +1,7 @@
 //! A book of two accounts, and one of three as text.
 
-ghost use Rattle.std.specs.Prelude.{◌<◌, All};
+ghost use Rattle.std.specs.Prelude.{◌<◌, ◌≡◌, All, length};
+ghost use Rattle.payee_book.specs.Statement.{AreApart};
 
 use line_split::{Reason, Usage};
 use payee_book::Book;
@@ -17,6 +18,16 @@ fn assert_lines(rt: &impl Abort, book: &Book, lines: usize)
                 .iter()
                 .all(|posting| posting.0 < lines as u64)
         );
+    }
+}
+
+/// Asserts that no account has postings in both books.
+fn assert_apart(rt: &impl Abort, one: &Book, other: &Book)
+    requires { length other.now ≡ length one.now }
+    ensures { AreApart one.now other.now }
+{
+    for account in 0..one.accounts() {
+        assert!(rt; one.lines(account).is_empty() || other.lines(account).is_empty());
     }
 }
 
@@ -115,5 +126,24 @@ fn writes_many_lines(rt: HostRuntime) -> Result<(), Fail> {
     let nobody = [Vec::new(alloc)];
     let text = book.text(alloc, &usage, &nobody, reasons.as_slice())?;
     assert_eq!(rt; text.as_slice(), want.as_slice());
+    Ok(())
+}
+
+#[test]
+fn joins_what_two_books_have(rt: HostRuntime) -> Result<(), Fail> {
+    let mut first = Book::open(rt.alloc(), 2)?;
+    assert!(rt; first.accounts() == 2);
+    first.post(1, 7, 5)?;
+    assert!(rt; first.accounts() == 2);
+    first.post(1, 2, 3)?;
+    let mut second = Book::open(rt.alloc(), 2)?;
+    assert!(rt; second.accounts() == 2);
+    second.post(0, 9, 4)?;
+    assert!(rt; first.accounts() == second.accounts());
+    assert_apart(&rt, &first, &second);
+    first.join(second);
+    assert!(rt; first.accounts() == 2);
+    assert_eq!(rt; first.lines(0), [(9, 4)].as_slice());
+    assert_eq!(rt; first.lines(1), [(2, 3), (7, 5)].as_slice());
     Ok(())
 }

@@ -1,0 +1,3 @@
+pub mod Relays
+pub mod LaneLists
+pub mod Endings

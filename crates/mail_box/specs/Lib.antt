@@ -1,0 +1,4 @@
+pub mod Mails
+pub mod Endings
+pub mod Lanes
+pub mod LaneViews

@@ -1,0 +1,13 @@
+//! A mailbox between threads: several senders, each with a list of its own, and one receiver.
+//!
+//! `Mail` is what every kind of mailbox does, and all that a caller may know of it. `LaneMail` has one queue of
+//! its own for each sender.
+#![tactic(auto)]
+
+mod lane;
+mod lane_mail;
+mod mail;
+
+pub use lane_mail::{LaneHeld, LaneMail, LaneReceiver, LaneSender};
+pub use mail::Mail;
+pub use queue_core::{Item, Posted, Took};
