@@ -1,3 +1,4 @@
 pub mod Run
+pub mod Counted
 pub mod Statement
 pub mod Text

@@ -6,6 +6,7 @@ ghost use Rattle.mail_box.specs.Mails.{IsInRange, opened_sender, with_end, with_
 
 use mail_box::{Item, LaneHeld, LaneMail, LaneReceiver, LaneSender, Mail, Posted, Took};
 use mail_relay::relay;
+use split_run::CountingMail;
 use std::alloc::{AllocError, Global};
 use std::process::Abort;
 use std::sync::Wait;
@@ -195,5 +196,17 @@ fn relays_what_two_senders_send(rt: HostRuntime) -> Result<(), Fail> {
     let others = [(8, 80), (9, 90)];
     let mut receiver = relay(&rt, &LaneMail, first, second, receiver, &posts, &others);
     assert_empty(&rt, &mut receiver);
+    Ok(())
+}
+
+#[test]
+fn counts_what_is_taken(rt: HostRuntime) -> Result<(), Fail> {
+    let mail = CountingMail::new(rt.alloc(), LaneMail)?;
+    let (mut senders, receiver) = mail.open(rt.alloc(), 2, 1, 9)?;
+    let second = senders.swap_remove(1);
+    let first = senders.swap_remove(0);
+    let posts = [(1, 10), (2, 20), (3, 30)];
+    let _ = relay(&rt, &mail, first, second, receiver, &posts, &[(8, 80)]);
+    assert_eq!(rt; mail.takes(), 6);
     Ok(())
 }

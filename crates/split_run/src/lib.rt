@@ -1,9 +1,11 @@
 //! How a distribution run is shared out.
 #![tactic(auto)]
 
+mod counting;
 pub mod laws;
 mod plan;
 
+pub use counting::{CountingMail, CountingReceiver};
 pub use plan::Plan;
 
 /// The most workers, and the most readers, of a run.

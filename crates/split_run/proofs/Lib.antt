@@ -1,0 +1,4 @@
+pub mod Sums
+pub mod BlockLemmas
+pub mod TakenLemmas
+pub mod DealtLemmas
