@@ -80,6 +80,12 @@ module _ {Name : Type 0} where
   abbrev pub IsItemFor : ReceiverView Name → HeldView Name → Type 0
   IsItemFor r h = (h.mailbox ≡ r.mailbox) × (h.sender < r.senders) × IsInRange h.item
 
+  -- the second receiver is the first after an item of this sender
+  abbrev pub HasReceived : ReceiverView Name → ReceiverView Name → ℕ → Item → Type 0
+  HasReceived old new sender item =
+      let held : HeldView Name = record { mailbox = old.mailbox; sender = sender; item = item } in
+      IsItemFor old held × (new ≡ with_item old held)
+
 -- a fact for each answer
 abbrev pub MatchPosted : Posted → Type 0 → Type 0 → Type 0
 MatchPosted Sent sent full = sent

@@ -7,7 +7,9 @@
 mod lane;
 mod lane_mail;
 mod mail;
+mod receiving;
 
 pub use lane_mail::{LaneHeld, LaneMail, LaneReceiver, LaneSender};
 pub use mail::Mail;
 pub use queue_core::{Item, Posted, Took};
+pub use receiving::receive;

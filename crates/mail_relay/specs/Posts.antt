@@ -3,7 +3,7 @@ use Rattle.std.specs.Prelude.{ℕ, ◌≡◌, ◌<◌, ◌≤◌, ◌++◌, ◌�
 use Rattle.queue_core.specs.declared.item.Item.{Item}
 use Rattle.queue_core.specs.declared.item.Item.TheVariants.{End, Post}
 use Rattle.mail_box.specs.Endings.{HasEnd}
-use Rattle.mail_box.specs.Mails.{HeldView, IsItemFor, ReceiverView, SenderView, with_item}
+use Rattle.mail_box.specs.Mails.{ReceiverView, SenderView}
 
 -- a line and an amount are within the limits of a post
 abbrev pub IsPostable : ℕ × ℕ → Type 0
@@ -21,12 +21,6 @@ module _ {Name : Type 0} where
   -- the second sender is the first after these posts and the end mark
   abbrev pub HasPosted : SenderView Name → SenderView Name → List (ℕ × ℕ) → Type 0
   HasPosted old new posts = (new.mailbox ≡ old.mailbox) × (new.number ≡ old.number) × (new.is_ended ≡ true) × (new.sent ≡ closed posts)
-
-  -- the second receiver is the first after an item of this sender
-  abbrev pub HasReceived : ReceiverView Name → ReceiverView Name → ℕ → Item → Type 0
-  HasReceived old new sender item =
-      let held : HeldView Name = record { mailbox = old.mailbox; sender = sender; item = item } in
-      IsItemFor old held × (new ≡ with_item old held)
 
   -- the second receiver has the end marks of two senders
   abbrev pub HasReceivedBoth : ReceiverView Name → ReceiverView Name → Type 0

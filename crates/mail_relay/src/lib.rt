@@ -5,6 +5,6 @@ mod receiving;
 mod sending;
 mod two_senders;
 
-pub use receiving::{receive_all, receive_one};
+pub use receiving::receive_all;
 pub use sending::{send, send_all, send_end};
 pub use two_senders::relay;

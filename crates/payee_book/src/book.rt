@@ -30,17 +30,9 @@ impl Book {
         requires { 0 < accounts }
         ensures { IfOk result (λ book. book ≡ replicate accounts []) }
     {
-        Book::with_room(alloc, accounts, 0)
-    }
-
-    /// The same, with room for so many postings of each account.
-    pub fn with_room(alloc: Global, accounts: u16, postings: usize) -> Result<Book, AllocError>
-        requires { 0 < accounts }
-        ensures { IfOk result (λ book. book ≡ replicate accounts []) }
-    {
         let mut statements = Vec::new(alloc);
         for _ in 0..accounts {
-            statements.push(Vec::with_capacity(alloc, postings)?)?;
+            statements.push(Vec::new(alloc))?;
         }
         Ok(Book { statements })
     }
@@ -48,7 +40,7 @@ impl Book {
     /// How many accounts there are, the residue's included.
     pub fn accounts(&self) -> u16
         ensures count { result ≡ length self.now }
-        ensures some { 0 < result }
+        ensures sound { AreStatements self.now }
     {
         self.statements.len() as u16
     }
@@ -62,18 +54,6 @@ impl Book {
         ensures refused { OnErr result (self.new ≡ self.old) }
     {
         let place = place_of(self.lines(account), (line, amount));
-        self.put_at(account, place, (line, amount))
-    }
-
-    /// The same, of a line that comes after all those of the account. No posting has to be looked at.
-    pub fn post_last(&mut self, account: Account, line: u64, amount: u64) -> Result<(), AllocError>
-        requires account { account < length self.old }
-        requires amount { amount ≤ MOST_AMOUNT }
-        requires last { All (λ posting. posting.0 < line) (slice_index_or self.old account []) }
-        ensures posted { OnOk result (self.new ≡ slice_set self.old account (with_posting (line, amount) (slice_index_or self.old account []))) }
-        ensures refused { OnErr result (self.new ≡ self.old) }
-    {
-        let place = self.lines(account).len();
         self.put_at(account, place, (line, amount))
     }
 

@@ -84,13 +84,13 @@ pub fn run_command<'a>(alloc: Global) -> Result<Command<'a>, AllocError>
             alloc,
             "workers",
             value_parser!(u64).range(1..=8),
-            "How many threads divide usage lines: 1 to 8 (so far one does)",
+            "How many threads divide usage lines: 1 to 8",
         ))?
         .arg(number_arg(
             alloc,
             "readers",
             value_parser!(u64).range(1..=8),
-            "How many threads keep statements: 1 to 8 (so far one does)",
+            "How many threads keep statements: 1 to 8",
         ))?
         .arg(number_arg(
             alloc,

@@ -179,8 +179,8 @@ fn tells_what_the_words_are(rt: HostRuntime) -> Result<(), Fail> {
             "--cwr <F>      The registrations of works\n",
         ),
         ("r run --help", "--usage <F>    The usage lines\n"),
-        ("r run --help", "divide usage lines: 1 to 8 "),
-        ("r run --help", "keep statements: 1 to 8 "),
+        ("r run --help", "divide usage lines: 1 to 8\n"),
+        ("r run --help", "keep statements: 1 to 8\n"),
         ("r run --help", "to an account at most: 1 to 64\n"),
         ("r run --help", "L,party,usage,amount"),
         (

@@ -18,6 +18,8 @@ mod payee_book_tests;
 #[cfg(test)]
 mod queue_core_tests;
 #[cfg(test)]
+mod run_threads_tests;
+#[cfg(test)]
 mod settle_run_tests;
 pub mod small_run;
 #[cfg(test)]

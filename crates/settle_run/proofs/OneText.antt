@@ -11,7 +11,8 @@ use Rattle.line_split.specs.UsageLine.{UsageLine}
 use Rattle.line_split.specs.declared.reason.Reason.{Reason}
 use Rattle.payee_book.specs.Run.{IsBookOf}
 use Rattle.payee_book.specs.Text.{rows_of_book}
-use Rattle.settle_run.specs.Settled.{AreStatementsFor, division_by, reason_of}
+use Rattle.settle_run.specs.Settled.{AreStatementsFor, reason_of}
+use Rattle.split_run.specs.Divisions.{division_by}
 
 -- two registries answer alike
 pub record AnswerAlike (registered other : Registered) : Type 0 where

@@ -7,10 +7,9 @@ use Rattle.tis_tree.specs.declared.tis_fault.TisFault.TheVariants as tis_fault
 use Rattle.cwr_share.specs.Lines.{lines_of}
 use Rattle.cwr_share.specs.CwrFile as cwr
 use Rattle.cwr_share.specs.Registered.{IsRegistered, Registered}
-use Rattle.cwr_share.specs.ClaimsOn.{claims_on, reason_against}
+use Rattle.cwr_share.specs.ClaimsOn.{reason_against}
 use Rattle.cwr_share.specs.declared.cwr_fault.CwrFault.TheVariants as cwr_fault
 use Rattle.line_split.specs.UsageTable as usage
-use Rattle.line_split.specs.LargestRemainder.{portions_of}
 use Rattle.line_split.specs.UsageLine.{UsageLine}
 use Rattle.line_split.specs.declared.reason.Reason.{Reason}
 use Rattle.line_split.specs.declared.reason.Reason.TheVariants.{Open}
@@ -18,12 +17,9 @@ use Rattle.line_split.specs.declared.line_fault.LineFault.TheVariants as line_fa
 use Rattle.payee_book.specs.Run.{IsBookOf}
 use Rattle.payee_book.specs.Statement.{total_of}
 use Rattle.payee_book.specs.Text.{rows_of_book}
+use Rattle.split_run.specs.Divisions.{division_by}
 use Rattle.settle_run.specs.declared.fault.Fault.{Fault}
 use Rattle.settle_run.specs.declared.fault.Fault.TheVariants.{Tis, Cwr, Usage, Room}
-
--- how a line is divided: its amount by the claims on it
-abbrev pub division_by : List (ℕ × List ℕ) → Registered → UsageLine → List (ℕ × ℕ)
-division_by table registered line = portions_of line.amount (claims_on table registered line)
 
 -- why a line has a residue: what stands against the claims on it, or else what they leave open
 abbrev pub reason_of : List (ℕ × List ℕ) → Registered → UsageLine → Reason

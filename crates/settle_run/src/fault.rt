@@ -5,6 +5,7 @@ ghost use Rattle.settle_run.specs.Faults.{fault_of_cwr, fault_of_tis, fault_of_u
 
 use cwr_share::CwrFault;
 use line_split::LineFault;
+use split_run::RunFault;
 use std::alloc::AllocError;
 use thiserror::Error;
 use tis_tree::TisFault;
@@ -101,6 +102,17 @@ impl From<AllocError> for Fault {
     ghost from_gives = { λ _ given. given ≡ Room };
 
     fn from(_: AllocError) -> Fault {
+        Fault::Room
+    }
+}
+
+impl From<RunFault> for Fault {
+    ghost use Rattle.std.specs.Prelude.{◌≡◌};
+    ghost use Rattle.settle_run.specs.declared.fault.Fault.TheVariants.{Room};
+
+    ghost from_gives = { λ _ given. given ≡ Room };
+
+    fn from(_: RunFault) -> Fault {
         Fault::Room
     }
 }

@@ -19,7 +19,7 @@ drawn_below : (k n : ℕ) → k < n → ◌≡◌ {A = ℕ} (cond (nat_lt k n) 1
 drawn_below k n below = grind (arith, nat_tests)
 
 module _ (division : UsageLine → List (ℕ × ℕ)) (account : ℕ) where
-  on-append : (xs ys : List (ℕ × UsageLine)) → postings_on division account (xs ++ ys) ≡ postings_on division account xs ++ postings_on division account ys
+  pub on-append : (xs ys : List (ℕ × UsageLine)) → postings_on division account (xs ++ ys) ≡ postings_on division account xs ++ postings_on division account ys
   on-append xs ys =
       let f : ℕ × UsageLine → ℕ × ℕ = λ e. (e.0, portion_of account (division e.1)) in
       let test : ℕ × ℕ → Bool = λ posting. nat_lt 0 posting.1 in

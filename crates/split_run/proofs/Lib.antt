@@ -2,3 +2,10 @@ pub mod Sums
 pub mod BlockLemmas
 pub mod TakenLemmas
 pub mod DealtLemmas
+pub mod SendingLemmas
+pub mod DivisionLemmas
+pub mod EndLemmas
+pub mod WorkingLemmas
+pub mod ReadingLemmas
+pub mod OpeningLemmas
+pub mod RunningLemmas

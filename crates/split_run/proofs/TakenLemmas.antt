@@ -29,12 +29,12 @@ posts_back (posting ∷ postings) = ap (λ l. posting ∷ l) (posts_back posting
 
 -- one number more of one sender
 module _ {A : Type 0} (sender m : ℕ) (value : A) (f : ℕ → A) (c : A → ℕ) where
-  untouched : (n : ℕ) → n ≤ sender → sum_below n (λ k. c (put_at sender value f k)) ≡ sum_below n (λ k. c (f k))
+  pub untouched : (n : ℕ) → n ≤ sender → sum_below n (λ k. c (put_at sender value f k)) ≡ sum_below n (λ k. c (f k))
   untouched n past =
       sum-same n (λ k. c (put_at sender value f k)) (λ k. c (f k))
       (λ k below. ⊎_elim (λ e. absurd (omega (arith, e.1, below, past))) (λ e. ap (λ b. c (cond b value (f k))) e.0) (eqb_tells k sender))
 
-  sum_put : (n : ℕ) → sender < n → c value ≡ c (f sender) + m → sum_below n (λ k. c (put_at sender value f k)) ≡ sum_below n (λ k. c (f k)) + m
+  pub sum_put : (n : ℕ) → sender < n → c value ≡ c (f sender) + m → sum_below n (λ k. c (put_at sender value f k)) ≡ sum_below n (λ k. c (f k)) + m
   sum_put zero below more = absurd (omega (arith, below))
   sum_put (suc n) below more =
       ⊎_elim

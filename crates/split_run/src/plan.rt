@@ -10,11 +10,11 @@ use std::marker::Model;
 #[derive(Clone, Copy, Debug, PartialEq, Eq)]
 pub struct Plan {
     /// How many workers divide usage lines.
-    workers: u64,
+    pub(crate) workers: u64,
     /// How many readers keep the statements.
-    readers: u64,
+    pub(crate) readers: u64,
     /// How many nodes each worker has in each mailbox.
-    nodes: u64,
+    pub(crate) nodes: u64,
 }
 
 impl Model for Plan {

@@ -1,23 +1,25 @@
 use Rattle.std.proofs.Common.{◌≡◌, ◌<◌, [], length, map, get_or, ap, subst, arith}
 use Rattle.csv_table.specs.Written.{text_of}
 use Rattle.payee_book.specs.Text.{residue_rows}
-use Rattle.settle_run.specs.Settled.{division_by, reason_of}
+use Rattle.settle_run.specs.Settled.{reason_of}
+use Rattle.split_run.specs.Divisions.{division_by}
 use Rattle.settle_run.proofs.BookLemmas.{book_lines_below}
-use Rattle.settle_run.proofs.SettleLemmas.{adds_up, book_rows_same, some_accounts}
+use Rattle.settle_run.proofs.SettleLemmas.{adds_up, book_rows_same}
+use Rattle.split_run.proofs.DivisionLemmas.{some_accounts}
 use Rattle.settle_run.proofs.statements.settled.Goals as goal
 
 pub reasons_of-requires : goal.reasons_of-requires
-reasons_of-requires c =
+reasons_of-requires g c =
     let some : 0 < length c.in_ok-book.book = omega (arith, some_accounts c.args.registry.now c.requires.sound, c.in_ok-book.ensures.whole) in
     rw c.lines.ensures.postings
     (book_lines_below (division_by c.args.tis.now c.args.registry.now) c.args.usage.now (length c.args.registry.now.parties) c.in_ok-book.book c.in_ok-book.ensures 0 [] some)
 
 pub returns-clause-lines : goal.returns-clause-lines
-returns-clause-lines c =
+returns-clause-lines g c =
     book_lines_below (division_by c.args.tis.now c.args.registry.now) c.args.usage.now (length c.args.registry.now.parties) c.in_ok-book.book c.in_ok-book.ensures
 
 pub returns-clause-statements : goal.returns-clause-statements
-returns-clause-statements c =
+returns-clause-statements g c =
     let table = c.args.tis.now in
     let registered = c.args.registry.now in
     let lines = c.args.usage.now in

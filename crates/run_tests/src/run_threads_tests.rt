@@ -1,0 +1,141 @@
+//! A run over the threads of a plan: what it comes to, how it uses its mail, and that its threads are at work at once.
+
+use crate::small_run::{TERRITORIES, TWO_PARTIES, USES};
+use cwr_share::Registry;
+use line_split::Usage;
+use mail_box::{LaneMail, Mail};
+use payee_book::Book;
+use split_run::{CountingMail, Gate, MeetingGate, MeetingMail, NoGate, Plan, run};
+use std::alloc::Global;
+use std::process::Abort;
+use std::sync::Wait;
+use std::test::Fail;
+use std::thread::Threads;
+use tis_tree::TisTable;
+
+/// The header of a table of usage lines.
+const HEADER: &str = "usage,work,territory,right,amount\n";
+
+/// So many usage lines of 100 each, of the work of two parties.
+fn equal_uses(alloc: Global, lines: usize) -> Result<String, Fail> {
+    let mut text = String::new(alloc);
+    text.push_str(HEADER)?;
+    for _ in 0..lines {
+        text.push_str("u,W1,276,P,100\n")?;
+    }
+    Ok(text)
+}
+
+/// The book of a run over these usage lines, with so many workers, readers and nodes.
+fn book_of<M: Mail, G: Gate, R: Threads + Wait + Sync>(
+    rt: &R,
+    alloc: Global,
+    mail: &M,
+    usage: &str,
+    threads: (u64, u64, u64),
+    gate: &G,
+) -> Result<Book, Fail> {
+    let tis = TisTable::read(alloc, TERRITORIES.as_bytes())?;
+    let registry = Registry::read(alloc, TWO_PARTIES.as_bytes())?;
+    let usage = Usage::read(alloc, usage.as_bytes())?;
+    let Some(plan) = Plan::new(threads.0, threads.1, threads.2) else {
+        return Err(Fail::new("no plan"));
+    };
+    Ok(run(rt, alloc, mail, &tis, &registry, &usage, plan, gate)?)
+}
+
+/// Asserts the totals of the residue and the two parties.
+fn assert_totals(rt: &impl Abort, book: &Book, totals: (u128, u128, u128)) {
+    assert_eq!(rt; book.accounts(), 3);
+    assert_eq!(rt; (book.total(0), book.total(1), book.total(2)), totals);
+}
+
+/// Asserts the statements of the small run.
+fn assert_small_run(rt: &impl Abort, book: &Book) {
+    assert_eq!(rt; book.accounts(), 3);
+    assert_eq!(rt; book.lines(0), [(1, 30), (2, 7)].as_slice());
+    assert_eq!(rt; book.lines(1), [(0, 60)].as_slice());
+    assert_eq!(rt; book.lines(2), [(0, 40), (1, 20)].as_slice());
+}
+
+/// Asserts how many items a run with so many workers takes from its mailboxes.
+fn assert_takes<R: Abort + Threads + Wait + Sync>(
+    rt: &R,
+    alloc: Global,
+    usage: &str,
+    workers: u64,
+    takes: u64,
+) -> Result<(), Fail> {
+    let mail = CountingMail::new(alloc, LaneMail)?;
+    let _ = book_of(rt, alloc, &mail, usage, (workers, 1, 1), &NoGate)?;
+    assert_eq!(rt; mail.takes(), takes);
+    Ok(())
+}
+
+#[test]
+fn comes_to_one_book_whatever_the_plan(rt: HostRuntime) -> Result<(), Fail> {
+    let alloc = rt.alloc();
+    for workers in [1, 2, 3, 8] {
+        for readers in [1, 2, 8] {
+            for nodes in [1, 2, 64] {
+                let threads = (workers, readers, nodes);
+                let book = book_of(&rt, alloc, &LaneMail, USES, threads, &NoGate)?;
+                assert_small_run(&rt, &book);
+            }
+        }
+    }
+    Ok(())
+}
+
+#[test]
+fn comes_to_a_book_of_no_lines(rt: HostRuntime) -> Result<(), Fail> {
+    let alloc = rt.alloc();
+    for threads in [(1, 1, 1), (2, 2, 1), (8, 8, 64)] {
+        let book = book_of(&rt, alloc, &LaneMail, HEADER, threads, &NoGate)?;
+        assert_totals(&rt, &book, (0, 0, 0));
+    }
+    Ok(())
+}
+
+#[test]
+fn eight_workers_and_readers_share_one_node_each(rt: HostRuntime) -> Result<(), Fail> {
+    let alloc = rt.alloc();
+    let uses = equal_uses(alloc, 1000)?;
+    let book = book_of(&rt, alloc, &LaneMail, uses.as_str(), (8, 8, 1), &NoGate)?;
+    assert_totals(&rt, &book, (0, 60_000, 40_000));
+    Ok(())
+}
+
+#[test]
+fn takes_each_posting_and_each_end_mark_once(rt: HostRuntime) -> Result<(), Fail> {
+    assert_takes(&rt, rt.alloc(), USES, 2, 11)?;
+    assert_takes(&rt, rt.alloc(), USES, 8, 29)?;
+    assert_takes(&rt, rt.alloc(), HEADER, 2, 6)
+}
+
+#[test]
+fn two_workers_are_at_work_at_once(rt: HostRuntime) -> Result<(), Fail> {
+    let alloc = rt.alloc();
+    let uses = equal_uses(alloc, 128)?;
+    let gate = MeetingGate::new();
+    let book = book_of(&rt, alloc, &LaneMail, uses.as_str(), (2, 1, 1), &gate)?;
+    assert!(&rt;
+        gate.has_met(),
+        "the first worker was not let go by the other"
+    );
+    assert_totals(&rt, &book, (0, 7680, 5120));
+    Ok(())
+}
+
+#[test]
+fn two_readers_are_at_work_at_once(rt: HostRuntime) -> Result<(), Fail> {
+    let alloc = rt.alloc();
+    let mail = MeetingMail::new(alloc, LaneMail)?;
+    let book = book_of(&rt, alloc, &mail, USES, (1, 2, 1), &NoGate)?;
+    assert!(&rt;
+        mail.has_met(),
+        "the first reader was not let go by the other"
+    );
+    assert_small_run(&rt, &book);
+    Ok(())
+}

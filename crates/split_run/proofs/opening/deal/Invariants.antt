@@ -1,0 +1,7 @@
+use Rattle.split_run.specs.Reading.{inboxes_by}
+use Rattle.split_run.proofs.OpeningLemmas.{IsDealtUpTo}
+use Rattle.split_run.proofs.opening.deal.Given as goal
+
+abbrev pub invariant-loop-account : goal.invariant-loop-account
+invariant-loop-account g l =
+    IsDealtUpTo l.readers l.reader l.account (inboxes_by g.M.Mail.receiver l.initial.inboxes.items) (inboxes_by g.M.Mail.receiver l.inboxes.items) (inboxes_by g.M.Mail.receiver l.own.items)

@@ -1,0 +1,165 @@
+//! A run: workers divide the usage lines, readers keep the statements, and between them lies a mailbox for each account.
+
+ghost use Rattle.std.specs.Prelude.{◌≡◌, ◌<◌, ℕ, IfOk, IfSome, None, Some, length, map, replicate, slice_index_or, true, vec_items};
+ghost use Rattle.mail_box.specs.Mails.{Begins, ReceiverView, SenderView, with_sender};
+ghost use Rattle.payee_book.specs.Run.{IsBookOf};
+ghost use Rattle.split_run.specs.Divisions.{division_by};
+ghost use Rattle.split_run.specs.Reading.{inboxes_by};
+ghost use Rattle.split_run.specs.Running.{AreGathered, IsGivenBack, or_else};
+
+use crate::gate::Gate;
+use crate::opening::{open_mailboxes, readers_of};
+use crate::reading::Reader;
+use crate::starting::at_once;
+use crate::working::Inputs;
+use crate::{Plan, RunFault};
+use cwr_share::Registry;
+use line_split::Usage;
+use mail_box::Mail;
+use payee_book::Book;
+use std::alloc::{AllocError, Global};
+use std::snapshot::Snapshot;
+use std::sync::Wait;
+use std::thread::Threads;
+use tis_tree::TisTable;
+
+/// The statements of all accounts, worked out by the threads of a plan over mailboxes of any kind. They do not depend on the
+/// plan, the mailboxes, the gate or the order in which the threads run.
+pub fn run<M: Mail, G: Gate, R: Threads + Wait + Sync>(
+    rt: &R,
+    alloc: Global,
+    mail: &M,
+    tis: &TisTable,
+    registry: &Registry,
+    usage: &Usage,
+    plan: Plan,
+    gate: &G,
+) -> Result<Book, RunFault>
+    ensures { IfOk result (IsBookOf (division_by tis.now registry.now) usage.now (length registry.now.parties)) }
+{
+    let accounts = registry.accounts();
+    let lines = usage.len() as u64;
+    let workers = plan.workers;
+    let (jobs, receivers) = open_mailboxes(alloc, mail, registry, workers, plan.nodes, lines)?;
+    let opened = Snapshot::of(&receivers);
+    let readers = readers_of::<M>(alloc, accounts, workers, plan.readers, receivers)?;
+    let inputs = Inputs {
+        tis,
+        registry,
+        usage,
+    };
+    let Some((worked, read)) = at_once(rt, alloc, mail, inputs, gate, jobs, readers) else {
+        return Err(RunFault::Room);
+    };
+    let (mut gathered, book) = gather_all::<M>(
+        alloc,
+        accounts,
+        workers,
+        plan.readers,
+        opened,
+        read,
+    )?;
+    prove!(book.accounts() == accounts, "each account has a statement");
+    let inboxes = gathered.as_mut_slice();
+    for senders in worked {
+        let Some(senders) = senders else {
+            return Err(RunFault::Room);
+        };
+        take_in_those::<M, R>(rt, inboxes, senders);
+    }
+    Ok(book)
+}
+
+/// Puts together what the readers gave back: the mailbox of each account, and the book of all statements. `opened` are the
+/// mailboxes as they were opened.
+fn gather_all<M: Mail>(
+    alloc: Global,
+    accounts: u16,
+    workers: u64,
+    readers: u64,
+    opened: Snapshot<Vec<Option<M::Receiver>>>,
+    read: Vec<Option<Reader<M>>>,
+) -> Result<(Vec<Option<M::Receiver>>, Book), RunFault>
+    requires some { (0 < accounts) × (0 < readers) }
+    requires count { (length opened.value.items ≡ accounts) × (length read.items ≡ readers) }
+    requires read { (number : ℕ) (d : _) → number < readers → IfSome (slice_index_or read.items number d) (λ reader. IsGivenBack workers readers number (inboxes_by M.receiver opened.value.items) (inboxes_by M.receiver reader.inboxes.items) reader.book) }
+    ensures { IfOk result (λ r. AreGathered workers readers readers (inboxes_by M.receiver opened.value.items) (inboxes_by M.receiver r.0.items) r.1) }
+{
+    let mut inboxes = no_inboxes::<M>(alloc, accounts)?;
+    let mut book = Book::open(alloc, accounts)?;
+    for reader in read {
+        let Some(reader) = reader else {
+            return Err(RunFault::Room);
+        };
+        gather::<M>(&mut inboxes, reader.inboxes);
+        book.join(reader.book);
+    }
+    Ok((inboxes, book))
+}
+
+/// A place for the receiver of each account, and none there.
+fn no_inboxes<M: Mail>(alloc: Global, accounts: u16) -> Result<Vec<Option<M::Receiver>>, AllocError>
+    ensures { IfOk result (λ inboxes. inboxes_by M.receiver inboxes.items ≡ replicate accounts None) }
+{
+    let mut inboxes = Vec::new(alloc);
+    for _ in 0..accounts {
+        inboxes.push(None)?;
+    }
+    Ok(inboxes)
+}
+
+/// Puts the receivers of one reader with those of the others.
+fn gather<M: Mail>(inboxes: &mut Vec<Option<M::Receiver>>, more: Vec<Option<M::Receiver>>)
+    requires { length more.items ≡ length (vec_items inboxes.old) }
+    ensures count { length (vec_items inboxes.new) ≡ length (vec_items inboxes.old) }
+    ensures each { (account : ℕ) → account < length (vec_items inboxes.old) → slice_index_or (inboxes_by M.receiver (vec_items inboxes.new)) account None ≡ or_else (slice_index_or (inboxes_by M.receiver more.items) account None) (slice_index_or (inboxes_by M.receiver (vec_items inboxes.old)) account None) }
+{
+    let mut account = 0;
+    for inbox in more {
+        put_if(inbox, &mut inboxes[account]);
+        account += 1;
+    }
+}
+
+/// Puts something in a place, if there is something.
+fn put_if<T: Drop>(something: Option<T>, place: &mut Option<T>)
+    ensures { place.new ≡ or_else something place.old }
+{
+    if something.is_some() {
+        *place = something;
+    }
+}
+
+/// Takes in the senders of a worker, each at the mailbox of its account.
+fn take_in_those<M: Mail, R: Wait>(
+    rt: &R,
+    inboxes: &mut [Option<M::Receiver>],
+    senders: Vec<M::Sender>,
+)
+    requires count { length senders.items ≡ length inboxes.old }
+    requires ended { (account : ℕ) (s : SenderView _) (r : ReceiverView _) → account < length inboxes.old → slice_index_or (inboxes_by M.receiver inboxes.old) account None ≡ Some r → ((slice_index_or (map M.sender senders.items) account s).mailbox ≡ r.mailbox) × ((slice_index_or (map M.sender senders.items) account s).is_ended ≡ true) }
+    ensures { (account : ℕ) (s : SenderView _) (r : ReceiverView _) → account < length inboxes.old → slice_index_or (inboxes_by M.receiver inboxes.old) account None ≡ Some r → (slice_index_or (inboxes_by M.receiver inboxes.new) account None ≡ Some (with_sender r (slice_index_or (map M.sender senders.items) account s))) × Begins (with_sender r (slice_index_or (map M.sender senders.items) account s)) }
+{
+    let mut account = 0;
+    for sender in senders {
+        take_in_at::<M, R>(rt, inboxes, account, sender);
+        account += 1;
+    }
+}
+
+/// Takes in a sender at the mailbox of its account.
+fn take_in_at<M: Mail, R: Wait>(
+    rt: &R,
+    inboxes: &mut [Option<M::Receiver>],
+    account: usize,
+    sender: M::Sender,
+)
+    requires account { account < length inboxes.old }
+    requires ended { (r : ReceiverView _) → slice_index_or (inboxes_by M.receiver inboxes.old) account None ≡ Some r → ((M.sender sender).mailbox ≡ r.mailbox) × ((M.sender sender).is_ended ≡ true) }
+    ensures here { (r : ReceiverView _) → slice_index_or (inboxes_by M.receiver inboxes.old) account None ≡ Some r → (slice_index_or (inboxes_by M.receiver inboxes.new) account None ≡ Some (with_sender r (M.sender sender))) × Begins (with_sender r (M.sender sender)) }
+    ensures others { (other : ℕ) → ¬ (other ≡ account) → slice_index_or (inboxes_by M.receiver inboxes.new) other None ≡ slice_index_or (inboxes_by M.receiver inboxes.old) other None }
+{
+    if let Some(receiver) = &mut inboxes[account] {
+        M::take_in(rt, receiver, sender);
+    }
+}

@@ -1,0 +1,282 @@
+//! The threads of a run: how they are started, and what each gives back.
+
+ghost use Rattle.std.specs.Prelude.{◌≡◌, ◌+◌, ◌<◌, ◌≤◌, ℕ, All, IfSome, length, map, slice_index_or, vec_len};
+ghost use Rattle.line_split.specs.declared.TheConstants.{MOST_CLAIMS};
+ghost use Rattle.split_run.specs.Divisions.{division_by};
+ghost use Rattle.split_run.specs.Reading.{AreServed, AreTaken, inboxes_by};
+ghost use Rattle.split_run.specs.Running.{AreForWork, AreSentBy};
+
+use crate::gate::Gate;
+use crate::opening::Worker;
+use crate::reading::Reader;
+use crate::working::{Inputs, work};
+use cwr_share::Registry;
+use line_split::Usage;
+use mail_box::Mail;
+use std::alloc::Global;
+use std::snapshot::Snapshot;
+use std::sync::Wait;
+use std::sync::atomic::{AtomicBool, Ordering};
+use std::thread;
+use std::thread::{Promise, PromisedHandle, Scope, Threads, join_promised};
+use tis_tree::TisTable;
+
+/// What a worker's thread gives back: its senders, which have sent all that its blocks come to and have ended.
+#[derive(Drop)]
+pub(crate) struct WorkDone<M: Mail> {
+    tis: Snapshot<TisTable>,
+    registry: Snapshot<Registry>,
+    usage: Snapshot<Usage>,
+    workers: u64,
+    number: u64,
+    senders: Snapshot<Vec<M::Sender>>,
+}
+
+impl<M: Mail> Promise<Option<Vec<M::Sender>>> for WorkDone<M> {
+    ghost use Rattle.std.specs.Prelude.{IfSome, map};
+    ghost use Rattle.split_run.specs.Divisions.{division_by};
+    ghost use Rattle.split_run.specs.Running.{AreSentBy};
+
+    ghost kept_by = { λ p r. IfSome r (λ senders. AreSentBy (division_by p.tis.value p.registry.value) p.usage.value p.workers p.number (map M.sender p.senders.value.items) (map M.sender senders.items)) };
+}
+
+/// What a reader's thread gives back: the reader, with the statements of its accounts.
+#[derive(Drop)]
+pub(crate) struct ReadingDone<M: Mail> {
+    reader: Snapshot<Reader<M>>,
+}
+
+impl<M: Mail> Promise<Option<Reader<M>>> for ReadingDone<M> {
+    ghost use Rattle.std.specs.Prelude.{IfSome};
+    ghost use Rattle.split_run.specs.Reading.{AreServed, inboxes_by};
+
+    ghost kept_by = { λ p r. IfSome r (λ reader. AreServed p.reader.value.workers (inboxes_by M.receiver p.reader.value.opened.value.items) (inboxes_by M.receiver reader.inboxes.items) reader.book) };
+}
+
+/// What a reader's thread does. None: the run was stopped, or memory was refused.
+fn read_all<M: Mail, R: Wait>(
+    rt: &R,
+    _mail: &M,
+    reader: Reader<M>,
+    stop: &AtomicBool,
+) -> Option<Reader<M>>
+    requires taken { AreTaken reader.workers reader.whole (inboxes_by M.receiver reader.opened.value.items) (inboxes_by M.receiver reader.inboxes.items) reader.ends.items reader.book }
+    ensures { IfSome result (λ r. AreServed reader.workers (inboxes_by M.receiver reader.opened.value.items) (inboxes_by M.receiver r.inboxes.items) r.book) }
+{
+    let mut reader = reader;
+    if reader.serve(rt, stop) {
+        Some(reader)
+    } else {
+        None
+    }
+}
+
+/// Starts a reader, if a thread can be made.
+fn start_reader<'s, E, M: Mail, R: Threads + Wait + Sync>(
+    scope: &Scope<'s, E>,
+    rt: &'s R,
+    mail: &'s M,
+    reader: Reader<M>,
+    stop: &'s AtomicBool,
+) -> Option<PromisedHandle<Option<Reader<M>>, ReadingDone<M>>>
+    requires taken { AreTaken reader.workers reader.whole (inboxes_by M.receiver reader.opened.value.items) (inboxes_by M.receiver reader.inboxes.items) reader.ends.items reader.book }
+    ensures { IfSome result (λ h. h.promise.reader.value ≡ reader) }
+{
+    let promise: ReadingDone<M> = ReadingDone {
+        reader: Snapshot::of(&reader),
+    };
+    scope
+        .spawn_with(
+            promise,
+            move || -> Option<Reader<M>>
+                requires { AreTaken reader.workers reader.whole (inboxes_by M.receiver reader.opened.value.items) (inboxes_by M.receiver reader.inboxes.items) reader.ends.items reader.book }
+                ensures { IfSome result (λ r. AreServed reader.workers (inboxes_by M.receiver reader.opened.value.items) (inboxes_by M.receiver r.inboxes.items) r.book) }
+            { read_all::<M, R>(rt, mail, reader, stop) },
+        )
+        .ok()
+}
+
+/// What a worker's thread does. None: the run was stopped.
+fn work_all<M: Mail, G: Gate, R: Wait>(
+    rt: &R,
+    _mail: &M,
+    inputs: Inputs<'_>,
+    gate: &G,
+    worker: Worker<M>,
+    workers: u64,
+    number: u64,
+    stop: &AtomicBool,
+) -> Option<Vec<M::Sender>>
+    requires senders { AreForWork (length inputs.registry.now.parties) (length inputs.usage.now) (map M.sender worker.senders.items) }
+    requires room { (MOST_CLAIMS ≤ worker.claims.room) × (MOST_CLAIMS + 1 ≤ worker.portions.room) }
+    requires number { number < workers }
+    ensures { IfSome result (λ senders. AreSentBy (division_by inputs.entry.tis.now inputs.entry.registry.now) inputs.entry.usage.now workers number (map M.sender worker.senders.items) (map M.sender senders.items)) }
+{
+    let mut worker = worker;
+    let done = work::<M, G, R>(
+        rt,
+        worker.senders.as_mut_slice(),
+        inputs.tis,
+        inputs.registry,
+        inputs.usage,
+        workers,
+        number,
+        &mut worker.claims,
+        &mut worker.portions,
+        gate,
+        stop,
+    );
+    if done { Some(worker.senders) } else { None }
+}
+
+/// Starts a worker, if a thread can be made.
+fn start_worker<'s, E, M: Mail, G: Gate, R: Threads + Wait + Sync>(
+    scope: &Scope<'s, E>,
+    rt: &'s R,
+    mail: &'s M,
+    inputs: Inputs<'s>,
+    gate: &'s G,
+    worker: Worker<M>,
+    workers: u64,
+    number: u64,
+    stop: &'s AtomicBool,
+) -> Option<PromisedHandle<Option<Vec<M::Sender>>, WorkDone<M>>>
+    requires senders { AreForWork (length inputs.registry.now.parties) (length inputs.usage.now) (map M.sender worker.senders.items) }
+    requires room { (MOST_CLAIMS ≤ worker.claims.room) × (MOST_CLAIMS + 1 ≤ worker.portions.room) }
+    requires number { number < workers }
+    ensures inputs { IfSome result (λ h. (h.promise.tis.value ≡ inputs.entry.tis.now) × (h.promise.registry.value ≡ inputs.entry.registry.now) × (h.promise.usage.value ≡ inputs.entry.usage.now)) }
+    ensures worker { IfSome result (λ h. (h.promise.workers ≡ workers) × (h.promise.number ≡ number) × (h.promise.senders.value ≡ worker.senders)) }
+{
+    let promise: WorkDone<M> = WorkDone {
+        tis: Snapshot::of(inputs.tis),
+        registry: Snapshot::of(inputs.registry),
+        usage: Snapshot::of(inputs.usage),
+        workers,
+        number,
+        senders: Snapshot::of(&worker.senders),
+    };
+    scope
+        .spawn_with(
+            promise,
+            move || -> Option<Vec<M::Sender>>
+                requires { AreForWork (length inputs.registry.now.parties) (length inputs.usage.now) (map M.sender worker.senders.items) × (MOST_CLAIMS ≤ worker.claims.room) × (MOST_CLAIMS + 1 ≤ worker.portions.room) × (number < workers) }
+                ensures { IfSome result (λ senders. AreSentBy (division_by inputs.entry.tis.now inputs.entry.registry.now) inputs.entry.usage.now workers number (map M.sender worker.senders.items) (map M.sender senders.items)) }
+            { work_all::<M, G, R>(rt, mail, inputs, gate, worker, workers, number, stop) },
+        )
+        .ok()
+}
+
+/// Starts all readers. None: a thread was refused.
+fn start_readers<'s, E, M: Mail, R: Threads + Wait + Sync>(
+    scope: &Scope<'s, E>,
+    rt: &'s R,
+    mail: &'s M,
+    readers: Vec<Reader<M>>,
+    stop: &'s AtomicBool,
+    room: Vec<PromisedHandle<Option<Reader<M>>, ReadingDone<M>>>,
+) -> Option<Vec<PromisedHandle<Option<Reader<M>>, ReadingDone<M>>>>
+    requires room { vec_len room ≡ 0 }
+    requires taken { All (λ reader. AreTaken reader.workers reader.whole (inboxes_by M.receiver reader.opened.value.items) (inboxes_by M.receiver reader.inboxes.items) reader.ends.items reader.book) readers.items }
+    ensures { IfSome result (λ all. (vec_len all ≡ vec_len readers) × ((number : ℕ) (d : _) (e : _) → number < length readers.items → (slice_index_or all.items number d).promise.reader.value ≡ slice_index_or readers.items number e)) }
+{
+    let mut started = room;
+    for reader in readers {
+        let handle = start_reader::<E, M, R>(scope, rt, mail, reader, stop)?;
+        started.push(handle).ok()?;
+    }
+    Some(started)
+}
+
+/// Starts all workers. None: a thread was refused.
+fn start_workers<'s, E, M: Mail, G: Gate, R: Threads + Wait + Sync>(
+    scope: &Scope<'s, E>,
+    rt: &'s R,
+    mail: &'s M,
+    inputs: Inputs<'s>,
+    gate: &'s G,
+    jobs: Vec<Worker<M>>,
+    stop: &'s AtomicBool,
+    room: Vec<PromisedHandle<Option<Vec<M::Sender>>, WorkDone<M>>>,
+) -> Option<Vec<PromisedHandle<Option<Vec<M::Sender>>, WorkDone<M>>>>
+    requires room { vec_len room ≡ 0 }
+    requires few { length jobs.items ≤ 8 }
+    requires ready { All (λ job. AreForWork (length inputs.registry.now.parties) (length inputs.usage.now) (map M.sender job.senders.items) × (MOST_CLAIMS ≤ job.claims.room) × (MOST_CLAIMS + 1 ≤ job.portions.room)) jobs.items }
+    ensures count { IfSome result (λ all. vec_len all ≡ vec_len jobs) }
+    ensures inputs { IfSome result (λ all. (number : ℕ) (d : _) → number < length jobs.items → ((slice_index_or all.items number d).promise.tis.value ≡ inputs.entry.tis.now) × ((slice_index_or all.items number d).promise.registry.value ≡ inputs.entry.registry.now) × ((slice_index_or all.items number d).promise.usage.value ≡ inputs.entry.usage.now)) }
+    ensures workers { IfSome result (λ all. (number : ℕ) (d : _) (e : _) → number < length jobs.items → ((slice_index_or all.items number d).promise.workers ≡ length jobs.items) × ((slice_index_or all.items number d).promise.number ≡ number) × ((slice_index_or all.items number d).promise.senders.value ≡ (slice_index_or jobs.items number e).senders)) }
+{
+    let workers = jobs.len() as u64;
+    let mut started = room;
+    let mut number = 0;
+    for job in jobs {
+        let handle = start_worker::<E, M, G, R>(
+            scope, rt, mail, inputs, gate, job, workers, number, stop,
+        )?;
+        started.push(handle).ok()?;
+        number += 1;
+    }
+    Some(started)
+}
+
+/// Lets all readers and workers run at once, and answers what each gave back. None: memory or a thread was refused; then
+/// those that were started have stopped.
+pub(crate) fn at_once<M: Mail, G: Gate, R: Threads + Wait + Sync>(
+    rt: &R,
+    alloc: Global,
+    mail: &M,
+    inputs: Inputs<'_>,
+    gate: &G,
+    workers: Vec<Worker<M>>,
+    readers: Vec<Reader<M>>,
+) -> Option<(Vec<Option<Vec<M::Sender>>>, Vec<Option<Reader<M>>>)>
+    requires few { length workers.items ≤ 8 }
+    requires ready { All (λ job. AreForWork (length inputs.registry.now.parties) (length inputs.usage.now) (map M.sender job.senders.items) × (MOST_CLAIMS ≤ job.claims.room) × (MOST_CLAIMS + 1 ≤ job.portions.room)) workers.items }
+    requires taken { All (λ reader. (reader.workers ≡ length workers.items) × AreTaken reader.workers reader.whole (inboxes_by M.receiver reader.opened.value.items) (inboxes_by M.receiver reader.inboxes.items) reader.ends.items reader.book) readers.items }
+    ensures worked { IfSome result (λ r. (length r.0.items ≡ length workers.items) × ((number : ℕ) (d : _) (e : _) → number < length workers.items → IfSome (slice_index_or r.0.items number d) (λ senders. AreSentBy (division_by inputs.entry.tis.now inputs.entry.registry.now) inputs.entry.usage.now (length workers.items) number (map M.sender (slice_index_or workers.items number e).senders.items) (map M.sender senders.items)))) }
+    ensures read { IfSome result (λ r. (length r.1.items ≡ length readers.items) × ((number : ℕ) (d : _) (e : _) → number < length readers.items → IfSome (slice_index_or r.1.items number d) (λ reader. AreServed (length workers.items) (inboxes_by M.receiver (slice_index_or readers.items number e).opened.value.items) (inboxes_by M.receiver reader.inboxes.items) reader.book))) }
+{
+    let working_room = Vec::with_capacity(alloc, workers.len()).ok()?;
+    let reading_room = Vec::with_capacity(alloc, readers.len()).ok()?;
+    let stop = AtomicBool::new(false);
+    let stop = &stop;
+    thread::scope(
+        thread::scope_env(),
+        rt,
+        move |scope| -> Option<(Vec<Option<Vec<M::Sender>>>, Vec<Option<Reader<M>>>)>
+            requires few { length workers.items ≤ 8 }
+            requires rooms { (vec_len working_room ≡ 0) × (vec_len reading_room ≡ 0) }
+            requires ready { All (λ job. AreForWork (length inputs.registry.now.parties) (length inputs.usage.now) (map M.sender job.senders.items) × (MOST_CLAIMS ≤ job.claims.room) × (MOST_CLAIMS + 1 ≤ job.portions.room)) workers.items }
+            requires taken { All (λ reader. (reader.workers ≡ length workers.items) × AreTaken reader.workers reader.whole (inboxes_by M.receiver reader.opened.value.items) (inboxes_by M.receiver reader.inboxes.items) reader.ends.items reader.book) readers.items }
+            ensures worked { IfSome result (λ r. (length r.0.items ≡ length workers.items) × ((number : ℕ) (d : _) (e : _) → number < length workers.items → IfSome (slice_index_or r.0.items number d) (λ senders. AreSentBy (division_by inputs.entry.tis.now inputs.entry.registry.now) inputs.entry.usage.now (length workers.items) number (map M.sender (slice_index_or workers.items number e).senders.items) (map M.sender senders.items)))) }
+            ensures read { IfSome result (λ r. (length r.1.items ≡ length readers.items) × ((number : ℕ) (d : _) (e : _) → number < length readers.items → IfSome (slice_index_or r.1.items number d) (λ reader. AreServed (length workers.items) (inboxes_by M.receiver (slice_index_or readers.items number e).opened.value.items) (inboxes_by M.receiver reader.inboxes.items) reader.book))) }
+        {
+            let Some(reading) = start_readers::<_, M, R>(
+                scope,
+                rt,
+                mail,
+                readers,
+                stop,
+                reading_room,
+            ) else {
+                stop.store(true, Ordering::SeqCst);
+                return None;
+            };
+            let Some(working) = start_workers::<_, M, G, R>(
+                scope,
+                rt,
+                mail,
+                inputs,
+                gate,
+                workers,
+                stop,
+                working_room,
+            ) else {
+                stop.store(true, Ordering::SeqCst);
+                return None;
+            };
+            let worked = join_promised(rt, working).ok()?;
+            let read = join_promised(rt, reading).ok()?;
+            Some((worked, read))
+        },
+    )
+}

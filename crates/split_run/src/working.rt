@@ -1,0 +1,182 @@
+//! What a worker does: it divides the lines of its blocks, and sends each portion to the mailbox of its account.
+
+ghost use Rattle.std.specs.Prelude.{[], ◌≡◌, ◌*◌, ◌+◌, ◌-◌, ◌<◌, ◌≤◌, ℕ, None, Some, length, map, slice_get, slice_index_or, true};
+ghost use Rattle.cwr_share.specs.Found.{IsLookUp};
+ghost use Rattle.cwr_share.specs.Registered.{IsRegistered};
+ghost use Rattle.line_split.specs.UsageLine.{UsageLine};
+ghost use Rattle.line_split.specs.declared.TheConstants.{MOST_CLAIMS};
+ghost use Rattle.payee_book.specs.Run.{portion_of, posting_of};
+ghost use Rattle.split_run.specs.Blocks.{blocks_of, dealt, list_of, postings_in, postings_of};
+ghost use Rattle.split_run.specs.Divisions.{division_by};
+ghost use Rattle.split_run.specs.Sending.{AreFresh, AreReadyFor, HaveEnded, HaveSent};
+
+use crate::LINES_IN_BLOCK;
+use crate::gate::Gate;
+use crate::sending::{send_end_to, send_line};
+use cwr_share::{Registry, Work};
+use line_split::{Claims, MOST_CLAIMS, MOST_LINES, Portions, Usage, split};
+use mail_box::Mail;
+use std::sync::Wait;
+use std::sync::atomic::{AtomicBool, Ordering};
+use tis_tree::TisTable;
+
+/// The lines of a run, and what they are divided by.
+#[derive(Clone, Copy)]
+pub(crate) struct Inputs<'a> {
+    pub tis: &'a TisTable,
+    pub registry: &'a Registry,
+    pub usage: &'a Usage,
+}
+
+/// Divides the lines of every block whose number leaves `worker` when it is divided by `workers`, and sends each
+/// portion that is not 0 to the mailbox of its account; at the end, an end mark to every mailbox. `senders` has one
+/// sender for each account. False: the stop word was found set, and some of it was not sent.
+pub fn work<M: Mail, G: Gate, R: Wait>(
+    rt: &R,
+    senders: &mut [M::Sender],
+    tis: &TisTable,
+    registry: &Registry,
+    usage: &Usage,
+    workers: u64,
+    worker: u64,
+    claims: &mut Claims,
+    portions: &mut Portions,
+    gate: &G,
+    stop: &AtomicBool,
+) -> bool
+    requires accounts { length senders.old ≡ length registry.now.parties }
+    requires fresh { AreFresh (map M.sender senders.old) }
+    requires ready { AreReadyFor (map M.sender senders.old) (length usage.now) }
+    requires claims { MOST_CLAIMS ≤ claims.old.room }
+    requires portions { MOST_CLAIMS + 1 ≤ portions.old.room }
+    requires worker { worker < workers }
+    ensures sent { result ≡ true → (account : ℕ) (s : _) → account < length senders.old → (slice_index_or (map M.sender senders.new) account s).sent ≡ list_of (division_by tis.now registry.now) usage.now account (dealt workers (blocks_of (length usage.now)) worker) }
+    ensures ended { result ≡ true → HaveEnded (map M.sender senders.old) (map M.sender senders.new) (λ account. postings_of (division_by tis.now registry.now) usage.now account (dealt workers (blocks_of (length usage.now)) worker)) }
+{
+    prove!(registry.accounts() >= 1, "there is the residue's account");
+    let inputs = Inputs {
+        tis,
+        registry,
+        usage,
+    };
+    let blocks = (usage.len() + (LINES_IN_BLOCK - 1)) / LINES_IN_BLOCK;
+    for block in 0..blocks {
+        if block as u64 % workers == worker {
+            if stop.load(Ordering::SeqCst) {
+                return false;
+            }
+            if !work_block::<M, G, R>(
+                rt, senders, inputs, block, worker, claims, portions, gate, stop,
+            ) {
+                return false;
+            }
+        }
+    }
+    send_ends::<M, R>(rt, senders, stop)
+}
+
+/// Divides and sends the lines of a block. False: the run was stopped.
+fn work_block<M: Mail, G: Gate, R: Wait>(
+    rt: &R,
+    senders: &mut [M::Sender],
+    inputs: Inputs<'_>,
+    block: usize,
+    worker: u64,
+    claims: &mut Claims,
+    portions: &mut Portions,
+    gate: &G,
+    stop: &AtomicBool,
+) -> bool
+    requires accounts { length senders.old ≡ length inputs.registry.now.parties }
+    requires sound { IsRegistered inputs.registry.now }
+    requires block { 64 * block < length inputs.usage.now }
+    requires ready { AreReadyFor (map M.sender senders.old) (length inputs.usage.now - 64 * block) }
+    requires claims { MOST_CLAIMS ≤ claims.old.room }
+    requires portions { MOST_CLAIMS + 1 ≤ portions.old.room }
+    ensures sent { result ≡ true → HaveSent (map M.sender senders.old) (map M.sender senders.new) (λ account. postings_in (division_by inputs.entry.tis.now inputs.entry.registry.now) inputs.entry.usage.now account block) }
+    ensures rooms { (claims.new.room ≡ claims.old.room) × (portions.new.room ≡ portions.old.room) }
+{
+    let lines = inputs.usage.len();
+    let first = block * LINES_IN_BLOCK;
+    let end = lines.min(first + LINES_IN_BLOCK);
+    let works = works_of(inputs.registry, inputs.usage, first, end);
+    for place in first..end {
+        let found = works[place - first];
+        if !work_line::<M, G, R>(
+            rt, senders, inputs, place, found, worker, claims, portions, gate, stop,
+        ) {
+            return false;
+        }
+    }
+    true
+}
+
+/// Divides a line, whose work has been looked up, and sends its portions. False: the run was stopped.
+fn work_line<M: Mail, G: Gate, R: Wait>(
+    rt: &R,
+    senders: &mut [M::Sender],
+    inputs: Inputs<'_>,
+    place: usize,
+    found: Option<Work<'_>>,
+    worker: u64,
+    claims: &mut Claims,
+    portions: &mut Portions,
+    gate: &G,
+    stop: &AtomicBool,
+) -> bool
+    requires accounts { length senders.old ≡ length inputs.registry.now.parties }
+    requires sound { IsRegistered inputs.registry.now }
+    requires place { place < length inputs.usage.now }
+    requires found { (line : UsageLine) → slice_get inputs.usage.now place ≡ Some line → IsLookUp inputs.registry.now line.work found }
+    requires ready { AreReadyFor (map M.sender senders.old) 1 }
+    requires claims { MOST_CLAIMS ≤ claims.old.room }
+    requires portions { MOST_CLAIMS + 1 ≤ portions.old.room }
+    ensures sent { (line : UsageLine) → slice_get inputs.entry.usage.now place ≡ Some line → result ≡ true → HaveSent (map M.sender senders.old) (map M.sender senders.new) (λ account. posting_of place (portion_of account (division_by inputs.entry.tis.now inputs.entry.registry.now line))) }
+    ensures rooms { (claims.new.room ≡ claims.old.room) × (portions.new.room ≡ portions.old.room) }
+{
+    prove!(
+        inputs.usage.len() as u64 <= MOST_LINES,
+        "no table has more lines"
+    );
+    let line = inputs.usage.line(place);
+    let _ = inputs.registry.claims_to(found, inputs.tis, &line, claims);
+    prove!(
+        claims.list().len() <= MOST_CLAIMS,
+        "no line has more claims"
+    );
+    split(line.amount, claims, portions);
+    gate.pass(worker, place as u64);
+    send_line::<M, R>(rt, senders, place as u64, portions.list(), stop)
+}
+
+/// The works of the lines from one place to another, at most a block of them. They lie far apart in memory, and look-ups
+/// that follow one another do not wait for each other.
+fn works_of<'a>(
+    registry: &'a Registry,
+    usage: &Usage,
+    from: usize,
+    end: usize,
+) -> [Option<Work<'a>>; LINES_IN_BLOCK]
+    requires within { end ≤ length usage.now }
+    requires few { end ≤ from + 64 }
+    ensures { (place : ℕ) (line : UsageLine) → from ≤ place → place < end → slice_get usage.now place ≡ Some line → IsLookUp registry.now line.work (slice_index_or result (place - from) None) }
+{
+    let mut works = [None; LINES_IN_BLOCK];
+    for place in from..end {
+        works[place - from] = registry.find(usage.line(place).work);
+    }
+    works
+}
+
+/// Sends an end mark to every mailbox. False: the run was stopped before.
+fn send_ends<M: Mail, R: Wait>(rt: &R, senders: &mut [M::Sender], stop: &AtomicBool) -> bool
+    requires { AreReadyFor (map M.sender senders.old) 0 }
+    ensures { result ≡ true → HaveEnded (map M.sender senders.old) (map M.sender senders.new) (λ account. []) }
+{
+    for account in 0..senders.len() {
+        if !send_end_to::<M, R>(rt, senders, account, stop) {
+            return false;
+        }
+    }
+    true
+}
