@@ -2,16 +2,17 @@
 """Runs the program and the plain Rust one on the same large data, side by side.
 
     python3 bench.py --program PATH [--lines 1000000] [--works 20000]
-        [--parties 400] [--seed 1] [--repeats 5] [--phases]
+        [--parties 400] [--seed 1] [--repeats 5] [--nodes 64] [--phases]
 
-The plain program runs in two forms: as it is, and without its hints to fetch memory ahead
-(`prefetch`), which Rattle has no word for.
+The program runs with each number of workers and of readers. The plain one runs on one thread, as it is and
+without its hints to fetch memory ahead (`prefetch`), which Rattle has no word for; and in each
+of its modes with threads, with 4 workers and 2 readers.
 
-The data are made once. Every repeat runs each program once, so that noise hits all
+The data are made once. Every repeat runs each row once, so that noise hits all
 alike. Outputs go to a file and have to be the same bytes. Shown are the best wall
 time, the user and system time of that run, and the greatest peak memory; then how many
-times as long the program took, by these best times and by the median over the repeats,
-which a machine with other work on it disturbs less.
+times as long the program took as other rows, by these best times and by the median over the repeats,
+which a machine with other work on it disturbs less. The load is that of the minute before, at the start and at the end.
 """
 import argparse
 import hashlib
@@ -98,6 +99,7 @@ def main():
     parser.add_argument("--parties", type=int, default=400)
     parser.add_argument("--seed", type=int, default=1)
     parser.add_argument("--repeats", type=int, default=5)
+    parser.add_argument("--nodes", type=int, default=64)
     parser.add_argument("--phases", action="store_true", help="those of the plain program")
     a = parser.parse_args()
     plain = build_plain("target")
@@ -106,27 +108,37 @@ def main():
         subprocess.run([sys.executable, os.path.join(HERE, "large.py"), folder,
                         "--lines", str(a.lines), "--works", str(a.works),
                         "--parties", str(a.parties), "--seed", str(a.seed)], check=True)
-        words = ["run"]
+        files = ["run"]
         for option, name in (("tis", "tis.csv"), ("cwr", "works.cwr"), ("usage", "usage.csv")):
-            words += [f"--{option}", os.path.join(folder, name)]
-        words += ["--workers", "1", "--readers", "1", "--nodes", "64"]
-        ours = Row("program", [os.path.abspath(a.program), *words])
-        theirs = Row("plain", [plain, *words, "--times"])
-        unhinted = Row("no hints", [no_hints, *words, "--times"])
+            files += [f"--{option}", os.path.join(folder, name)]
+
+        def words(workers, readers):
+            return [*files, "--workers", str(workers), "--readers", str(readers), "--nodes", str(a.nodes)]
+
+        program = os.path.abspath(a.program)
+        ours = {plan: Row("program {} x {}".format(*plan), [program, *words(*plan)])
+                for plan in [(w, r) for w in (1, 2, 4, 8) for r in (1, 2, 4)] + [(8, 8)]}
+        theirs = Row("plain", [plain, *words(1, 1), "--times"])
+        unhinted = Row("no hints", [no_hints, *words(1, 1), "--times"])
+        modes = {mode: Row(f"{mode} 4 x 2", [plain, *words(4, 2), "--mode", mode])
+                 for mode in ("threads", "channels", "batches", "linked")}
+        rows = [*ours.values(), theirs, unhinted, *modes.values()]
+        load = os.getloadavg()[0]
         for _ in range(a.repeats):
-            for row in (ours, theirs, unhinted):
+            for row in rows:
                 row.run(folder)
-    print(f"{a.lines} lines, {a.works} works, {a.parties} parties, best of {a.repeats}, "
-          f"{os.cpu_count()} cores, load {os.getloadavg()[0]:.1f}")
-    print(f"{'':<10}{'wall s':>10}{'user+sys':>10}{'MB':>8}")
-    for row in (ours, theirs, unhinted):
-        print(f"{row.name:<10}{row.wall:>10.3f}{row.cpu:>10.3f}{row.memory:>8.0f}")
-    print(f"program to plain: {times(ours, theirs)}, "
-          f"{ours.memory / theirs.memory:.2f} times the memory")
-    print(f"program to plain with no hints: {times(ours, unhinted)}")
+    print(f"{a.lines} lines, {a.works} works, {a.parties} parties, {a.nodes} nodes, best of {a.repeats}, "
+          f"{os.cpu_count()} cores, load {load:.1f} to {os.getloadavg()[0]:.1f}")
+    print(f"{'':<16}{'wall s':>10}{'user+sys':>10}{'MB':>8}")
+    for row in rows:
+        print(f"{row.name:<16}{row.wall:>10.3f}{row.cpu:>10.3f}{row.memory:>8.0f}")
+    for plan, other in (((1, 1), theirs), ((1, 1), unhinted), ((4, 2), modes["channels"]),
+                        ((4, 2), ours[1, 1]), ((8, 8), ours[4, 2])):
+        print(f"{ours[plan].name} to {other.name}: {times(ours[plan], other)}, "
+              f"{ours[plan].memory / other.memory:.2f} times the memory")
     if a.phases:
         print(theirs.phases, end="")
-    if not ours.sha == theirs.sha == unhinted.sha:
+    if len({row.sha for row in rows}) != 1:
         print("the statements differ")
         return 1
     print("the statements are the same bytes")

@@ -1,6 +1,12 @@
-//! The postings of each account.
+//! The postings of each account, gathered on one thread or on several.
 
+use crate::linked::{Backoff, Receiver, Sender, Table, Took};
 use crate::split::{BLOCK, Input, Scratch};
+use std::mem::{replace, take};
+use std::sync::OnceLock;
+use std::sync::atomic::{AtomicU8, AtomicUsize, Ordering::Relaxed};
+use std::sync::mpsc;
+use std::thread;
 
 #[derive(Clone, Copy)]
 pub struct Posting {
@@ -8,14 +14,248 @@ pub struct Posting {
     pub amount: u64,
 }
 
-/// The postings of all lines, by account; the reason of each line goes to `reasons`.
-pub fn fill(input: &Input, reasons: &mut [u8]) -> Vec<Vec<Posting>> {
-    let mut book = vec![Vec::new(); input.registry.accounts()];
-    let mut scratch = Scratch::new();
-    for block in 0..input.usage.lines.len().div_ceil(BLOCK) {
-        input.block(block, reasons, &mut scratch, |account, line, amount| {
-            book[account as usize].push(Posting { line, amount });
+pub type Book = Vec<Vec<Posting>>;
+
+/// How the book is filled.
+#[derive(Clone, Copy)]
+pub enum Mode {
+    /// On one thread.
+    One,
+    /// Workers with a book each; these are merged at the end, with no queue between threads.
+    Threads,
+    /// Workers and readers, with a channel of the standard library for each reader and a message for each posting.
+    Channels,
+    /// The same with up to `BATCH` postings in a message.
+    Batches,
+    /// Workers and readers, with a linked queue for each account.
+    Linked,
+}
+
+impl Mode {
+    pub fn of(word: &str) -> Option<Mode> {
+        Some(match word {
+            "one" => Mode::One,
+            "threads" => Mode::Threads,
+            "channels" => Mode::Channels,
+            "batches" => Mode::Batches,
+            "linked" => Mode::Linked,
+            _ => return None,
+        })
+    }
+}
+
+pub struct Plan {
+    pub workers: usize,
+    pub readers: usize,
+    pub nodes: usize,
+}
+
+const BATCH: usize = 512;
+
+/// The usage lines, of which workers draw blocks, and the reason of each line.
+pub struct Job<'a> {
+    pub input: &'a Input<'a>,
+    pub reasons: &'a [AtomicU8],
+}
+
+impl Job<'_> {
+    pub fn fill(&self, mode: Mode, plan: &Plan) -> Book {
+        match mode {
+            Mode::One => self.part(&AtomicUsize::new(0)),
+            Mode::Threads => self.threads(plan),
+            Mode::Channels => self.channels(plan),
+            Mode::Batches => self.batches(plan),
+            Mode::Linked => self.linked(plan),
+        }
+    }
+
+    fn accounts(&self) -> usize {
+        self.input.registry.accounts()
+    }
+
+    /// Draws blocks until there is none left, and works each of their lines.
+    #[inline(always)]
+    fn work(&self, drawn: &AtomicUsize, mut put: impl FnMut(u16, Posting)) {
+        let mut scratch = Scratch::new();
+        loop {
+            let block = drawn.fetch_add(1, Relaxed);
+            if block >= self.reasons.len().div_ceil(BLOCK) {
+                return;
+            }
+            self.input.block(block, self.reasons, &mut scratch, |account, line, amount| {
+                put(account, Posting { line, amount });
+            });
+        }
+    }
+
+    fn part(&self, drawn: &AtomicUsize) -> Book {
+        let mut book: Book = vec![Vec::new(); self.accounts()];
+        self.work(drawn, |account, p| book[account as usize].push(p));
+        book
+    }
+
+    fn threads(&self, plan: &Plan) -> Book {
+        let drawn = AtomicUsize::new(0);
+        let parts: Vec<Book> = thread::scope(|s| {
+            let workers: Vec<_> =
+                (0..plan.workers).map(|_| s.spawn(|| self.part(&drawn))).collect();
+            workers.into_iter().map(|w| w.join().unwrap()).collect()
         });
+        let book: Vec<OnceLock<Vec<Posting>>> =
+            (0..self.accounts()).map(|_| OnceLock::new()).collect();
+        let merged = AtomicUsize::new(0);
+        thread::scope(|s| {
+            for _ in 0..plan.workers {
+                s.spawn(|| {
+                    loop {
+                        let account = merged.fetch_add(1, Relaxed);
+                        if account >= book.len() {
+                            return;
+                        }
+                        let mut list: Vec<Posting> =
+                            parts.iter().flat_map(|part| &part[account]).copied().collect();
+                        list.sort_by_key(|p| p.line);
+                        let _ = book[account].set(list);
+                    }
+                });
+            }
+        });
+        book.into_iter().map(|list| list.into_inner().unwrap()).collect()
+    }
+
+    fn channels(&self, plan: &Plan) -> Book {
+        let drawn = &AtomicUsize::new(0);
+        thread::scope(|s| {
+            let (mut senders, mut readers) = (Vec::new(), Vec::new());
+            for _ in 0..plan.readers {
+                let (sender, receiver) = mpsc::channel::<(u16, Posting)>();
+                senders.push(sender);
+                readers.push(s.spawn(|| {
+                    let mut book: Book = vec![Vec::new(); self.accounts()];
+                    for (account, p) in receiver {
+                        book[account as usize].push(p);
+                    }
+                    in_order(book)
+                }));
+            }
+            for _ in 0..plan.workers {
+                let senders = senders.clone();
+                s.spawn(move || {
+                    self.work(drawn, |account, p| {
+                        senders[account as usize % senders.len()].send((account, p)).unwrap();
+                    });
+                });
+            }
+            drop(senders);
+            joined(readers.into_iter().map(|r| r.join().unwrap()).collect())
+        })
+    }
+
+    fn batches(&self, plan: &Plan) -> Book {
+        let drawn = &AtomicUsize::new(0);
+        thread::scope(|s| {
+            let (mut senders, mut readers) = (Vec::new(), Vec::new());
+            for _ in 0..plan.readers {
+                let (sender, receiver) = mpsc::channel::<Vec<(u16, Posting)>>();
+                senders.push(sender);
+                readers.push(s.spawn(|| {
+                    let mut book: Book = vec![Vec::new(); self.accounts()];
+                    for (account, p) in receiver.into_iter().flatten() {
+                        book[account as usize].push(p);
+                    }
+                    in_order(book)
+                }));
+            }
+            for _ in 0..plan.workers {
+                let senders = senders.clone();
+                s.spawn(move || {
+                    let mut open: Vec<_> =
+                        senders.iter().map(|_| Vec::with_capacity(BATCH)).collect();
+                    self.work(drawn, |account, p| {
+                        let reader = account as usize % senders.len();
+                        open[reader].push((account, p));
+                        if open[reader].len() == BATCH {
+                            let full = replace(&mut open[reader], Vec::with_capacity(BATCH));
+                            senders[reader].send(full).unwrap();
+                        }
+                    });
+                    for (rest, sender) in open.into_iter().zip(senders) {
+                        sender.send(rest).unwrap();
+                    }
+                });
+            }
+            drop(senders);
+            joined(readers.into_iter().map(|r| r.join().unwrap()).collect())
+        })
+    }
+
+    fn linked(&self, plan: &Plan) -> Book {
+        let drawn = &AtomicUsize::new(0);
+        let table = &Table::open(self.accounts(), plan.workers, plan.nodes);
+        let (workers, readers) = (plan.workers, plan.readers);
+        thread::scope(|s| {
+            let list: Vec<_> = (0..readers)
+                .map(|r| {
+                    s.spawn(move || {
+                        let own = (0..self.accounts()).skip(r).step_by(readers);
+                        self.serve(own.map(|a| (a, table.receiver(a))).collect(), workers)
+                    })
+                })
+                .collect();
+            for worker in 0..workers {
+                s.spawn(move || {
+                    let mut senders: Vec<Sender> =
+                        (0..self.accounts()).map(|a| table.sender(a, worker)).collect();
+                    self.work(drawn, |account, p| {
+                        let mut turn = Backoff::new();
+                        while !senders[account as usize].try_send(p.line as u64, p.amount) {
+                            turn.wait();
+                        }
+                    });
+                    for sender in &mut senders {
+                        sender.end();
+                    }
+                });
+            }
+            joined(list.into_iter().map(|r| r.join().unwrap()).collect())
+        })
+    }
+
+    /// Takes from each mailbox in turn until it gives none, up to the last end mark.
+    fn serve(&self, mut own: Vec<(usize, Receiver)>, workers: usize) -> Book {
+        let mut book: Book = vec![Vec::new(); self.accounts()];
+        let mut ends = own.len() * workers;
+        let mut turn = Backoff::new();
+        while ends > 0 {
+            let mut took = false;
+            for (account, receiver) in &mut own {
+                while let Took::Held(node) = receiver.take() {
+                    took = true;
+                    match receiver.read(node) {
+                        Some((line, amount)) => {
+                            book[*account].push(Posting { line: line as u32, amount })
+                        }
+                        None => ends -= 1,
+                    }
+                    receiver.give_back(node);
+                }
+            }
+            if took { turn.reset() } else { turn.wait() }
+        }
+        in_order(book)
+    }
+}
+
+/// Each list in order of line.
+fn in_order(mut book: Book) -> Book {
+    for list in &mut book {
+        list.sort_by_key(|p| p.line);
     }
     book
+}
+
+/// The readers' lists, of which each account has those of one reader.
+fn joined(mut parts: Vec<Book>) -> Book {
+    let readers = parts.len();
+    (0..parts[0].len()).map(|account| take(&mut parts[account % readers][account])).collect()
 }

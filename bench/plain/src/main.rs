@@ -1,27 +1,31 @@
-//! `royalty_run run` once more, as one would write it by hand in Rust: one thread, no proofs. The words
-//! and the text that comes out are the same. With `--times` it says how long each phase took.
+//! `royalty_run run` once more, as one would write it by hand in Rust, with no proofs. The words and the
+//! text that comes out are the same. `--mode` says how the book is filled: one (where there is no such word), threads, channels,
+//! batches or linked. With `--times` it says how long each phase took.
 
 mod book;
 mod cwr;
+mod linked;
 mod rows;
 mod split;
 mod text;
 mod tis;
 mod usage;
 
+use book::{Job, Mode, Plan};
 use std::fs::File;
 use std::os::fd::AsFd;
 use std::process::ExitCode;
+use std::sync::atomic::AtomicU8;
 use std::time::{Duration, Instant};
 
 const ACCOUNTS: usize = 512;
 
 const LARGEST_FILE: u64 = 268_435_456;
 
-fn words() -> Option<(Vec<String>, bool)> {
+fn words() -> Option<(Vec<String>, bool, Mode)> {
     let names = ["--tis", "--cwr", "--usage", "--workers", "--readers", "--nodes"];
     let mut values: Vec<Option<String>> = vec![None; names.len()];
-    let mut times = false;
+    let (mut times, mut mode) = (false, Mode::One);
     let mut args = std::env::args().skip(1);
     if args.next()? != "run" {
         return None;
@@ -31,9 +35,13 @@ fn words() -> Option<(Vec<String>, bool)> {
             times = true;
             continue;
         }
+        if name == "--mode" {
+            mode = Mode::of(&args.next()?)?;
+            continue;
+        }
         values[names.iter().position(|n| *n == name)?] = Some(args.next()?);
     }
-    Some((values.into_iter().collect::<Option<_>>()?, times))
+    Some((values.into_iter().collect::<Option<_>>()?, times, mode))
 }
 
 fn fail(status: u8, text: String) -> ExitCode {
@@ -56,14 +64,15 @@ fn read(path: &str) -> std::io::Result<Vec<u8>> {
 }
 
 fn main() -> ExitCode {
-    let Some((words, times)) = words() else {
-        let usage = "run --tis F --cwr F --usage F --workers n --readers n --nodes n [--times]";
+    let Some((words, times, mode)) = words() else {
+        let usage = "run --tis F --cwr F --usage F --workers n --readers n --nodes n [--mode m] [--times]";
         return fail(2, usage.into());
     };
     let number = |i: usize, most: usize| {
         words[i].parse().ok().filter(|n: &usize| (1..=most).contains(n))
     };
-    let (Some(_), Some(_), Some(_)) = (number(3, 8), number(4, 8), number(5, 64))
+    let (Some(workers), Some(readers), Some(nodes)) =
+        (number(3, 8), number(4, 8), number(5, 64))
     else {
         return fail(2, "workers and readers are 1 to 8, nodes 1 to 64".into());
     };
@@ -102,9 +111,10 @@ fn main() -> ExitCode {
         Err(f) => return refused("usage", f),
     };
     lap("read usage");
-    let mut reasons = vec![0; usage.lines.len()];
+    let reasons: Vec<_> = usage.lines.iter().map(|_| AtomicU8::new(0)).collect();
     let input = split::Input { tis: &tis, registry: &registry, usage: &usage };
-    let book = book::fill(&input, &mut reasons);
+    let job = Job { input: &input, reasons: &reasons };
+    let book = job.fill(mode, &Plan { workers, readers, nodes });
     lap("run");
     let written = std::io::stdout()
         .as_fd()

@@ -3,6 +3,7 @@
 use crate::cwr::{Registry, Share, UNKNOWN};
 use crate::tis::{NONE, Tis};
 use crate::usage::Usage;
+use std::sync::atomic::{AtomicU8, Ordering::Relaxed};
 
 pub const WORK: u8 = 0;
 pub const LAND: u8 = 1;
@@ -102,7 +103,7 @@ impl Input<'_> {
     pub fn block(
         &self,
         b: usize,
-        reasons: &mut [u8],
+        reasons: &[AtomicU8],
         s: &mut Scratch,
         mut put: impl FnMut(u16, u32, u64),
     ) {
@@ -121,7 +122,8 @@ impl Input<'_> {
         }
         for i in start..end {
             let shares = (works[i - start] != UNKNOWN).then_some(shares[i - start]);
-            reasons[i] = self.line(i, shares, s, |a, amount| put(a, i as u32, amount));
+            let reason = self.line(i, shares, s, |a, amount| put(a, i as u32, amount));
+            reasons[i].store(reason, Relaxed);
         }
     }
 

@@ -4,6 +4,7 @@ use crate::book::Posting;
 use crate::split::{Input, REASONS, prefetch};
 use std::fs::File;
 use std::io::{self, Write};
+use std::sync::atomic::{AtomicU8, Ordering::Relaxed};
 use std::time::{Duration, Instant};
 
 const CHUNK: usize = 256 * 1024;
@@ -144,7 +145,7 @@ impl Prefix {
 /// Writes the text to `file`; answers the time that the writes took.
 pub fn text(
     input: &Input,
-    reasons: &[u8],
+    reasons: &[AtomicU8],
     book: &[Vec<Posting>],
     file: File,
 ) -> io::Result<Duration> {
@@ -183,7 +184,7 @@ pub fn text(
     let prefixes = REASONS.map(|r| Prefix::new(&[b"M,", r, b","].concat()));
     for (i, p) in book[0].iter().enumerate() {
         Out::ahead(input, &book[0], i);
-        let reason = reasons[p.line as usize];
+        let reason = reasons[p.line as usize].load(Relaxed);
         out.row(&prefixes[reason as usize], input, p)?;
     }
     out.put(b"T,,");

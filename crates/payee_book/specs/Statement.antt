@@ -28,6 +28,12 @@ pub record AreStatements (book : List (List (ℕ × ℕ))) : Type 0 where
   pub rising : All IsRising book
   pub small : All (All (λ posting. posting.1 ≤ MOST_AMOUNT)) book
 
+-- postings for each account, in whatever order
+pub record AreEntries (journal : List (List (ℕ × ℕ))) : Type 0 where
+  pub some : 0 < length journal
+  pub few : length journal ≤ MOST_ACCOUNTS
+  pub small : All (All (λ posting. posting.1 ≤ MOST_AMOUNT)) journal
+
 -- no account has postings in both books
 abbrev pub AreApart : List (List (ℕ × ℕ)) → List (List (ℕ × ℕ)) → Type 0
 AreApart one other = (account : ℕ) → account < length one → (slice_index_or one account [] ≡ []) ⊎ (slice_index_or other account [] ≡ [])

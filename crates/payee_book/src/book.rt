@@ -37,6 +37,14 @@ impl Book {
         Ok(Book { statements })
     }
 
+    /// A book of these statements.
+    pub(crate) fn of(statements: Vec<Vec<(u64, u64)>>) -> Book
+        requires { AreStatements (map (λ s. s.items) statements.items) }
+        ensures { result ≡ map (λ s. s.items) statements.items }
+    {
+        Book { statements }
+    }
+
     /// How many accounts there are, the residue's included.
     pub fn accounts(&self) -> u16
         ensures count { result ≡ length self.now }

@@ -2,9 +2,11 @@
 #![tactic(auto)]
 
 mod book;
+mod journal;
 mod text;
 
 pub use book::Book;
+pub use journal::Journal;
 
 /// The most accounts that a book has, the residue's included.
 pub const MOST_ACCOUNTS: usize = 65_535;

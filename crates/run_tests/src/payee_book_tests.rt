@@ -1,10 +1,10 @@
-//! A book of two accounts, and one of three as text.
+//! A book of two accounts, one of three as text, and a journal that becomes a book.
 
 ghost use Rattle.std.specs.Prelude.{◌<◌, ◌≡◌, All, length};
 ghost use Rattle.payee_book.specs.Statement.{AreApart};
 
 use line_split::{Reason, Usage};
-use payee_book::Book;
+use payee_book::{Book, Journal};
 use std::process::Abort;
 use std::test::Fail;
 
@@ -145,5 +145,19 @@ fn joins_what_two_books_have(rt: HostRuntime) -> Result<(), Fail> {
     assert!(rt; first.accounts() == 2);
     assert_eq!(rt; first.lines(0), [(9, 4)].as_slice());
     assert_eq!(rt; first.lines(1), [(2, 3), (7, 5)].as_slice());
+    Ok(())
+}
+
+#[test]
+fn a_journal_has_its_postings_in_order_once_it_is_a_book(rt: HostRuntime) -> Result<(), Fail> {
+    let mut journal = Journal::open(rt.alloc(), 2)?;
+    for (line, amount) in [(7, 5), (999_999, 1), (2, 3), (7, 3), (7, 5)] {
+        assert!(rt; journal.accounts() == 2);
+        journal.record(1, line, amount)?;
+    }
+    let book = journal.into_book();
+    assert!(rt; book.accounts() == 2);
+    assert!(rt; book.lines(0).is_empty());
+    assert_eq!(rt; book.lines(1), [(2, 3), (7, 3), (7, 5), (7, 5), (999_999, 1)].as_slice());
     Ok(())
 }

@@ -1,5 +1,5 @@
 -- What one item more changes of what a reader has taken.
-use Rattle.std.proofs.Common.{arith, ◌≡◌, ◌∙◌, ◌<◌, ◌≤◌, ◌+◌, ◌++◌, ◌∷◌, ◌⊎◌, [], ℕ, Bool, true, false, true≢false, List, None, Option, Some, get_or, length, set, ap, sym, refl, subst, inl, inr, ⊎_elim}
+use Rattle.std.proofs.Common.{arith, ◌≡◌, ◌∙◌, ◌<◌, ◌≤◌, ◌+◌, ◌++◌, ◌∷◌, ◌⊎◌, [], ℕ, Bool, true, false, true≢false, List, None, Option, Some, get_or, cond, length, set, ap, sym, refl, subst, inl, inr, ⊎_elim}
 use Rattle.std.specs.Prelude.{replicate, Err, MatchOption, Ok, OnErr, OnOk, Result, is_ok, is_some, option_map}
 use Rattle.std.specs.declared.alloc.AllocError.{AllocError}
 use Rattle.std.proofs.lemmas.Bool.Decides.{eqb_tells}
@@ -7,7 +7,7 @@ use Rattle.std.proofs.lemmas.List.{get_or-map, get_or-replicate, get_or_default,
 use Rattle.queue_core.specs.declared.item.Item.{Item}
 use Rattle.queue_core.specs.declared.item.Item.TheVariants.{End, Post}
 use Rattle.mail_box.specs.Mails.{HasReceived, ReceiverView, put_at, with_item}
-use Rattle.payee_book.specs.Statement.{with_posting}
+use Rattle.payee_book.specs.Counted.{is_posting, times}
 use Rattle.split_run.specs.Reading.{AreServed, AreTaken, IsServed, IsUntouched, ends_among, inboxes_by, with_got}
 use Rattle.split_run.specs.Taken.{HasTaken}
 use Rattle.split_run.proofs.EndLemmas.{ends-append}
@@ -41,9 +41,9 @@ module _ {Name : Type 0} (workers : ℕ) where
 
     -- a posting that was kept
     pub post_kept : (line amount : ℕ) (was now : Option (ReceiverView Name)) (ends : ℕ) (statement : List (ℕ × ℕ)) → now ≡ Some r → HasReceived r after sender (Post line amount)
-        → IsServed workers true was now ends statement → IsServed workers true was (Some after) ends (with_posting (line, amount) statement)
+        → IsServed workers true was now ends statement → IsServed workers true was (Some after) ends (statement ++ (line, amount) ∷ [])
     post_kept line amount was now ends statement there received =
-        item_more true true (Post line amount) was now ends ends statement (with_posting (line, amount) statement) there received (omega arith)
+        item_more true true (Post line amount) was now ends ends statement (statement ++ (line, amount) ∷ []) there received (omega arith)
         (λ got below has yes. has_post workers sender line amount got statement below (has refl))
 
     -- one that was not, since memory was refused
@@ -101,11 +101,11 @@ module _ {Name : Type 0} (workers : ℕ) where
 
     -- after a posting that was kept, or was not for want of memory
     pub post_taken : (line amount : ℕ) (result : Result (Unit {0}) AllocError) → AreTaken workers true was now ends book → account < length was → get_or now account None ≡ Some r → HasReceived r after sender (Post line amount) → now' ≡ set now account (Some after)
-        → OnOk result (book' ≡ set book account (with_posting (line, amount) (get_or book account []))) → OnErr result (book' ≡ book) → AreTaken workers (is_ok result) was now' ends book'
+        → OnOk result (book' ≡ set book account (get_or book account [] ++ (line, amount) ∷ [])) → OnErr result (book' ≡ book) → AreTaken workers (is_ok result) was now' ends book'
     post_taken line amount (Ok _) taken below there received put kept refused =
         let end = get_or ends account 0 in
-        kept_ends true end (with_posting (line, amount) (get_or book account [])) refl kept put
-        (taken_at true true was now ends book account (Some after) end (with_posting (line, amount) (get_or book account [])) taken below (λ yes. yes)
+        kept_ends true end (get_or book account [] ++ (line, amount) ∷ []) refl kept put
+        (taken_at true true was now ends book account (Some after) end (get_or book account [] ++ (line, amount) ∷ []) taken below (λ yes. yes)
         (post_kept r after sender line amount (get_or was account None) (get_or now account None) end (get_or book account []) there received (taken.each account below)))
     post_taken line amount (Err _) taken below there received put kept refused =
         let end = get_or ends account 0 in
@@ -187,3 +187,22 @@ nothing_taken {Name = Name} workers accounts inboxes ends book count none empty 
     first (Some r) untouched =
         let is = untouched r refl in
         (is.0, (λ sender. []), ap (λ (got : ℕ → List Item). Some (with_got r got)) is.1, omega arith, λ yes. has_none workers)
+
+-- postings none of which stands there are none
+nothing_counted : (xs : List (ℕ × ℕ)) → ((p : ℕ × ℕ) → times p xs ≡ 0) → xs ≡ []
+nothing_counted [] none = refl
+nothing_counted (x ∷ xs) none = let here : is_posting x x ≡ true = grind arith in absurd (omega (arith, none x, ap {B = ℕ} (λ (b : Bool). cond b 1 0) here))
+
+-- a statement in another order is as good
+ordered_at : {Name : Type 0} (workers : ℕ) (was now : Option (ReceiverView Name)) (ends : ℕ) (statement ordered : List (ℕ × ℕ)) → ((p : ℕ × ℕ) → times p ordered ≡ times p statement)
+    → IsServed workers true was now ends statement → IsServed workers true was now ends ordered
+ordered_at workers None now ends statement ordered same served = (served.0, nothing_counted ordered (λ p. same p ∙ ap (times p) served.1))
+ordered_at workers (Some w) now ends statement ordered same served = (served.0, served.1, served.2, served.3, λ yes p. same p ∙ served.4 yes p)
+
+pub served_in_order : {Name : Type 0} (workers : ℕ) (was now : List (Option (ReceiverView Name))) (journal book : List (List (ℕ × ℕ))) → length book ≡ length journal
+    → ((account : ℕ) (p : ℕ × ℕ) → times p (get_or book account []) ≡ times p (get_or journal account [])) → AreServed workers was now journal → AreServed workers was now book
+served_in_order workers was now journal book count same served = record {
+  count = served.count;
+  accounts = count ∙ served.accounts;
+  each = λ account lt. ordered_at workers (get_or was account None) (get_or now account None) workers (get_or journal account []) (get_or book account []) (same account) (served.each account lt);
+}

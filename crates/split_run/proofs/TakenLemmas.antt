@@ -11,8 +11,8 @@ use Rattle.queue_core.specs.declared.item.Item.TheVariants.{End, Post}
 use Rattle.mail_box.specs.Mails.{put_at}
 use Rattle.payee_book.specs.Counted.{times}
 use Rattle.payee_book.specs.Run.{portion_of, statement_of}
-use Rattle.payee_book.specs.Statement.{IsRising, comes_before, with_posting}
-use Rattle.payee_book.proofs.Counted.{known_by_counts, times-append, times-with_posting}
+use Rattle.payee_book.specs.Statement.{IsRising, comes_before}
+use Rattle.payee_book.proofs.Counted.{known_by_counts, times-append}
 use Rattle.split_run.specs.Blocks.{AreDrawnOnce, blocks_of, list_of, postings_of, sum_below}
 use Rattle.split_run.specs.Taken.{HasTaken, posts_among}
 use Rattle.split_run.proofs.BlockLemmas.{sent_once}
@@ -49,9 +49,9 @@ pub has_none : (senders : ℕ) → HasTaken senders (λ sender. []) []
 has_none senders posting = sym (sum-none senders (λ sender. 0) (λ k below. refl))
 
 pub has_post : (senders sender line amount : ℕ) (got : ℕ → List Item) (statement : List (ℕ × ℕ)) → sender < senders → HasTaken senders got statement
-    → HasTaken senders (put_at sender (got sender ++ Post line amount ∷ []) got) (with_posting (line, amount) statement)
+    → HasTaken senders (put_at sender (got sender ++ Post line amount ∷ []) got) (statement ++ (line, amount) ∷ [])
 has_post senders sender line amount got statement below has posting =
-    let added = times-with_posting posting (line, amount) statement in
+    let added = times-append posting statement ((line, amount) ∷ []) in
     let more = ap (times posting) (posts-append (got sender) (Post line amount ∷ [])) ∙ times-append posting (posts_among (got sender)) ((line, amount) ∷ []) in
     let put = sum_put sender (times posting ((line, amount) ∷ [])) (got sender ++ Post line amount ∷ []) got (λ l. times posting (posts_among l)) senders below more in
     omega (arith, added, put, has posting)

@@ -5,7 +5,7 @@ use Rattle.queue_core.specs.declared.item.Item.{Item}
 use Rattle.queue_core.specs.declared.item.Item.TheVariants.{End, Post}
 use Rattle.payee_book.specs.Counted.{times}
 use Rattle.payee_book.specs.Run.{statement_of}
-use Rattle.payee_book.specs.Statement.{IsRising, with_posting}
+use Rattle.payee_book.specs.Statement.{IsRising}
 use Rattle.mail_box.specs.Mails.{put_at}
 use Rattle.split_run.specs.Blocks.{AreDrawnOnce, blocks_of, dealt, list_of, sum_below}
 
@@ -34,6 +34,6 @@ BlocksAreDealtOnce = (workers blocks : ℕ) → 0 < workers → AreDrawnOnce wor
 pub record TakingKeepsUp : Type 0 where
   pub none : (senders : ℕ) → HasTaken senders (λ sender. []) []
   pub post : (senders sender line amount : ℕ) (got : ℕ → List Item) (statement : List (ℕ × ℕ)) → sender < senders → HasTaken senders got statement
-      → HasTaken senders (put_at sender (got sender ++ Post line amount ∷ []) got) (with_posting (line, amount) statement)
+      → HasTaken senders (put_at sender (got sender ++ Post line amount ∷ []) got) (statement ++ (line, amount) ∷ [])
   pub end_mark : (senders sender : ℕ) (got : ℕ → List Item) (statement : List (ℕ × ℕ)) → sender < senders → HasTaken senders got statement
       → HasTaken senders (put_at sender (got sender ++ End ∷ []) got) statement

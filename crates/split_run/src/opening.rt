@@ -103,7 +103,7 @@ pub(crate) fn readers_of<M: Mail>(
     requires untouched { (account : ℕ) → account < accounts → IsUntouched workers (slice_index_or (inboxes_by M.receiver inboxes.items) account None) }
     ensures count { IfOk result (λ all. vec_len all ≡ readers) }
     ensures dealt { IfOk result (λ all. (reader : ℕ) (d : _) → reader < readers → AreDealt readers reader (inboxes_by M.receiver inboxes.items) (inboxes_by M.receiver (slice_index_or all.items reader d).opened.value.items)) }
-    ensures taken { IfOk result (λ all. All (λ r. (r.workers ≡ workers) × AreTaken workers r.whole (inboxes_by M.receiver r.opened.value.items) (inboxes_by M.receiver r.inboxes.items) r.ends.items r.book) all.items) }
+    ensures taken { IfOk result (λ all. All (λ r. (r.workers ≡ workers) × AreTaken workers r.whole (inboxes_by M.receiver r.opened.value.items) (inboxes_by M.receiver r.inboxes.items) r.ends.items r.journal) all.items) }
 {
     let mut inboxes = inboxes;
     let mut all = Vec::new(alloc);

@@ -1,4 +1,4 @@
-//! What a reader does: it takes from its mailboxes, and keeps the statements of their accounts.
+//! What a reader does: it takes from its mailboxes, and makes the statements of their accounts.
 
 ghost use Rattle.std.specs.Prelude.{◌≡◌, ◌⊎◌, ◌<◌, ◌≤◌, ℕ, IfOk, MatchOption, None, Some, [], length, slice_index_or, slice_set, true, vec_items};
 ghost use Rattle.mail_box.specs.Mails.{HasReceived, ReceiverView};
@@ -7,7 +7,7 @@ ghost use Rattle.split_run.specs.Reading.{AreServed, AreTaken, IsUntouched, inbo
 use crossbeam_utils::Backoff;
 use line_split::Account;
 use mail_box::{Item, Mail, receive};
-use payee_book::Book;
+use payee_book::{Book, Journal};
 use std::alloc::{AllocError, Global};
 use std::snapshot::Snapshot;
 use std::sync::Wait;
@@ -24,9 +24,16 @@ pub(crate) struct Reader<M: Mail> {
     pub workers: u64,
     /// How many end marks each mailbox has given.
     ends: Vec<u64>,
-    pub book: Book,
-    /// Whether every posting that was taken stands in the book.
+    pub journal: Journal,
+    /// Whether every posting that was taken stands in the journal.
     whole: bool,
+}
+
+/// What a reader gives back: its mailboxes, and the statements of their accounts.
+#[derive(Drop)]
+pub(crate) struct Served<M: Mail> {
+    pub inboxes: Vec<Option<M::Receiver>>,
+    pub book: Book,
 }
 
 impl<M: Mail> Reader<M> {
@@ -41,17 +48,17 @@ impl<M: Mail> Reader<M> {
         requires count { length inboxes.items ≡ accounts }
         requires untouched { (account : ℕ) → account < accounts → IsUntouched workers (slice_index_or (inboxes_by M.receiver inboxes.items) account None) }
         ensures opened { IfOk result (λ r. (r.opened.value ≡ inboxes) × (r.workers ≡ workers)) }
-        ensures taken { IfOk result (λ r. AreTaken workers r.whole (inboxes_by M.receiver r.opened.value.items) (inboxes_by M.receiver r.inboxes.items) r.ends.items r.book) }
+        ensures taken { IfOk result (λ r. AreTaken workers r.whole (inboxes_by M.receiver r.opened.value.items) (inboxes_by M.receiver r.inboxes.items) r.ends.items r.journal) }
     {
         let opened = Snapshot::of(&inboxes);
         let ends = vec![in alloc; 0u64; inboxes.len()]?;
-        let book = Book::open(alloc, accounts)?;
+        let journal = Journal::open(alloc, accounts)?;
         Ok(Reader {
             inboxes,
             opened,
             workers,
             ends,
-            book,
+            journal,
             whole: true,
         })
     }
@@ -59,8 +66,8 @@ impl<M: Mail> Reader<M> {
     /// Takes from each mailbox in turn until every one has given an end mark of each worker. False: the run was stopped,
     /// or a posting was refused its memory.
     pub fn serve<R: Wait>(&mut self, rt: &R, stop: &AtomicBool) -> bool
-        requires taken { AreTaken self.old.workers self.old.whole (inboxes_by M.receiver self.old.opened.value.items) (inboxes_by M.receiver self.old.inboxes.items) self.old.ends.items self.old.book }
-        ensures served { result ≡ true → AreServed self.new.workers (inboxes_by M.receiver self.new.opened.value.items) (inboxes_by M.receiver self.new.inboxes.items) self.new.book }
+        requires taken { AreTaken self.old.workers self.old.whole (inboxes_by M.receiver self.old.opened.value.items) (inboxes_by M.receiver self.old.inboxes.items) self.old.ends.items self.old.journal }
+        ensures served { result ≡ true → AreServed self.new.workers (inboxes_by M.receiver self.new.opened.value.items) (inboxes_by M.receiver self.new.inboxes.items) self.new.journal }
         ensures opened { (self.new.opened.value ≡ self.old.opened.value) × (self.new.workers ≡ self.old.workers) }
     {
         let turn = Backoff::new();
@@ -80,14 +87,25 @@ impl<M: Mail> Reader<M> {
         unreachable!()
     }
 
+    /// The mailboxes, and the statements of what was taken.
+    pub fn into_served(self) -> Served<M>
+        requires { AreServed self.workers (inboxes_by M.receiver self.opened.value.items) (inboxes_by M.receiver self.inboxes.items) self.journal }
+        ensures { AreServed self.workers (inboxes_by M.receiver self.opened.value.items) (inboxes_by M.receiver result.inboxes.items) result.book }
+    {
+        Served {
+            inboxes: self.inboxes,
+            book: self.journal.into_book(),
+        }
+    }
+
     /// Takes from each mailbox once. False: none had anything.
     fn take_round<R: Wait>(&mut self, rt: &R) -> bool
-        requires taken { AreTaken self.old.workers self.old.whole (inboxes_by M.receiver self.old.opened.value.items) (inboxes_by M.receiver self.old.inboxes.items) self.old.ends.items self.old.book }
-        ensures taken { AreTaken self.new.workers self.new.whole (inboxes_by M.receiver self.new.opened.value.items) (inboxes_by M.receiver self.new.inboxes.items) self.new.ends.items self.new.book }
+        requires taken { AreTaken self.old.workers self.old.whole (inboxes_by M.receiver self.old.opened.value.items) (inboxes_by M.receiver self.old.inboxes.items) self.old.ends.items self.old.journal }
+        ensures taken { AreTaken self.new.workers self.new.whole (inboxes_by M.receiver self.new.opened.value.items) (inboxes_by M.receiver self.new.inboxes.items) self.new.ends.items self.new.journal }
         ensures opened { (self.new.opened.value ≡ self.old.opened.value) × (self.new.workers ≡ self.old.workers) }
     {
         let mut took = false;
-        for account in 0..self.book.accounts() {
+        for account in 0..self.journal.accounts() {
             if self.take_from(rt, account) {
                 took = true;
             }
@@ -95,12 +113,12 @@ impl<M: Mail> Reader<M> {
         took
     }
 
-    /// Takes from the mailbox of an account, and puts a posting into the book. False: there was none, or no more is to come.
+    /// Takes from the mailbox of an account, and records a posting. False: there was none, or no more is to come.
     fn take_from<R: Wait>(&mut self, rt: &R, account: Account) -> bool
-        requires account { account < length self.old.book }
-        requires taken { AreTaken self.old.workers self.old.whole (inboxes_by M.receiver self.old.opened.value.items) (inboxes_by M.receiver self.old.inboxes.items) self.old.ends.items self.old.book }
-        ensures taken { AreTaken self.new.workers self.new.whole (inboxes_by M.receiver self.new.opened.value.items) (inboxes_by M.receiver self.new.inboxes.items) self.new.ends.items self.new.book }
-        ensures opened { (self.new.opened.value ≡ self.old.opened.value) × (self.new.workers ≡ self.old.workers) × (length self.new.book ≡ length self.old.book) }
+        requires account { account < length self.old.journal }
+        requires taken { AreTaken self.old.workers self.old.whole (inboxes_by M.receiver self.old.opened.value.items) (inboxes_by M.receiver self.old.inboxes.items) self.old.ends.items self.old.journal }
+        ensures taken { AreTaken self.new.workers self.new.whole (inboxes_by M.receiver self.new.opened.value.items) (inboxes_by M.receiver self.new.inboxes.items) self.new.ends.items self.new.journal }
+        ensures opened { (self.new.opened.value ≡ self.old.opened.value) × (self.new.workers ≡ self.old.workers) × (length self.new.journal ≡ length self.old.journal) }
     {
         let place = account as usize;
         if self.ends[place] >= self.workers {
@@ -109,7 +127,7 @@ impl<M: Mail> Reader<M> {
         match receive_at::<M, R>(rt, &mut self.inboxes, place) {
             Some((_, Item::Post { line, amount })) => {
                 if self.whole {
-                    self.whole = self.book.post(account, line, amount).is_ok();
+                    self.whole = self.journal.record(account, line, amount).is_ok();
                 }
                 true
             }

@@ -9,7 +9,7 @@ ghost use Rattle.split_run.specs.Running.{AreGathered, IsGivenBack, or_else};
 
 use crate::gate::Gate;
 use crate::opening::{open_mailboxes, readers_of};
-use crate::reading::Reader;
+use crate::reading::Served;
 use crate::starting::at_once;
 use crate::working::Inputs;
 use crate::{Plan, RunFault};
@@ -78,7 +78,7 @@ fn gather_all<M: Mail>(
     workers: u64,
     readers: u64,
     opened: Snapshot<Vec<Option<M::Receiver>>>,
-    read: Vec<Option<Reader<M>>>,
+    read: Vec<Option<Served<M>>>,
 ) -> Result<(Vec<Option<M::Receiver>>, Book), RunFault>
     requires some { (0 < accounts) × (0 < readers) }
     requires count { (length opened.value.items ≡ accounts) × (length read.items ≡ readers) }

@@ -8,7 +8,7 @@ ghost use Rattle.split_run.specs.Running.{AreForWork, AreSentBy};
 
 use crate::gate::Gate;
 use crate::opening::Worker;
-use crate::reading::Reader;
+use crate::reading::{Reader, Served};
 use crate::working::{Inputs, work};
 use cwr_share::Registry;
 use line_split::Usage;
@@ -40,17 +40,17 @@ impl<M: Mail> Promise<Option<Vec<M::Sender>>> for WorkDone<M> {
     ghost kept_by = { λ p r. IfSome r (λ senders. AreSentBy (division_by p.tis.value p.registry.value) p.usage.value p.workers p.number (map M.sender p.senders.value.items) (map M.sender senders.items)) };
 }
 
-/// What a reader's thread gives back: the reader, with the statements of its accounts.
+/// What a reader's thread gives back: its mailboxes, which have ended, and the statements of their accounts.
 #[derive(Drop)]
 pub(crate) struct ReadingDone<M: Mail> {
     reader: Snapshot<Reader<M>>,
 }
 
-impl<M: Mail> Promise<Option<Reader<M>>> for ReadingDone<M> {
+impl<M: Mail> Promise<Option<Served<M>>> for ReadingDone<M> {
     ghost use Rattle.std.specs.Prelude.{IfSome};
     ghost use Rattle.split_run.specs.Reading.{AreServed, inboxes_by};
 
-    ghost kept_by = { λ p r. IfSome r (λ reader. AreServed p.reader.value.workers (inboxes_by M.receiver p.reader.value.opened.value.items) (inboxes_by M.receiver reader.inboxes.items) reader.book) };
+    ghost kept_by = { λ p r. IfSome r (λ served. AreServed p.reader.value.workers (inboxes_by M.receiver p.reader.value.opened.value.items) (inboxes_by M.receiver served.inboxes.items) served.book) };
 }
 
 /// What a reader's thread does. None: the run was stopped, or memory was refused.
@@ -59,13 +59,13 @@ fn read_all<M: Mail, R: Wait>(
     _mail: &M,
     reader: Reader<M>,
     stop: &AtomicBool,
-) -> Option<Reader<M>>
-    requires taken { AreTaken reader.workers reader.whole (inboxes_by M.receiver reader.opened.value.items) (inboxes_by M.receiver reader.inboxes.items) reader.ends.items reader.book }
+) -> Option<Served<M>>
+    requires taken { AreTaken reader.workers reader.whole (inboxes_by M.receiver reader.opened.value.items) (inboxes_by M.receiver reader.inboxes.items) reader.ends.items reader.journal }
     ensures { IfSome result (λ r. AreServed reader.workers (inboxes_by M.receiver reader.opened.value.items) (inboxes_by M.receiver r.inboxes.items) r.book) }
 {
     let mut reader = reader;
     if reader.serve(rt, stop) {
-        Some(reader)
+        Some(reader.into_served())
     } else {
         None
     }
@@ -78,8 +78,8 @@ fn start_reader<'s, E, M: Mail, R: Threads + Wait + Sync>(
     mail: &'s M,
     reader: Reader<M>,
     stop: &'s AtomicBool,
-) -> Option<PromisedHandle<Option<Reader<M>>, ReadingDone<M>>>
-    requires taken { AreTaken reader.workers reader.whole (inboxes_by M.receiver reader.opened.value.items) (inboxes_by M.receiver reader.inboxes.items) reader.ends.items reader.book }
+) -> Option<PromisedHandle<Option<Served<M>>, ReadingDone<M>>>
+    requires taken { AreTaken reader.workers reader.whole (inboxes_by M.receiver reader.opened.value.items) (inboxes_by M.receiver reader.inboxes.items) reader.ends.items reader.journal }
     ensures { IfSome result (λ h. h.promise.reader.value ≡ reader) }
 {
     let promise: ReadingDone<M> = ReadingDone {
@@ -88,8 +88,8 @@ fn start_reader<'s, E, M: Mail, R: Threads + Wait + Sync>(
     scope
         .spawn_with(
             promise,
-            move || -> Option<Reader<M>>
-                requires { AreTaken reader.workers reader.whole (inboxes_by M.receiver reader.opened.value.items) (inboxes_by M.receiver reader.inboxes.items) reader.ends.items reader.book }
+            move || -> Option<Served<M>>
+                requires { AreTaken reader.workers reader.whole (inboxes_by M.receiver reader.opened.value.items) (inboxes_by M.receiver reader.inboxes.items) reader.ends.items reader.journal }
                 ensures { IfSome result (λ r. AreServed reader.workers (inboxes_by M.receiver reader.opened.value.items) (inboxes_by M.receiver r.inboxes.items) r.book) }
             { read_all::<M, R>(rt, mail, reader, stop) },
         )
@@ -173,10 +173,10 @@ fn start_readers<'s, E, M: Mail, R: Threads + Wait + Sync>(
     mail: &'s M,
     readers: Vec<Reader<M>>,
     stop: &'s AtomicBool,
-    room: Vec<PromisedHandle<Option<Reader<M>>, ReadingDone<M>>>,
-) -> Option<Vec<PromisedHandle<Option<Reader<M>>, ReadingDone<M>>>>
+    room: Vec<PromisedHandle<Option<Served<M>>, ReadingDone<M>>>,
+) -> Option<Vec<PromisedHandle<Option<Served<M>>, ReadingDone<M>>>>
     requires room { vec_len room ≡ 0 }
-    requires taken { All (λ reader. AreTaken reader.workers reader.whole (inboxes_by M.receiver reader.opened.value.items) (inboxes_by M.receiver reader.inboxes.items) reader.ends.items reader.book) readers.items }
+    requires taken { All (λ reader. AreTaken reader.workers reader.whole (inboxes_by M.receiver reader.opened.value.items) (inboxes_by M.receiver reader.inboxes.items) reader.ends.items reader.journal) readers.items }
     ensures { IfSome result (λ all. (vec_len all ≡ vec_len readers) × ((number : ℕ) (d : _) (e : _) → number < length readers.items → (slice_index_or all.items number d).promise.reader.value ≡ slice_index_or readers.items number e)) }
 {
     let mut started = room;
@@ -228,10 +228,10 @@ pub(crate) fn at_once<M: Mail, G: Gate, R: Threads + Wait + Sync>(
     gate: &G,
     workers: Vec<Worker<M>>,
     readers: Vec<Reader<M>>,
-) -> Option<(Vec<Option<Vec<M::Sender>>>, Vec<Option<Reader<M>>>)>
+) -> Option<(Vec<Option<Vec<M::Sender>>>, Vec<Option<Served<M>>>)>
     requires few { length workers.items ≤ 8 }
     requires ready { All (λ job. AreForWork (length inputs.registry.now.parties) (length inputs.usage.now) (map M.sender job.senders.items) × (MOST_CLAIMS ≤ job.claims.room) × (MOST_CLAIMS + 1 ≤ job.portions.room)) workers.items }
-    requires taken { All (λ reader. (reader.workers ≡ length workers.items) × AreTaken reader.workers reader.whole (inboxes_by M.receiver reader.opened.value.items) (inboxes_by M.receiver reader.inboxes.items) reader.ends.items reader.book) readers.items }
+    requires taken { All (λ reader. (reader.workers ≡ length workers.items) × AreTaken reader.workers reader.whole (inboxes_by M.receiver reader.opened.value.items) (inboxes_by M.receiver reader.inboxes.items) reader.ends.items reader.journal) readers.items }
     ensures worked { IfSome result (λ r. (length r.0.items ≡ length workers.items) × ((number : ℕ) (d : _) (e : _) → number < length workers.items → IfSome (slice_index_or r.0.items number d) (λ senders. AreSentBy (division_by inputs.entry.tis.now inputs.entry.registry.now) inputs.entry.usage.now (length workers.items) number (map M.sender (slice_index_or workers.items number e).senders.items) (map M.sender senders.items)))) }
     ensures read { IfSome result (λ r. (length r.1.items ≡ length readers.items) × ((number : ℕ) (d : _) (e : _) → number < length readers.items → IfSome (slice_index_or r.1.items number d) (λ reader. AreServed (length workers.items) (inboxes_by M.receiver (slice_index_or readers.items number e).opened.value.items) (inboxes_by M.receiver reader.inboxes.items) reader.book))) }
 {
@@ -242,11 +242,11 @@ pub(crate) fn at_once<M: Mail, G: Gate, R: Threads + Wait + Sync>(
     thread::scope(
         thread::scope_env(),
         rt,
-        move |scope| -> Option<(Vec<Option<Vec<M::Sender>>>, Vec<Option<Reader<M>>>)>
+        move |scope| -> Option<(Vec<Option<Vec<M::Sender>>>, Vec<Option<Served<M>>>)>
             requires few { length workers.items ≤ 8 }
             requires rooms { (vec_len working_room ≡ 0) × (vec_len reading_room ≡ 0) }
             requires ready { All (λ job. AreForWork (length inputs.registry.now.parties) (length inputs.usage.now) (map M.sender job.senders.items) × (MOST_CLAIMS ≤ job.claims.room) × (MOST_CLAIMS + 1 ≤ job.portions.room)) workers.items }
-            requires taken { All (λ reader. (reader.workers ≡ length workers.items) × AreTaken reader.workers reader.whole (inboxes_by M.receiver reader.opened.value.items) (inboxes_by M.receiver reader.inboxes.items) reader.ends.items reader.book) readers.items }
+            requires taken { All (λ reader. (reader.workers ≡ length workers.items) × AreTaken reader.workers reader.whole (inboxes_by M.receiver reader.opened.value.items) (inboxes_by M.receiver reader.inboxes.items) reader.ends.items reader.journal) readers.items }
             ensures worked { IfSome result (λ r. (length r.0.items ≡ length workers.items) × ((number : ℕ) (d : _) (e : _) → number < length workers.items → IfSome (slice_index_or r.0.items number d) (λ senders. AreSentBy (division_by inputs.entry.tis.now inputs.entry.registry.now) inputs.entry.usage.now (length workers.items) number (map M.sender (slice_index_or workers.items number e).senders.items) (map M.sender senders.items)))) }
             ensures read { IfSome result (λ r. (length r.1.items ≡ length readers.items) × ((number : ℕ) (d : _) (e : _) → number < length readers.items → IfSome (slice_index_or r.1.items number d) (λ reader. AreServed (length workers.items) (inboxes_by M.receiver (slice_index_or readers.items number e).opened.value.items) (inboxes_by M.receiver reader.inboxes.items) reader.book))) }
         {

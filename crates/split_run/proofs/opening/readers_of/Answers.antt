@@ -35,6 +35,6 @@ loop-reader-preserved g c =
           subst (λ (n : ℕ). AreDealt c.args.readers n was (inboxes_by g.M.Mail.receiver new.opened.value.items)) (sym same)
           (subst (λ v. AreDealt c.args.readers reader was (inboxes_by g.M.Mail.receiver v.items)) (sym c.in_ok-new.ensures.opened.0)
           (dealt_of_left c.args.readers reader was left c.loop-reader.invariant.left own c.in_ok-own.ensures.own)));
-      taken = subst (All (λ r. (r.workers ≡ c.args.workers) × AreTaken c.args.workers r.whole (inboxes_by g.M.Mail.receiver r.opened.value.items) (inboxes_by g.M.Mail.receiver r.inboxes.items) r.ends.items r.book)) (sym c.in_ok-push.ensures.items)
-          (All-push (λ r. (r.workers ≡ c.args.workers) × AreTaken c.args.workers r.whole (inboxes_by g.M.Mail.receiver r.opened.value.items) (inboxes_by g.M.Mail.receiver r.inboxes.items) r.ends.items r.book) all new c.loop-reader.invariant.taken (c.in_ok-new.ensures.opened.1, c.in_ok-new.ensures.taken));
+      taken = subst (All (λ r. (r.workers ≡ c.args.workers) × AreTaken c.args.workers r.whole (inboxes_by g.M.Mail.receiver r.opened.value.items) (inboxes_by g.M.Mail.receiver r.inboxes.items) r.ends.items r.journal)) (sym c.in_ok-push.ensures.items)
+          (All-push (λ r. (r.workers ≡ c.args.workers) × AreTaken c.args.workers r.whole (inboxes_by g.M.Mail.receiver r.opened.value.items) (inboxes_by g.M.Mail.receiver r.inboxes.items) r.ends.items r.journal) all new c.loop-reader.invariant.taken (c.in_ok-new.ensures.opened.1, c.in_ok-new.ensures.taken));
     }
