@@ -1,20 +1,21 @@
-.PHONY: help build demo test compare bench explore
+.PHONY: help build demo test compare refuse bench explore
 
 help:
 	@echo 'make demo     make the statements of the example in about a minute, with a build that is not proved'
 	@echo 'make build    prove and build the program, leave it as out/royalty_run'
 	@echo 'make test     the gate: prove every crate from nothing, refuse every wrong body, run every test and the program'
 	@echo 'make compare  run the program and a plain Rust one on small made-up inputs, good and bad, and compare'
+	@echo 'make refuse   run the program on the example with each allocation refused in turn, for four plans'
 	@echo 'make bench    run both on a million usage lines, print times and peak memory'
 	@echo 'make explore  go through every state of a small mailbox, with the model in Python'
 	@echo 'make help     this list'
-	@echo 'compare and bench build the program first, unless they are given one: make bench PROGRAM=out/royalty_run'
+	@echo 'compare, refuse and bench build the program first, unless they are given one: make bench PROGRAM=out/royalty_run'
 	@echo 'All but explore need the command rt of the Rattle kit on the path; compare, bench and explore also python3,'
-	@echo 'and compare and bench cargo.'
+	@echo 'compare and bench cargo, and refuse a C compiler.'
 
 PROGRAM = out/royalty_run
 ifeq ($(origin PROGRAM),file)
-compare bench: build
+compare refuse bench: build
 endif
 
 build:
@@ -38,6 +39,9 @@ test:
 
 compare:
 	python3 bench/compare.py --program $(PROGRAM) --cases 2000
+
+refuse:
+	tests/refuse.sh $(PROGRAM)
 
 bench:
 	python3 bench/bench.py --program $(PROGRAM) --lines 1000000 --works 20000 --parties 400 --repeats 5

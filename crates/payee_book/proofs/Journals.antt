@@ -68,7 +68,7 @@ module _ (was now : List (List (ℕ × ℕ))) (account : ℕ) where
 
 -- before any is put in order
 pub none_in_order : (was : List (List (ℕ × ℕ))) → AreEntries was → AreInOrderUpTo was was 0
-none_in_order was are = record { count = refl; rising = λ k low. absurd (omega (arith, low)); same = λ k p. refl; small = are.small; }
+none_in_order was are = record { count = refl; rising = λ k low. absurd (omega (arith, low)); same = λ k p. refl; small = are.small }
 
 -- where all are in order, they are statements
 pub all_in_order : (was now : List (List (ℕ × ℕ))) → AreEntries was → AreInOrderUpTo was now (length now) → AreStatements now

@@ -2,22 +2,60 @@
 
 use csv_table::forms::{code, is_printable, number_up_to};
 use csv_table::{RowWriter, Rows};
+use std::alloc::Global;
+use std::str;
 use std::test::Fail;
+
+/// The fields of each row of a text, in brackets, and a stroke after each row.
+fn told(alloc: Global, text: &[u8]) -> Result<String, Fail> {
+    let mut rows = Rows::of(alloc, text);
+    let mut told = String::new(alloc);
+    for _ in 0..10 {
+        if !rows.next()? {
+            break;
+        }
+        for place in 0..rows.len() {
+            told.push_str("[")?;
+            told.push_str(str::from_utf8(rows.field(place))?)?;
+            told.push_str("]")?;
+        }
+        told.push_str("/")?;
+    }
+    Ok(told)
+}
 
 #[test]
 fn walks_over_rows(rt: HostRuntime) -> Result<(), Fail> {
     let text = "\u{feff}a,b\r\n\n\"x,\"\"y\",,z\nlast";
-    let mut rows = Rows::of(rt.alloc(), text.as_bytes());
+    let rows = told(rt.alloc(), text.as_bytes())?;
+    assert_eq!(rt; rows.as_str(), "[a][b]/[x,\"y][][z]/[last]/");
+    Ok(())
+}
+
+#[test]
+fn compares_a_row_with_fields(rt: HostRuntime) -> Result<(), Fail> {
+    let mut rows = Rows::of(rt.alloc(), b"a,b");
+    assert!(rt; rows.next()?);
+    let cases: [(&[&str], bool); 4] = [
+        (&["a", "b"], true),
+        (&["a"], false),
+        (&["a", "b", ""], false),
+        (&["a", "B"], false),
+    ];
+    for (fields, expected) in cases {
+        assert_eq!(rt; rows.is(fields), expected);
+    }
+    Ok(())
+}
+
+#[test]
+fn has_no_field_before_the_first_row_or_past_the_last_field(rt: HostRuntime) -> Result<(), Fail> {
+    let mut rows = Rows::of(rt.alloc(), b"a");
     assert_eq!(rt; rows.len(), 0);
-    assert!(rt; rows.next()? && rows.is(&["a", "b"]));
-    assert!(rt; !rows.is(&["a"]) && !rows.is(&["a", "b", ""]) && !rows.is(&["a", "B"]));
-    assert!(rt; rows.next()? && rows.len() == 3);
-    assert_eq!(rt; rows.field(0), b"x,\"y".as_slice());
+    assert!(rt; rows.next()?);
     assert_eq!(rt; rows.field(1), b"".as_slice());
-    assert_eq!(rt; rows.field(2), b"z".as_slice());
-    assert_eq!(rt; rows.field(3), b"".as_slice());
-    assert!(rt; rows.next()? && rows.is(&["last"]));
-    assert!(rt; !rows.next()? && !rows.next()?);
+    assert!(rt; !rows.next()?);
+    assert!(rt; !rows.next()?);
     Ok(())
 }
 

@@ -26,6 +26,14 @@ fn equal_uses(alloc: Global, lines: usize) -> Result<String, Fail> {
     Ok(text)
 }
 
+/// The table, the registrations and the usage lines of a small run.
+pub fn inputs(alloc: Global, usage: &str) -> Result<(TisTable, Registry, Usage), Fail> {
+    let tis = TisTable::read(alloc, TERRITORIES.as_bytes())?;
+    let registry = Registry::read(alloc, TWO_PARTIES.as_bytes())?;
+    let usage = Usage::read(alloc, usage.as_bytes())?;
+    Ok((tis, registry, usage))
+}
+
 /// The book of a run over these usage lines, with so many workers, readers and nodes.
 fn book_of<M: Mail, G: Gate, R: Threads + Wait + Sync>(
     rt: &R,
@@ -35,9 +43,7 @@ fn book_of<M: Mail, G: Gate, R: Threads + Wait + Sync>(
     threads: (u64, u64, u64),
     gate: &G,
 ) -> Result<Book, Fail> {
-    let tis = TisTable::read(alloc, TERRITORIES.as_bytes())?;
-    let registry = Registry::read(alloc, TWO_PARTIES.as_bytes())?;
-    let usage = Usage::read(alloc, usage.as_bytes())?;
+    let (tis, registry, usage) = inputs(alloc, usage)?;
     let Some(plan) = Plan::new(threads.0, threads.1, threads.2) else {
         return Err(Fail::new("no plan"));
     };

@@ -219,40 +219,57 @@ impl Write for Narrow {
     }
 }
 
+/// So many usage lines, each of another use.
+fn uses(alloc: Global, lines: u64) -> Result<String, Fail> {
+    let mut uses = String::new(alloc);
+    uses.push_str("usage,work,territory,right,amount\n")?;
+    for line in 0..lines {
+        uses.push_str(format!(in alloc; "use {line},W1,276,P,100\n")?.as_str())?;
+    }
+    Ok(uses)
+}
+
+/// Asserts what a run prints to an output that takes so many bytes: the first of its text.
+fn assert_prints<R: Abort + Threads + Wait + Sync>(
+    rt: &R,
+    alloc: Global,
+    uses: &str,
+    plan: Plan,
+    text: &str,
+    room: usize,
+) -> Result<(), Fail> {
+    let tis = Vec::from_slice(alloc, TERRITORIES.as_bytes())?;
+    let cwr = Vec::from_slice(alloc, TWO_PARTIES.as_bytes())?;
+    let usage = Vec::from_slice(alloc, uses.as_bytes())?;
+    let mut out = Narrow {
+        room,
+        kept: Vec::new(alloc),
+        writes: 0,
+        longest: 0,
+    };
+    let Ok(printed) = settle_to(rt, alloc, tis, cwr, usage, plan, &mut out) else {
+        return Err(Fail::new("a run is refused for its output"));
+    };
+    assert_eq!(rt; printed.is_ok(), room == text.len());
+    assert_eq!(rt; out.kept.len(), room);
+    assert!(rt; text.as_bytes().starts_with(out.kept.as_slice()));
+    assert!(rt; out.longest < 200_000);
+    assert!(rt; printed.is_err() || out.writes == 3);
+    Ok(())
+}
+
 #[test]
 fn prints_many_pages(rt: HostRuntime) -> Result<(), Fail> {
     let alloc = rt.alloc();
-    let mut uses = Vec::from_slice(alloc, b"usage,work,territory,right,amount\n")?;
-    for line in 0..12_000u64 {
-        let row = format!(in alloc; "use {line},W1,276,P,100\n")?;
-        uses.extend_from_slice(row.as_bytes())?;
-    }
-    let uses = String::from_utf8(uses).unwrap_or(String::new(alloc));
+    let uses = uses(alloc, 12_000)?;
     let Some(plan) = Plan::new(1, 1, 1) else {
         return Err(Fail::new("no plan"));
     };
-    let text = outcome(&rt, alloc, [TERRITORIES, TWO_PARTIES, uses.as_str()], plan)?;
+    let inputs = [TERRITORIES, TWO_PARTIES, uses.as_str()];
+    let text = outcome(&rt, alloc, inputs, plan)?;
     assert!(rt; text.len() > 300_000);
     for room in [0, 1, 131_072, text.len() - 1, text.len()] {
-        let tis = Vec::from_slice(alloc, TERRITORIES.as_bytes())?;
-        let cwr = Vec::from_slice(alloc, TWO_PARTIES.as_bytes())?;
-        let usage = Vec::from_slice(alloc, uses.as_bytes())?;
-        let mut out = Narrow {
-            room,
-            kept: Vec::new(alloc),
-            writes: 0,
-            longest: 0,
-        };
-        let Ok(printed) = settle_to(&rt, alloc, tis, cwr, usage, plan, &mut out) else {
-            return Err(Fail::new("a run is refused for its output"));
-        };
-        assert_eq!(rt; printed.is_ok(), room == text.len(), "{room}");
-        assert_eq!(rt; out.kept.len(), room);
-        assert!(rt; text.as_bytes().starts_with(out.kept.as_slice()), "{room}");
-        assert!(rt; out.longest < 200_000);
-        if printed.is_ok() {
-            assert_eq!(rt; out.writes, 3);
-        }
+        assert_prints(&rt, alloc, uses.as_str(), plan, text.as_str(), room)?;
     }
     Ok(())
 }

@@ -4,9 +4,9 @@ ghost use Rattle.mail_box.specs.LaneViews.{receiver_of, sender_of};
 ghost use Rattle.mail_box.specs.Mails.{opened_sender};
 ghost use Rattle.split_run.specs.Sending.{AreFresh, AreReadyFor};
 
-use crate::small_run::{TERRITORIES, TWO_PARTIES, USES};
-use cwr_share::Registry;
-use line_split::{MOST_CLAIMS, Portions, Usage};
+use crate::run_threads_tests::inputs;
+use crate::small_run::USES;
+use line_split::{MOST_CLAIMS, Portions};
 use mail_box::{Item, LaneMail, LaneReceiver, LaneSender, Mail, receive};
 use split_run::{NoGate, Plan, work};
 use std::alloc::{AllocError, Global};
@@ -14,7 +14,6 @@ use std::process::Abort;
 use std::sync::Wait;
 use std::sync::atomic::AtomicBool;
 use std::test::Fail;
-use tis_tree::TisTable;
 
 #[test]
 fn takes_plans_in_range(rt: HostRuntime) -> Result<(), Fail> {
@@ -70,9 +69,7 @@ fn work_alone<R: Abort + Wait>(
     requires fresh { AreFresh (map sender_of senders.old) }
     requires ready { AreReadyFor (map sender_of senders.old) 3 }
 {
-    let tis = TisTable::read(alloc, TERRITORIES.as_bytes())?;
-    let registry = Registry::read(alloc, TWO_PARTIES.as_bytes())?;
-    let usage = Usage::read(alloc, USES.as_bytes())?;
+    let (tis, registry, usage) = inputs(alloc, USES)?;
     let mut claims = registry.scratch(alloc)?;
     let mut portions = Portions::room(alloc, MOST_CLAIMS + 1)?;
     let stop = AtomicBool::new(is_stopped);

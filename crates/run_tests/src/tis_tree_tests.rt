@@ -30,11 +30,26 @@ fn refusal_of_rows(alloc: Global, rows: &[u8]) -> Result<Option<(u8, Option<u64>
     Ok(refusal(alloc, table.as_slice()))
 }
 
+/// Whether a number is a code, and reads back as it.
+fn is_code(number: u16) -> bool {
+    match Code::of(number) {
+        Some(code) => code.number() == number,
+        None => false,
+    }
+}
+
+/// Whether a table knows the code of a number.
+fn knows(table: &TisTable, number: u16) -> bool {
+    match Code::of(number) {
+        Some(code) => table.known(code),
+        None => false,
+    }
+}
+
 #[test]
 fn knows_what_contains_what(rt: HostRuntime) -> Result<(), Fail> {
     let table = TisTable::read(rt.alloc(), TABLE)?;
-    assert_eq!(rt; table.len(), 4);
-    let lines = [
+    for (group, land, expected) in [
         (2136, 276, true),
         (9001, 276, true),
         (840, 840, true),
@@ -43,20 +58,34 @@ fn knows_what_contains_what(rt: HostRuntime) -> Result<(), Fail> {
         (2136, 9999, false),
         (9999, 9999, false),
         (9999, 2136, false),
-    ];
-    for (group, land, expected) in lines {
-        assert_eq!(rt; contains(&table, group, land), expected, "{group} {land}");
+    ] {
+        assert_eq!(rt; contains(&table, group, land), expected);
     }
-    let none = TisTable::read(rt.alloc(), b"code,groups\n")?;
-    assert_eq!(rt; none.len(), 0);
+    Ok(())
+}
+
+#[test]
+fn knows_its_codes(rt: HostRuntime) -> Result<(), Fail> {
+    let table = TisTable::read(rt.alloc(), TABLE)?;
+    assert_eq!(rt; table.len(), 4);
     for (number, expected) in [(2136, true), (276, true), (1, false), (9999, false)] {
-        if let Some(code) = Code::of(number) {
-            assert_eq!(rt; code.number(), number);
-            assert_eq!(rt; table.known(code), expected, "{number}");
-        }
+        assert_eq!(rt; knows(&table, number), expected);
     }
-    assert!(rt; Code::of(1).is_some() && Code::of(9_999).is_some());
-    assert!(rt; Code::of(0).is_none() && Code::of(10_000).is_none());
+    Ok(())
+}
+
+#[test]
+fn a_table_may_have_no_rows(rt: HostRuntime) -> Result<(), Fail> {
+    let table = TisTable::read(rt.alloc(), b"code,groups\n")?;
+    assert_eq!(rt; table.len(), 0);
+    Ok(())
+}
+
+#[test]
+fn codes_are_1_to_9999(rt: HostRuntime) -> Result<(), Fail> {
+    for (number, expected) in [(0, false), (1, true), (9_999, true), (10_000, false)] {
+        assert_eq!(rt; is_code(number), expected);
+    }
     Ok(())
 }
 
@@ -94,20 +123,38 @@ fn refuses_a_table_for_its_first_fault(rt: HostRuntime) -> Result<(), Fail> {
     Ok(())
 }
 
-#[test]
-fn takes_2048_rows_and_no_more(rt: HostRuntime) -> Result<(), Fail> {
-    let alloc = rt.alloc();
+/// A table of so many rows, each after the first in the group of the one before.
+fn chain(alloc: Global, rows: u16) -> Result<Vec<u8>, Fail> {
     let mut text = Vec::from_slice(alloc, b"code,groups\n1,\n")?;
-    for code in 2..2049u16 {
-        let row = format!(in alloc; "{code},{}\n", code - 1)?;
+    for code in 1..rows {
+        let row = format!(in alloc; "{},{code}\n", code.saturating_add(1))?;
         text.extend_from_slice(row.as_bytes())?;
     }
-    let table = TisTable::read(alloc, text.as_slice())?;
+    Ok(text)
+}
+
+#[test]
+fn takes_2048_rows(rt: HostRuntime) -> Result<(), Fail> {
+    let text = chain(rt.alloc(), 2048)?;
+    let table = TisTable::read(rt.alloc(), text.as_slice())?;
     assert_eq!(rt; table.len(), MOST_ROWS);
-    assert!(rt; contains(&table, 1, 2048) && !contains(&table, 2048, 1));
-    assert!(rt; contains(&table, 64, 65) && contains(&table, 63, 128) && !contains(&table, 65, 64));
+    for (group, land, expected) in [
+        (1, 2048, true),
+        (2048, 1, false),
+        (64, 65, true),
+        (63, 128, true),
+        (65, 64, false),
+    ] {
+        assert_eq!(rt; contains(&table, group, land), expected);
+    }
+    Ok(())
+}
+
+#[test]
+fn takes_no_more_than_2048_rows(rt: HostRuntime) -> Result<(), Fail> {
+    let mut text = chain(rt.alloc(), 2048)?;
     text.extend_from_slice(b"x\n")?;
-    assert_eq!(rt; refusal(alloc, text.as_slice()), Some((5, None)));
+    assert_eq!(rt; refusal(rt.alloc(), text.as_slice()), Some((5, None)));
     Ok(())
 }
 

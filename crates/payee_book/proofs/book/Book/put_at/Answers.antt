@@ -1,17 +1,10 @@
 use Rattle.std.proofs.Common.{◌≡◌, ◌<◌, ◌∙◌, ℕ, List, [], length, map, slice_index_or, slice_set, sym, ap, subst}
 use Rattle.std.specs.List.{insert}
-use Rattle.std.specs.Result.{OnOk, OnErr}
-use Rattle.std.specs.declared.result.Result.{Result}
-use Rattle.std.specs.declared.result.Result.TheVariants.{Ok, Err}
 use Rattle.std.proofs.lemmas.Result.{on_ok_weaker, on_err_weaker}
 use Rattle.payee_book.specs.Statement.{AreStatements, with_posting}
+use Rattle.payee_book.proofs.Outcomes.{either_way}
 use Rattle.payee_book.proofs.Rising.{shown, kept, put, statements_with}
 use Rattle.payee_book.proofs.book.Book.put_at.Goals as goal
-
--- what holds of an `Ok` and of an `Err`
-either_way : {T E P : Type 0} (r : Result T E) → OnOk r P → OnErr r P → P
-either_way (Ok x) ok err = ok
-either_way (Err e) ok err = err
 
 module _ (c : goal.After-self-1) where
   abbrev book : List (List (ℕ × ℕ))

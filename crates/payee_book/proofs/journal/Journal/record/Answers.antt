@@ -1,18 +1,11 @@
 use Rattle.std.proofs.Common.{◌≡◌, ◌<◌, ◌++◌, ◌∷◌, ◌∙◌, ℕ, List, [], length, map, slice_index_or, slice_set, sym, ap, subst}
-use Rattle.std.specs.Result.{OnOk, OnErr}
-use Rattle.std.specs.declared.result.Result.{Result}
-use Rattle.std.specs.declared.result.Result.TheVariants.{Ok, Err}
 use Rattle.std.proofs.lemmas.Result.{on_ok_weaker, on_err_weaker}
 use Rattle.std.proofs.lemmas.List.{map-set}
 use Rattle.payee_book.specs.Statement.{AreEntries}
 use Rattle.payee_book.proofs.Journals.{one_recorded}
+use Rattle.payee_book.proofs.Outcomes.{either_way}
 use Rattle.payee_book.proofs.Rising.{kept, shown}
 use Rattle.payee_book.proofs.journal.Journal.record.Goals as goal
-
--- what holds of an `Ok` and of an `Err`
-either_way : {T E P : Type 0} (r : Result T E) → OnOk r P → OnErr r P → P
-either_way (Ok x) ok err = ok
-either_way (Err e) ok err = err
 
 module _ (c : goal.After-self-1) where
   abbrev journal : List (List (ℕ × ℕ))
