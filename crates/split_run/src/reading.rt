@@ -4,6 +4,7 @@ ghost use Rattle.std.specs.Prelude.{◌≡◌, ◌⊎◌, ◌<◌, ◌≤◌, �
 ghost use Rattle.mail_box.specs.Mails.{HasReceived, ReceiverView};
 ghost use Rattle.split_run.specs.Reading.{AreServed, AreTaken, IsUntouched, inboxes_by};
 
+use crate::MOST_NODES;
 use crossbeam_utils::Backoff;
 use line_split::Account;
 use mail_box::{Item, Mail, receive};
@@ -98,7 +99,7 @@ impl<M: Mail> Reader<M> {
         }
     }
 
-    /// Takes from each mailbox once. False: none had anything.
+    /// Takes from each mailbox in turn. False: none had anything.
     fn take_round<R: Wait>(&mut self, rt: &R) -> bool
         requires taken { AreTaken self.old.workers self.old.whole (inboxes_by M.receiver self.old.opened.value.items) (inboxes_by M.receiver self.old.inboxes.items) self.old.ends.items self.old.journal }
         ensures taken { AreTaken self.new.workers self.new.whole (inboxes_by M.receiver self.new.opened.value.items) (inboxes_by M.receiver self.new.inboxes.items) self.new.ends.items self.new.journal }
@@ -106,9 +107,26 @@ impl<M: Mail> Reader<M> {
     {
         let mut took = false;
         for account in 0..self.journal.accounts() {
-            if self.take_from(rt, account) {
+            if self.take_some(rt, account) {
                 took = true;
             }
+        }
+        took
+    }
+
+    /// Takes what the mailbox of an account has, up to as many items as a worker may have in it. False: it had none.
+    fn take_some<R: Wait>(&mut self, rt: &R, account: Account) -> bool
+        requires account { account < length self.old.journal }
+        requires taken { AreTaken self.old.workers self.old.whole (inboxes_by M.receiver self.old.opened.value.items) (inboxes_by M.receiver self.old.inboxes.items) self.old.ends.items self.old.journal }
+        ensures taken { AreTaken self.new.workers self.new.whole (inboxes_by M.receiver self.new.opened.value.items) (inboxes_by M.receiver self.new.inboxes.items) self.new.ends.items self.new.journal }
+        ensures opened { (self.new.opened.value ≡ self.old.opened.value) × (self.new.workers ≡ self.old.workers) × (length self.new.journal ≡ length self.old.journal) }
+    {
+        let mut took = false;
+        for _ in 0..MOST_NODES {
+            if !self.take_from(rt, account) {
+                break;
+            }
+            took = true;
         }
         took
     }
