@@ -2,7 +2,7 @@
 """The linked mailbox (words, program points and steps) beside the abstract mailbox (lists, and links in flight), executable.
 
 It says once more, in another language, what the definitions of crates/queue_core/specs say; a failed check names the
-clause of Shows.antt. Nothing here is proved, and the proofs do not rest on it.
+clause of Shows.antt, Links.antt or Chain.antt. Nothing here is proved, and the proofs do not rest on it.
 
 explore.py SENDERS NODES POSTS [--wrong NAME]   visits every state that any interleaving reaches, with at most POSTS posts and an end mark
                                                 a sender, and checks the whole relation between the two, the prefix property and the held nodes in each
@@ -177,8 +177,8 @@ class Sys:
         assert len(set(nodes)) == len(nodes), "chain.apart: two entries that are left stand in one node"
         assert left.count("S") <= 1, "chain.apart: the stub is left twice"
         assert taken not in in_flight, "chain.first_linked: the first entry left is in flight"
-        assert R[2] == nodes[0], "chain.tail"
-        assert head == nodes[-1] + 1, "chain.head"
+        assert R[2] == nodes[0], "chain.tail_is"
+        assert head == nodes[-1] + 1, "chain.head_is"
         for i in range(len(left) - 1):
             want = nodes[i + 1] + 1 if (taken + i + 1) not in in_flight else 0
             assert nxt[nodes[i]] == want, "chain.links"
@@ -203,21 +203,21 @@ class Sys:
             n = self.node_of_entry(a, e)
             it = items[e[0]][e[1]]
             want = (0, 0) if it == END else (it[1] + 1, it[2])
-            assert (line[n], amount[n]) == want, "kept: the words of an entry that is not given back"
+            assert (line[n], amount[n]) == want, "items.kept: the words of an entry that is not given back"
         for n in range(self.nodes):
             assert turn[n] == sum(1 for e in given if self.node_of_entry(a, e) == n), "turns"
         for p in range(self.W):
             point, prev, count, ended, item = S[p]
             if point in (LINE, AMOUNT, NULL, SWAP):
                 k = len(items[p]) - 1
-                assert k >= 0 and items[p][k] == item and (p, k) not in order, "senders.stored: the filled item"
+                assert k >= 0 and items[p][k] == item and (p, k) not in order, "senders.at_hand: the filled item"
                 n = self.node_of_entry(a, (p, k))
                 if point in (AMOUNT, NULL, SWAP):
-                    assert line[n] == (0 if item == END else item[1] + 1), "senders.stored: line"
+                    assert line[n] == (0 if item == END else item[1] + 1), "items.stored: line"
                 if point in (NULL, SWAP):
-                    assert amount[n] == (0 if item == END else item[2]), "senders.stored: amount"
+                    assert amount[n] == (0 if item == END else item[2]), "items.stored: amount"
                 if point == SWAP:
-                    assert nxt[n] == 0, "senders.stored: next before the exchange"
+                    assert nxt[n] == 0, "senders.at_hand: next before the exchange"
         if R[0] == STUBHEAD:
             assert R[2] == self.stub, "reader.at_tail: the stub"
         if R[0] in (SECOND, NODEHEAD, RNULL, RSWAP, RLINK, LAST):
@@ -229,19 +229,19 @@ class Sys:
         for p in range(self.W):
             point, prev, count, ended, item = S[p]
             sent = self.sent(a, p)
-            assert count == sum(1 for it in sent if it != END), "senders.count"
-            assert ended == (END in sent), "senders.ended"
+            assert count == sum(1 for it in sent if it != END), "counted.count"
+            assert ended == (END in sent), "counted.ended"
             for k in range(len(items[p])):
                 ex = (p, k) in order
                 if point in (REST, LINK):
-                    assert ex, "senders.stored: all exchanged in"
+                    assert ex, "senders.at_hand: all exchanged in"
                 else:
-                    assert ex == (k < len(items[p]) - 1), "senders.stored: all but the last exchanged in"
+                    assert ex == (k < len(items[p]) - 1), "senders.at_hand: all but the last exchanged in"
             got = self.got(a, p)
             assert sent[:len(got)] == got, "prefix"
             assert END not in got[:-1], "nothing after the end"
         heldnodes = {self.node_of_entry(a, e) for e in order[:taken] if e != "S" and e not in given}
-        assert heldnodes == set(held), "reader.held"
+        assert heldnodes == set(held), "held"
 
 def explore(W, N, K, most=3_000_000):
     s = Sys(W, N, K)

@@ -200,3 +200,20 @@ first_placed test n below above a (x ∷ xs) = elim (cases_lt a n) [
       let after : n - (a + 1) ≡ 0 = omega (arith, past) in
       rw (above a past, none) (first_placed test n below above (a + 1) xs ∙ ap (λ (i : ℕ). take i xs) after)
 ]
+
+-- what is read of some entries is among them
+pub read_among : (xs : List Entry) (i : ℕ) (d : Entry) → i < length xs → is_among (get_or xs i d) xs ≡ true
+read_among [] i d within = absurd (omega (arith, within))
+read_among (x ∷ xs) zero d within = or_left (is_same x x) (is_among x xs) (same_self x)
+read_among (x ∷ xs) (suc i) d within = or_right (is_same (get_or xs i d) x) (is_among (get_or xs i d) xs) (read_among xs i d (omega (arith, within)))
+
+-- what is kept passes the test
+pub kept_passes : (keep : Entry → Bool) (e : Entry) (xs : List Entry) → is_among e (filter keep xs) ≡ true → keep e ≡ true
+kept_passes keep e [] among = absurd (false≢true among)
+kept_passes keep e (x ∷ xs) among = elim (cases_Bool (keep x)) [
+  | inl kept ↦ elim (or_cases (is_same e x) (is_among e (filter keep xs)) (rw kept at among)) [
+    | inl same ↦ ap keep (same_true e x same) ∙ kept
+    | inr rest ↦ kept_passes keep e xs rest
+  ]
+  | inr left ↦ kept_passes keep e xs (rw left at among)
+]

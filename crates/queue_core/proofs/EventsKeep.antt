@@ -147,10 +147,10 @@ module _ (ring : ℕ) (m : Mailbox) (holds : Holds ring m) where
 
   -- an entry that is not left is exchanged in
   module _ (entry : Entry) (new : is_among entry (left_entries m) ≡ false) where
-    left_more : left_entries (exchanged entry m) ≡ left_entries m ++ entry ∷ []
+    pub left_more : left_entries (exchanged entry m) ≡ left_entries m ++ entry ∷ []
     left_more = drop-append-le m.passed m.order (entry ∷ []) (omega (arith, holds.reader.some_left))
 
-    same_passed : passed_entries (exchanged entry m) ≡ passed_entries m
+    pub same_passed : passed_entries (exchanged entry m) ≡ passed_entries m
     same_passed = take-append-le m.passed m.order (entry ∷ []) (omega (arith, holds.reader.some_left))
 
     -- what is not in flight and another entry is not in flight after it
@@ -206,7 +206,7 @@ module _ (ring : ℕ) (m : Mailbox) (holds : Holds ring m) where
     place = length (m.items p) - 1
 
     -- all items before it are exchanged in
-    at_count : count_own p m.order ≡ place
+    pub at_count : count_own p m.order ≡ place
     at_count =
         let turns = holds.turns p in
         elim (cases_lt place (count_own p m.order)) [
@@ -214,7 +214,7 @@ module _ (ring : ℕ) (m : Mailbox) (holds : Holds ring m) where
           | inr past ↦ omega (arith, past, may.some, turns.one_waits)
         ]
 
-    not_left : is_among (Of p place) (left_entries m) ≡ false
+    pub not_left : is_among (Of p place) (left_entries m) ≡ false
     not_left = false_from_ne_true (is_among (Of p place) (left_entries m)) (λ left. false≢true (sym may.new ∙ among_rest (Of p place) m.passed m.order left))
 
     not_passed : is_among (Of p place) (passed_entries m) ≡ false

@@ -6,3 +6,14 @@ pub mod LeftLemmas
 pub mod OpeningLemmas
 pub mod StepLemmas
 pub mod StepsKeep
+pub mod ChainLemmas
+pub mod ExchangeLemmas
+pub mod NodeLemmas
+pub mod SwapHeadShows
+pub mod StubSwapShows
+pub mod LandedLemmas
+pub mod StoreLinkShows
+pub mod StubLinkShows
+pub mod PassLemmas
+pub mod ReaderLooks
+pub mod LoadNextShows

@@ -4,9 +4,12 @@ use Rattle.std.specs.Prelude.{replicate}
 use Rattle.std.proofs.lemmas.Bool.{cases_lt, false≢true}
 use Rattle.std.proofs.lemmas.List.{get_or-replicate, get_or_past, length-replicate}
 use Rattle.queue_core.specs.declared.sender.Sender.{Sender}
+use Rattle.queue_core.specs.declared.sender.SenderPoint.TheVariants as sends
 use Rattle.queue_core.specs.Linked.{Linked, empty_node, is_held, new_sender, node_at, opening_core, sender_at, stub_of}
-use Rattle.queue_core.specs.Mailbox.{opening}
-use Rattle.queue_core.specs.Shows.{HasStored, IsChain, IsOwedBySender, IsReader, IsSender, OpeningShows, Shows}
+use Rattle.queue_core.specs.Mailbox.{left_entries, opening}
+use Rattle.queue_core.specs.Chain.{IsChain}
+use Rattle.queue_core.specs.Links.{IsAtHand, IsOwedBySender, IsSending, is_in_flight}
+use Rattle.queue_core.specs.Shows.{HasStored, IsCounted, OpeningShows, ShowsItems, ShowsLinked, links_of, node_for}
 
 -- what is read of equal elements, where one more of them stands for those past the end
 same_at : {X : Type 0} (n i : ℕ) (x : X) → get_or (replicate n x) i x ≡ x
@@ -25,53 +28,61 @@ module _ (senders ring : ℕ) where
   stub_is : stub_of core ≡ senders * (ring + 1)
   stub_is = omega (arith, length-replicate (senders * (ring + 1) + 1) empty_node)
 
-  chain : IsChain core opening
+  chain : IsChain (node_for core opening) (λ n. (node_at core n).next) (is_in_flight opening) core.head core.reader.tail (left_entries opening)
   chain = record {
     some = omega arith;
     apart = λ i j d before within. absurd (omega (arith, before, within));
     first_linked = refl;
-    tail = sym stub_is;
-    head = ap (λ (n : ℕ). n + 1) (sym stub_is);
+    tail_is = sym stub_is;
+    head_is = ap (λ (n : ℕ). n + 1) (sym stub_is);
     links = λ i within. absurd (omega (arith, within));
     end = ap (λ node. node.next) (node_is (stub_of core));
+  }
+
+  -- each sender is at rest, one that is not there too
+  at_rest : (p : ℕ) → (sender_at core p).point ≡ sends.Rest
+  at_rest p = ⊎_elim (λ lt. ap (λ (s : Sender). s.point) (get_or-replicate senders p new_sender _ lt))
+      (λ le. ap (λ (s : Sender). s.point) (get_or_past (replicate senders new_sender) p _ (omega (arith, le, length-replicate senders new_sender)))) (cases_lt p senders)
+
+  sending : (p : ℕ) → IsSending (links_of core opening) opening p (sender_at core p).point
+  sending p = record {
+    in_flight = subst (IsOwedBySender (links_of core opening) opening p) (sym (at_rest p)) (λ k. refl);
+    at_hand = subst (IsAtHand (links_of core opening) opening p) (sym (at_rest p)) (λ k none. absurd (omega (arith, none)));
   }
 
   -- a sender that is there is a new one
   sender_is : (p : ℕ) → p < length core.senders → sender_at core p ≡ new_sender
   sender_is p within = get_or-replicate senders p new_sender _ (omega (arith, within, length-replicate senders new_sender))
 
-  sender : (p : ℕ) → p < length core.senders → IsSender core opening p
-  sender p within =
-      let back : new_sender ≡ sender_at core p = sym (sender_is p within) in
-      record {
-        in_flight = subst (λ (s : Sender). IsOwedBySender core opening p s.point) back (λ k. refl);
-        stored = subst (λ (s : Sender). HasStored core opening p s.point) back (λ k none. absurd (omega (arith, none)));
-        count = ap (λ (s : Sender). s.count) (sender_is p within);
-        ended = (
-          λ ended. absurd (false≢true (ap (λ (s : Sender). s.ended) back ∙ ended)),
-          λ found. absurd (omega (arith, found.1)),
-        );
-      }
+  counted : (p : ℕ) → p < length core.senders → IsCounted opening p (sender_at core p)
+  counted p within = record {
+    count = ap (λ (s : Sender). s.count) (sender_is p within);
+    ended = (
+      λ ended. absurd (false≢true (ap (λ (s : Sender). s.ended) (sym (sender_is p within)) ∙ ended)),
+      λ found. absurd (omega (arith, found.1)),
+    );
+  }
 
-  reader : IsReader core opening
-  reader = record {
-    in_flight = refl;
-    at_tail = tt;
+  linked : ShowsLinked core opening
+  linked = record {
+    links = record { chain = chain; senders = sending; reader = record { in_flight = refl; at_tail = tt } };
+    counted = counted;
+    no_others = λ p past. refl;
     held = λ n. (
       λ held. absurd (false≢true (sym (none_held n) ∙ held)),
       λ found. absurd (false≢true found.2.passed),
     );
   }
 
-  shows : Shows core opening
-  shows = record {
-    chain = chain;
-    senders = sender;
-    no_others = λ p past. refl;
-    reader = reader;
+  items : ShowsItems core opening
+  items = record {
+    stored = λ p within. subst (HasStored core opening p) (sym (at_rest p)) tt;
     kept = λ p k among given. absurd (false≢true among);
-    turns = λ n within. ap (λ node. node.turn) (node_is n);
   }
 
 pub opening_shows : OpeningShows
-opening_shows senders ring some few some_nodes few_nodes = shows senders ring
+opening_shows senders ring some few some_nodes few_nodes = record {
+  linked = linked senders ring;
+  items = items senders ring;
+  turns = λ n within. ap (λ node. node.turn) (node_is senders ring n);
+}

@@ -34,10 +34,10 @@ amount_is pt item = elim pt as (λ q. amount_due q ≡ Some item → q ≡ sends
 null_is : (pt : SenderPoint) (item : Item) → null_due pt ≡ Some item → pt ≡ sends.Null item
 null_is pt item = elim pt as (λ q. null_due q ≡ Some item → q ≡ sends.Null item) [ sends.Null i ↦ λ e. cc | _ ↦ λ e. cc ]
 
-swap_is : (pt : SenderPoint) (item : Item) → swap_due pt ≡ Some item → pt ≡ sends.Swap item
+pub swap_is : (pt : SenderPoint) (item : Item) → swap_due pt ≡ Some item → pt ≡ sends.Swap item
 swap_is pt item = elim pt as (λ q. swap_due q ≡ Some item → q ≡ sends.Swap item) [ sends.Swap i ↦ λ e. cc | _ ↦ λ e. cc ]
 
-link_is : (pt : SenderPoint) (linked : Item × ℕ) → link_due pt ≡ Some linked → pt ≡ sends.Link linked.0 linked.1
+pub link_is : (pt : SenderPoint) (linked : Item × ℕ) → link_due pt ≡ Some linked → pt ≡ sends.Link linked.0 linked.1
 link_is pt linked = elim pt as (λ q. link_due q ≡ Some linked → q ≡ sends.Link linked.0 linked.1) [ sends.Link i b ↦ λ e. cc | _ ↦ λ e. cc ]
 
 -- ---- the steps of a sender

@@ -4,4 +4,7 @@ pub mod Linked
 pub mod Mailbox
 pub mod Received
 pub mod Steps
+pub mod Chain
+pub mod Links
 pub mod Shows
+pub mod Laws

@@ -5,6 +5,7 @@ ghost use Rattle.std.specs.Prelude.{◌≡◌};
 ghost use Rattle.queue_core.specs.declared.TheConstants.{MOST_AMOUNT, MOST_NODES, MOST_POSTS, MOST_SENDERS};
 ghost use Rattle.queue_core.specs.declared.words.TheConstants.{NULL};
 ghost use Rattle.queue_core.specs.Received.{AllAreReceivedInOrder};
+ghost use Rattle.queue_core.specs.Laws.{LoadHeadShows, LoadNextShows, StoreLinkShows, StubLinkShows, StubNullShows, StubSwapShows, SwapHeadShows};
 ghost use Rattle.queue_core.specs.Shows.{OpeningShows};
 
 /// After every list of events from the opening on, what was received of each sender is the first of what it
@@ -18,6 +19,44 @@ pub fn law_abstract_runs()
 /// it, nothing is filled, in flight or held, and no node was ever given back.
 pub fn law_opening()
     ensures { OpeningShows }
+{}
+
+/// Where a core shows what events lead to, a sender's exchange of the head is the exchange of its last item, and the core
+/// shows it. What was the head is the node that gets the link.
+pub fn law_swap_head()
+    ensures { SwapHeadShows }
+{}
+
+/// And so a sender's store of a link is the link of its item.
+pub fn law_store_link()
+    ensures { StoreLinkShows }
+{}
+
+/// The reader's load of next at the tail is the pass of an entry where it finds a link, and shows the same as before
+/// where it finds null.
+pub fn law_load_next()
+    ensures { LoadNextShows }
+{}
+
+/// The reader's load of the head shows the same as before. Where the tail is the stub and the head too, the stub alone is
+/// left.
+pub fn law_load_head()
+    ensures { LoadHeadShows }
+{}
+
+/// The reader's store of null in the stub shows the same as before.
+pub fn law_stub_null()
+    ensures { StubNullShows }
+{}
+
+/// The reader's exchange of the head exchanges the stub in, which was not left.
+pub fn law_stub_swap()
+    ensures { StubSwapShows }
+{}
+
+/// The reader's store of a link links the stub.
+pub fn law_stub_link()
+    ensures { StubLinkShows }
 {}
 
 /// The limits of a mailbox, and the word of a link to no node.
