@@ -1,4 +1,4 @@
--- What each step does to the abstract mailbox that a core shows: it is an event, or none.
+-- What the steps that exchange the head, store a link or look along the chain do to the abstract mailbox whose links a core shows: each is an event, or none.
 use Rattle.std.specs.Prelude.{ℕ, ◌≡◌, ◌⊎◌, ◌∷◌, [], List, Some, false, true}
 use Rattle.queue_core.specs.declared.step.Step.TheVariants as step
 use Rattle.queue_core.specs.Mailbox.{Mailbox, is_among, left_entries}
