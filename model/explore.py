@@ -1,278 +1,557 @@
 #!/usr/bin/env python3
 """The linked mailbox (words, program points and steps) beside the abstract mailbox (lists, and links in flight), executable.
 
-It says once more, in another language, what the definitions of crates/queue_core/specs say; a failed check names the
-clause of Shows.antt, Links.antt or Chain.antt. Nothing here is proved, and the proofs do not rest on it.
+It says once more, in another language, what the definitions of crates/queue_core/specs say, under the same names: Mailbox.antt
+and Events.antt, Linked.antt and Steps.antt, the relation between the two in Chain.antt, Links.antt and Shows.antt, and in
+StepEvents.antt which event each step is. A failed check names the clause. Nothing here is proved, and the proofs do not rest on it.
 
-explore.py SENDERS NODES POSTS [--wrong NAME]   visits every state that any interleaving reaches, with at most POSTS posts and an end mark
-                                                a sender, and checks the whole relation between the two, the prefix property and the held nodes in each
-explore.py --vectors COUNT SEED                 prints random schedules with what each step answers, for a test of the product's own core
+explore.py SENDERS NODES POSTS [MOST] [--wrong NAME]
+    visits every state that any interleaving reaches, with at most POSTS posts and an end mark a sender, and checks in each the whole relation
+    between the two, the order of what is received and the held nodes, and of each step that its event is the one that event_of names, and may
+    happen; stops at MOST states
+explore.py --vectors COUNT SEED
+    prints random schedules with what each step answers, for a test of the product's own core
 
-Wrong cores, each of which the exploration refuses, the last where a sender posts twice (1 1 2): no_successor (the tail is returned without a successor), link_first (the link is
-stored before the exchange), stub_left (the stub is exchanged in while it is still left), no_turn (a node is filled without a look at its turn).
+Wrong cores, each of which the exploration finds out, no_turn only where a sender posts twice; --wrong all tries each of them, and 1 1 2 is enough:
+    no_successor   the tail is returned without a successor
+    link_first     the link is stored before the exchange
+    stub_left      the stub is exchanged in while it is still left, since it is the tail
+    stub_twice     the stub is exchanged in after a node that is not the last, and so while it is still left
+    no_turn        a node is filled without a look at its turn
+    given_in_take  a node is given back inside the take that returns it
 """
 import random
 import sys
-from collections import deque
+from collections import deque, namedtuple
 
-REST, LINE, AMOUNT, NULL, SWAP, LINK = "Rest Line Amount Null Swap Link".split()
-SECOND, STUBHEAD, NODEHEAD, RNULL, RSWAP, RLINK, LAST = "Second StubHead NodeHead RNull RSwap RLink Last".split()
-END = ("End",)
+REST, LINE, AMOUNT, NULL, SWAP, LINK, SECOND, STUBHEAD, NODEHEAD, LAST = "Rest Line Amount Null Swap Link Second StubHead NodeHead Last".split()
+END, STUB = ("End",), "Stub"
+WRONGS = "no_successor link_first stub_left stub_twice no_turn given_in_take".split()
 WRONG = None
 
-class Sys:
-    def __init__(self, W, N, K):
-        self.W, self.N, self.K = W, N, K
-        self.stub = W * (N + 1)
-        self.nodes = self.stub + 1
+# ---- the abstract mailbox: Mailbox.antt, Events.antt, Received.antt
 
-    # a state is a tuple:
-    # core: head, next, turn, line, amount, senders((point, prev, count, ended, item)), reader(point, prev, tail), held frozenset
-    # abstract: items (tuple per sender), order (tuple of entries), in_flight (frozenset of positions in order), taken, given (frozenset)
-    def open(self):
-        n = self.nodes
-        core = (self.stub + 1, (0,) * n, (0,) * n, (0,) * n, (0,) * n,
-                tuple((REST, None, 0, False, None) for _ in range(self.W)), (REST, None, self.stub), frozenset())
-        abstract = (tuple(() for _ in range(self.W)), ("S",), frozenset(), 0, frozenset())
-        return core, abstract
+# items has a place for each sender; an entry is (sender, place) or STUB. given is kept sorted, since nothing looks at its order.
+Mailbox = namedtuple("Mailbox", "items order in_flight passed given")
 
-    def node_of_entry(self, a, e):
-        if e == "S":
-            return self.stub
-        p, k = e
-        item = a[0][p][k]
-        base = p * (self.N + 1)
-        return base + self.N if item == END else base + k % self.N
 
-    def post(self, p, k):
-        return ("Post", p * 10 + k + 1, 100 + p * 10 + k)
+def opening(W):
+    return Mailbox(((),) * W, (STUB,), (), 0, ())
 
-    def sent(self, a, p):
-        items, order, in_flight, taken, given = a
-        out = []
-        for k, it in enumerate(items[p]):
-            e = (p, k)
-            if e not in order:
-                continue
-            if order.index(e) in in_flight:
-                continue
-            out.append(it)
-        return tuple(out)
 
-    def got(self, a, p=None):
-        items, order, in_flight, taken, given = a
-        return tuple(items[e[0]][e[1]] for e in order[:taken] if e != "S" and (p is None or e[0] == p))
+def put(t, i, v):
+    return t[:i] + (v,) + t[i + 1:]
 
-    def succ(self, core, a):
-        """yields (label, core', abstract', note)"""
-        head, nxt, turn, line, amount, S, R, held = core
-        items, order, in_flight, taken, given = a
-        N = self.N
-        def setat(t, i, v):
-            return t[:i] + (v,) + t[i + 1:]
-        for p in range(self.W):
-            point, prev, count, ended, item = S[p]
-            base = p * (N + 1)
-            ring = base + count % N
-            node = base + N if item == END else ring
-            def with_s(s, **kw):
-                d = dict(head=head, nxt=nxt, turn=turn, line=line, amount=amount)
-                d.update(kw)
-                return (d["head"], d["nxt"], d["turn"], d["line"], d["amount"], setat(S, p, s), R, held)
-            if point == REST and not ended:
-                if count < self.K:
-                    if turn[ring] == count // N or WRONG == "no_turn":
-                        it = self.post(p, count)
-                        a2 = (setat(items, p, items[p] + (it,)), order, in_flight, taken, given)
-                        # a fill is due
-                        assert self.sent(a, p) == items[p] and END not in items[p], "Fill where not allowed"
-                        k = len(items[p])
-                        last = [e for e in order if e != "S" and e[0] == p and items[p][e[1]] != END and e[1] % N == k % N]
-                        if last:
-                            assert last[-1] in given, f"Fill of a place whose last entry is not given: {last[-1]}"
-                        yield f"LoadTurn({p})", with_s((LINE, None, count, ended, it)), a2, None
-                    else:
-                        yield f"LoadTurn({p})", with_s((REST, None, count, ended, None)), a, "Full"
-                a2 = (setat(items, p, items[p] + (END,)), order, in_flight, taken, given)
-                yield f"EndLine({p})", with_s((AMOUNT, None, count, ended, END), line=setat(line, base + N, 0)), a2, None
-            elif point == LINE:
-                yield f"StoreLine({p})", with_s((AMOUNT, None, count, ended, item), line=setat(line, node, item[1] + 1)), a, None
-            elif point == AMOUNT:
-                v = 0 if item == END else item[2]
-                yield f"StoreAmount({p})", with_s((NULL, None, count, ended, item), amount=setat(amount, node, v)), a, None
-            elif point == NULL:
-                yield f"StoreNull({p})", with_s((SWAP, None, count, ended, item), nxt=setat(nxt, node, 0)), a, None
-            elif point == SWAP and WRONG == "link_first" and prev is None:
-                yield f"LinkFirst({p})", with_s((SWAP, head - 1, count, ended, item), nxt=setat(nxt, head - 1, node + 1)), a, None
-            elif point == SWAP:
-                k = len(items[p]) - 1
-                assert (p, k) not in order
-                a2 = (items, order + ((p, k),), in_flight | {len(order)}, taken, given)
-                yield f"SwapHead({p})", with_s((LINK, head - 1, count, ended, item), head=node + 1), a2, None
-            elif point == LINK:
-                k = len(items[p]) - 1
-                pos = order.index((p, k))
-                a2 = (items, order, in_flight - {pos}, taken, given)
-                c2 = count + (0 if item == END else 1)
-                yield f"StoreLink({p})", with_s((REST, None, c2, item == END, None), nxt=setat(nxt, prev, node + 1)), a2, "Sent"
-        point, prev, tail = R
-        def with_r(r, head_=head, nxt_=nxt, turn_=turn, held_=held):
-            return (head_, nxt_, turn_, line, amount, S, r, held_)
-        def passed():
-            assert taken + 1 < len(order), "Pass without a successor"
-            assert taken not in in_flight and taken + 1 not in in_flight, "Pass of an entry in flight"
-            return (items, order, in_flight, taken + 1, given)
-        if (point == REST) or (point == SECOND and tail != self.stub) or point == LAST:
-            v = nxt[tail]
-            if tail == self.stub and point == REST:
-                if v == 0:
-                    yield "LoadNext", with_r((STUBHEAD, None, tail)), a, None
+
+def items_of(m, p):
+    return m.items[p] if p < len(m.items) else ()
+
+
+def item_at(m, p, k):
+    items = items_of(m, p)
+    return items[k] if k < len(items) else END
+
+
+def last_of(m, p):
+    return max(len(items_of(m, p)) - 1, 0)
+
+
+def sent(m, p):
+    return [item for k, item in enumerate(items_of(m, p)) if (p, k) in m.order and (p, k) not in m.in_flight]
+
+
+def passed_entries(m):
+    return m.order[:m.passed]
+
+
+def left_entries(m):
+    return m.order[m.passed:]
+
+
+def entry_at(entries, i):
+    return entries[i] if i < len(entries) else STUB
+
+
+def got_of(m, p):
+    return [item_at(m, *e) for e in passed_entries(m) if e != STUB and e[0] == p]
+
+
+def held_entries(m):
+    return [e for e in passed_entries(m) if e != STUB and e not in m.given]
+
+
+def slot_of(ring, item, place):
+    return ring if item == END else place % ring
+
+
+def slot_at(ring, m, p, k):
+    return slot_of(ring, item_at(m, p, k), k)
+
+
+def may(ring, m, event):
+    """yields what stands against the event"""
+    what, *of = event
+    if what == "Fill":
+        p, item = of
+        items = items_of(m, p)
+        if sent(m, p) != list(items):
+            yield "MayFill.all_sent"
+        if END in items:
+            yield "MayFill.not_ended"
+        slots = [slot_at(ring, m, p, k) for k in range(len(items))]
+        for k, slot in enumerate(slots):
+            if slot == slot_of(ring, item, len(items)) and slot not in slots[k + 1:] and (p, k) not in m.given:
+                yield "MayFill.slot_free"
+    elif what == "Exchange":
+        if not items_of(m, *of):
+            yield "MayExchange.some"
+        if (of[0], last_of(m, *of)) in m.order:
+            yield "MayExchange.new"
+    elif what == "Link":
+        if not any(e != STUB and e[0] == of[0] for e in m.in_flight):
+            yield "MayLink"
+    elif what == "Pass":
+        left = left_entries(m)
+        if len(left) < 2:
+            yield "MayPass.successor"
+        if entry_at(left, 0) in m.in_flight:
+            yield "MayPass.first_linked"
+        if entry_at(left, 1) in m.in_flight:
+            yield "MayPass.next_linked"
+    elif what == "GiveBack":
+        if tuple(of) not in passed_entries(m):
+            yield "IsHeld.passed"
+        if tuple(of) in m.given:
+            yield "IsHeld.kept"
+    elif what == "StubIn":
+        if STUB in left_entries(m):
+            yield "StubIn while the stub is left"
+    elif what == "StubLink":
+        if STUB not in m.in_flight:
+            yield "StubLink while the stub is not in flight"
+
+
+def exchanged(entry, m):
+    return m._replace(order=m.order + (entry,), in_flight=m.in_flight + (entry,))
+
+
+def after(event, m):
+    what, *of = event
+    if what == "Fill":
+        p, item = of
+        return m._replace(items=put(m.items, p, m.items[p] + (item,)))
+    if what == "Exchange":
+        return exchanged((of[0], last_of(m, *of)), m)
+    if what == "Link":
+        return m._replace(in_flight=tuple(e for e in m.in_flight if e == STUB or e[0] != of[0]))
+    if what == "Pass":
+        return m._replace(passed=m.passed + 1)
+    if what == "GiveBack":
+        return m._replace(given=tuple(sorted(m.given + (tuple(of),))))
+    if what == "StubIn":
+        return exchanged(STUB, m)
+    if what == "StubLink":
+        return m._replace(in_flight=tuple(e for e in m.in_flight if e != STUB))
+    raise ValueError(what)
+
+
+def received_in_order(ring, m):
+    for p in range(len(m.items)):
+        all_sent, got = sent(m, p), got_of(m, p)
+        if all_sent[:len(got)] != got:
+            yield "in_order: what is received of a sender is not the first of what it sent"
+        if END in all_sent[:-1]:
+            yield "end_is_last"
+    for p, k in held_entries(m):
+        if any(slot_at(ring, m, p, j) == slot_at(ring, m, p, k) for j in range(k + 1, len(items_of(m, p)))):
+            yield "held_alone"
+
+# ---- the linked core: Linked.antt, Steps.antt. What the last calls answered is left out, since no step looks at it.
+
+Node = namedtuple("Node", "next turn line amount")
+Sender = namedtuple("Sender", "point count ended")
+Reader = namedtuple("Reader", "point tail")
+Linked = namedtuple("Linked", "ring head nodes held senders reader")
+
+
+def opening_core(W, N):
+    stub = W * (N + 1)
+    return Linked(N, stub + 1, (Node(0, 0, 0, 0),) * (stub + 1), (False,) * (stub + 1), (Sender((REST,), 0, False),) * W, Reader((REST,), stub))
+
+
+def line_word(item):
+    return 0 if item == END else item[1] + 1
+
+
+def amount_word(item):
+    return 0 if item == END else item[2]
+
+
+def first_node(l, p):
+    return p * (l.ring + 1)
+
+
+def stub_of(l):
+    return len(l.nodes) - 1
+
+
+def node_at(l, n):
+    return l.nodes[n] if n < len(l.nodes) else Node(0, 0, 0, 0)
+
+
+def node_of(l, p, item):
+    return first_node(l, p) + (l.ring if item == END else l.senders[p].count % l.ring)
+
+
+def is_free(l, p, item):
+    return l.nodes[node_of(l, p, item)].turn == l.senders[p].count // l.ring
+
+
+def has_next(l):
+    return l.nodes[l.reader.tail].next != 0
+
+
+def is_last(l):
+    return l.head == l.reader.tail + 1
+
+
+def with_node(l, n, **words):
+    return l._replace(nodes=put(l.nodes, n, l.nodes[n]._replace(**words)))
+
+
+def with_sender(l, p, **what):
+    return l._replace(senders=put(l.senders, p, l.senders[p]._replace(**what)))
+
+
+def with_reader(l, *point, **what):
+    return l._replace(reader=l.reader._replace(point=point, **what))
+
+
+def takes(l):
+    tail = l.reader.tail
+    n = with_reader(l, REST, tail=l.nodes[tail].next - 1)._replace(held=put(l.held, tail, True))
+    return with_node(n, tail, turn=l.nodes[tail].turn + 1) if WRONG == "given_in_take" else n
+
+
+def post(p, k):
+    return ("Post", p * 10 + k + 1, 100 + p * 10 + k)
+
+
+def steps(l, m, posts):
+    """yields each step that is due, the core that it leaves, the event that it is, and what it answers"""
+    for p, sender in enumerate(l.senders):
+        kind, *due = sender.point
+        if kind == REST and not sender.ended:
+            item = post(p, sender.count)
+            if sender.count < posts:
+                if is_free(l, p, item) or WRONG == "no_turn":
+                    yield ("LoadTurn", p, *item[1:]), with_sender(l, p, point=(LINE, item)), ("Fill", p, item), None
                 else:
-                    yield "LoadNext", with_r((SECOND, None, v - 1)), passed(), None
-            elif tail != self.stub and point in (REST, SECOND):
-                if v == 0 and WRONG == "no_successor":
-                    yield "LoadNext", with_r((REST, None, tail), held_=held | {tail}), passed(), f"Held({tail})"
-                elif v == 0:
-                    yield "LoadNext", with_r((NODEHEAD, None, tail)), a, None
-                else:
-                    yield "LoadNext", with_r((REST, None, v - 1), held_=held | {tail}), passed(), f"Held({tail})"
-            elif point == LAST:
-                if v == 0:
-                    yield "LoadNext", with_r((REST, None, tail)), a, "Busy"
-                else:
-                    yield "LoadNext", with_r((REST, None, v - 1), held_=held | {tail}), passed(), f"Held({tail})"
-        if point == STUBHEAD:
-            if WRONG == "stub_left" and head != tail + 1:
-                yield "LoadHead", with_r((RNULL, None, tail)), a, None
-            else:
-                yield "LoadHead", with_r((REST, None, tail)), a, "Empty" if head == tail + 1 else "Busy"
-        if point == NODEHEAD:
-            if head == tail + 1:
-                yield "LoadHead", with_r((RNULL, None, tail)), a, None
-            else:
-                yield "LoadHead", with_r((REST, None, tail)), a, "Busy"
-        if point == RNULL:
-            yield "StubNull", with_r((RSWAP, None, tail), nxt_=setat(nxt, self.stub, 0)), a, None
-        if point == RSWAP:
-            assert "S" not in order[taken:], "StubIn while the stub is left"
-            a2 = (items, order + ("S",), in_flight | {len(order)}, taken, given)
-            yield "StubSwap", with_r((RLINK, head - 1, tail), head_=self.stub + 1), a2, None
-        if point == RLINK:
-            pos = max(i for i, e in enumerate(order) if e == "S")
-            a2 = (items, order, in_flight - {pos}, taken, given)
-            yield "StubLink", with_r((LAST, None, tail), nxt_=setat(nxt, prev, self.stub + 1)), a2, None
-        if point == REST:
-            for n in sorted(held):
-                e = [e for e in order[:taken] if e != "S" and self.node_of_entry(a, e) == n and e not in given]
-                assert len(e) == 1, f"held node {n} stands for {e}"
-                a2 = (items, order, in_flight, taken, given | {e[0]})
-                yield f"GiveBack({n})", with_r(R, turn_=setat(turn, n, turn[n] + 1), held_=held - {n}), a2, None
+                    yield ("LoadTurn", p, *item[1:]), l, None, "Full"
+            n = with_node(l, node_of(l, p, END), line=line_word(END))
+            yield ("EndLine", p), with_sender(n, p, point=(AMOUNT, END)), ("Fill", p, END), None
+        if not due:
+            continue
+        item, node = due[0], node_of(l, p, due[0])
+        if kind == LINE:
+            yield ("StoreLine", p), with_sender(with_node(l, node, line=line_word(item)), p, point=(AMOUNT, item)), None, None
+        elif kind == AMOUNT:
+            yield ("StoreAmount", p), with_sender(with_node(l, node, amount=amount_word(item)), p, point=(NULL, item)), None, None
+        elif kind == NULL:
+            yield ("StoreNull", p), with_sender(with_node(l, node, next=0), p, point=(SWAP, item)), None, None
+        elif kind == SWAP and WRONG == "link_first" and len(due) == 1:
+            yield ("LinkFirst", p), with_sender(with_node(l, l.head - 1, next=node + 1), p, point=(SWAP, item, l.head - 1)), None, None
+        elif kind == SWAP:
+            yield ("SwapHead", p), with_sender(l, p, point=(LINK, item, l.head - 1))._replace(head=node + 1), ("Exchange", p), None
+        elif kind == LINK:
+            n = with_node(l, due[1], next=node + 1)
+            n = with_sender(n, p, point=(REST,), count=sender.count + (item != END), ended=sender.ended or item == END)
+            yield ("StoreLink", p), n, ("Link", p), "Sent"
+    (kind, *due), tail, stub = l.reader.point, l.reader.tail, stub_of(l)
+    if kind == REST and tail == stub:
+        if has_next(l):
+            yield ("LoadNext",), with_reader(l, SECOND, tail=l.nodes[tail].next - 1), ("Pass",), None
+        else:
+            yield ("LoadNext",), with_reader(l, STUBHEAD), None, None
+    elif kind in (REST, SECOND) and tail != stub:
+        if has_next(l):
+            yield ("LoadNext",), takes(l), ("Pass",), f"Held({tail})"
+        elif WRONG == "no_successor":
+            yield ("LoadNext",), with_reader(l, REST)._replace(held=put(l.held, tail, True)), ("Pass",), f"Held({tail})"
+        else:
+            yield ("LoadNext",), with_reader(l, NODEHEAD), None, None
+    elif kind == LAST:
+        if has_next(l):
+            yield ("LoadNext",), takes(l), ("Pass",), f"Held({tail})"
+        else:
+            yield ("LoadNext",), with_reader(l, REST), None, "Busy"
+    elif kind == STUBHEAD:
+        if WRONG == "stub_left" and not is_last(l):
+            yield ("LoadHead",), with_reader(l, NULL), None, None
+        else:
+            yield ("LoadHead",), with_reader(l, REST), None, "Empty" if is_last(l) else "Busy"
+    elif kind == NODEHEAD:
+        if is_last(l) or WRONG == "stub_twice":
+            yield ("LoadHead",), with_reader(l, NULL), None, None
+        else:
+            yield ("LoadHead",), with_reader(l, REST), None, "Busy"
+    elif kind == NULL:
+        yield ("StubNull",), with_reader(with_node(l, stub, next=0), SWAP), None, None
+    elif kind == SWAP:
+        yield ("StubSwap",), with_reader(l, LINK, l.head - 1)._replace(head=stub + 1), ("StubIn",), None
+    elif kind == LINK:
+        yield ("StubLink",), with_reader(with_node(l, due[0], next=stub + 1), LAST), ("StubLink",), None
+    if kind == REST:
+        for n in range(len(l.nodes)):
+            if l.held[n]:
+                # it gives back the last entry that stands in the node: event_of names the first, and the two have to be one
+                entries = [e for e in held_entries(m) if node_for(l, m, e) == n]
+                event = ("GiveBack", *entries[-1]) if entries else None
+                yield ("LoadLine", n), l, None, None
+                yield ("LoadAmount", n), l, None, None
+                yield ("GiveBack", n), with_node(l, n, turn=l.nodes[n].turn + 1)._replace(held=put(l.held, n, False)), event, None
 
-    def relation(self, core, a):
-        head, nxt, turn, line, amount, S, R, held = core
-        items, order, in_flight, taken, given = a
-        left = order[taken:]
-        assert len(left) >= 1, "chain.some: nothing is left"
-        nodes = [self.node_of_entry(a, e) for e in left]
-        assert len(set(nodes)) == len(nodes), "chain.apart: two entries that are left stand in one node"
-        assert left.count("S") <= 1, "chain.apart: the stub is left twice"
-        assert taken not in in_flight, "chain.first_linked: the first entry left is in flight"
-        assert R[2] == nodes[0], "chain.tail_is"
-        assert head == nodes[-1] + 1, "chain.head_is"
-        for i in range(len(left) - 1):
-            want = nodes[i + 1] + 1 if (taken + i + 1) not in in_flight else 0
-            assert nxt[nodes[i]] == want, "chain.links"
-        assert nxt[nodes[-1]] == 0, "chain.end"
-        for p in range(self.W):
-            point, prev, count, ended, item = S[p]
-            mine = [i for i, e in enumerate(order) if e != "S" and e[0] == p]
-            last_in_flight = bool(mine) and mine[-1] in in_flight
-            assert (point == LINK) == last_in_flight, "senders.in_flight: at a link just where the last item is in flight"
-            if last_in_flight:
-                i = mine[-1]
-                assert i - 1 >= taken, "senders.in_flight: the entry before is not left"
-                assert prev == self.node_of_entry(a, order[i - 1]), "senders.in_flight: the node before"
-        sp = [i for i, e in enumerate(order) if e == "S"]
-        assert (R[0] == RLINK) == (sp[-1] in in_flight), "reader.in_flight"
-        if R[0] == RLINK:
-            i = sp[-1]
-            assert i - 1 >= taken and R[1] == self.node_of_entry(a, order[i - 1]), "reader.in_flight: the node before"
-        for e in order:
-            if e == "S" or e in given:
-                continue
-            n = self.node_of_entry(a, e)
-            it = items[e[0]][e[1]]
-            want = (0, 0) if it == END else (it[1] + 1, it[2])
-            assert (line[n], amount[n]) == want, "items.kept: the words of an entry that is not given back"
-        for n in range(self.nodes):
-            assert turn[n] == sum(1 for e in given if self.node_of_entry(a, e) == n), "turns"
-        for p in range(self.W):
-            point, prev, count, ended, item = S[p]
-            if point in (LINE, AMOUNT, NULL, SWAP):
-                k = len(items[p]) - 1
-                assert k >= 0 and items[p][k] == item and (p, k) not in order, "senders.at_hand: the filled item"
-                n = self.node_of_entry(a, (p, k))
-                if point in (AMOUNT, NULL, SWAP):
-                    assert line[n] == (0 if item == END else item[1] + 1), "items.stored: line"
-                if point in (NULL, SWAP):
-                    assert amount[n] == (0 if item == END else item[2]), "items.stored: amount"
-                if point == SWAP:
-                    assert nxt[n] == 0, "senders.at_hand: next before the exchange"
-        if R[0] == STUBHEAD:
-            assert R[2] == self.stub, "reader.at_tail: the stub"
-        if R[0] in (SECOND, NODEHEAD, RNULL, RSWAP, RLINK, LAST):
-            assert R[2] != self.stub, "reader.at_tail: a sender's node"
-        if R[0] in (RNULL, RSWAP):
-            assert "S" not in left, "reader.at_tail: the stub is left"
-        if R[0] == RSWAP:
-            assert nxt[self.stub] == 0, "reader.at_tail: next of the stub"
-        for p in range(self.W):
-            point, prev, count, ended, item = S[p]
-            sent = self.sent(a, p)
-            assert count == sum(1 for it in sent if it != END), "counted.count"
-            assert ended == (END in sent), "counted.ended"
-            for k in range(len(items[p])):
-                ex = (p, k) in order
-                if point in (REST, LINK):
-                    assert ex, "senders.at_hand: all exchanged in"
-                else:
-                    assert ex == (k < len(items[p]) - 1), "senders.at_hand: all but the last exchanged in"
-            got = self.got(a, p)
-            assert sent[:len(got)] == got, "prefix"
-            assert END not in got[:-1], "nothing after the end"
-        heldnodes = {self.node_of_entry(a, e) for e in order[:taken] if e != "S" and e not in given}
-        assert heldnodes == set(held), "held"
+# ---- which event each step is: StepEvents.antt
+
+
+def held_in(l, m, n):
+    return [e for e in passed_entries(m) if node_for(l, m, e) == n and e not in m.given]
+
+
+def event_of(l, m, step):
+    what, *of = step
+    if what == "LoadTurn":
+        p, line, amount = of
+        return ("Fill", p, ("Post", line, amount)) if is_free(l, p, ("Post", line, amount)) else None
+    if what == "EndLine":
+        return ("Fill", *of, END)
+    if what == "SwapHead":
+        return ("Exchange", *of)
+    if what == "StoreLink":
+        return ("Link", *of)
+    if what == "LoadNext":
+        return ("Pass",) if has_next(l) else None
+    if what == "StubSwap":
+        return ("StubIn",)
+    if what == "StubLink":
+        return ("StubLink",)
+    if what == "GiveBack":
+        held = held_in(l, m, *of)
+        return ("GiveBack", *held[0]) if held and held[0] != STUB else None
+    return None
+
+# ---- the relation: Chain.antt, Links.antt, Shows.antt. Each part yields the clauses that do not hold.
+
+Links = namedtuple("Links", "node next head tail points point")
+
+
+def chain(node, next_of, flies, head, tail, left):
+    if not left:
+        yield "chain.some: nothing is left"
+        return
+    nodes = [node(e) for e in left]
+    if len(set(nodes)) < len(nodes):
+        yield "chain.apart: two entries that are left stand in one node"
+    if flies(left[0]):
+        yield "chain.first_linked: the first entry left is in flight"
+    if tail != nodes[0]:
+        yield "chain.tail_is"
+    if head != nodes[-1] + 1:
+        yield "chain.head_is"
+    for i in range(len(left) - 1):
+        if next_of(nodes[i]) != (0 if flies(left[i + 1]) else nodes[i + 1] + 1):
+            yield "chain.links"
+    if next_of(nodes[-1]) != 0:
+        yield "chain.end"
+
+
+def comes_after(k, m, entry, before):
+    left = left_entries(m)
+    return any(left[i + 1] == entry and k.node(left[i]) == before for i in range(len(left) - 1))
+
+
+def is_owed_by_sender(k, m, p, point):
+    places = [e[1] for e in m.in_flight if e != STUB and e[0] == p]
+    if point[0] != LINK:
+        if places:
+            yield "senders.in_flight: an item of a sender that is not at a link"
+        return
+    last = last_of(m, p)
+    if not items_of(m, p) or item_at(m, p, last) != point[1]:
+        yield "senders.in_flight: the item at a link is not the last one filled"
+    if last not in places:
+        yield "senders.in_flight: the last item of a sender at a link is not in flight"
+    if not comes_after(k, m, (p, last), point[2]):
+        yield "senders.in_flight: the node before"
+    if any(j < last for j in places):
+        yield "senders.in_flight: an item that is not the last"
+
+
+def is_at_hand(k, m, p, point):
+    count, last = len(items_of(m, p)), last_of(m, p)
+    if point[0] in (REST, LINK):
+        if any((p, j) not in m.order for j in range(count)):
+            yield "senders.at_hand: an item is not exchanged in, and none is at hand"
+        return
+    if not count or item_at(m, p, last) != point[1]:
+        yield "senders.at_hand: the item at hand is not the last one filled"
+    if (p, last) in m.order:
+        yield "senders.at_hand: the item at hand is exchanged in"
+    if any((p, j) not in m.order for j in range(last)):
+        yield "senders.at_hand: one before the item at hand is not exchanged in"
+    if point[0] == SWAP and k.next(k.node((p, last))) != 0:
+        yield "senders.at_hand: next before the exchange"
+
+
+def is_owed_by_reader(k, m, point):
+    if point[0] != LINK:
+        if STUB in m.in_flight:
+            yield "reader.in_flight: the stub, and the reader is not at a link"
+        return
+    if STUB not in m.in_flight:
+        yield "reader.in_flight: the stub is not in flight at a link"
+    if not comes_after(k, m, STUB, point[1]):
+        yield "reader.in_flight: the node before"
+
+
+def is_tail_at(k, m, point):
+    at_stub = k.tail == k.node(STUB)
+    if point[0] == STUBHEAD and not at_stub:
+        yield "reader.at_tail: the tail is not the stub"
+    if point[0] not in (REST, STUBHEAD) and at_stub:
+        yield "reader.at_tail: the tail is the stub"
+    if point[0] in (NULL, SWAP) and STUB in left_entries(m):
+        yield "reader.at_tail: the stub is left"
+    if point[0] == SWAP and k.next(k.node(STUB)) != 0:
+        yield "reader.at_tail: next of the stub"
+
+
+def show_links(k, m):
+    yield from chain(k.node, k.next, m.in_flight.__contains__, k.head, k.tail, left_entries(m))
+    for p in {*range(len(m.items)), *(e[0] for e in m.in_flight if e != STUB)}:
+        yield from is_owed_by_sender(k, m, p, k.points(p))
+        yield from is_at_hand(k, m, p, k.points(p))
+    yield from is_owed_by_reader(k, m, k.point)
+    yield from is_tail_at(k, m, k.point)
+
+
+def node_for(l, m, e):
+    return stub_of(l) if e == STUB else first_node(l, e[0]) + slot_at(l.ring, m, *e)
+
+
+def links_of(l, m):
+    return Links(
+        node=lambda e: node_for(l, m, e), next=lambda n: node_at(l, n).next, head=l.head, tail=l.reader.tail,
+        points=lambda p: l.senders[p].point if p < len(l.senders) else (REST,), point=l.reader.point)
+
+
+def shows_linked(l, m):
+    yield from show_links(links_of(l, m), m)
+    for p, sender in enumerate(l.senders):
+        all_sent = sent(m, p)
+        if sender.count != sum(1 for item in all_sent if item != END):
+            yield "counted.count"
+        if sender.ended != (END in all_sent):
+            yield "counted.ended"
+    if any(m.items[len(l.senders):]):
+        yield "no_others: somebody who is no sender has filled"
+    if {node_for(l, m, e) for e in held_entries(m)} != {n for n, held in enumerate(l.held) if held}:
+        yield "held: the nodes that are held are not those of the entries that are"
+
+
+def holds_item(l, n, item):
+    node = node_at(l, n)
+    return (node.line, node.amount) == (line_word(item), amount_word(item))
+
+
+def shows_items(l, m):
+    for p, sender in enumerate(l.senders):
+        kind, n = sender.point[0], node_for(l, m, (p, last_of(m, p)))
+        if kind == AMOUNT and node_at(l, n).line != line_word(sender.point[1]):
+            yield "items.stored: line"
+        if kind in (NULL, SWAP) and not holds_item(l, n, sender.point[1]):
+            yield "items.stored: line and amount"
+    for e in m.order:
+        if e != STUB and e not in m.given and not holds_item(l, node_for(l, m, e), item_at(m, *e)):
+            yield "items.kept: the words of an entry that is not given back"
+
+
+def shows_turns(l, m):
+    given = [node_for(l, m, e) for e in m.given]
+    for n, node in enumerate(l.nodes):
+        if node.turn != given.count(n):
+            yield "turns: a turn is not how often the node was given back"
+
+
+def shows(l, m):
+    yield from shows_linked(l, m)
+    yield from shows_items(l, m)
+    yield from shows_turns(l, m)
+
+
+def tells(l, m):
+    """what the laws say of the loads of a core that shows the mailbox: LoadHeadTells, HeldTells, GiveBackTells"""
+    left = left_entries(m)
+    if l.reader.tail == stub_of(l) and is_last(l) and left != (STUB,):
+        yield "LoadHeadTells: something else than the stub is left"
+    for e in held_entries(m):
+        n = node_for(l, m, e)
+        if not holds_item(l, n, item_at(m, *e)):
+            yield "HeldTells: the words of a node that is held"
+        if any(node_for(l, m, other) == n for other in left):
+            yield "GiveBackTells: an entry that is left stands in a node that is held"
+
+# ---- exploration
+
+
+class Refused(Exception):
+    pass
+
+
+def check(clauses, step):
+    for clause in clauses:
+        raise Refused(f"at {shown(step)}: {clause}")
+
+
+def shown(step):
+    return step[0] + (f"({','.join(str(n) for n in step[1:])})" if step[1:] else "")
+
+
+def led_to(l, m, step, event):
+    """the mailbox after the step: its event may happen, and is the one that event_of names"""
+    if event:
+        check(may(l.ring, m, event), step)
+    if event != event_of(l, m, step):
+        raise Refused(f"at {shown(step)}: the event is {event}, and event_of names {event_of(l, m, step)}")
+    return after(event, m) if event else m
+
 
 def explore(W, N, K, most=3_000_000):
-    s = Sys(W, N, K)
-    start = s.open()
+    start = opening_core(W, N), opening(W)
+    check(shows(*start), ("opening",))
     seen = {start}
     todo = deque([start])
-    steps = 0
+    made = 0
     answers = {}
-    maxleft = 0
     while todo:
-        core, a = todo.popleft()
-        s.relation(core, a)
-        for label, core2, a2, note in s.succ(core, a):
-            steps += 1
+        l, m = todo.popleft()
+        for step, l2, event, note in steps(l, m, K):
+            made += 1
             if note:
                 key = note.split("(")[0]
                 answers[key] = answers.get(key, 0) + 1
-                if note == "Empty":
-                    left = a[1][a[3]:]
-                    assert left == ("S",), "Empty found while something else is left"
-                    for p in range(s.W):
-                        if END in s.sent(a, p):
-                            assert s.got(a, p) == s.sent(a, p), "Empty though an ended sender is not wholly received"
-            x = (core2, a2)
+                if note == "Empty" and any(got_of(m, p) != sent(m, p) for p in range(W)):
+                    raise Refused(f"at {shown(step)}: Empty though a sender is not wholly received")
+            x = (l2, led_to(l, m, step, event))
             if x not in seen:
+                check(shows(*x), step)
+                check(received_in_order(N, x[1]), step)
+                check(tells(*x), step)
                 seen.add(x)
                 todo.append(x)
                 if len(seen) > most:
-                    print(f"stopped at {most} states; steps {steps}; answers {answers}")
-                    return
-    print(f"senders {W}, nodes {N}, posts {K}: {len(seen)} states, {steps} steps, answers {answers}: relation holds in each")
+                    return f"stopped at {most} states, {made} steps, answers {answers}: relation holds in each so far"
+    return f"senders {W}, nodes {N}, posts {K}: {len(seen)} states, {made} steps, answers {answers}: relation holds in each"
 
 STEPS = ["LoadTurn", "StoreLine", "EndLine", "StoreAmount", "StoreNull", "SwapHead", "StoreLink"]
 
@@ -281,52 +560,60 @@ def vectors(count, seed):
     """Each schedule: a head 'core SENDERS NODES', its steps with 'moved' or 'not', and after each step that finished a call what the call
     answered; last the words head, and next, turn, line, amount of each node."""
     rng = random.Random(seed)
+    posts = 6
     for _ in range(count):
         W, N = rng.randint(1, 3), rng.randint(1, 3)
-        s = Sys(W, N, 6)
-        core, a = s.open()
+        l, m = opening_core(W, N), opening(W)
         print(f"core {W} {N}")
         for _ in range(rng.randint(5, 120)):
-            moves = list(s.succ(core, a))
+            due = [x for x in steps(l, m, posts) if x[0][0] not in ("LoadLine", "LoadAmount")]
             if rng.random() < 0.12:
-                p, n = rng.randint(0, W), rng.randint(0, s.nodes)
-                label = rng.choice([f"{rng.choice(STEPS)}({p})", "LoadNext", "LoadHead", "StubNull", "StubSwap", "StubLink", f"GiveBack({n})"])
+                p, n = rng.randint(0, W), rng.randint(0, len(l.nodes))
+                step = rng.choice([(rng.choice(STEPS), p), ("LoadNext",), ("LoadHead",), ("StubNull",), ("StubSwap",), ("StubLink",), ("GiveBack", n)])
             else:
-                label = rng.choice(moves)[0]
-            found = [m for m in moves if m[0] == label]
-            shown = label
-            if label.startswith("LoadTurn"):
-                p = int(label[9:-1])
-                c = core[5][p][2] if p < W else 0
-                it = s.post(p, c)
-                shown = f"LoadTurn({p},{it[1]},{it[2]})"
-                if p < W and c >= s.K:
+                step = rng.choice(due)[0]
+            if step[0] == "LoadTurn":
+                p = step[1]
+                count_of = l.senders[p].count if p < W else 0
+                step = ("LoadTurn", p, *post(p, count_of)[1:])
+                if p < W and count_of >= posts:
                     continue
+            found = [x for x in due if x[0] == step]
             if not found:
-                print(f"{shown} not")
+                print(f"{shown(step)} not")
                 continue
-            _, core, a, note = found[0]
-            print(f"{shown} moved" + (f" {note}" if note else ""))
-        head, nxt, turn, line, amount, S, R, held = core
-        print(f"head {head}")
-        for n in range(s.nodes):
-            print(f"node {n} {nxt[n]} {turn[n]} {line[n]} {amount[n]}" + (" held" if n in held else ""))
+            _, l2, event, note = found[0]
+            l, m = l2, led_to(l, m, step, event)
+            print(f"{shown(step)} moved" + (f" {note}" if note else ""))
+        print(f"head {l.head}")
+        for n, node in enumerate(l.nodes):
+            print(f"node {n} {node.next} {node.turn} {node.line} {node.amount}" + (" held" if l.held[n] else ""))
         print()
 
 
-if __name__ == "__main__":
-    words = sys.argv[1:]
+def main(words):
+    global WRONG
+    name = None
     if "--wrong" in words:
         at = words.index("--wrong")
-        WRONG = words[at + 1]
+        name = words[at + 1]
         del words[at:at + 2]
-    if not words:
+    if not words or name not in (None, "all", *WRONGS):
         sys.exit(__doc__)
     if words[0] == "--vectors":
+        WRONG = name
         vectors(int(words[1]), int(words[2]))
-    else:
+        return
+    found_out = []
+    for WRONG in WRONGS if name == "all" else [name]:
+        head = f"{WRONG}: " if WRONG else ""
         try:
-            explore(*(int(w) for w in words[:3]), most=int(words[3]) if len(words) > 3 else 3_000_000)
-        except AssertionError as broken:
-            print(f"refused: {broken}")
-            sys.exit(1)
+            print(head + explore(*(int(w) for w in words[:4])))
+        except Refused as broken:
+            print(f"{head}{'found out' if WRONG else 'refused'} {broken}")
+            found_out.append(WRONG)
+    sys.exit(found_out != WRONGS if name == "all" else len(found_out))
+
+
+if __name__ == "__main__":
+    main(sys.argv[1:])

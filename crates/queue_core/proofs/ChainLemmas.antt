@@ -4,8 +4,8 @@ use Rattle.std.specs.Prelude.{if◌then◌else◌}
 use Rattle.std.proofs.lemmas.Bool.{cases_eq, cases_lt}
 use Rattle.std.proofs.lemmas.List.{get_or_append_left, get_or_default, get_or_push, length_push, get_or-drop, length-drop}
 use Rattle.std.proofs.lemmas.List.Quantifiers.{all_pairs_push}
-use Rattle.queue_core.specs.Mailbox.{Entry}
-use Rattle.queue_core.specs.Mailbox.Entry.{Stub}
+use Rattle.queue_core.specs.declared.entry.Entry.{Entry}
+use Rattle.queue_core.specs.declared.entry.Entry.TheVariants.{Stub}
 use Rattle.queue_core.specs.Chain.{IsChain, entry_at, link_word}
 
 module _ (node : Entry → ℕ) (next : ℕ → ℕ) (flies : Entry → Bool) (head tail : ℕ) (left : List Entry) (c : IsChain node next flies head tail left) where

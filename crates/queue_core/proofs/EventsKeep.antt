@@ -5,16 +5,18 @@ use Rattle.std.proofs.lemmas.Bool.{cases_eq, cases_lt, eq-eqb, false_from_ne_tru
 use Rattle.std.proofs.lemmas.List.{append-nil, drop-append-le, drop_more, get_or-drop, get_or_append_left, get_or_push, length-drop, length_push, take-append-le, take_more}
 use Rattle.std.proofs.lemmas.List.Elements.{filter-append}
 use Rattle.std.proofs.lemmas.List.FromFn.{map-range_with_len_more}
+use Rattle.queue_core.specs.declared.entry.Entry.{Entry}
+use Rattle.queue_core.specs.declared.entry.Entry.TheVariants.{Of, Stub}
 use Rattle.queue_core.specs.declared.item.Item.{Item}
 use Rattle.queue_core.specs.declared.item.Item.TheVariants.{End}
 use Rattle.queue_core.specs.Items.{is_end}
-use Rattle.queue_core.specs.Mailbox.{Entry, IsHeld, Mailbox, is_among, is_same, left_entries, passed_entries}
-use Rattle.queue_core.specs.Mailbox.Entry.{Of, Stub}
+use Rattle.queue_core.specs.Mailbox.{IsHeld, Mailbox, is_among, is_same, left_entries, passed_entries}
 use Rattle.queue_core.specs.Events.{Event, Leads, May, MayExchange, MayFill, MayPass, after, exchanged, is_of, slot_of}
 use Rattle.queue_core.specs.Events.Event.{Fill, Exchange, Link, Pass, GiveBack, StubIn, StubLink}
 use Rattle.queue_core.specs.Events.Leads.{none, more}
-use Rattle.queue_core.proofs.Entries.{among_first, among_kept, among_last, among_more, among_push, among_rest, count_own, fewer_kept, head_among, in_turn, none_kept, own, own_other, own_push, same_true, turn_among}
+use Rattle.queue_core.proofs.Entries.{among_first, among_kept, among_last, among_more, among_push, among_rest, count_own, fewer_kept, head_among, in_turn, none_kept, own, own_other, own_push, same_true, turn_among, once_push}
 use Rattle.queue_core.proofs.MailboxHolds.{Holds, InSlots, InTurn, IsPassed, all_sent, opening_holds, slot_in}
+use Rattle.std.specs.List.{IsDistinct}
 
 -- Entries of a sender stay in turn where its own stay and no more of them fly.
 same_turn : (p filled : ℕ) (order order' in_flight in_flight' : List Entry) → own p order' ≡ own p order → ((k : ℕ) → is_among (Of p k) in_flight' ≡ true → is_among (Of p k) in_flight ≡ true)
@@ -269,14 +271,14 @@ module _ (ring : ℕ) (m : Mailbox) (holds : Holds ring m) where
     abbrev filled : List Item
     filled = m.items p ++ item ∷ []
 
-    long : length filled ≡ length (m.items p) + 1
+    pub long : length filled ≡ length (m.items p) + 1
     long = length_push (m.items p) item
 
     -- the item at a place that was filled before, and the new one
-    old_item : (k : ℕ) → k < length (m.items p) → slice_index_or filled k End ≡ slice_index_or (m.items p) k End
+    pub old_item : (k : ℕ) → k < length (m.items p) → slice_index_or filled k End ≡ slice_index_or (m.items p) k End
     old_item k within = get_or_append_left (m.items p) (item ∷ []) End k within
 
-    new_item : (k : ℕ) → length (m.items p) ≡ k → slice_index_or filled k End ≡ item
+    pub new_item : (k : ℕ) → length (m.items p) ≡ k → slice_index_or filled k End ≡ item
     new_item k is = get_or_push (m.items p) item End k is
 
     -- its entries stay in turn
@@ -319,10 +321,10 @@ module _ (ring : ℕ) (m : Mailbox) (holds : Holds ring m) where
     }
 
     -- the items of its sender and of others after it
-    its_items : (q : ℕ) → q ≡ p → (after (Fill p item) m).items q ≡ m.items q ++ item ∷ []
+    pub its_items : (q : ℕ) → q ≡ p → (after (Fill p item) m).items q ≡ m.items q ++ item ∷ []
     its_items q same = rw (eq-eqb q p same) refl
 
-    other_items : (q : ℕ) → ¬ (q ≡ p) → (after (Fill p item) m).items q ≡ m.items q
+    pub other_items : (q : ℕ) → ¬ (q ≡ p) → (after (Fill p item) m).items q ≡ m.items q
     other_items q other = rw (ne_eqb q p other) refl
 
     -- what holds of each sender's items, of the new ones too
@@ -362,3 +364,18 @@ event_keeps ring m StubLink may holds = stub_link_keeps ring m holds
 pub holds_after : (ring : ℕ) (events : List Event) (m : Mailbox) → Leads ring events m → Holds ring m
 holds_after ring events m none = opening_holds ring
 holds_after ring _ _ (more events m event leads may) = event_keeps ring m event may (holds_after ring events m leads)
+
+-- nothing is given back twice
+pub given_once : (ring : ℕ) (events : List Event) (m : Mailbox) → Leads ring events m → IsDistinct is_same m.given
+unfolding IsDistinct
+given_once ring events m none = tt
+given_once ring _ _ (more events m event leads may) = go event may (given_once ring events m leads)
+  where
+    go : (event : Event) → May ring m event → IsDistinct is_same m.given → IsDistinct is_same (after event m).given
+    go (Fill p item) may once = once
+    go (Exchange p) may once = once
+    go (Link p) may once = once
+    go Pass may once = once
+    go (GiveBack p k) may once = once_push m.given (Of p k) once may.kept
+    go StubIn may once = once
+    go StubLink may once = once

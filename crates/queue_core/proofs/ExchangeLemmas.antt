@@ -2,16 +2,17 @@
 use Rattle.std.proofs.Common.{◌≡◌, ◌∙◌, ◌<◌, ◌+◌, ◌-◌, ◌++◌, ◌∷◌, [], ℕ, true, false, List, filter, length, map, not, ap, sym, refl, subst, inl, inr, arith}
 use Rattle.std.specs.Prelude.{◌&&◌}
 use Rattle.std.specs.List.{enumerate_from}
-use Rattle.std.proofs.lemmas.Bool.{and_left, and_right, cases_Bool, cases_eq, false_from_ne_true, false≢true, not_from_true}
+use Rattle.std.proofs.lemmas.Bool.{and_left, and_right, cases_Bool, cases_eq, false≢true, not_from_true}
 use Rattle.std.proofs.lemmas.List.{get_or_append_left, get_or_push, length_push}
+use Rattle.queue_core.specs.declared.entry.Entry.{Entry}
+use Rattle.queue_core.specs.declared.entry.Entry.TheVariants.{Of, Stub}
 use Rattle.queue_core.specs.declared.item.Item.{Item}
 use Rattle.queue_core.specs.declared.sender.Sender.{Sender}
 use Rattle.queue_core.specs.declared.sender.SenderPoint.{SenderPoint}
 use Rattle.queue_core.specs.declared.sender.SenderPoint.TheVariants as sends
 use Rattle.queue_core.specs.declared.reader.ReaderPoint.{ReaderPoint}
 use Rattle.queue_core.specs.declared.reader.ReaderPoint.TheVariants as reads
-use Rattle.queue_core.specs.Mailbox.{Entry, IsHeld, Mailbox, is_among, is_linked, is_same, left_entries, passed_entries, sent}
-use Rattle.queue_core.specs.Mailbox.Entry.{Of, Stub}
+use Rattle.queue_core.specs.Mailbox.{IsHeld, Mailbox, is_among, is_linked, is_same, left_entries, passed_entries, sent}
 use Rattle.queue_core.specs.Events.{MayExchange, after, exchanged}
 use Rattle.queue_core.specs.Events.Event.{Exchange, StubIn}
 use Rattle.queue_core.specs.Chain.{IsChain, entry_at}
@@ -19,19 +20,9 @@ use Rattle.queue_core.specs.Linked.{link_to, null}
 use Rattle.queue_core.specs.Links.{AreExchanged, ComesAfter, IsAtHand, IsFilled, IsOwedByReader, IsOwedBySender, IsSending, IsTailAt, Links, ShowLinks, is_in_flight, last_of}
 use Rattle.queue_core.specs.Shows.{IsCounted}
 use Rattle.queue_core.proofs.ChainLemmas.{push}
-use Rattle.queue_core.proofs.Entries.{among_last, among_more, among_push, read_among, same_self, same_true}
+use Rattle.queue_core.proofs.Entries.{among_last, among_more, read_among, same_self, same_true, among_other}
 use Rattle.queue_core.proofs.EventsKeep.{left_more, not_left, same_passed}
 use Rattle.queue_core.proofs.MailboxHolds.{Holds}
-
--- another entry is among one more where it is among those before
-pub among_other : (x f : Entry) (xs : List Entry) → ¬ (x ≡ f) → is_among x (xs ++ f ∷ []) ≡ is_among x xs
-among_other x f xs other = elim (cases_Bool (is_among x xs)) [
-  | inl there ↦ among_more x xs (f ∷ []) there ∙ sym there
-  | inr none ↦ false_from_ne_true (is_among x (xs ++ f ∷ [])) (λ among. elim (among_push x f xs among) [
-    | inl old ↦ false≢true (sym none ∙ old)
-    | inr same ↦ other same
-  ]) ∙ sym none
-]
 
 -- an entry more in a mailbox: what is left, and what is in flight
 module _ (ring : ℕ) (m : Mailbox) (holds : Holds ring m) (entry : Entry) (new : is_among entry (left_entries m) ≡ false) where

@@ -1,12 +1,13 @@
 -- The link of an entry is stored: what the links show of it.
 use Rattle.std.proofs.Common.{◌≡◌, ◌∙◌, ◌+◌, ℕ, false, List, ap, sym, refl}
+use Rattle.queue_core.specs.declared.entry.Entry.{Entry}
+use Rattle.queue_core.specs.declared.entry.Entry.TheVariants.{Of, Stub}
 use Rattle.queue_core.specs.declared.item.Item.{Item}
 use Rattle.queue_core.specs.declared.sender.SenderPoint.{SenderPoint}
 use Rattle.queue_core.specs.declared.sender.SenderPoint.TheVariants as sends
 use Rattle.queue_core.specs.declared.reader.ReaderPoint.{ReaderPoint}
 use Rattle.queue_core.specs.declared.reader.ReaderPoint.TheVariants as reads
-use Rattle.queue_core.specs.Mailbox.{Entry, Mailbox, is_among, left_entries}
-use Rattle.queue_core.specs.Mailbox.Entry.{Of, Stub}
+use Rattle.queue_core.specs.Mailbox.{Mailbox, is_among, left_entries}
 use Rattle.queue_core.specs.Chain.{IsChain, entry_at}
 use Rattle.queue_core.specs.Linked.{link_to}
 use Rattle.queue_core.specs.Links.{ComesAfter, IsAtHand, IsOwedByReader, IsOwedBySender, IsSending, IsTailAt, Links, ShowLinks, is_in_flight, last_of}
@@ -44,12 +45,10 @@ module _ (m : Mailbox) (k : Links) (shows : ShowLinks k m) (entry : Entry) (befo
     ]
 
     hand_still : (pt : SenderPoint) → ((item : Item) → pt ≡ sends.Swap item → ¬ (k.node (Of q (last_of m q)) ≡ before)) → IsAtHand k m q pt → IsAtHand k' m' q pt
-    hand_still sends.Rest other h = h
-    hand_still (sends.Line i) other h = h
-    hand_still (sends.Amount i) other h = h
-    hand_still (sends.Null i) other h = h
-    hand_still (sends.Swap i) other h = (h.0, others (k.node (Of q (last_of m q))) (other i refl) ∙ h.1)
-    hand_still (sends.Link i n) other h = h
+    hand_still pt = elim pt as (λ pt. ((item : Item) → pt ≡ sends.Swap item → ¬ (k.node (Of q (last_of m q)) ≡ before)) → IsAtHand k m q pt → IsAtHand k' m' q pt) [
+      | sends.Swap i ↦ λ other h. (h.0, others (k.node (Of q (last_of m q))) (other i refl) ∙ h.1)
+      | _ ↦ λ other h. h
+    ]
 
     pub sending_still : (pt : SenderPoint) → ((item : Item) → pt ≡ sends.Swap item → ¬ (k.node (Of q (last_of m q)) ≡ before)) → IsSending k m q pt → IsSending k' m' q pt
     sending_still pt other was = record { in_flight = owed_still pt was.in_flight; at_hand = hand_still pt other was.at_hand }

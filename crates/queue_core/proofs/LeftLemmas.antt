@@ -4,8 +4,9 @@ use Rattle.std.specs.List.{range_with_len}
 use Rattle.std.proofs.lemmas.Bool.{false_from_ne_true, false≢true}
 use Rattle.std.proofs.lemmas.List.{drop_at, length-append, take-append-drop}
 use Rattle.std.proofs.lemmas.List.Elements.{filter-append}
-use Rattle.queue_core.specs.Mailbox.{Entry, Mailbox, got_of, is_among, left_entries, passed_entries, sent}
-use Rattle.queue_core.specs.Mailbox.Entry.{Of}
+use Rattle.queue_core.specs.declared.entry.Entry.{Entry}
+use Rattle.queue_core.specs.declared.entry.Entry.TheVariants.{Of}
+use Rattle.queue_core.specs.Mailbox.{Mailbox, got_of, is_among, left_entries, passed_entries, sent}
 use Rattle.queue_core.specs.Events.{is_of}
 use Rattle.queue_core.proofs.Entries.{among_cases, among_numbered, among_own, among_turn, count_own, first_turn, own, turn_among}
 use Rattle.queue_core.proofs.MailboxHolds.{Holds, has_sent, passed_sent, slot_in}

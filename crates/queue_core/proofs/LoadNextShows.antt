@@ -1,22 +1,23 @@
 -- LoadNext is a pass, or a look.
-use Rattle.std.proofs.Common.{◌≡◌, ◌∙◌, ◌⊎◌, ◌<◌, ◌+◌, ◌-◌, ◌++◌, ◌∷◌, [], ℕ, Bool, true, false, List, length, get_or, set, ap, sym, refl, subst, inl, inr, arith, Some, get_or-set_other, get_or-set_same}
+use Rattle.std.proofs.Common.{◌≡◌, ◌∙◌, ◌<◌, ◌+◌, ◌-◌, ◌++◌, ◌∷◌, [], ℕ, Bool, true, false, List, length, get_or, set, ap, sym, refl, subst, inl, inr, arith, None, Some, get_or-set_other, get_or-set_same}
 use Rattle.std.specs.Prelude.{◌↔◌, if◌then◌else◌}
 use Rattle.std.proofs.lemmas.Bool.{cases_eq, eq-eqb, eqb-true, false_from_ne_true, false≢true}
 use Rattle.std.proofs.lemmas.List.{get_or-drop, take_more}
+use Rattle.queue_core.specs.declared.entry.Entry.{Entry}
+use Rattle.queue_core.specs.declared.entry.Entry.TheVariants.{Of, Stub}
 use Rattle.queue_core.specs.declared.item.Took.TheVariants as took
 use Rattle.queue_core.specs.declared.reader.Reader.{Reader}
 use Rattle.queue_core.specs.declared.reader.ReaderPoint.{ReaderPoint}
 use Rattle.queue_core.specs.declared.reader.ReaderPoint.TheVariants as reads
-use Rattle.queue_core.specs.Mailbox.{Entry, IsHeld, Mailbox, is_among, left_entries, passed_entries}
-use Rattle.queue_core.specs.Mailbox.Entry.{Of, Stub}
-use Rattle.queue_core.specs.Events.{MayPass, after}
+use Rattle.queue_core.specs.declared.step.Step.TheVariants as step
+use Rattle.queue_core.specs.Mailbox.{IsHeld, Mailbox, is_among, left_entries, passed_entries}
+use Rattle.queue_core.specs.Events.{after}
 use Rattle.queue_core.specs.Events.Event.{Pass}
 use Rattle.queue_core.specs.Chain.{entry_at}
 use Rattle.queue_core.specs.Linked.{IsLinked, Linked, is_held, node_at, null, stub_of}
 use Rattle.queue_core.specs.Links.{IsOwedByReader, IsTailAt, Links, is_in_flight}
 use Rattle.queue_core.specs.Shows.{ShowsLinked, links_of, node_for}
 use Rattle.queue_core.specs.Steps.{answers, goes_to, has_next, is_at_stub, next_at, passes, takes}
-use Rattle.queue_core.specs.Laws.{LoadNextShows}
 use Rattle.queue_core.proofs.Entries.{among_last, among_more, among_push, read_among}
 use Rattle.queue_core.proofs.EventsKeep.{holds_after}
 use Rattle.queue_core.proofs.LeftLemmas.{left_unpassed}
@@ -24,7 +25,8 @@ use Rattle.queue_core.proofs.MailboxHolds.{Holds}
 use Rattle.queue_core.proofs.NodeLemmas.{first_stub}
 use Rattle.queue_core.proofs.PassLemmas.{may_pass, next_is, pass_shows, successor}
 use Rattle.queue_core.proofs.ReaderLooks.{moves}
-use Rattle.queue_core.proofs.StepLemmas.{chosen, passed}
+use Rattle.queue_core.proofs.Parts.{IsAllowed, StepLinks, later}
+use Rattle.queue_core.proofs.StepLemmas.{chosen, passed, some_is}
 
 module _ (l : Linked) (ok : IsLinked l) (m : Mailbox) (holds : Holds l.ring m) (shows : ShowsLinked l m) where
   abbrev k : Links
@@ -45,7 +47,7 @@ module _ (l : Linked) (ok : IsLinked l) (m : Mailbox) (holds : Holds l.ring m) (
   first_left : is_among first left ≡ true
   first_left = read_among left 0 Stub shows.links.chain.some
 
-  passed_more : passed_entries m' ≡ passed_entries m ++ first ∷ []
+  pub passed_more : passed_entries m' ≡ passed_entries m ++ first ∷ []
   passed_more =
       let some : m.passed < length m.order = holds.reader.some_left in
       let here : m.passed ≡ m.passed + 0 = omega arith in
@@ -68,7 +70,7 @@ module _ (l : Linked) (ok : IsLinked l) (m : Mailbox) (holds : Holds l.ring m) (
     }
 
   abbrev Result : Linked → Type 0
-  Result n = ((has_next l ≡ false) × ShowsLinked n m) ⊎ ((has_next l ≡ true) × MayPass m × ShowsLinked n m')
+  Result n = let event = if has_next l then Some Pass else None in IsAllowed event l.ring m × ShowsLinked n (later event m)
 
   next_some : has_next l ≡ true → ¬ (next ≡ null)
   next_some has is = false≢true (rw (eq-eqb next 0 is) at has)
@@ -94,8 +96,8 @@ module _ (l : Linked) (ok : IsLinked l) (m : Mailbox) (holds : Holds l.ring m) (
       leaves_stub = chosen Result (has_next l) (goes_to reads.Second (passes l)) (goes_to reads.StubHead l)
           (λ has.
           let some = next_some has in
-          inr (has, may_pass m k shows.links some, passes_on some (record l.reader { tail = next - 1; point = reads.Second }) l.held refl landed (second_apart some) held_stub))
-          (λ none. inl (none, moves l m shows (record l.reader { point = reads.StubHead }) refl landed is))
+          rw has (may_pass m k shows.links some, passes_on some (record l.reader { tail = next - 1; point = reads.Second }) l.held refl landed (second_apart some) held_stub))
+          (λ none. rw none (tt, moves l m shows (record l.reader { point = reads.StubHead }) refl landed is))
 
     -- ---- the tail is a sender's node
 
@@ -143,35 +145,23 @@ module _ (l : Linked) (ok : IsLinked l) (m : Mailbox) (holds : Holds l.ring m) (
       taken = passes_on some (record l.reader { point = reads.Rest; tail = next - 1; last = Some (took.Held l.reader.tail) }) held' refl landed tt held_node
 
     leaves_node : ¬ (l.reader.tail ≡ stub_of l) → (other : Linked) → ShowsLinked other m → Result (if has_next l then takes l else other)
-    leaves_node apart other right = chosen Result (has_next l) (takes l) other (λ has. inr (has, may_pass m k shows.links (next_some has), taken apart (next_some has))) (λ none. inl (none, right))
+    leaves_node apart other right = chosen Result (has_next l) (takes l) other (λ has. rw has (may_pass m k shows.links (next_some has), taken apart (next_some has))) (λ none. rw none (tt, right))
 
     at_node : ¬ (l.reader.tail ≡ stub_of l) → Result (if has_next l then takes l else goes_to reads.NodeHead l)
     at_node apart = leaves_node apart (goes_to reads.NodeHead l) (moves l m shows (record l.reader { point = reads.NodeHead }) refl landed apart)
 
   module _ (n : Linked) where
-    result_is : (o : Linked) → o ≡ n → Result o → Result n
-    result_is o same right = subst Result same right
-
     at_rest : is_in_flight m Stub ≡ false → (b : Bool) → is_at_stub l ≡ b
         → (if b then Some (if has_next l then goes_to reads.Second (passes l) else goes_to reads.StubHead l) else Some (if has_next l then takes l else goes_to reads.NodeHead l)) ≡ Some n → Result n
-    at_rest landed true is e = let same : (if has_next l then goes_to reads.Second (passes l) else goes_to reads.StubHead l) ≡ n = cc in
-        result_is _ same (leaves_stub landed (eqb-true l.reader.tail (stub_of l) is))
-    at_rest landed false is e = let same : (if has_next l then takes l else goes_to reads.NodeHead l) ≡ n = cc in
-        result_is _ same (at_node landed (λ stub. false≢true (sym is ∙ eq-eqb l.reader.tail (stub_of l) stub)))
+    at_rest landed true is e = some_is Result _ n e (leaves_stub landed (eqb-true l.reader.tail (stub_of l) is))
+    at_rest landed false is e = some_is Result _ n e (at_node landed (λ stub. false≢true (sym is ∙ eq-eqb l.reader.tail (stub_of l) stub)))
 
     at_point : (point : ReaderPoint) → IsOwedByReader k m point → IsTailAt k m point → next_at point l ≡ Some n → Result n
     at_point reads.Rest landed at e = at_rest landed (is_at_stub l) refl e
-    at_point reads.Second landed at e =
-        let h = passed _ _ n e in
-        result_is _ h.1 (at_node landed at)
+    at_point reads.Second landed at e = subst Result (passed _ _ n e).1 (at_node landed at)
     at_point reads.Last landed at e =
-        let same : (if has_next l then takes l else answers took.Busy l) ≡ n = cc in
-        result_is _ same (leaves_node landed at (answers took.Busy l) (moves l m shows (record l.reader { point = reads.Rest; last = Some took.Busy }) refl landed tt))
-    at_point reads.StubHead landed at e = cc
-    at_point reads.NodeHead landed at e = cc
-    at_point reads.Null landed at e = cc
-    at_point reads.Swap landed at e = cc
-    at_point (reads.Link before) landed at e = cc
+        some_is Result _ n e (leaves_node landed at (answers took.Busy l) (moves l m shows (record l.reader { point = reads.Rest; last = Some took.Busy }) refl landed tt))
+    at_point _ landed at e = cc
 
-pub load_next_shows : LoadNextShows
+pub load_next_shows : StepLinks step.LoadNext
 load_next_shows events m l n ok leads shows moved = at_point l ok m (holds_after l.ring events m leads) shows n l.reader.point shows.links.reader.in_flight shows.links.reader.at_tail moved

@@ -3,11 +3,12 @@ use Rattle.std.proofs.Common.{◌≡◌, ◌∙◌, ◌≤◌, ◌<◌, ◌+◌,
 use Rattle.std.specs.Prelude.{slice_index_or}
 use Rattle.std.proofs.lemmas.Bool.{and_from, and_left, and_right, cases_Bool, cases_eq, cases_lt, false_from_ne_true, false≢true, not_from_false, not_from_true}
 use Rattle.std.proofs.lemmas.List.{length-take-le}
+use Rattle.queue_core.specs.declared.entry.Entry.{Entry}
+use Rattle.queue_core.specs.declared.entry.Entry.TheVariants.{Of, Stub}
 use Rattle.queue_core.specs.declared.item.Item.{Item}
 use Rattle.queue_core.specs.declared.item.Item.TheVariants.{End}
 use Rattle.queue_core.specs.Items.{is_end}
-use Rattle.queue_core.specs.Mailbox.{Entry, Mailbox, is_among, is_linked, is_same, left_entries, opening, passed_entries, sent}
-use Rattle.queue_core.specs.Mailbox.Entry.{Of, Stub}
+use Rattle.queue_core.specs.Mailbox.{Mailbox, is_among, is_linked, is_same, left_entries, opening, passed_entries, sent}
 use Rattle.queue_core.specs.Events.{slot_of}
 use Rattle.queue_core.proofs.Entries.{among_turn, count_own, first_count, first_placed, first_turn, in_turn, own, turn_among}
 
@@ -103,6 +104,14 @@ module _ (m : Mailbox) (p : ℕ) (turns : InTurn m.order m.in_flight p (length (
   stands : (k : ℕ) → ¬ (k + 1 ≡ exchanged_count) → is_among (Of p k) m.in_flight ≡ false
   stands k other = false_from_ne_true (is_among (Of p k) m.in_flight) (λ flies. other (turns.last_flies k flies).0)
 
+  -- where none of its entries is in flight, all that are exchanged in are sent
+  pub sent_linked : ((k : ℕ) → is_among (Of p k) m.in_flight ≡ false) → sent m p ≡ take exchanged_count (m.items p)
+  sent_linked none = sent_below exchanged_count (λ k below. is_landed k below (none k)) past_all
+
+  -- an item that is exchanged in is filled
+  pub item_within : (k : ℕ) → is_among (Of p k) m.order ≡ true → k < length (m.items p)
+  item_within k among = let under = among_turn p k m.order turns.one_by_one among in omega (arith, under, turns.filled_first)
+
   pub has_sent : (n : ℕ) × HasSent m p n
   has_sent = elim (cases_Bool (is_among (Of p (exchanged_count - 1)) m.in_flight)) [
     | inl flies ↦
@@ -127,7 +136,7 @@ module _ (m : Mailbox) (p : ℕ) (turns : InTurn m.order m.in_flight p (length (
         ] in (
           exchanged_count,
           record {
-            is = sent_below exchanged_count (λ k below. is_landed k below (nothing k)) past_all;
+            is = sent_linked nothing;
             exchanged = omega arith;
             flies_behind = λ k flies. absurd (false≢true (sym (nothing k) ∙ flies));
             waits_in_flight = λ below. absurd (omega (arith, below));

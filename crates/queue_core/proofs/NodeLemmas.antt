@@ -1,31 +1,25 @@
 -- The node of a sender's item: which it is by the number of its posts, and that no entry that is left stands in it.
-use Rattle.std.proofs.Common.{◌≡◌, ◌∙◌, ◌≤◌, ◌<◌, ◌+◌, ◌%◌, ℕ, true, false, List, suc, [], ◌∷◌, filter, length, take, not, ap, sym, refl, subst, inl, inr, arith, mod-lt}
+use Rattle.std.proofs.Common.{◌≡◌, ◌∙◌, ◌≤◌, ◌<◌, ◌+◌, ◌%◌, ℕ, true, false, List, filter, length, take, not, ap, sym, refl, subst, inl, inr, arith, mod-lt}
 use Rattle.std.specs.Prelude.{slice_index_or}
 use Rattle.std.proofs.lemmas.Bool.{cases_lt, false_from_ne_true, false≢true}
 use Rattle.std.proofs.lemmas.List.{get_or-take, length-take-le}
 use Rattle.std.proofs.lemmas.Nat.{mul-add-lt}
+use Rattle.queue_core.specs.declared.entry.Entry.{Entry}
+use Rattle.queue_core.specs.declared.entry.Entry.TheVariants.{Of, Stub}
 use Rattle.queue_core.specs.declared.item.Item.{Item}
 use Rattle.queue_core.specs.declared.item.Item.TheVariants.{Post, End}
 use Rattle.queue_core.specs.Items.{is_end}
-use Rattle.queue_core.specs.Mailbox.{Entry, Mailbox, is_among, item_at, left_entries, sent}
-use Rattle.queue_core.specs.Mailbox.Entry.{Of, Stub}
+use Rattle.queue_core.specs.Mailbox.{Mailbox, is_among, item_at, left_entries, sent}
 use Rattle.queue_core.specs.Events.{MayExchange, slot_at, slot_of}
 use Rattle.queue_core.specs.Chain.{entry_at}
 use Rattle.queue_core.specs.Linked.{IsLinked, Linked, first_node, node_of, sender_at, stub_of}
 use Rattle.queue_core.specs.Links.{is_in_flight, last_of}
 use Rattle.queue_core.specs.Shows.{IsCounted, ShowsLinked, node_for}
-use Rattle.queue_core.proofs.Entries.{among_rest, among_turn, count_own, read_among}
+use Rattle.queue_core.proofs.Entries.{among_rest, among_turn, count_own, read_among, all_posts}
 use Rattle.queue_core.proofs.EventsKeep.{at_count}
 use Rattle.queue_core.proofs.LeftLemmas.{left_alone}
-use Rattle.queue_core.proofs.MailboxHolds.{Holds, has_sent}
-
--- where no item is an end mark, all are posts
-all_posts : (xs : List Item) → ((k : ℕ) → k < length xs → is_end (slice_index_or xs k End) ≡ false) → length (filter (λ item. not (is_end item)) xs) ≡ length xs
-all_posts [] none = refl
-all_posts (x ∷ xs) none =
-    let rest : length (filter (λ item. not (is_end item)) xs) ≡ length xs = all_posts xs (λ k within. none (suc k) (omega (arith, within))) in
-    let first : is_end x ≡ false = none 0 (omega arith) in
-    rw first (ap suc rest)
+use Rattle.queue_core.proofs.MailboxHolds.{Holds, item_within, sent_linked}
+use Rattle.queue_core.proofs.Generations.{same_block}
 
 module _ (l : Linked) (ok : IsLinked l) (m : Mailbox) (holds : Holds l.ring m) where
   pub slot_low : (i : Item) (k : ℕ) → slot_of l.ring i k < l.ring + 1
@@ -56,25 +50,27 @@ module _ (l : Linked) (ok : IsLinked l) (m : Mailbox) (holds : Holds l.ring m) w
       node_is item is = slot_is item ∙ ap (λ i. first_node l p + slot_of l.ring i (last_of m p)) (sym is)
 
   -- a sender's nodes are not the stub
+  block_apart : (p s : ℕ) → p < length l.senders → s < l.ring + 1 → first_node l p + s < stub_of l
+  block_apart p s in_table low = omega (arith, mul-add-lt p (l.ring + 1) s (length l.senders) in_table low, ok.nodes)
+
   pub stub_apart : (p : ℕ) (i : Item) (k : ℕ) → p < length l.senders → first_node l p + slot_of l.ring i k < stub_of l
-  stub_apart p i k in_table = omega (arith, mul-add-lt p (l.ring + 1) (slot_of l.ring i k) (length l.senders) in_table (slot_low i k), ok.nodes)
+  stub_apart p i k in_table = block_apart p (slot_of l.ring i k) in_table (slot_low i k)
+
+  -- an entry that stands in one of them is the sender's
+  pub own_entry : (p s : ℕ) → p < length l.senders → s < l.ring + 1 → (e : Entry) → node_for l m e ≡ first_node l p + s → (j : ℕ) × (e ≡ Of p j)
+  own_entry p s in_table low (Of q j) same = (j, ap (λ (q : ℕ). Of q j) (same_block (l.ring + 1) q p (slot_at l.ring m q j) s (slot_low (item_at m q j) j) low same))
+  own_entry p s in_table low Stub same = absurd (omega (arith, block_apart p s in_table low, same))
+
+  -- a node is of one sender
+  pub one_sender : (q j p k : ℕ) → node_for l m (Of q j) ≡ node_for l m (Of p k) → q ≡ p
+  one_sender q j p k same = same_block (l.ring + 1) q p (slot_at l.ring m q j) (slot_at l.ring m p k) (slot_low (item_at m q j) j) (slot_low (item_at m p k) k) same
 
   -- the node of an item that is not exchanged in is no node of an entry that is left
   module _ (p : ℕ) (in_table : p < length l.senders) (may : MayExchange m p) where
     apart_of : (q k : ℕ) → is_among (Of q k) (left_entries m) ≡ true → ¬ (node_for l m (Of q k) ≡ node_for l m (Of p (last_of m p)))
     apart_of q k left same =
-        let R : ℕ = l.ring + 1 in
-        let one : slot_at l.ring m q k < R = slot_low (item_at m q k) k in
-        let two : slot_at l.ring m p (last_of m p) < R = slot_low (item_at m p (last_of m p)) (last_of m p) in
-        elim (cases_lt q p) [
-          | inl before ↦ omega (arith, mul-add-lt q R (slot_at l.ring m q k) p before one, same)
-          | inr not_before ↦ elim (cases_lt p q) [
-            | inl behind ↦ omega (arith, mul-add-lt p R (slot_at l.ring m p (last_of m p)) q behind two, same)
-            | inr not_behind ↦
-                let is : q ≡ p = omega (arith, not_before, not_behind) in
-                own k (subst (λ q. is_among (Of q k) (left_entries m) ≡ true) is left) (subst (λ q. node_for l m (Of q k) ≡ node_for l m (Of p (last_of m p))) is same)
-          ]
-        ]
+        let is : q ≡ p = one_sender q k p (last_of m p) same in
+        own k (subst (λ q. is_among (Of q k) (left_entries m) ≡ true) is left) (subst (λ q. node_for l m (Of q k) ≡ node_for l m (Of p (last_of m p))) is same)
       where
         own : (k : ℕ) → is_among (Of p k) (left_entries m) ≡ true → node_for l m (Of p k) ≡ node_for l m (Of p (last_of m p)) → ⊥
         own k left same =
@@ -89,25 +85,16 @@ module _ (l : Linked) (ok : IsLinked l) (m : Mailbox) (holds : Holds l.ring m) w
 
   -- a sender whose last item is not exchanged in has sent all before it, where none of its is in flight
   pub sent_before : (p : ℕ) → MayExchange m p → ((k : ℕ) → is_in_flight m (Of p k) ≡ false) → sent m p ≡ take (last_of m p) (m.items p)
-  sent_before p may none =
-      let n = (has_sent m p (holds.turns p)).0 in
-      let has = (has_sent m p (holds.turns p)).1 in
-      let full : count_own p m.order ≡ last_of m p = at_count l.ring m holds p may in
-      let all : n ≡ last_of m p = elim (cases_lt n (count_own p m.order)) [
-        | inl below ↦ absurd (false≢true (sym (none n) ∙ has.waits_in_flight below))
-        | inr past ↦ omega (arith, past, has.exchanged, full)
-      ] in
-      has.is ∙ ap (λ (k : ℕ). take k (m.items p)) all
+  sent_before p may none = sent_linked m p (holds.turns p) none ∙ ap (λ (k : ℕ). take k (m.items p)) (at_count l.ring m holds p may)
 
   -- what is exchanged in is a sender's of the table, so its node is not the stub
   module _ (shows : ShowsLinked l m) where
-    in_table : (q k : ℕ) → is_among (Of q k) m.order ≡ true → q < length l.senders
+    pub in_table : (q k : ℕ) → is_among (Of q k) m.order ≡ true → q < length l.senders
     in_table q k among = elim (cases_lt q (length l.senders)) [
       | inl low ↦ low
       | inr past ↦
           let none : length (m.items q) ≡ 0 = ap (λ (xs : List Item). length xs) (shows.no_others q past) in
-          let under : k < count_own q m.order = among_turn q k m.order (holds.turns q).one_by_one among in
-          absurd (omega (arith, none, under, (holds.turns q).filled_first))
+          absurd (omega (arith, none, item_within m q (holds.turns q) k among))
     ]
 
     pub not_stub : (e : Entry) → is_among e (left_entries m) ≡ true → ¬ (e ≡ Stub) → ¬ (node_for l m e ≡ stub_of l)

@@ -1,11 +1,13 @@
 -- The core of a mailbox that was just opened shows the mailbox in which nothing has happened.
-use Rattle.std.proofs.Common.{◌≡◌, ◌∙◌, ◌<◌, ◌+◌, ◌*◌, ℕ, false, length, get_or, ap, sym, refl, subst, ⊎_elim, arith}
+use Rattle.std.proofs.Common.{◌≡◌, ◌∙◌, ◌≤◌, ◌<◌, ◌+◌, ◌*◌, ℕ, false, length, get_or, ap, sym, refl, subst, ⊎_elim, arith}
 use Rattle.std.specs.Prelude.{replicate}
 use Rattle.std.proofs.lemmas.Bool.{cases_lt, false≢true}
 use Rattle.std.proofs.lemmas.List.{get_or-replicate, get_or_past, length-replicate}
+use Rattle.std.proofs.lemmas.List.Elements.{All-replicate}
+use Rattle.queue_core.specs.declared.TheConstants.{MOST_NODES, MOST_POSTS, MOST_SENDERS}
 use Rattle.queue_core.specs.declared.sender.Sender.{Sender}
 use Rattle.queue_core.specs.declared.sender.SenderPoint.TheVariants as sends
-use Rattle.queue_core.specs.Linked.{Linked, empty_node, is_held, new_sender, node_at, opening_core, sender_at, stub_of}
+use Rattle.queue_core.specs.Linked.{IsLinked, IsPoint, Linked, empty_node, is_held, new_sender, node_at, opening_core, sender_at, stub_of}
 use Rattle.queue_core.specs.Mailbox.{left_entries, opening}
 use Rattle.queue_core.specs.Chain.{IsChain}
 use Rattle.queue_core.specs.Links.{IsAtHand, IsOwedBySender, IsSending, is_in_flight}
@@ -19,7 +21,7 @@ module _ (senders ring : ℕ) where
   abbrev core : Linked
   core = opening_core senders ring
 
-  node_is : (n : ℕ) → node_at core n ≡ empty_node
+  pub node_is : (n : ℕ) → node_at core n ≡ empty_node
   node_is n = same_at (senders * (ring + 1) + 1) n empty_node
 
   none_held : (n : ℕ) → is_held core n ≡ false
@@ -51,7 +53,7 @@ module _ (senders ring : ℕ) where
   }
 
   -- a sender that is there is a new one
-  sender_is : (p : ℕ) → p < length core.senders → sender_at core p ≡ new_sender
+  pub sender_is : (p : ℕ) → p < length core.senders → sender_at core p ≡ new_sender
   sender_is p within = get_or-replicate senders p new_sender _ (omega (arith, within, length-replicate senders new_sender))
 
   counted : (p : ℕ) → p < length core.senders → IsCounted opening p (sender_at core p)
@@ -86,3 +88,21 @@ opening_shows senders ring some few some_nodes few_nodes = record {
   items = items senders ring;
   turns = λ n within. ap (λ node. node.turn) (node_is senders ring n);
 }
+
+-- and keeps to what every core keeps to
+pub opening_linked : (senders ring : ℕ) → 0 < senders → senders ≤ MOST_SENDERS → 0 < ring → ring ≤ MOST_NODES → IsLinked (opening_core senders ring)
+opening_linked senders ring some few some_nodes few_nodes =
+    let nodes : length (opening_core senders ring).nodes ≡ senders * (ring + 1) + 1 = length-replicate (senders * (ring + 1) + 1) empty_node in
+    let many : length (opening_core senders ring).senders ≡ senders = length-replicate senders new_sender in record {
+      some_senders = omega (arith, many, some);
+      few_senders = omega (arith, many, few);
+      some_nodes = some_nodes;
+      few_nodes = few_nodes;
+      nodes = nodes ∙ ap (λ (k : ℕ). k * (ring + 1) + 1) (sym many);
+      held = length-replicate (senders * (ring + 1) + 1) false ∙ sym nodes;
+      head = (omega arith, omega (arith, nodes));
+      links = All-replicate (λ node. node.next ≤ length (opening_core senders ring).nodes) (senders * (ring + 1) + 1) empty_node (omega arith);
+      points = All-replicate (λ sender. (sender.count ≤ MOST_POSTS) × IsPoint (length (opening_core senders ring).nodes) sender.count sender.point) senders new_sender (omega arith, tt);
+      tail = omega (arith, nodes);
+      reader = tt;
+    }

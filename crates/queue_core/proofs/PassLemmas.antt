@@ -2,16 +2,17 @@
 use Rattle.std.proofs.Common.{◌≡◌, ◌∙◌, ◌<◌, ◌+◌, ◌-◌, ℕ, true, false, List, drop, length, ap, sym, subst, inl, inr, arith}
 use Rattle.std.proofs.lemmas.Bool.{cases_lt, false_from_ne_true, false≢true}
 use Rattle.std.proofs.lemmas.List.{drop_more, get_or-drop, length-drop}
+use Rattle.queue_core.specs.declared.entry.Entry.{Entry}
+use Rattle.queue_core.specs.declared.entry.Entry.TheVariants.{Of, Stub}
 use Rattle.queue_core.specs.declared.sender.SenderPoint.{SenderPoint}
 use Rattle.queue_core.specs.declared.sender.SenderPoint.TheVariants as sends
 use Rattle.queue_core.specs.declared.reader.ReaderPoint.{ReaderPoint}
-use Rattle.queue_core.specs.Mailbox.{Entry, Mailbox, left_entries}
-use Rattle.queue_core.specs.Mailbox.Entry.{Of, Stub}
+use Rattle.queue_core.specs.Mailbox.{Mailbox, left_entries}
 use Rattle.queue_core.specs.Events.{MayPass, after}
 use Rattle.queue_core.specs.Events.Event.{Pass}
 use Rattle.queue_core.specs.Chain.{IsChain, entry_at}
 use Rattle.queue_core.specs.Linked.{link_to, null}
-use Rattle.queue_core.specs.Links.{ComesAfter, IsAtHand, IsOwedByReader, IsOwedBySender, IsTailAt, Links, ShowLinks, is_in_flight, last_of}
+use Rattle.queue_core.specs.Links.{ComesAfter, IsOwedByReader, IsOwedBySender, IsTailAt, Links, ShowLinks, is_in_flight, last_of}
 use Rattle.queue_core.proofs.ChainLemmas.{pass}
 
 module _ (m : Mailbox) (k : Links) (shows : ShowLinks k m) (next : ¬ (k.next k.tail ≡ null)) where
@@ -83,18 +84,10 @@ module _ (m : Mailbox) (k : Links) (shows : ShowLinks k m) (next : ¬ (k.next k.
       | _ ↦ λ o. o
     ]
 
-    hand_still : (q : ℕ) (pt : SenderPoint) → IsAtHand k m q pt → IsAtHand k' m' q pt
-    hand_still q sends.Rest h = h
-    hand_still q (sends.Line i) h = h
-    hand_still q (sends.Amount i) h = h
-    hand_still q (sends.Null i) h = h
-    hand_still q (sends.Swap i) h = h
-    hand_still q (sends.Link i n) h = h
-
     -- the reader is at a point at which it owes no link
     pub pass_shows : IsOwedByReader k' m' point → IsTailAt k' m' point → ShowLinks k' m'
     pass_shows owed at = record {
       chain = chain_passed;
-      senders = λ q. let was = shows.senders q in record { in_flight = owed_still q (k.points q) was.in_flight; at_hand = hand_still q (k.points q) was.at_hand };
+      senders = λ q. let was = shows.senders q in record { in_flight = owed_still q (k.points q) was.in_flight; at_hand = was.at_hand };
       reader = record { in_flight = owed; at_tail = at };
     }

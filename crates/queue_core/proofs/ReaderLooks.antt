@@ -1,8 +1,8 @@
 -- Steps of the reader that are no events: LoadHead, and StubNull.
-use Rattle.std.proofs.Common.{◌≡◌, ◌∙◌, ◌<◌, ◌-◌, ◌∷◌, [], ℕ, List, true, false, length, sym, refl, ap, subst, inl, inr, Some, arith, get_or-set_other, get_or-set_same}
+use Rattle.std.proofs.Common.{◌≡◌, ◌∙◌, ◌<◌, ◌-◌, ℕ, true, false, length, sym, refl, ap, subst, inl, inr, Some, arith}
 use Rattle.std.specs.Prelude.{if◌then◌else◌}
 use Rattle.std.proofs.lemmas.Bool.{cases_lt, eqb-true, false_from_ne_true}
-use Rattle.std.proofs.lemmas.List.{length-set}
+use Rattle.queue_core.specs.declared.entry.Entry.TheVariants.{Stub}
 use Rattle.queue_core.specs.declared.item.Took.TheVariants as took
 use Rattle.queue_core.specs.declared.words.Node.{Node}
 use Rattle.queue_core.specs.declared.reader.Reader.{Reader}
@@ -10,32 +10,23 @@ use Rattle.queue_core.specs.declared.reader.ReaderPoint.{ReaderPoint}
 use Rattle.queue_core.specs.declared.reader.ReaderPoint.TheVariants as reads
 use Rattle.queue_core.specs.declared.sender.SenderPoint.{SenderPoint}
 use Rattle.queue_core.specs.declared.sender.SenderPoint.TheVariants as sends
-use Rattle.queue_core.specs.Mailbox.{Entry, Mailbox, is_among, item_at, left_entries}
-use Rattle.queue_core.specs.Mailbox.Entry.{Of, Stub}
+use Rattle.queue_core.specs.declared.step.Step.TheVariants as step
+use Rattle.queue_core.specs.Mailbox.{Mailbox, is_among, item_at, left_entries}
 use Rattle.queue_core.specs.Chain.{entry_at}
-use Rattle.queue_core.specs.Linked.{IsLinked, Linked, link_to, node_at, null, stub_of, with_node, with_reader}
+use Rattle.queue_core.specs.Linked.{IsLinked, Linked, link_to, node_at, null, stub_of, with_reader}
 use Rattle.queue_core.specs.Links.{IsAtHand, IsOwedByReader, IsTailAt, Links, ShowLinks, is_in_flight, last_of}
 use Rattle.queue_core.specs.Shows.{ShowsLinked, links_of, node_for}
-use Rattle.queue_core.specs.Steps.{answers, goes_to, head_at, is_last, stub_null_at}
-use Rattle.queue_core.specs.Laws.{LoadHeadShows, StubNullShows}
+use Rattle.queue_core.specs.Steps.{answers, goes_to, head_at, is_last}
+use Rattle.queue_core.specs.Laws.{LoadHeadTells}
 use Rattle.queue_core.proofs.ChainLemmas.{frame}
-use Rattle.queue_core.proofs.Entries.{among_one}
+use Rattle.queue_core.proofs.Entries.{only, alone}
 use Rattle.queue_core.proofs.EventsKeep.{holds_after}
 use Rattle.queue_core.proofs.MailboxHolds.{Holds}
 use Rattle.queue_core.proofs.NodeLemmas.{first_stub, stub_apart, stub_not_before}
+use Rattle.queue_core.proofs.NodeWords.{node_other, node_own, nodes_same}
+use Rattle.queue_core.proofs.Parts.{StepKeeps}
 use Rattle.queue_core.proofs.StepLemmas.{chosen, sender_within, some_is}
-
--- the only entry of a list
-only : (xs : List Entry) → length xs ≡ 1 → is_among Stub xs ≡ true → entry_at xs 0 ≡ Stub
-only [] size among = absurd (omega (arith, size))
-only (x ∷ []) size among = sym (among_one Stub x among)
-only (x ∷ y ∷ xs) size among = absurd (omega (arith, size))
-
--- the only entry is the first
-alone : (xs : List Entry) → length xs ≡ 1 → entry_at xs 0 ≡ Stub → xs ≡ Stub ∷ []
-alone [] size is = absurd (omega (arith, size))
-alone (x ∷ []) size is = ap (λ e. e ∷ []) is
-alone (x ∷ y ∷ xs) size is = absurd (omega (arith, size))
+use Rattle.queue_core.proofs.LookLemmas.{null_leaves, stub_nulled}
 
 module _ (l : Linked) (m : Mailbox) (shows : ShowsLinked l m) where
   -- the reader is at another point, and the tail is as it was
@@ -89,18 +80,13 @@ module _ (l : Linked) (m : Mailbox) (shows : ShowsLinked l m) where
       (chosen (λ n. ShowsLinked n m) (is_last l) (goes_to reads.Null l) (answers took.Busy l)
       (λ last. moves (record l.reader { point = reads.Null }) refl landed (apart, stub_gone last apart))
       (λ other. moves (record l.reader { point = reads.Rest; last = Some took.Busy }) refl landed tt))
-  at_head reads.Rest at n e = cc
-  at_head reads.Second at n e = cc
-  at_head reads.Null at n e = cc
-  at_head reads.Swap at n e = cc
-  at_head (reads.Link before) at n e = cc
-  at_head reads.Last at n e = cc
+  at_head _ at n e = cc
 
-pub load_head_shows : LoadHeadShows
-load_head_shows events m l n ok leads shows moved = (
-  at_head l m shows l.reader.point refl n moved,
-  λ is last. alone (left_entries m) (one_left l m shows last) (first_stub l ok m (holds_after l.ring events m leads) shows is),
-)
+pub load_head_shows : StepKeeps ShowsLinked step.LoadHead
+load_head_shows events m l n ok leads shows moved may = at_head l m shows.linked l.reader.point refl n moved
+
+pub head_tells : LoadHeadTells
+head_tells events m l ok leads shows is last = alone (left_entries m) (one_left l m shows.linked last) (first_stub l ok m (holds_after l.ring events m leads) shows.linked is)
 
 -- ---- StubNull
 
@@ -109,7 +95,7 @@ module _ (l : Linked) (ok : IsLinked l) (m : Mailbox) (holds : Holds l.ring m) (
   node' = record (node_at l (stub_of l)) { next = null }
 
   abbrev l' : Linked
-  l' = goes_to reads.Swap (with_node (stub_of l) node' l)
+  l' = stub_nulled l
 
   abbrev k : Links
   k = links_of l m
@@ -120,21 +106,14 @@ module _ (l : Linked) (ok : IsLinked l) (m : Mailbox) (holds : Holds l.ring m) (
   landed : is_in_flight m Stub ≡ false
   landed = subst (IsOwedByReader k m) at shows.links.reader.in_flight
 
-  long : length l'.nodes ≡ length l.nodes
-  long = length-set l.nodes (stub_of l) node'
-
-  node_same : (e : Entry) → node_for l m e ≡ node_for l' m e
-  node_same (Of q j) = refl
-  node_same Stub = ap (λ (n : ℕ). n - 1) (sym long)
-
   abbrev next : ℕ → ℕ
   next = (links_of l' m).next
 
   next_else : (n : ℕ) → ¬ (n ≡ stub_of l) → next n ≡ k.next n
-  next_else n other = ap (λ (z : Node). z.next) (get_or-set_other l.nodes (stub_of l) n node' _ other)
+  next_else n other = ap (λ (z : Node). z.next) (node_other l (stub_of l) node' n other)
 
   next_stub : next (stub_of l) ≡ null
-  next_stub = ap (λ (z : Node). z.next) (get_or-set_same l.nodes (stub_of l) node' _ (omega (arith, ok.nodes)))
+  next_stub = ap (λ (z : Node). z.next) (node_own l (stub_of l) node' (omega (arith, ok.nodes)))
 
   left_else : (i : ℕ) → i < length (left_entries m) → next (node_for l m (entry_at (left_entries m) i)) ≡ k.next (node_for l m (entry_at (left_entries m) i))
   left_else i low = next_else _ (λ same. stub_not_before l ok m holds shows gone.1 i low (sym same))
@@ -143,18 +122,16 @@ module _ (l : Linked) (ok : IsLinked l) (m : Mailbox) (holds : Holds l.ring m) (
   k' = record { node = node_for l m; next = next; head = l.head; tail = l.reader.tail; points = k.points; point = reads.Swap }
 
   hand_still : (q : ℕ) (pt : SenderPoint) → k.points q ≡ pt → IsAtHand k m q pt → IsAtHand k' m q pt
-  hand_still q sends.Rest its h = h
-  hand_still q (sends.Line i) its h = h
-  hand_still q (sends.Amount i) its h = h
-  hand_still q (sends.Null i) its h = h
-  hand_still q (sends.Swap i) its h =
-      let its_in : q < length l.senders = sender_within l ok q (λ rest. let both : sends.Swap i ≡ sends.Rest = sym its ∙ rest in cc) in
-      (h.0, next_else _ (λ same. omega (arith, stub_apart l ok m holds q (item_at m q (last_of m q)) (last_of m q) its_in, same)) ∙ h.1)
-  hand_still q (sends.Link i n) its h = h
+  hand_still q pt = elim pt as (λ pt. k.points q ≡ pt → IsAtHand k m q pt → IsAtHand k' m q pt) [
+    | sends.Swap i ↦ λ its h.
+        let its_in : q < length l.senders = sender_within l ok q (λ rest. let both : sends.Swap i ≡ sends.Rest = sym its ∙ rest in cc) in
+        (h.0, next_else _ (λ same. omega (arith, stub_apart l ok m holds q (item_at m q (last_of m q)) (last_of m q) its_in, same)) ∙ h.1)
+    | _ ↦ λ its h. h
+  ]
 
   links : ShowLinks (links_of l' m) m
   links =
-      subst (λ node. ShowLinks (record { node = node; next = next; head = l.head; tail = l.reader.tail; points = k.points; point = reads.Swap }) m) (λ i e. node_same e i) record {
+      subst (λ node. ShowLinks (record { node = node; next = next; head = l.head; tail = l.reader.tail; points = k.points; point = reads.Swap }) m) (nodes_same l (stub_of l) node' m) record {
         chain = frame (node_for l m) k.next (is_in_flight m) l.head l.reader.tail (left_entries m) shows.links.chain next (is_in_flight m) left_else (λ i low. refl);
         senders = λ q. let was = shows.links.senders q in record { in_flight = was.in_flight; at_hand = hand_still q (k.points q) refl was.at_hand };
         reader = record { in_flight = landed; at_tail = (gone.0, gone.1, next_stub) };
@@ -168,15 +145,7 @@ module _ (l : Linked) (ok : IsLinked l) (m : Mailbox) (holds : Holds l.ring m) (
     held = shows.held;
   }
 
-pub stub_null_shows : StubNullShows
-stub_null_shows events m l n ok leads shows moved = by l.reader.point refl moved
-  where
-    by : (point : ReaderPoint) → l.reader.point ≡ point → stub_null_at point l ≡ Some n → ShowsLinked n m
-    by reads.Null at e = some_is (λ n. ShowsLinked n m) (l' l ok m (holds_after l.ring events m leads) shows at) n e (null_shows l ok m (holds_after l.ring events m leads) shows at)
-    by reads.Rest at e = cc
-    by reads.Second at e = cc
-    by reads.StubHead at e = cc
-    by reads.NodeHead at e = cc
-    by reads.Swap at e = cc
-    by (reads.Link before) at e = cc
-    by reads.Last at e = cc
+pub stub_null_shows : StepKeeps ShowsLinked step.StubNull
+stub_null_shows events m l n ok leads shows moved may =
+    let h = null_leaves l n l.reader.point moved in
+    subst (λ n. ShowsLinked n m) h.1 (null_shows l ok m (holds_after l.ring events m leads) shows.linked h.0)

@@ -1,7 +1,7 @@
--- What a table of outcomes gives, and what a core with a change keeps to.
-use Rattle.std.proofs.Common.{◌≡◌, ◌∙◌, ◌+◌, ◌*◌, ◌<◌, ◌≤◌, ◌%◌, ◌≢◌, ℕ, Bool, true, false, length, Option, None, Some, ⊎_elim, All, set, ap, sym, refl, subst, arith}
+-- What a table of outcomes gives, what a core with a change keeps to, and what is read of its senders.
+use Rattle.std.proofs.Common.{◌≡◌, ◌∙◌, ◌+◌, ◌*◌, ◌<◌, ◌≤◌, ◌%◌, ◌≢◌, ℕ, Bool, true, false, length, Option, None, Some, ⊎_elim, All, set, ap, sym, refl, subst, inl, inr, arith, get_or-set_other, get_or-set_same}
 use Rattle.std.specs.Prelude.{option_map, if◌then◌else◌}
-use Rattle.std.proofs.lemmas.Bool.{cases_lt}
+use Rattle.std.proofs.lemmas.Bool.{cases_eq, cases_lt, false≢true}
 use Rattle.std.proofs.lemmas.List.{get_or_past, length-set}
 use Rattle.std.proofs.lemmas.List.Elements.{All-get_or, All-set}
 use Rattle.std.proofs.lemmas.Nat.{mul-add-lt}
@@ -45,7 +45,7 @@ chosen_some P false a b c e left right = some_is P b c e right
 abbrev no_node : Node
 no_node = record { next = 0; turn = 0; line = 0; amount = 0 }
 
-abbrev no_sender : Sender
+abbrev pub no_sender : Sender
 no_sender = record { point = sends.Rest; count = 0; ended = true; last = None }
 
 -- ---- what may be written
@@ -166,3 +166,20 @@ module _ (l : Linked) (ok : IsLinked l) where
   sender_within p busy =
       ⊎_elim (λ lt. lt) (λ le. absurd (busy (ap (λ x. x.point) (get_or_past l.senders p no_sender le))))
       (cases_lt p (length l.senders))
+
+-- What holds of the sender that is written, and of all others as they were, holds of each.
+pub each_sender : (l : Linked) (p : ℕ) (sender : Sender) (R : ℕ → Sender → Type 0) → (p < length l.senders → R p sender) → ((q : ℕ) → ¬ (q ≡ p) → R q (sender_at l q))
+    → (q : ℕ) → (q ≡ p → p < length l.senders) → R q (sender_at (with_sender p sender l) q)
+each_sender l p sender R own others q within = elim (cases_eq q p) [
+  | inl same ↦
+      let low = within same in
+      subst (λ q. R q (sender_at (with_sender p sender l) q)) (sym same) (subst (R p) (sym (get_or-set_same l.senders p sender no_sender low)) (own low))
+  | inr other ↦ subst (R q) (sym (get_or-set_other l.senders p q sender no_sender other)) (others q other)
+]
+
+-- a sender that has not ended is there
+pub going_within : (l : Linked) (p : ℕ) → (sender_at l p).ended ≡ false → p < length l.senders
+going_within l p going = elim (cases_lt p (length l.senders)) [
+  | inl low ↦ low
+  | inr past ↦ absurd (false≢true (sym going ∙ ap (λ (s : Sender). s.ended) (get_or_past l.senders p no_sender past)))
+]

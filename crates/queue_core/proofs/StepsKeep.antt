@@ -20,18 +20,23 @@ use Rattle.queue_core.specs.declared.step.Stepped.{Stepped}
 use Rattle.queue_core.specs.declared.step.Stepped.TheVariants.{Moved, NotNow}
 use Rattle.queue_core.specs.Items.{is_end}
 use Rattle.queue_core.specs.Linked.{IsInHand, IsLinked, IsPoint, IsReaderPoint, Linked, link_to, node_at, node_of, null, sender_at, stub_of, with_node, with_point}
-use Rattle.queue_core.specs.Steps.{amount_due, answers, end_line, give_back, goes_to, has_next, head_at, is_at_stub, is_last, line_due, link_due, load_turn, may_use, next_at, null_due, passes, stepped, store_amount, store_line, store_link, store_null, stub_link_at, stub_null_at, stub_swap_at, swap_due, swap_head, takes}
+use Rattle.queue_core.specs.Steps.{amount_due, answers, end_line, give_back, goes_to, has_next, head_at, is_at_stub, is_last, line_due, link_due, load_turn, may_use, next_at, null_due, passes, stepped, store_amount, store_line, store_link, store_null, stub_link_at, stub_null_at, stub_swap_at, swap_due, swap_head, takes, is_at_rest}
 use Rattle.queue_core.proofs.StepLemmas.{chosen, chosen_some, keeps_head, keeps_held, keeps_node, keeps_point, keeps_reader, keeps_sender, mapped, next_within, node_within, passed, sender_keeps, sender_within, some_is}
+use Rattle.std.proofs.lemmas.Bool.{false≢true}
+use Rattle.queue_core.proofs.LookLemmas.{link_leaves, null_leaves, swap_leaves}
 
 -- ---- what is due: the point that a sender is at
 
-line_is : (pt : SenderPoint) (item : Item) → line_due pt ≡ Some item → pt ≡ sends.Line item
+pub rest_is : (point : SenderPoint) → is_at_rest point ≡ true → point ≡ sends.Rest
+rest_is point = elim point as (λ q. is_at_rest q ≡ true → q ≡ sends.Rest) [ sends.Rest ↦ λ e. refl | _ ↦ λ e. absurd (false≢true e) ]
+
+pub line_is : (pt : SenderPoint) (item : Item) → line_due pt ≡ Some item → pt ≡ sends.Line item
 line_is pt item = elim pt as (λ q. line_due q ≡ Some item → q ≡ sends.Line item) [ sends.Line i ↦ λ e. cc | _ ↦ λ e. cc ]
 
-amount_is : (pt : SenderPoint) (item : Item) → amount_due pt ≡ Some item → pt ≡ sends.Amount item
+pub amount_is : (pt : SenderPoint) (item : Item) → amount_due pt ≡ Some item → pt ≡ sends.Amount item
 amount_is pt item = elim pt as (λ q. amount_due q ≡ Some item → q ≡ sends.Amount item) [ sends.Amount i ↦ λ e. cc | _ ↦ λ e. cc ]
 
-null_is : (pt : SenderPoint) (item : Item) → null_due pt ≡ Some item → pt ≡ sends.Null item
+pub null_is : (pt : SenderPoint) (item : Item) → null_due pt ≡ Some item → pt ≡ sends.Null item
 null_is pt item = elim pt as (λ q. null_due q ≡ Some item → q ≡ sends.Null item) [ sends.Null i ↦ λ e. cc | _ ↦ λ e. cc ]
 
 pub swap_is : (pt : SenderPoint) (item : Item) → swap_due pt ≡ Some item → pt ≡ sends.Swap item
@@ -171,33 +176,22 @@ module _ (l : Linked) (ok : IsLinked l) (m : Linked) where
   stub_within : link_to (stub_of l) ≤ length l.nodes
   stub_within = omega (arith, ok.nodes)
 
-  keeps_stub_null_at : (point : ReaderPoint) → stub_null_at point l ≡ Some m → IsLinked m
-  keeps_stub_null_at point =
+  keeps_stub_null : stub_null_at l.reader.point l ≡ Some m → IsLinked m
+  keeps_stub_null e =
       let node = record (node_at l (stub_of l)) { next = null } in
-      let kept = keeps_node l ok (stub_of l) node (omega arith) in
-      elim point as (λ q. stub_null_at q l ≡ Some m → IsLinked m) [
-        | reads.Null ↦ λ e. some_is IsLinked _ m e (keeps_goes (with_node (stub_of l) node l) kept reads.Swap tt)
-        | _ ↦ λ e. cc
-      ]
+      subst IsLinked (null_leaves l m l.reader.point e).1 (keeps_goes (with_node (stub_of l) node l) (keeps_node l ok (stub_of l) node (omega arith)) reads.Swap tt)
 
-  keeps_stub_swap_at : (point : ReaderPoint) → stub_swap_at point l ≡ Some m → IsLinked m
-  keeps_stub_swap_at point =
+  keeps_stub_swap : stub_swap_at l.reader.point l ≡ Some m → IsLinked m
+  keeps_stub_swap e =
       let before : l.head - 1 < length l.nodes = omega (arith, ok.head) in
       let next = reads.Link (l.head - 1) in
-      let kept = keeps_head (goes_to next l) (keeps_goes l ok next before) (link_to (stub_of l)) (omega arith) stub_within in
-      elim point as (λ q. stub_swap_at q l ≡ Some m → IsLinked m) [
-        | reads.Swap ↦ λ e. some_is IsLinked _ m e kept
-        | _ ↦ λ e. cc
-      ]
+      subst IsLinked (swap_leaves l m l.reader.point e).1 (keeps_head (goes_to next l) (keeps_goes l ok next before) (link_to (stub_of l)) (omega arith) stub_within)
 
-  keeps_stub_link_at : (point : ReaderPoint) → stub_link_at point l ≡ Some m → IsLinked m
-  keeps_stub_link_at point =
-      let node : ℕ → Node = λ before. record (node_at l before) { next = link_to (stub_of l) } in
-      elim point as (λ q. stub_link_at q l ≡ Some m → IsLinked m) [
-        | reads.Link before ↦ λ e. some_is IsLinked _ m e (keeps_goes (with_node before (node before) l)
-            (keeps_node l ok before (node before) stub_within) reads.Last tt)
-        | _ ↦ λ e. cc
-      ]
+  keeps_stub_link : stub_link_at l.reader.point l ≡ Some m → IsLinked m
+  keeps_stub_link e =
+      let h = link_leaves l m l.reader.point e in
+      let node = record (node_at l h.0) { next = link_to (stub_of l) } in
+      subst IsLinked h.2 (keeps_goes (with_node h.0 node l) (keeps_node l ok h.0 node stub_within) reads.Last tt)
 
   keeps_give_back : (n : ℕ) → give_back n l ≡ Some m → IsLinked m
   keeps_give_back n e =
@@ -219,9 +213,9 @@ keeps_step l m (step.SwapHead p) ok e = keeps_swap_head l ok m p e
 keeps_step l m (step.StoreLink p) ok e = keeps_store_link l ok m p e
 keeps_step l m step.LoadNext ok e = keeps_next_at l ok m l.reader.point e
 keeps_step l m step.LoadHead ok e = keeps_head_at l ok m l.reader.point e
-keeps_step l m step.StubNull ok e = keeps_stub_null_at l ok m l.reader.point e
-keeps_step l m step.StubSwap ok e = keeps_stub_swap_at l ok m l.reader.point e
-keeps_step l m step.StubLink ok e = keeps_stub_link_at l ok m l.reader.point e
+keeps_step l m step.StubNull ok e = keeps_stub_null l ok m e
+keeps_step l m step.StubSwap ok e = keeps_stub_swap l ok m e
+keeps_step l m step.StubLink ok e = keeps_stub_link l ok m e
 keeps_step l m (step.LoadLine n) ok e = keeps_load_held l ok m n e
 keeps_step l m (step.LoadAmount n) ok e = keeps_load_held l ok m n e
 keeps_step l m (step.GiveBack n) ok e = keeps_give_back l ok m n e

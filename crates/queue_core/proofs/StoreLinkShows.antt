@@ -1,11 +1,13 @@
 -- StoreLink is a link.
-use Rattle.std.proofs.Common.{◌≡◌, ◌≢◌, ◌∙◌, ◌≤◌, ◌<◌, ◌+◌, ◌-◌, ◌++◌, ◌∷◌, [], ℕ, true, false, List, filter, length, take, map, not, ap, sym, refl, subst, inl, inr, arith, Some, get_or-set_other, get_or-set_same}
+use Rattle.std.proofs.Common.{◌≡◌, ◌∙◌, ◌≤◌, ◌<◌, ◌+◌, ◌++◌, ◌∷◌, [], ℕ, true, false, List, filter, length, take, map, not, ap, sym, refl, subst, inl, inr, arith, Some}
 use Rattle.std.specs.Prelude.{◌==◌, slice_index_or, ◌&&◌, ◌||◌, if◌then◌else◌}
 use Rattle.std.specs.List.{enumerate_from}
 use Rattle.std.proofs.lemmas.Bool.{cases_eq, cases_lt, eq-eqb, false_from_ne_true, false≢true, ne_eqb, or_cases, or_right}
 use Rattle.std.proofs.lemmas.List.{append-nil, get_or-take, length-set, length-take-le, length_push, take_all, take_more}
 use Rattle.std.proofs.lemmas.List.Elements.{filter-append}
 use Rattle.std.proofs.lemmas.Map.Views.{any-filter_same}
+use Rattle.queue_core.specs.declared.entry.Entry.{Entry}
+use Rattle.queue_core.specs.declared.entry.Entry.TheVariants.{Of, Stub}
 use Rattle.queue_core.specs.declared.item.Item.{Item}
 use Rattle.queue_core.specs.declared.item.Item.TheVariants.{Post, End}
 use Rattle.queue_core.specs.declared.item.Posted.TheVariants.{Sent}
@@ -13,21 +15,22 @@ use Rattle.queue_core.specs.declared.words.Node.{Node}
 use Rattle.queue_core.specs.declared.sender.Sender.{Sender}
 use Rattle.queue_core.specs.declared.sender.SenderPoint.TheVariants as sends
 use Rattle.queue_core.specs.Items.{is_end}
-use Rattle.queue_core.specs.Mailbox.{Entry, Mailbox, is_among, is_same, left_entries, sent}
-use Rattle.queue_core.specs.Mailbox.Entry.{Of, Stub}
+use Rattle.queue_core.specs.declared.step.Step.TheVariants as step
+use Rattle.queue_core.specs.Mailbox.{Mailbox, is_among, is_same, left_entries, sent}
 use Rattle.queue_core.specs.Events.{MayExchange, MayLink, after, is_of}
 use Rattle.queue_core.specs.Events.Event.{Link}
 use Rattle.queue_core.specs.Chain.{entry_at}
 use Rattle.queue_core.specs.Linked.{IsLinked, IsPoint, Linked, link_to, node_at, node_of, sender_at, with_node, with_sender}
 use Rattle.queue_core.specs.Links.{IsAtHand, IsOwedBySender, IsSending, IsTailAt, Links, ShowLinks, is_in_flight, last_of}
 use Rattle.queue_core.specs.Shows.{IsCounted, ShowsLinked, links_of, node_for}
-use Rattle.queue_core.specs.Laws.{StoreLinkShows}
 use Rattle.queue_core.proofs.Entries.{count_own, kept_passes, read_among, same_true}
 use Rattle.queue_core.proofs.EventsKeep.{holds_after, link_keeps}
 use Rattle.queue_core.proofs.LandedLemmas.{chain_linked, sending_still, taking_still}
-use Rattle.queue_core.proofs.MailboxHolds.{Holds, has_sent}
+use Rattle.queue_core.proofs.MailboxHolds.{Holds, has_sent, sent_linked}
 use Rattle.queue_core.proofs.NodeLemmas.{fresh_apart, node_is, posts_first, stub_not_before}
-use Rattle.queue_core.proofs.StepLemmas.{mapped, sender_keeps, sender_within}
+use Rattle.queue_core.proofs.NodeWords.{node_other, node_own, nodes_same}
+use Rattle.queue_core.proofs.Parts.{StepLinks}
+use Rattle.queue_core.proofs.StepLemmas.{each_sender, mapped, sender_keeps, sender_within}
 use Rattle.queue_core.proofs.StepsKeep.{link_is}
 
 module _ (l : Linked) (ok : IsLinked l) (m : Mailbox) (holds : Holds l.ring m) (shows : ShowsLinked l m) (p : ℕ) (item : Item) (before : ℕ) (at : (sender_at l p).point ≡ sends.Link item before) where
@@ -110,37 +113,16 @@ module _ (l : Linked) (ok : IsLinked l) (m : Mailbox) (holds : Holds l.ring m) (
   ]
   flies_else Stub other = flies_other Stub refl
 
-  -- ---- nodes
-
-  long : length l'.nodes ≡ length l.nodes
-  long = length-set l.nodes before node'
-
-  node_same : (e : Entry) → node_for l m e ≡ node_for l' m' e
-  node_same (Of q j) = refl
-  node_same Stub = ap (λ (n : ℕ). n - 1) (sym long)
-
-  node_else : (n : ℕ) → n ≢ before → node_at l' n ≡ node_at l n
-  node_else n other = get_or-set_other l.nodes before n node' _ other
-
-  node_at_it : node_at l' before ≡ node'
-  node_at_it = get_or-set_same l.nodes before node' _ in_nodes
-
-  own_sender : sender_at l' p ≡ sender'
-  own_sender = get_or-set_same l.senders p sender' _ in_table
-
-  other_sender : (q : ℕ) → ¬ (q ≡ p) → sender_at l' q ≡ sender_at l q
-  other_sender q other = get_or-set_other l.senders p q _ _ other
-
   -- ---- its links
 
   abbrev k' : Links
   k' = record { node = node_for l m; next = (links_of l' m').next; head = l.head; tail = l.reader.tail; points = (links_of l' m').points; point = l.reader.point }
 
   next_there : (links_of l' m').next before ≡ link_to (node_for l m entry)
-  next_there = ap (λ (z : Node). z.next) node_at_it ∙ ap link_to node_here
+  next_there = ap (λ (z : Node). z.next) (node_own l before node' in_nodes) ∙ ap link_to node_here
 
   next_else : (n : ℕ) → ¬ (n ≡ before) → (links_of l' m').next n ≡ k.next n
-  next_else n other = ap (λ (z : Node). z.next) (node_else n other)
+  next_else n other = ap (λ (z : Node). z.next) (node_other l before node' n other)
 
   -- the entry that it comes after is left
   place_low : owed.3.0 < length (left_entries m)
@@ -150,17 +132,17 @@ module _ (l : Linked) (ok : IsLinked l) (m : Mailbox) (holds : Holds l.ring m) (
   before_is = owed.3.3
 
   sending : (q : ℕ) → IsSending k' m' q (k'.points q)
-  sending q = elim (cases_eq q p) [
-    | inl same ↦ subst (λ q. IsSending k' m' q (k'.points q)) (sym same) (subst (IsSending k' m' p) (ap (λ (s : Sender). s.point) (sym own_sender)) record { in_flight = flies_own; at_hand = all_exchanged })
-    | inr other ↦ subst (IsSending k' m' q) (ap (λ (s : Sender). s.point) (sym (other_sender q other)))
-        (sending_still m k shows.links entry before owed.3 m'.in_flight (flies_own last) flies_else (links_of l' m').next next_there next_else k'.points l.reader.point q (λ j same. let is : q ≡ p = cc in other is) (k.points q)
-        (λ i swaps same.
-        let hand = subst (IsAtHand k m q) swaps (shows.links.senders q).at_hand in
-        let waits : MayExchange m q = record { some = hand.0.0; new = hand.0.2 } in
-        let its_in : q < length l.senders = sender_within l ok q (λ rest. let both : sends.Swap i ≡ sends.Rest = sym swaps ∙ rest in cc) in
-        fresh_apart l ok m holds q its_in waits (entry_at (left_entries m) owed.3.0) (read_among (left_entries m) owed.3.0 Stub place_low) (before_is ∙ sym same))
-        (shows.links.senders q))
-  ]
+  sending q =
+      each_sender (with_node before node' l) p sender' (λ q s. IsSending k' m' q s.point) (λ _. record { in_flight = flies_own; at_hand = all_exchanged })
+      (λ q other.
+      sending_still m k shows.links entry before owed.3 m'.in_flight (flies_own last) flies_else (links_of l' m').next next_there next_else k'.points l.reader.point q (λ j same. let is : q ≡ p = cc in other is) (k.points q)
+      (λ i swaps same.
+      let hand = subst (IsAtHand k m q) swaps (shows.links.senders q).at_hand in
+      let waits : MayExchange m q = record { some = hand.0.0; new = hand.0.2 } in
+      let its_in : q < length l.senders = sender_within l ok q (λ rest. let both : sends.Swap i ≡ sends.Rest = sym swaps ∙ rest in cc) in
+      fresh_apart l ok m holds q its_in waits (entry_at (left_entries m) owed.3.0) (read_among (left_entries m) owed.3.0 Stub place_low) (before_is ∙ sym same))
+      (shows.links.senders q))
+      q (λ _. in_table)
 
   links : ShowLinks (links_of l' m') m'
   links =
@@ -168,7 +150,7 @@ module _ (l : Linked) (ok : IsLinked l) (m : Mailbox) (holds : Holds l.ring m) (
       (λ swaps same.
       let gone = (subst (IsTailAt k m) swaps shows.links.reader.at_tail).1 in
       stub_not_before l ok m holds shows gone owed.3.0 place_low (same ∙ sym before_is)) shows.links.reader.in_flight shows.links.reader.at_tail in
-      subst (λ node. ShowLinks (record { node = node; next = (links_of l' m').next; head = l.head; tail = l.reader.tail; points = (links_of l' m').points; point = l.reader.point }) m') (λ i e. node_same e i) record {
+      subst (λ node. ShowLinks (record { node = node; next = (links_of l' m').next; head = l.head; tail = l.reader.tail; points = (links_of l' m').points; point = l.reader.point }) m') (nodes_same l before node' m) record {
         chain = chain_linked m k shows.links entry before owed.3 m'.in_flight (flies_own last) flies_else (links_of l' m').next next_there next_else k'.points l.reader.point;
         senders = sending;
         reader = record { in_flight = taking.0; at_tail = taking.1 };
@@ -180,13 +162,7 @@ module _ (l : Linked) (ok : IsLinked l) (m : Mailbox) (holds : Holds l.ring m) (
   sent_now : sent m' p ≡ m.items p
   sent_now =
       let holds' = link_keeps l.ring m holds p in
-      let n = (has_sent m' p (holds'.turns p)).0 in
-      let has = (has_sent m' p (holds'.turns p)).1 in
-      let all : length (m.items p) ≤ n = elim (cases_lt n (count_own p m.order)) [
-        | inl below ↦ absurd (false≢true (sym (flies_own n) ∙ has.waits_in_flight below))
-        | inr past ↦ omega (arith, past, full)
-      ] in
-      has.is ∙ take_all n (m.items p) all
+      sent_linked m' p (holds'.turns p) flies_own ∙ take_all (count_own p m.order) (m.items p) (omega (arith, full))
 
   items_are : m.items p ≡ take last (m.items p) ++ item ∷ []
   items_are =
@@ -236,10 +212,7 @@ module _ (l : Linked) (ok : IsLinked l) (m : Mailbox) (holds : Holds l.ring m) (
   shows_after : ShowsLinked l' m'
   shows_after = record {
     links = links;
-    counted = λ q within. elim (cases_eq q p) [
-      | inl same ↦ subst (λ q. IsCounted m' q (sender_at l' q)) (sym same) (subst (IsCounted m' p) (sym own_sender) counted_own)
-      | inr other ↦ subst (IsCounted m' q) (sym (other_sender q other)) (counted_other q other (omega (arith, within, many)))
-    ];
+    counted = λ q low. each_sender (with_node before node' l) p sender' (λ q s. q < length l.senders → IsCounted m' q s) (λ _ _. counted_own) counted_other q (λ _. in_table) (omega (arith, low, many));
     no_others = λ q past. shows.no_others q (omega (arith, past, many));
     held = λ n. (
       λ held. let found = (shows.held n).0 held in (found.0, found.1, record { passed = found.2.passed; kept = found.2.kept }, found.3),
@@ -247,8 +220,8 @@ module _ (l : Linked) (ok : IsLinked l) (m : Mailbox) (holds : Holds l.ring m) (
     );
   }
 
-pub store_link_shows : StoreLinkShows
-store_link_shows events m l n p ok leads shows moved =
+pub store_link_shows : (p : ℕ) → StepLinks (step.StoreLink p)
+store_link_shows p events m l n ok leads shows moved =
     let h = mapped _ _ n moved in
     let at = link_is _ h.0 h.1 in
     let holds = holds_after l.ring events m leads in

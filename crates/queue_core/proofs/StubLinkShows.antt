@@ -1,30 +1,31 @@
 -- StubLink links the stub.
-use Rattle.std.proofs.Common.{◌≡◌, ◌∙◌, ◌<◌, ◌-◌, ℕ, true, false, filter, length, map, not, ap, sym, refl, subst, arith, Some, get_or-set_other, get_or-set_same}
+use Rattle.std.proofs.Common.{◌≡◌, ◌∙◌, ◌<◌, ℕ, true, false, filter, length, map, not, ap, sym, refl, subst, arith}
 use Rattle.std.specs.Prelude.{◌&&◌}
 use Rattle.std.specs.List.{enumerate_from}
 use Rattle.std.proofs.lemmas.Bool.{false_from_ne_true, false≢true}
-use Rattle.std.proofs.lemmas.List.{length-set}
 use Rattle.std.proofs.lemmas.Map.Views.{any-filter_same}
+use Rattle.queue_core.specs.declared.entry.Entry.{Entry}
+use Rattle.queue_core.specs.declared.entry.Entry.TheVariants.{Of, Stub}
 use Rattle.queue_core.specs.declared.words.Node.{Node}
-use Rattle.queue_core.specs.declared.reader.ReaderPoint.{ReaderPoint}
 use Rattle.queue_core.specs.declared.reader.ReaderPoint.TheVariants as reads
 use Rattle.queue_core.specs.declared.sender.SenderPoint.TheVariants as sends
-use Rattle.queue_core.specs.Mailbox.{Entry, Mailbox, is_among, is_same, left_entries, sent}
-use Rattle.queue_core.specs.Mailbox.Entry.{Of, Stub}
+use Rattle.queue_core.specs.declared.step.Step.TheVariants as step
+use Rattle.queue_core.specs.Mailbox.{Mailbox, is_among, is_same, left_entries, sent}
 use Rattle.queue_core.specs.Events.{MayExchange, after}
 use Rattle.queue_core.specs.Events.Event.{StubLink}
 use Rattle.queue_core.specs.Chain.{entry_at}
-use Rattle.queue_core.specs.Linked.{IsLinked, IsReaderPoint, Linked, link_to, node_at, sender_at, stub_of, with_node}
+use Rattle.queue_core.specs.Linked.{IsLinked, IsReaderPoint, Linked, link_to, node_at, sender_at, stub_of}
 use Rattle.queue_core.specs.Links.{IsAtHand, IsOwedByReader, IsTailAt, Links, ShowLinks, is_in_flight}
-use Rattle.queue_core.specs.Shows.{IsCounted, ShowsLinked, links_of, node_for}
-use Rattle.queue_core.specs.Steps.{goes_to, stub_link_at}
-use Rattle.queue_core.specs.Laws.{StubLinkShows}
+use Rattle.queue_core.specs.Shows.{IsCounted, ShowsLinked, links_of}
 use Rattle.queue_core.proofs.Entries.{kept_passes, read_among, same_true}
 use Rattle.queue_core.proofs.EventsKeep.{holds_after}
 use Rattle.queue_core.proofs.LandedLemmas.{chain_linked, sending_still}
 use Rattle.queue_core.proofs.MailboxHolds.{Holds}
 use Rattle.queue_core.proofs.NodeLemmas.{fresh_apart}
-use Rattle.queue_core.proofs.StepLemmas.{sender_within, some_is}
+use Rattle.queue_core.proofs.NodeWords.{node_other, node_own, nodes_same}
+use Rattle.queue_core.proofs.Parts.{StepLinks}
+use Rattle.queue_core.proofs.StepLemmas.{sender_within}
+use Rattle.queue_core.proofs.LookLemmas.{link_leaves, stub_linked}
 
 module _ (l : Linked) (ok : IsLinked l) (m : Mailbox) (holds : Holds l.ring m) (shows : ShowsLinked l m) (before : ℕ) (at : l.reader.point ≡ reads.Link before) where
   abbrev m' : Mailbox
@@ -34,7 +35,7 @@ module _ (l : Linked) (ok : IsLinked l) (m : Mailbox) (holds : Holds l.ring m) (
   node' = record (node_at l before) { next = link_to (stub_of l) }
 
   abbrev l' : Linked
-  l' = goes_to reads.Last (with_node before node' l)
+  l' = stub_linked before l
 
   abbrev k : Links
   k = links_of l m
@@ -61,28 +62,21 @@ module _ (l : Linked) (ok : IsLinked l) (m : Mailbox) (holds : Holds l.ring m) (
 
   -- ---- its links
 
-  long : length l'.nodes ≡ length l.nodes
-  long = length-set l.nodes before node'
-
-  node_same : (e : Entry) → node_for l m e ≡ node_for l' m' e
-  node_same (Of q j) = refl
-  node_same Stub = ap (λ (n : ℕ). n - 1) (sym long)
-
   abbrev next : ℕ → ℕ
   next = (links_of l' m').next
 
   next_there : next before ≡ link_to (stub_of l)
-  next_there = ap (λ (z : Node). z.next) (get_or-set_same l.nodes before node' _ in_nodes)
+  next_there = ap (λ (z : Node). z.next) (node_own l before node' in_nodes)
 
   next_else : (n : ℕ) → ¬ (n ≡ before) → next n ≡ k.next n
-  next_else n other = ap (λ (z : Node). z.next) (get_or-set_other l.nodes before n node' _ other)
+  next_else n other = ap (λ (z : Node). z.next) (node_other l before node' n other)
 
   place_low : owed.1.0 < length (left_entries m)
   place_low = omega (arith, owed.1.1)
 
   links : ShowLinks (links_of l' m') m'
   links =
-      subst (λ node. ShowLinks (record { node = node; next = next; head = l.head; tail = l.reader.tail; points = k.points; point = reads.Last }) m') (λ i e. node_same e i) record {
+      subst (λ node. ShowLinks (record { node = node; next = next; head = l.head; tail = l.reader.tail; points = k.points; point = reads.Last }) m') (nodes_same l before node' m) record {
         chain = chain_linked m k shows.links Stub before owed.1 m'.in_flight flies_stub flies_else next next_there next_else k.points reads.Last;
         senders = λ q.
             sending_still m k shows.links Stub before owed.1 m'.in_flight flies_stub flies_else next next_there next_else k.points reads.Last q (λ j same. cc) (k.points q)
@@ -112,18 +106,8 @@ module _ (l : Linked) (ok : IsLinked l) (m : Mailbox) (holds : Holds l.ring m) (
     );
   }
 
-pub stub_link_shows : StubLinkShows
-stub_link_shows events m l n ok leads shows moved = by l.reader.point refl moved
-  where
-    holds : Holds l.ring m
-    holds = holds_after l.ring events m leads
-
-    by : (point : ReaderPoint) → l.reader.point ≡ point → stub_link_at point l ≡ Some n → (is_among Stub m.in_flight ≡ true) × ShowsLinked n (after StubLink m)
-    by (reads.Link before) at e = ((owed l ok m holds shows before at).0, some_is (λ n. ShowsLinked n (after StubLink m)) (l' l ok m holds shows before at) n e (shows_after l ok m holds shows before at))
-    by reads.Rest at e = cc
-    by reads.Second at e = cc
-    by reads.StubHead at e = cc
-    by reads.NodeHead at e = cc
-    by reads.Null at e = cc
-    by reads.Swap at e = cc
-    by reads.Last at e = cc
+pub stub_link_shows : StepLinks step.StubLink
+stub_link_shows events m l n ok leads shows moved =
+    let holds = holds_after l.ring events m leads in
+    let h = link_leaves l n l.reader.point moved in
+    ((owed l ok m holds shows h.0 h.1).0, subst (λ n. ShowsLinked n (after StubLink m)) h.2 (shows_after l ok m holds shows h.0 h.1))

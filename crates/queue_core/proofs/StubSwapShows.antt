@@ -1,30 +1,29 @@
 -- StubSwap exchanges the stub in.
-use Rattle.std.proofs.Common.{◌≡◌, ◌∙◌, ◌-◌, false, Some, ap, sym, refl}
+use Rattle.std.proofs.Common.{◌≡◌, ◌∙◌, false, ap, sym, subst}
 use Rattle.std.proofs.lemmas.Bool.{false≢true}
-use Rattle.queue_core.specs.declared.reader.ReaderPoint.{ReaderPoint}
+use Rattle.queue_core.specs.declared.entry.Entry.TheVariants.{Stub}
 use Rattle.queue_core.specs.declared.reader.ReaderPoint.TheVariants as reads
+use Rattle.queue_core.specs.declared.step.Step.TheVariants as step
 use Rattle.queue_core.specs.Mailbox.{Mailbox, is_among, left_entries}
-use Rattle.queue_core.specs.Mailbox.Entry.{Stub}
 use Rattle.queue_core.specs.Events.{after}
 use Rattle.queue_core.specs.Events.Event.{StubIn}
 use Rattle.queue_core.specs.Chain.{entry_at}
-use Rattle.queue_core.specs.Linked.{IsLinked, Linked, link_to, stub_of}
+use Rattle.queue_core.specs.Linked.{IsLinked, Linked}
 use Rattle.queue_core.specs.Shows.{ShowsLinked, links_of}
-use Rattle.queue_core.specs.Steps.{goes_to, stub_swap_at}
-use Rattle.queue_core.specs.Laws.{StubSwapShows}
 use Rattle.queue_core.proofs.EventsKeep.{holds_after}
 use Rattle.queue_core.proofs.ExchangeLemmas.{counted_kept, held_kept, may_stub_in, stub_in_shows}
 use Rattle.queue_core.proofs.Entries.{read_among}
 use Rattle.queue_core.proofs.MailboxHolds.{Holds}
 use Rattle.queue_core.proofs.NodeLemmas.{not_stub}
-use Rattle.queue_core.proofs.StepLemmas.{some_is}
+use Rattle.queue_core.proofs.Parts.{StepLinks}
+use Rattle.queue_core.proofs.LookLemmas.{stub_swapped, swap_leaves}
 
 module _ (l : Linked) (ok : IsLinked l) (m : Mailbox) (holds : Holds l.ring m) (shows : ShowsLinked l m) (at : l.reader.point ≡ reads.Swap) where
   abbrev m' : Mailbox
   m' = after StubIn m
 
   abbrev l' : Linked
-  l' = record (goes_to (reads.Link (l.head - 1)) l) { head = link_to (stub_of l) }
+  l' = stub_swapped l
 
   may : is_among Stub (left_entries m) ≡ false
   may = may_stub_in l.ring m holds (links_of l m) shows.links at
@@ -41,21 +40,8 @@ module _ (l : Linked) (ok : IsLinked l) (m : Mailbox) (holds : Holds l.ring m) (
     );
   }
 
-  at_point : (n : Linked) → stub_swap_at reads.Swap l ≡ Some n → ShowsLinked n m'
-  at_point n moved = some_is (λ n. ShowsLinked n m') l' n moved shows_after
-
-pub stub_swap_shows : StubSwapShows
-stub_swap_shows events m l n ok leads shows moved = by l.reader.point refl moved
-  where
-    holds : Holds l.ring m
-    holds = holds_after l.ring events m leads
-
-    by : (point : ReaderPoint) → l.reader.point ≡ point → stub_swap_at point l ≡ Some n → (is_among Stub (left_entries m) ≡ false) × ShowsLinked n (after StubIn m)
-    by reads.Swap at e = (may l ok m holds shows at, at_point l ok m holds shows at n e)
-    by reads.Rest at e = cc
-    by reads.Second at e = cc
-    by reads.StubHead at e = cc
-    by reads.NodeHead at e = cc
-    by reads.Null at e = cc
-    by reads.Last at e = cc
-    by (reads.Link before) at e = cc
+pub stub_swap_shows : StepLinks step.StubSwap
+stub_swap_shows events m l n ok leads shows moved =
+    let holds = holds_after l.ring events m leads in
+    let h = swap_leaves l n l.reader.point moved in
+    (may l ok m holds shows h.0, subst (λ n. ShowsLinked n (after StubIn m)) h.1 (shows_after l ok m holds shows h.0))

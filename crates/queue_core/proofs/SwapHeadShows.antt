@@ -1,25 +1,26 @@
 -- SwapHead is an exchange.
-use Rattle.std.proofs.Common.{◌≡◌, ◌∙◌, ◌<◌, ◌-◌, ℕ, false, length, ap, sym, subst, inl, inr, arith, get_or-set_other, get_or-set_same}
-use Rattle.std.proofs.lemmas.Bool.{cases_eq}
+use Rattle.std.proofs.Common.{◌≡◌, ◌∙◌, ◌<◌, ◌-◌, ℕ, false, length, ap, sym, subst, arith, get_or-set_other, get_or-set_same}
 use Rattle.std.proofs.lemmas.List.{length-set}
+use Rattle.queue_core.specs.declared.entry.Entry.{Entry}
+use Rattle.queue_core.specs.declared.entry.Entry.TheVariants.{Of, Stub}
 use Rattle.queue_core.specs.declared.item.Item.{Item}
 use Rattle.queue_core.specs.declared.sender.Sender.{Sender}
 use Rattle.queue_core.specs.declared.sender.SenderPoint.TheVariants as sends
-use Rattle.queue_core.specs.Mailbox.{Entry, Mailbox, is_among, left_entries}
-use Rattle.queue_core.specs.Mailbox.Entry.{Of, Stub}
+use Rattle.queue_core.specs.declared.step.Step.TheVariants as step
+use Rattle.queue_core.specs.Mailbox.{Mailbox, is_among, left_entries}
 use Rattle.queue_core.specs.Events.{MayExchange, after}
 use Rattle.queue_core.specs.Events.Event.{Exchange}
 use Rattle.queue_core.specs.Chain.{entry_at}
 use Rattle.queue_core.specs.Linked.{IsLinked, Linked, link_to, node_of, sender_at, with_point}
 use Rattle.queue_core.specs.Links.{IsAtHand, IsOwedBySender, ShowLinks, is_in_flight, last_of}
 use Rattle.queue_core.specs.Shows.{IsCounted, ShowsLinked, links_of, node_for}
-use Rattle.queue_core.specs.Laws.{SwapHeadShows}
 use Rattle.queue_core.proofs.EventsKeep.{holds_after, not_left}
 use Rattle.queue_core.proofs.ExchangeLemmas.{counted_kept, exchange_shows, held_kept, may_exchange}
 use Rattle.queue_core.proofs.Entries.{read_among}
 use Rattle.queue_core.proofs.MailboxHolds.{Holds}
 use Rattle.queue_core.proofs.NodeLemmas.{fresh_apart, node_is, sent_before}
-use Rattle.queue_core.proofs.StepLemmas.{mapped, sender_within}
+use Rattle.queue_core.proofs.Parts.{StepLinks}
+use Rattle.queue_core.proofs.StepLemmas.{each_sender, mapped, sender_within}
 use Rattle.queue_core.proofs.StepsKeep.{swap_is}
 
 module _ (l : Linked) (ok : IsLinked l) (m : Mailbox) (holds : Holds l.ring m) (shows : ShowsLinked l m) (p : ℕ) (item : Item) (at : (sender_at l p).point ≡ sends.Swap item) where
@@ -73,11 +74,10 @@ module _ (l : Linked) (ok : IsLinked l) (m : Mailbox) (holds : Holds l.ring m) (
   still = counted_kept l.ring m holds entry new (λ q k same. may.new)
 
   counted : (q : ℕ) → q < length l'.senders → IsCounted m' q (sender_at l' q)
-  counted q within = elim (cases_eq q p) [
-    | inl same ↦ subst (λ q. IsCounted m' q (sender_at l' q)) (sym same) (subst (IsCounted m' p) (sym own_sender)
-        (let was = still p (sender_at l p) (shows.counted p in_table) in record { count = was.count; ended = was.ended }))
-    | inr other ↦ subst (IsCounted m' q) (sym (other_sender q other)) (still q (sender_at l q) (shows.counted q (omega (arith, within, many))))
-  ]
+  counted q low =
+      each_sender l p (record (sender_at l p) { point = sends.Link item (l.head - 1) }) (λ q s. q < length l.senders → IsCounted m' q s)
+      (λ _ _. let was = still p (sender_at l p) (shows.counted p in_table) in record { count = was.count; ended = was.ended })
+      (λ q other within. still q (sender_at l q) (shows.counted q within)) q (λ _. in_table) (omega (arith, low, many))
 
   shows_after : ShowsLinked l' m'
   shows_after = record {
@@ -90,8 +90,8 @@ module _ (l : Linked) (ok : IsLinked l) (m : Mailbox) (holds : Holds l.ring m) (
     );
   }
 
-pub swap_head_shows : SwapHeadShows
-swap_head_shows events m l n p ok leads shows moved =
+pub swap_head_shows : (p : ℕ) → StepLinks (step.SwapHead p)
+swap_head_shows p events m l n ok leads shows moved =
     let h = mapped _ _ n moved in
     let at = swap_is _ h.0 h.1 in
     let holds = holds_after l.ring events m leads in

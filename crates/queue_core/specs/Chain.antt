@@ -1,7 +1,7 @@
 -- A chain of nodes from a tail to a head, whatever node each entry stands in.
 use Rattle.std.specs.Prelude.{ℕ, ◌≡◌, ◌<◌, ◌+◌, ◌-◌, Bool, false, List, AllPairs, length, slice_index_or, if◌then◌else◌}
-use Rattle.queue_core.specs.Mailbox.{Entry}
-use Rattle.queue_core.specs.Mailbox.Entry.{Stub}
+use Rattle.queue_core.specs.declared.entry.Entry.{Entry}
+use Rattle.queue_core.specs.declared.entry.Entry.TheVariants.{Stub}
 use Rattle.queue_core.specs.Linked.{link_to, null}
 
 -- the entry at a place

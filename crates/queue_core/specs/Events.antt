@@ -1,11 +1,12 @@
 -- What may happen in the abstract mailbox, and what comes of it.
 use Rattle.std.specs.Prelude.{ℕ, ◌≡◌, ◌==◌, ◌<◌, ◌+◌, ◌-◌, ◌%◌, ◌++◌, Bool, false, true, not, List, [], ◌∷◌, length, slice_index_or, if◌then◌else◌}
 use Rattle.std.specs.List.{filter}
+use Rattle.queue_core.specs.declared.entry.Entry.{Entry}
+use Rattle.queue_core.specs.declared.entry.Entry.TheVariants.{Of, Stub}
 use Rattle.queue_core.specs.declared.item.Item.{Item}
 use Rattle.queue_core.specs.declared.item.Item.TheVariants.{Post, End}
 use Rattle.queue_core.specs.Items.{is_end}
-use Rattle.queue_core.specs.Mailbox.{Entry, IsHeld, Mailbox, is_among, is_same, item_at, left_entries, opening, sent}
-use Rattle.queue_core.specs.Mailbox.Entry.{Of, Stub}
+use Rattle.queue_core.specs.Mailbox.{IsHeld, Mailbox, is_among, is_same, item_at, left_entries, opening, sent}
 
 pub data Event : Type 0 where
   -- a sender fills an item

@@ -7,4 +7,5 @@ pub mod Steps
 pub mod Chain
 pub mod Links
 pub mod Shows
+pub mod StepEvents
 pub mod Laws

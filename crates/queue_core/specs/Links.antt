@@ -1,12 +1,13 @@
 -- How the links of a mailbox show the abstract one. Nothing here says what is written in a node beside its link, how often a sender has posted, or how often a node was given back.
 use Rattle.std.specs.Prelude.{ℕ, ◌≡◌, ◌<◌, ◌+◌, ◌-◌, Bool, false, true, length, ⊤}
+use Rattle.queue_core.specs.declared.entry.Entry.{Entry}
+use Rattle.queue_core.specs.declared.entry.Entry.TheVariants.{Of, Stub}
 use Rattle.queue_core.specs.declared.item.Item.{Item}
 use Rattle.queue_core.specs.declared.sender.SenderPoint.{SenderPoint}
 use Rattle.queue_core.specs.declared.sender.SenderPoint.TheVariants as sends
 use Rattle.queue_core.specs.declared.reader.ReaderPoint.{ReaderPoint}
 use Rattle.queue_core.specs.declared.reader.ReaderPoint.TheVariants as reads
-use Rattle.queue_core.specs.Mailbox.{Entry, Mailbox, is_among, item_at, left_entries}
-use Rattle.queue_core.specs.Mailbox.Entry.{Of, Stub}
+use Rattle.queue_core.specs.Mailbox.{Mailbox, is_among, item_at, left_entries}
 use Rattle.queue_core.specs.Chain.{IsChain, entry_at}
 use Rattle.queue_core.specs.Linked.{null}
 

@@ -2,13 +2,10 @@
 use Rattle.std.specs.Prelude.{ℕ, ◌≡◌, ◌==◌, ◌&&◌, Bool, false, true, not, List, [], ◌∷◌, take, drop, slice_index_or}
 use Rattle.std.specs.List.{enumerate_from, filter, filter_map, list_any}
 use Rattle.std.specs.Prelude.{map, Option, Some, None}
+use Rattle.queue_core.specs.declared.entry.Entry.{Entry}
+use Rattle.queue_core.specs.declared.entry.Entry.TheVariants.{Of, Stub}
 use Rattle.queue_core.specs.declared.item.Item.{Item}
 use Rattle.queue_core.specs.declared.item.Item.TheVariants.{End}
-
--- what is exchanged in: the item that a sender filled at a place among its items, or the stub
-pub data Entry : Type 0 where
-  Of : (sender place : ℕ) → Entry
-  Stub : Entry
 
 abbrev pub is_same : Entry → Entry → Bool
 is_same (Of p k) (Of q j) = (p == q) && (k == j)

@@ -1,5 +1,7 @@
 -- How a linked core shows an abstract mailbox: what its words and its program points are where the mailbox has come so far. Each clause names the steps that rest on it.
 use Rattle.std.specs.Prelude.{ℕ, ◌≡◌, ◌<◌, ◌≤◌, ◌==◌, ◌+◌, ◌↔◌, false, true, not, [], length, filter, slice_index_or, ⊤}
+use Rattle.queue_core.specs.declared.entry.Entry.{Entry}
+use Rattle.queue_core.specs.declared.entry.Entry.TheVariants.{Of, Stub}
 use Rattle.queue_core.specs.declared.TheConstants.{MOST_NODES, MOST_SENDERS}
 use Rattle.queue_core.specs.declared.item.Item.{Item}
 use Rattle.queue_core.specs.declared.item.Item.TheVariants.{End}
@@ -7,8 +9,7 @@ use Rattle.queue_core.specs.declared.sender.Sender.{Sender}
 use Rattle.queue_core.specs.declared.sender.SenderPoint.{SenderPoint}
 use Rattle.queue_core.specs.declared.sender.SenderPoint.TheVariants as sends
 use Rattle.queue_core.specs.Items.{is_end}
-use Rattle.queue_core.specs.Mailbox.{Entry, IsHeld, Mailbox, is_among, item_at, opening, sent}
-use Rattle.queue_core.specs.Mailbox.Entry.{Of, Stub}
+use Rattle.queue_core.specs.Mailbox.{IsHeld, Mailbox, is_among, item_at, opening, sent}
 use Rattle.queue_core.specs.Events.{slot_at}
 use Rattle.queue_core.specs.Linked.{Linked, amount_word, first_node, is_held, line_word, node_at, opening_core, sender_at, stub_of}
 use Rattle.queue_core.specs.Links.{Links, ShowLinks, last_of}

@@ -6,6 +6,7 @@ use Rattle.queue_core.specs.declared.item.Item.TheVariants.{Post, End}
 use Rattle.queue_core.specs.declared.item.Posted.TheVariants.{Sent, Full}
 use Rattle.queue_core.specs.declared.item.Took.{Took}
 use Rattle.queue_core.specs.declared.item.Took.TheVariants as took
+use Rattle.queue_core.specs.declared.sender.Sender.{Sender}
 use Rattle.queue_core.specs.declared.sender.SenderPoint.{SenderPoint}
 use Rattle.queue_core.specs.declared.sender.SenderPoint.TheVariants as sends
 use Rattle.queue_core.specs.declared.reader.ReaderPoint.{ReaderPoint}
@@ -43,14 +44,18 @@ abbrev pub link_due : SenderPoint → Option (Item × ℕ)
 link_due (sends.Link item before) = Some (item, before)
 link_due _ = None
 
--- It looks whether its next ring node was given back as often as it has gone round.
+-- whether the node of an item was given back as often as its sender has gone round
+abbrev pub is_free : Linked → ℕ → Item → Bool
+is_free l p item = (node_at l (node_of l p item)).turn == (sender_at l p).count / l.ring
+
+-- It looks whether its next ring node is free.
 abbrev pub load_turn : (p line amount : ℕ) → Linked → Option Linked
 load_turn p line amount l =
     let sender = sender_at l p in
     let item = Post line amount in
     if is_at_rest sender.point && (not sender.ended && (nat_lt sender.count MOST_POSTS && (nat_lt line MOST_POSTS && (nat_lt 0 amount && nat_le amount MOST_AMOUNT))))
     then Some (
-    if (node_at l (node_of l p item)).turn == sender.count / l.ring
+    if is_free l p item
     then with_point p (sends.Line item) l
     else with_sender p (record sender { last = Some Full }) l)
     else None
@@ -89,16 +94,19 @@ swap_head p l =
     option_map (λ item. record (with_point p (sends.Link item (l.head - 1)) l) { head = link_to (node_of l p item) })
     (swap_due (sender_at l p).point)
 
+-- a sender whose item is sent
+abbrev pub after_sent : Item → Sender → Sender
+after_sent item sender = record {
+  point = sends.Rest;
+  count = if is_end item then sender.count else sender.count + 1;
+  ended = sender.ended || is_end item;
+  last = Some Sent;
+}
+
 abbrev pub store_link : ℕ → Linked → Option Linked
 store_link p l =
     option_map (λ linked.
-    let sender = sender_at l p in
-    with_sender p (record {
-      point = sends.Rest;
-      count = if is_end linked.0 then sender.count else sender.count + 1;
-      ended = sender.ended || is_end linked.0;
-      last = Some Sent;
-    }) (with_node linked.1 (record (node_at l linked.1) { next = link_to (node_of l p linked.0) }) l))
+    with_sender p (after_sent linked.0 (sender_at l p)) (with_node linked.1 (record (node_at l linked.1) { next = link_to (node_of l p linked.0) }) l))
     (link_due (sender_at l p).point)
 
 -- ---- the steps of the reader

@@ -5,7 +5,8 @@ ghost use Rattle.std.specs.Prelude.{◌≡◌};
 ghost use Rattle.queue_core.specs.declared.TheConstants.{MOST_AMOUNT, MOST_NODES, MOST_POSTS, MOST_SENDERS};
 ghost use Rattle.queue_core.specs.declared.words.TheConstants.{NULL};
 ghost use Rattle.queue_core.specs.Received.{AllAreReceivedInOrder};
-ghost use Rattle.queue_core.specs.Laws.{LoadHeadShows, LoadNextShows, StoreLinkShows, StubLinkShows, StubNullShows, StubSwapShows, SwapHeadShows};
+ghost use Rattle.queue_core.specs.Laws.{AllRunsShow, EndLineShows, GiveBackShows, GiveBackTells, HeldTells, LoadAmountShows, LoadHeadShows, LoadHeadTells, LoadLineShows, LoadNextShows, LoadTurnShows};
+ghost use Rattle.queue_core.specs.Laws.{StoreAmountShows, StoreLineShows, StoreLinkShows, StoreNullShows, StubLinkShows, StubNullShows, StubSwapShows, SwapHeadShows};
 ghost use Rattle.queue_core.specs.Shows.{OpeningShows};
 
 /// After every list of events from the opening on, what was received of each sender is the first of what it
@@ -21,8 +22,33 @@ pub fn law_opening()
     ensures { OpeningShows }
 {}
 
-/// Where a core shows what events lead to, a sender's exchange of the head is the exchange of its last item, and the core
-/// shows it. What was the head is the node that gets the link.
+/// Where a core shows what events lead to, a sender that finds its next node as often given back as it has gone round fills
+/// its item: every item that stood in the node was given back. Else nothing is different.
+pub fn law_load_turn()
+    ensures { LoadTurnShows }
+{}
+
+/// A sender stores the line of its item, which nobody reads yet.
+pub fn law_store_line()
+    ensures { StoreLineShows }
+{}
+
+/// A sender that stores the line of its end mark fills it. Its node is used for nothing else.
+pub fn law_end_line()
+    ensures { EndLineShows }
+{}
+
+/// A sender stores the amount of its item.
+pub fn law_store_amount()
+    ensures { StoreAmountShows }
+{}
+
+/// A sender stores null in its node: no entry that is left stands in it.
+pub fn law_store_null()
+    ensures { StoreNullShows }
+{}
+
+/// A sender's exchange of the head is the exchange of its last item. What was the head is the node that gets the link.
 pub fn law_swap_head()
     ensures { SwapHeadShows }
 {}
@@ -32,19 +58,19 @@ pub fn law_store_link()
     ensures { StoreLinkShows }
 {}
 
-/// The reader's load of next at the tail is the pass of an entry where it finds a link, and shows the same as before
-/// where it finds null.
+/// The reader's load of next at the tail is the pass of an entry where it finds a link. Where it finds null nothing is
+/// different.
 pub fn law_load_next()
     ensures { LoadNextShows }
 {}
 
-/// The reader's load of the head shows the same as before. Where the tail is the stub and the head too, the stub alone is
-/// left.
+/// The reader's load of the head changes nothing. Where the tail is the stub and the head too, the stub alone is left.
 pub fn law_load_head()
-    ensures { LoadHeadShows }
+    ensures shows { LoadHeadShows }
+    ensures tells { LoadHeadTells }
 {}
 
-/// The reader's store of null in the stub shows the same as before.
+/// The reader's store of null in the stub changes nothing that is shown.
 pub fn law_stub_null()
     ensures { StubNullShows }
 {}
@@ -57,6 +83,31 @@ pub fn law_stub_swap()
 /// The reader's store of a link links the stub.
 pub fn law_stub_link()
     ensures { StubLinkShows }
+{}
+
+/// The reader's load of a line changes nothing. The words of a node that is held are those of the item that is held in it.
+pub fn law_load_line()
+    ensures shows { LoadLineShows }
+    ensures tells { HeldTells }
+{}
+
+/// The reader's load of an amount changes nothing. The words of a node that is held are those of the item that is held in it.
+pub fn law_load_amount()
+    ensures shows { LoadAmountShows }
+    ensures tells { HeldTells }
+{}
+
+/// The reader's addition to a turn gives back the item that is held in the node. Nothing that is left stands in it, so nobody
+/// is about to store a link in it.
+pub fn law_give_back()
+    ensures shows { GiveBackShows }
+    ensures tells { GiveBackTells }
+{}
+
+/// Whatever steps are made on a mailbox that was just opened, their events lead to an abstract mailbox, and the core
+/// shows it.
+pub fn law_all_runs()
+    ensures { AllRunsShow }
 {}
 
 /// The limits of a mailbox, and the word of a link to no node.

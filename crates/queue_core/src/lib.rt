@@ -8,6 +8,7 @@
 //! puts in where the queue would run empty.
 #![tactic(auto)]
 
+mod entry;
 mod item;
 pub mod laws;
 mod linked;
@@ -19,9 +20,13 @@ mod state;
 mod step;
 mod words;
 
+pub use entry::Entry;
 pub use item::{Item, Posted, Took};
 pub use linked::Core;
+pub use reader::{Reader, ReaderPoint};
+pub use sender::{Sender, SenderPoint};
 pub use step::{Step, Stepped};
+pub use words::NULL;
 
 /// The most senders of a mailbox.
 pub const MOST_SENDERS: u64 = 8;

@@ -1,10 +1,7 @@
 //! A sender: where it is in its call, and what it has sent.
 
-ghost use Rattle.std.specs.Prelude.{◌≡◌, ◌+◌, ◌<◌, ◌^◌, ◌||◌, Some, if◌then◌else◌};
-ghost use Rattle.queue_core.specs.declared.item.Posted.TheVariants.{Sent};
-ghost use Rattle.queue_core.specs.declared.sender.SenderPoint.TheVariants.{Rest};
-ghost use Rattle.queue_core.specs.Items.{is_end};
-ghost use Rattle.queue_core.specs.Steps.{amount_due, is_at_rest, line_due, link_due, null_due, swap_due};
+ghost use Rattle.std.specs.Prelude.{◌≡◌, ◌+◌, ◌<◌, ◌^◌};
+ghost use Rattle.queue_core.specs.Steps.{after_sent, amount_due, is_at_rest, line_due, link_due, null_due, swap_due};
 
 use crate::item::{Item, Posted};
 
@@ -100,7 +97,7 @@ impl Sender {
     /// The sender when its item is sent.
     pub(crate) fn sent(self, item: Item) -> Sender
         requires { self.count + 1 < 2 ^ 64 }
-        ensures { result ≡ record { point = Rest; count = if is_end item then self.count else self.count + 1; ended = self.ended || is_end item; last = Some Sent } }
+        ensures { result ≡ after_sent item self }
     {
         let (count, ended) = match item {
             Item::Post { .. } => (self.count + 1, self.ended),

@@ -1,5 +1,6 @@
-use Rattle.queue_core.proofs.ReaderLooks.{stub_null_shows}
+use Rattle.queue_core.specs.declared.step.Step.TheVariants as step
+use Rattle.queue_core.proofs.StepLaws.{step_shows}
 use Rattle.queue_core.proofs.laws.law_stub_null.Goals as goal
 
 pub returns : goal.returns
-returns c = stub_null_shows
+returns c = step_shows step.StubNull
