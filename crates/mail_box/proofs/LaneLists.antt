@@ -1,5 +1,5 @@
 -- What a change of one pass does to the receiver.
-use Rattle.std.proofs.Common.{arith, ◌≡◌, ◌<◌, ◌≤◌, ◌+◌, ℕ, zero, suc, Bool, true, false, true≢false, List, [], ◌∷◌, ◌++◌, All, HoldsAt, Option, Some, None, cond, length, map, get_or, set, sym, refl, ap, ◌∙◌, subst, vec_len, below_more, ⊎_elim}
+use Rattle.std.proofs.Common.{arith, ◌≡◌, ◌<◌, ◌≤◌, ◌+◌, ℕ, zero, suc, Bool, true, false, true≢false, List, [], ◌∷◌, ◌++◌, All, Option, Some, None, cond, length, map, get_or, set, sym, refl, ap, ◌∙◌, subst, vec_len, ⊎_elim}
 use Rattle.std.proofs.Math.Seq.{map-set_same}
 use Rattle.std.proofs.lemmas.List.{get_or-map, get_or_default, get_or_append_left, get_or_push, length_push, get_or-set_other, get_or-set_same, length-map, map-set}
 use Rattle.std.proofs.lemmas.List.Elements.{All-push, All-tail}
@@ -13,10 +13,9 @@ use Rattle.crossbeam_queue.specs.declared.array_queue.Slotted.{Slotted}
 use Rattle.crossbeam_queue.specs.Passes.{IsPassOf, IsSamePass, Pass, ruled_capacity, view}
 use Rattle.mail_box.specs.declared.lane.Log.{Log}
 use Rattle.mail_box.specs.declared.lane_mail.Lanes.{Lanes}
-use Rattle.mail_box.specs.declared.lane_mail.LaneSender.{LaneSender}
 use Rattle.mail_box.specs.Mails.{Begins, IsFirstOf, IsWhole, MatchTook, ReceiverView, SenderView, opened_receiver, opened_sender, put_at, with_item, with_sender}
 use Rattle.mail_box.specs.Lanes.{AreOpened, AreSeated, BeginsLane, MayTake, log}
-use Rattle.mail_box.specs.LaneViews.{IsWholeAmong, got_by, known_by, receiver_at, sender_of}
+use Rattle.mail_box.specs.LaneViews.{IsWholeAmong, got_by, known_by, receiver_at}
 
 -- one element was replaced
 get_or_put : {A : Type 0} (xs : List A) (k : ℕ) (y d : A) (n : ℕ) → k < length xs → get_or (set xs k y) n d ≡ put_at k y (λ m. get_or xs m d) n
@@ -185,15 +184,6 @@ whole_all mailbox passes turn late early number sent e =
 pub opens_sender : (m m' : Lanes) (number most : ℕ) (sent : List Item) → m' ≡ m → sent ≡ []
     → record { mailbox = m'; number = number; nodes = m'.nodes; left = most; is_ended = false; sent = sent } ≡ opened_sender m number m.nodes most
 opens_sender m m' number most sent e f i = record { mailbox = e i; number = number; nodes = (e i).nodes; left = most; is_ended = false; sent = f i }
-
-pub seats_more : (m : Lanes) (most number : ℕ) (senders senders' : List LaneSender) (s : LaneSender) → senders' ≡ senders ++ s ∷ [] → length senders ≡ number
-    → ((k : ℕ) → k < number → HoldsAt (λ t. sender_of t ≡ opened_sender m k m.nodes most) senders k) → sender_of s ≡ opened_sender m number m.nodes most
-    → (k : ℕ) → k < number + 1 → HoldsAt (λ t. sender_of t ≡ opened_sender m k m.nodes most) senders' k
-seats_more m most number senders senders' s e count was last k below d =
-    subst (λ l. sender_of (get_or l k d) ≡ opened_sender m k m.nodes most) (sym e)
-    (below_more (λ i. sender_of (get_or (senders ++ s ∷ []) i d) ≡ opened_sender m i m.nodes most) number
-    (λ i low. ap sender_of (get_or_append_left senders (s ∷ []) d i (subst (λ n. i < n) (sym count) low)) ∙ was i low d)
-    (ap sender_of (get_or_push senders s d number count) ∙ last) k below)
 
 -- a mailbox of lanes is never busy
 pub never_busy : {H : Type 0} (took : Took H) (held : H → Type 0) (empty busy : Type 0) → MatchTook took held empty ⊥ → MatchTook took held empty busy

@@ -1,4 +1,9 @@
 pub mod Mails
+pub mod Seats
+pub mod BareRule
+pub mod BareSteps
+pub mod BareRest
+pub mod BareViews
 pub mod Endings
 pub mod Lanes
 pub mod LaneViews

@@ -4,11 +4,15 @@
 //! its own for each sender.
 #![tactic(auto)]
 
+mod bare_mail;
+mod bare_steps;
 mod lane;
 mod lane_mail;
 mod mail;
 mod receiving;
+mod seats;
 
+pub use bare_mail::{BareMail, BareReceiver, BareSender};
 pub use lane_mail::{LaneHeld, LaneMail, LaneReceiver, LaneSender};
 pub use mail::Mail;
 pub use queue_core::{Item, Posted, Took};
