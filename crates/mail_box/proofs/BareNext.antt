@@ -44,7 +44,7 @@ module _ (l : Linked) (m : Mailbox) where
     rest_none true = ap (λ b. Some (if b then goes_to reads.Second (passes l) else goes_to reads.StubHead l)) none
     rest_none false = ap (λ b. Some (if b then takes l else goes_to reads.NodeHead l)) none
 
-    none_due : (point : ReaderPoint) → LoadsNext point → IsTailAt (links_of l m) m point → next_at point l ≡ Some (with_reader (without_next_at point (stub_of l) l.reader) l)
+    pub none_due : (point : ReaderPoint) → LoadsNext point → IsTailAt (links_of l m) m point → next_at point l ≡ Some (with_reader (without_next_at point (stub_of l) l.reader) l)
     none_due point =
         elim point as (λ q. LoadsNext q → IsTailAt (links_of l m) m q → next_at q l ≡ Some (with_reader (without_next_at q (stub_of l) l.reader) l)) [
           | reads.Rest ↦ λ at tail. rest_none (is_at_stub l)
@@ -55,7 +55,7 @@ module _ (l : Linked) (m : Mailbox) where
 
   -- where it has one
   module _ (has : has_next l ≡ true) where
-    stub_due : l.reader.tail ≡ stub_of l → (point : ReaderPoint) → LoadsNext point → IsTailAt (links_of l m) m point → next_at point l ≡ Some (goes_to reads.Second (passes l))
+    pub stub_due : l.reader.tail ≡ stub_of l → (point : ReaderPoint) → LoadsNext point → IsTailAt (links_of l m) m point → next_at point l ≡ Some (goes_to reads.Second (passes l))
     stub_due is point =
         elim point as (λ q. LoadsNext q → IsTailAt (links_of l m) m q → next_at q l ≡ Some (goes_to reads.Second (passes l))) [
           | reads.Rest ↦ λ at tail. rw (eq-eqb l.reader.tail (stub_of l) is, has) refl
@@ -64,7 +64,7 @@ module _ (l : Linked) (m : Mailbox) where
           | _ ↦ λ at tail. absurd at
         ]
 
-    node_due : ¬ (l.reader.tail ≡ stub_of l) → (point : ReaderPoint) → LoadsNext point → next_at point l ≡ Some (takes l)
+    pub node_due : ¬ (l.reader.tail ≡ stub_of l) → (point : ReaderPoint) → LoadsNext point → next_at point l ≡ Some (takes l)
     node_due other point =
         elim point as (λ q. LoadsNext q → next_at q l ≡ Some (takes l)) [
           | reads.Rest ↦ λ at. rw (ne_eqb l.reader.tail (stub_of l) other, has) refl

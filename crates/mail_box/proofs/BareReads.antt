@@ -44,7 +44,7 @@ one_reader : (l : Linked) (test : Bool) (a b : Reader) → (if test then with_re
 one_reader l true a b = refl
 one_reader l false a b = refl
 
-head_due : (l : Linked) (point : ReaderPoint) → LoadsHead point → head_at point l ≡ Some (with_reader (after_head_at point l.head l.reader) l)
+pub head_due : (l : Linked) (point : ReaderPoint) → LoadsHead point → head_at point l ≡ Some (with_reader (after_head_at point l.head l.reader) l)
 head_due l point =
     elim point as (λ q. LoadsHead q → head_at q l ≡ Some (with_reader (after_head_at q l.head l.reader) l)) [
       | reads.StubHead ↦ λ at. refl

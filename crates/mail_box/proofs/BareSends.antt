@@ -161,7 +161,7 @@ module _ (ring : ℕ) (events : List Event) (m : Mailbox) (l : Linked) (stood : 
 -- ---- the head is exchanged
 
 -- What was received stays what it was where a sender fills an item.
-got_filled : (ring : ℕ) (m : Mailbox) (holds : Holds ring m) (p : ℕ) (item : Item) (may : MayFill ring m p item) → got (after (Fill p item) m) ≡ got m
+pub got_filled : (ring : ℕ) (m : Mailbox) (holds : Holds ring m) (p : ℕ) (item : Item) (may : MayFill ring m p item) → got (after (Fill p item) m) ≡ got m
 got_filled ring m holds p item may = same_received (received_at (after (Fill p item) m)) (received_at m) (passed_entries m) same
   where
     same : (e : Entry) → is_among e (passed_entries m) ≡ true → received_at (after (Fill p item) m) e ≡ received_at m e

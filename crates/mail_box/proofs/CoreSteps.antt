@@ -36,21 +36,21 @@ abbrev pub events_after : Option Event → List Event → List Event
 events_after None events = events
 events_after (Some event) events = events ++ event ∷ []
 
-leads_after : (event : Option Event) (ring : ℕ) (events : List Event) (m : Mailbox) → IsAllowed event ring m → Leads ring events m → Leads ring (events_after event events) (later event m)
+pub leads_after : (event : Option Event) (ring : ℕ) (events : List Event) (m : Mailbox) → IsAllowed event ring m → Leads ring events m → Leads ring (events_after event events) (later event m)
 leads_after None ring events m may leads = leads
 leads_after (Some event) ring events m may leads = more events m event leads may
 
 -- what a law tells, in two parts
-apart : (event : Option Event) (ring : ℕ) (n : Linked) (m : Mailbox) → ShowsAfter event ring n m → IsAllowed event ring m × Shows n (later event m)
-apart None ring n m told = (tt, told)
-apart (Some event) ring n m told = told
+pub told_parts : (event : Option Event) (ring : ℕ) (n : Linked) (m : Mailbox) → ShowsAfter event ring n m → IsAllowed event ring m × Shows n (later event m)
+told_parts None ring n m told = (tt, told)
+told_parts (Some event) ring n m told = told
 
 -- what a step leaves, and that its event may happen
 pub stood_after : (ring : ℕ) (events : List Event) (m : Mailbox) (l n : Linked) (s : Step) (event : Option Event) → Stood ring events m l → stepped l s ≡ Some n → event_of l m s ≡ event
     → IsAllowed event ring m × Stood ring (events_after event events) (later event m) n
 stood_after ring events m l n s event stood due is =
     let law : ShowsAfter event l.ring n m = subst (λ e. ShowsAfter e l.ring n m) is (step_shows s events m l n stood.linked (leads_in ring events m l stood) stood.shows due) in
-    let told = apart event l.ring n m law in
+    let told = told_parts event l.ring n m law in
     let may : IsAllowed event ring m = subst (λ r. IsAllowed event r m) stood.ring_is told.0 in (
       may,
       record {

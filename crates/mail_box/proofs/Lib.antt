@@ -17,3 +17,16 @@ pub mod BareOpens
 pub mod BareCalls
 pub mod BarePushes
 pub mod BareOrder
+pub mod LinkWords
+pub mod LinkSenders
+pub mod LinkTurns
+pub mod LinkSends
+pub mod LinkTaken
+pub mod LinkReader
+pub mod LinkHeld
+pub mod LinkBegins
+pub mod LinkNext
+pub mod LinkReads
+pub mod JoinLemmas
+pub mod LinkCalls
+pub mod LinkJoins

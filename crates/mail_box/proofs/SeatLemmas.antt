@@ -11,16 +11,16 @@ use Rattle.mail_box.specs.Seats.{IsSeat}
 
 -- ---- lists of views
 
--- one seat's view changes
-pub seats_stay : (F : ℕ → Known → Type 0) (views : List Known) (me : ℕ) (w : Known) → F me w → ((j : ℕ) (d : Known) → j ≢ me → get_elem? views j ≡ some d → F j d)
-    → (j : ℕ) (d : Known) → get_elem? (set views me w) j ≡ some d → F j d
-seats_stay F views me w mine others j d e = ⊎_elim (λ (t : (j ≡ me) × (w ≡ d)). subst (λ (x : ℕ × Known). F x.0 x.1) (λ i. (sym t.0 i, t.1 i)) mine)
-    (λ (t : (j ≢ me) × (get_elem? views j ≡ some d)). others j d t.0 t.1) (at_set views me j w d e)
+module _ {V : Type 0} where
+  -- one seat's view changes
+  pub seats_stay : (F : ℕ → V → Type 0) (views : List V) (me : ℕ) (w : V) → F me w → ((j : ℕ) (d : V) → j ≢ me → get_elem? views j ≡ some d → F j d) → (j : ℕ) (d : V) → get_elem? (set views me w) j ≡ some d → F j d
+  seats_stay F views me w mine others j d e = ⊎_elim (λ (t : (j ≡ me) × (w ≡ d)). subst (λ (x : ℕ × V). F x.0 x.1) (λ i. (sym t.0 i, t.1 i)) mine)
+      (λ (t : (j ≢ me) × (get_elem? views j ≡ some d)). others j d t.0 t.1) (at_set views me j w d e)
 
-pub at_within : (views : List Known) (i : ℕ) (v : Known) → get_elem? views i ≡ some v → i < length views
-at_within [] i v e = absurd (some-ne-none v (sym e))
-at_within (x ∷ xs) zero v e = omega arith
-at_within (x ∷ xs) (suc i) v e = omega (arith, at_within xs i v e)
+  pub at_within : (views : List V) (i : ℕ) (v : V) → get_elem? views i ≡ some v → i < length views
+  at_within [] i v e = absurd (some-ne-none v (sym e))
+  at_within (x ∷ xs) zero v e = omega arith
+  at_within (x ∷ xs) (suc i) v e = omega (arith, at_within xs i v e)
 
 -- what is read of a list with one more
 pub one_more : (views : List Known) (a b : Known) (j : ℕ) → get_elem? (views ++ a ∷ []) j ≡ some b → ((j < length views) × (get_elem? views j ≡ some b)) ⊎ ((j ≡ length views) × (a ≡ b))

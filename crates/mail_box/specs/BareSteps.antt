@@ -1,9 +1,8 @@
 -- What a step of a linked queue whose nodes are used once tells its seat: what the seat knows then.
-use Rattle.std.specs.Prelude.{ℕ, ◌≡◌, ◌<◌, ◌≤◌, ◌+◌, ◌-◌, ◌*◌, ◌++◌, ◌∷◌, ◌==◌, ◌⊎◌, Bool, false, true, List, [], None, Some, All, length, map, min, nat_lt, if◌then◌else◌, ⊤}
+use Rattle.std.specs.Prelude.{ℕ, ◌≡◌, ◌<◌, ◌≤◌, ◌+◌, ◌-◌, ◌++◌, ◌∷◌, ◌==◌, [], None, Some, length, min, nat_lt, if◌then◌else◌, ⊤}
 use Rattle.std.specs.List.{filter}
 use Rattle.atomic_table.specs.Table.{Me, Step}
 use Rattle.queue_core.specs.declared.entry.Entry.TheVariants.{Of, Stub}
-use Rattle.queue_core.specs.declared.item.Item.{Item}
 use Rattle.queue_core.specs.declared.item.Posted.TheVariants.{Sent}
 use Rattle.queue_core.specs.declared.item.Took.TheVariants.{Held, Empty, Busy}
 use Rattle.queue_core.specs.declared.reader.Reader.{Reader}
@@ -12,7 +11,6 @@ use Rattle.queue_core.specs.declared.reader.ReaderPoint.TheVariants as reads
 use Rattle.queue_core.specs.declared.sender.Sender.{Sender}
 use Rattle.queue_core.specs.declared.sender.SenderPoint.{SenderPoint}
 use Rattle.queue_core.specs.declared.sender.SenderPoint.TheVariants as sends
-use Rattle.queue_core.specs.Linked.{new_sender}
 use Rattle.queue_core.specs.Steps.{after_sent}
 use Rattle.mail_box.specs.declared.seats.Known.{Known}
 use Rattle.mail_box.specs.declared.seats.Known.TheVariants.{Sends, Reads}

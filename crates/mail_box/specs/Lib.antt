@@ -4,6 +4,10 @@ pub mod BareRule
 pub mod BareSteps
 pub mod BareRest
 pub mod BareViews
+pub mod LinkSeats
+pub mod LinkRule
+pub mod LinkSteps
+pub mod LinkCalls
 pub mod Endings
 pub mod Lanes
 pub mod LaneViews

@@ -8,6 +8,8 @@ mod bare_mail;
 mod bare_steps;
 mod lane;
 mod lane_mail;
+mod link_seats;
+mod link_steps;
 mod mail;
 mod receiving;
 mod seats;
