@@ -38,7 +38,8 @@ check 'a run' 0 "$(sed 's/\\/\\\\/g' "$examples/statements.csv")\n" '' "$program
 check 'a run with = and in another order' 0 "$(sed 's/\\/\\\\/g' "$examples/statements.csv")\n" '' \
     "$program" run --nodes=16 --usage=usage.csv --readers 1 --cwr works.cwr --workers=2 --tis=territories.csv
 check 'help' 0 '*' '' "$program" --help
-check 'the version' 0 "royalty_run 0.1.0\n$(rt version)\n" '' "$program" --version
+kit=$(rt version)
+check 'the version' 0 "royalty_run 0.1.0\nlogic ${kit##* logic }\n" '' "$program" --version
 check 'a bad table' 1 '' 'royalty_run: tis fault 1 at row 0\n' "$program" run --tis usage.csv --cwr works.cwr --usage usage.csv "${plan[@]}"
 check 'a wrong word' 2 '' '*' "$program" splti
 check 'a wrong pair' 2 '' 'royalty_run: pair fault 2 at 2\n' "$program" split 5 A=1 A=2

@@ -14,8 +14,8 @@ use clap::{Command, Error};
 use pair_split::word;
 use std::alloc::{AllocError, Global};
 
-/// What `--version` says below the name: the version, and the kit that the program is built with.
-const VERSION: &str = "0.1.0\nrattle-kit-13b logic dac8208d650f15bf";
+/// What `--version` says below the name: the version, and the checker and libraries that the program is proved with, by their checksum.
+const VERSION: &str = "0.1.0\nlogic dac8208d650f15bf";
 
 /// What stands below the help of the whole program.
 const HELP: &str = "\

@@ -155,7 +155,7 @@ fn tells_what_the_words_are(rt: HostRuntime) -> Result<(), Fail> {
         ("r --help", "  2  the words are refused\n"),
         ("r --help", "  3  memory was refused\n"),
         ("r --help", "table of faults in docs/FORMATS.md"),
-        ("r --version", "royalty_run 0.1.0\nrattle-kit-"),
+        ("r --version", "royalty_run 0.1.0\nlogic "),
         ("r help split", "Usage: royalty_run split"),
         ("r help run", "Usage: royalty_run run"),
         (
