@@ -15,15 +15,11 @@ use Rattle.mail_box.specs.declared.link_seats.ReaderSeat.{ReaderSeat}
 use Rattle.mail_box.specs.declared.link_seats.SenderSeat.{SenderSeat}
 use Rattle.mail_box.specs.LinkSeats.{HasEnded, IsSeat}
 use Rattle.mail_box.specs.LinkRule.{HasHolding}
+use Rattle.mail_box.proofs.SeatLemmas.{at_within}
 
 -- ---- what is read of the list
 
 module _ {V : Type 0} where
-  pub seat_within : (views : List V) (i : ℕ) (v : V) → get_elem? views i ≡ some v → i < length views
-  seat_within [] i v e = absurd (some-ne-none v (sym e))
-  seat_within (x ∷ xs) zero v e = omega arith
-  seat_within (x ∷ xs) (suc i) v e = omega (arith, seat_within xs i v e)
-
   -- of a list with one more
   read_longer : (views : List V) (a b : V) (j : ℕ) → get_elem? (views ++ a ∷ []) j ≡ some b → (get_elem? views j ≡ some b) ⊎ ((j ≡ length views) × (a ≡ b))
   read_longer [] a b zero e = inr (refl, some-injective a b e)
@@ -77,7 +73,7 @@ gone_split views id v left right seen i gone =
 pub gone_join : (views : List Known) (id other : ℕ) (v : ReaderSeat) (both : Known) → get_elem? views id ≡ some (Reads v)
     → (i : ℕ) → get_elem? views i ≡ some Gone → get_elem? (set (set views id both) other Gone) i ≡ some Gone
 gone_join views id other v both seen i gone =
-    let within : i < length (set views id both) = omega (arith, length-set views id both, seat_within views i Gone gone) in
+    let within : i < length (set views id both) = omega (arith, length-set views id both, at_within views i Gone gone) in
     dite (ℕ_discrete i other)
     (λ e. subst (λ (k : ℕ). get_elem? (set (set views id both) k Gone) i ≡ some Gone) e (set_here (set views id both) i Gone within))
     (λ ne. set_else (set views id both) other i Gone ne ∙ (set_else views id i both (not_gone views id v seen i gone) ∙ gone))

@@ -13,7 +13,7 @@ use Rattle.queue_core.proofs.ReceivedLemmas.{got_prefix}
 use Rattle.mail_box.specs.declared.link_seats.Known.{Known}
 use Rattle.mail_box.specs.declared.link_seats.Known.TheVariants.{Reads}
 use Rattle.mail_box.specs.declared.link_seats.ReaderSeat.{ReaderSeat}
-use Rattle.mail_box.specs.declared.seats.Shape.{Shape}
+use Rattle.mail_box.specs.declared.link_seats.Shape.{Shape}
 use Rattle.mail_box.specs.LinkRule.{KeepsLink}
 use Rattle.mail_box.specs.LinkSeats.{IsReaderSeat, got_in}
 use Rattle.mail_box.specs.LinkSteps.{BeginsAt, tells_look}

@@ -10,13 +10,11 @@ use Rattle.queue_core.specs.declared.sender.SenderPoint.TheVariants as sends
 use Rattle.queue_core.specs.Linked.{amount_word, line_word, null}
 use Rattle.mail_box.specs.declared.link_seats.Known.{Known}
 use Rattle.mail_box.specs.declared.link_seats.Known.TheVariants.{Gone, Holds, Reads, Sends}
-use Rattle.mail_box.specs.declared.seats.Shape.{Shape}
-use Rattle.mail_box.specs.BareRule.{stub_in}
+use Rattle.mail_box.specs.declared.link_seats.Shape.{Shape}
+use Rattle.mail_box.specs.LinkSeats.{stub_in}
 use Rattle.mail_box.specs.LinkRule.{KeepsLink, amount_word_of, head_word, line_word_of, next_word, turn_word}
 use Rattle.mail_box.specs.LinkCalls.{HasAtHand, HasEndedSeat, HasEndedSlot, IsAtRest, IsDealing, IsEnding, IsHandingOut, IsPosting, IsReading, IsSending, IsSlotless, IsTakingBack, holding_in, reader_in, sender_in}
-use Rattle.mail_box.specs.LinkSteps.{LoadsHead, LoadsNext, after_deal, after_hand, dealt, hand_of, in_slot, node_in, taken_back, taken_in}
-use Rattle.mail_box.specs.LinkSteps.{tells_give_back, tells_give_slot, tells_load_amount, tells_load_head, tells_load_line, tells_load_next, tells_load_turn, tells_stub_link, tells_stub_null, tells_stub_swap}
-use Rattle.mail_box.specs.LinkSteps.{tells_store_amount, tells_store_line, tells_store_link, tells_store_null, tells_swap_head, tells_take_slot}
+use Rattle.mail_box.specs.LinkSteps.{LoadsHead, LoadsNext, after_deal, after_hand, dealt, hand_of, in_slot, node_in, taken_back, taken_in, tells_give_back, tells_give_slot, tells_load_amount, tells_load_head, tells_load_line, tells_load_next, tells_load_turn, tells_store_amount, tells_store_line, tells_store_link, tells_store_null, tells_stub_link, tells_stub_null, tells_stub_swap, tells_swap_head, tells_take_slot}
 use Rattle.mail_box.proofs.LinkJoins.{hands_out, seat_deals, takes_back, takes_in}
 use Rattle.mail_box.proofs.LinkReads.{amount_loads, head_loads, line_loads, next_loads, stub_links, stub_nulls, stub_swaps, turn_adds}
 use Rattle.mail_box.proofs.LinkSends.{amount_stores, end_stores, head_swaps, line_stores, link_stores, null_stores, slot_gives, slot_takes, turn_loads}

@@ -20,15 +20,13 @@ use Rattle.mail_box.specs.declared.link_seats.Known.{Known}
 use Rattle.mail_box.specs.declared.link_seats.Known.TheVariants.{Gone, Holds, Reads, Sends}
 use Rattle.mail_box.specs.declared.link_seats.ReaderSeat.{ReaderSeat}
 use Rattle.mail_box.specs.declared.link_seats.SenderSeat.{SenderSeat}
-use Rattle.mail_box.specs.declared.seats.Shape.{Shape}
-use Rattle.mail_box.specs.Mails.{IsInRange as IsItemInRange}
-use Rattle.mail_box.specs.Seats.{HasShape}
-use Rattle.mail_box.specs.BareRest.{IsInRange}
-use Rattle.mail_box.specs.BareRule.{stub_in}
-use Rattle.mail_box.specs.LinkSeats.{HasEnded, IsAlone, IsHolding, IsReaderSeat, IsSeat, IsSenderSeat}
+use Rattle.mail_box.specs.declared.link_seats.Shape.{Shape}
+use Rattle.mail_box.specs.Mails.{IsInRange}
+use Rattle.mail_box.specs.LinkSeats.{HasEnded, HasShape, IsAlone, IsHolding, IsReaderSeat, IsSeat, IsSenderSeat, IsSmall, stub_in}
 use Rattle.mail_box.specs.LinkRule.{AreWords, HasHolding, IsLinkedMail, KeepsLink, amount_word_of, head_word, line_word_of, link_opened, next_word, turn_word}
 use Rattle.mail_box.specs.LinkSteps.{after_deal, after_hand, dealt, hand_of, handed, taken_back, taken_in}
-use Rattle.mail_box.proofs.JoinLemmas.{CameFrom, apart_still, ended_stays, gone_join, gone_split, length_join, length_split, read_join, read_split, seat_stays, seat_within}
+use Rattle.mail_box.proofs.JoinLemmas.{CameFrom, apart_still, ended_stays, gone_join, gone_split, length_join, length_split, read_join, read_split, seat_stays}
+use Rattle.mail_box.proofs.SeatLemmas.{at_within}
 
 -- ---- what is to be shown of a cut, and of a join
 
@@ -206,7 +204,7 @@ module _ (shape : Shape) (id : ℕ) (v : ReaderSeat) where
       let long : length views ≡ length s.views = length_join s.views id other both Gone in
       let seat : get_elem? s.views other ≡ some (Sends a) = sym (set_else s.views id other both apart) ∙ there in
       let sender : IsSenderSeat l m other a = kept.seats other (Sends a) seat in
-      let within : other < length (set s.views id both) = seat_within (set s.views id both) other (Sends a) there in
+      let within : other < length (set s.views id both) = at_within (set s.views id both) other (Sends a) there in
       let gone : get_elem? views (a.number + 1) ≡ some Gone = subst (λ (k : ℕ). get_elem? views k ≡ some Gone) sender.place (set_here (set s.views id both) other Gone within) in
       let has_ended : HasEnded l m views a = record { within = omega (arith, sender.within, sender.shape.0); sender = sender.sender; items = sender.items; rest = at; ended = ended; gone = gone } in
       let reader : IsSeat l m s.homes views id both = record {
@@ -227,7 +225,7 @@ module _ (shape : Shape) (id : ℕ) (v : ReaderSeat) where
 
 -- ---- the opening
 
-module _ (shape : Shape) (range : IsInRange shape) (zeros : List ℕ) (blank : zeros ≡ replicate (4 * (stub_in shape + 1) + 32) 0) (slots : List Item) (many : length slots ≡ shape.senders) where
+module _ (shape : Shape) (range : IsSmall shape) (zeros : List ℕ) (blank : zeros ≡ replicate (4 * (stub_in shape + 1) + 32) 0) (slots : List Item) (many : length slots ≡ shape.senders) where
   abbrev core : Linked
   core = opening_core shape.senders shape.ring
 
@@ -266,7 +264,7 @@ module _ (shape : Shape) (range : IsInRange shape) (zeros : List ℕ) (blank : z
     linked = opening_linked shape.senders shape.ring range.senders.0 range.senders.1 range.ring.0 range.ring.1;
     leads = none;
     shows = opening_shows shape.senders shape.ring range.senders.0 range.senders.1 range.ring.0 range.ring.1;
-    ranged = λ p. All-nil IsItemInRange;
+    ranged = λ p. All-nil IsInRange;
   }
 
   reader : IsSeat core empty_mailbox (map some slots) (link_opened shape ∷ []) 0 (link_opened shape)
@@ -297,6 +295,6 @@ module _ (shape : Shape) (range : IsInRange shape) (zeros : List ℕ) (blank : z
   opens : KeepsLink shape (opening (set zeros head_word (stub_in shape + 1)) slots (link_opened shape))
   opens = record { events = []; mailbox = empty_mailbox; core = core; mail = mail; words = are_words; seats = only; apart = λ i j v w h g here there other has_h has_g same. empty_hand i v h here has_h }
 
-pub table_opens : (shape : Shape) → IsInRange shape → (zeros : List ℕ) → zeros ≡ replicate (4 * (stub_in shape + 1) + 32) 0 → (slots : List Item) → length slots ≡ shape.senders
+pub table_opens : (shape : Shape) → IsSmall shape → (zeros : List ℕ) → zeros ≡ replicate (4 * (stub_in shape + 1) + 32) 0 → (slots : List Item) → length slots ≡ shape.senders
     → KeepsLink shape (opening (set zeros head_word (stub_in shape + 1)) slots (link_opened shape))
 table_opens shape range zeros blank slots many = opens shape range zeros blank slots many

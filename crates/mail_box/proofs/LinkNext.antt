@@ -40,13 +40,11 @@ use Rattle.mail_box.specs.declared.link_seats.Holding.{Holding}
 use Rattle.mail_box.specs.declared.link_seats.Known.{Known}
 use Rattle.mail_box.specs.declared.link_seats.Known.TheVariants.{Reads, Holds as holds_item}
 use Rattle.mail_box.specs.declared.link_seats.ReaderSeat.{ReaderSeat}
-use Rattle.mail_box.specs.declared.seats.Shape.{Shape}
-use Rattle.mail_box.specs.BareRule.{stub_in}
-use Rattle.mail_box.specs.BareSteps.{without_next, without_next_at}
+use Rattle.mail_box.specs.declared.link_seats.Shape.{Shape}
+use Rattle.mail_box.specs.LinkSeats.{AreTakenIn, IsAlone, IsHolding, IsReaderSeat, stub_in}
+use Rattle.mail_box.specs.LinkSteps.{HasLoadedNext, HasTakenNode, IsAwaitedAt, LoadsNext, past_node, past_stub, with_reader_at, without_next, without_next_at}
 use Rattle.mail_box.specs.LinkRule.{KeepsLink, next_word}
-use Rattle.mail_box.specs.LinkSeats.{AreTakenIn, IsAlone, IsHolding, IsReaderSeat}
-use Rattle.mail_box.specs.LinkSteps.{HasLoadedNext, HasTakenNode, IsAwaitedAt, LoadsNext, past_node, past_stub, with_reader_at}
-use Rattle.mail_box.proofs.BareNext.{node_due, none_due, stub_due}
+use Rattle.mail_box.proofs.Dues.{node_due, none_due, stub_due}
 use Rattle.mail_box.proofs.LinkBegins.{begins_now}
 use Rattle.mail_box.proofs.LinkReader.{gone_on, holds, moved, others_hold, own, seat_after, still_holding, stub_is}
 use Rattle.mail_box.proofs.LinkTaken.{find_awaited, nothing_flies, tail_alone}

@@ -31,26 +31,16 @@ use Rattle.mail_box.specs.declared.link_seats.Known.{Known}
 use Rattle.mail_box.specs.declared.link_seats.Known.TheVariants.{Dealt, Sends, Reads, Holds as holds_item, Gone}
 use Rattle.mail_box.specs.declared.link_seats.ReaderSeat.{ReaderSeat}
 use Rattle.mail_box.specs.declared.link_seats.SenderSeat.{SenderSeat}
-use Rattle.mail_box.specs.declared.seats.Shape.{Shape}
+use Rattle.mail_box.specs.declared.link_seats.Shape.{Shape}
 use Rattle.mail_box.specs.Mails.{IsInRange}
-use Rattle.mail_box.specs.BareRule.{stub_in}
+use Rattle.mail_box.specs.LinkSeats.{AreTakenIn, HasEnded, IsAlone, IsHolding, IsReaderSeat, IsSeat, stub_in}
 use Rattle.mail_box.specs.LinkRule.{AreWords, HasHolding, KeepsLink}
-use Rattle.mail_box.specs.LinkSeats.{AreTakenIn, HasEnded, IsAlone, IsHolding, IsReaderSeat, IsSeat}
 use Rattle.mail_box.proofs.CoreSteps.{events_after, leads_after, told_parts}
-use Rattle.mail_box.proofs.SeatLemmas.{ButReader, same_sender}
-
--- one seat's view changes
-seats_stay : (F : ℕ → Known → Type 0) (views : List Known) (me : ℕ) (w : Known) → F me w → ((j : ℕ) (d : Known) → j ≢ me → get_elem? views j ≡ some d → F j d)
-    → (j : ℕ) (d : Known) → get_elem? (set views me w) j ≡ some d → F j d
-seats_stay F views me w mine others j d e = ⊎_elim (λ (t : (j ≡ me) × (w ≡ d)). subst (λ (x : ℕ × Known). F x.0 x.1) (λ i. (sym t.0 i, t.1 i)) mine)
-    (λ (t : (j ≢ me) × (get_elem? views j ≡ some d)). others j d t.0 t.1) (at_set views me j w d e)
+use Rattle.mail_box.proofs.SeatLemmas.{ButReader, many, same_sender, seats_stay}
 
 -- ---- where the reader alone goes on
 
 module _ (l n : Linked) (m m' : Mailbox) (same : ButReader l n m m') where
-  many : length n.senders ≡ length l.senders
-  many = λ i. length (same.senders i)
-
   -- an entry stands where it stood
   node_same : (p k : ℕ) → node_for n m' (Of p k) ≡ node_for l m (Of p k)
   node_same p k = λ i. p * (same.ring i + 1) + slot_of (same.ring i) (slice_index_or (same.items i p) k End) k
@@ -66,7 +56,7 @@ module _ (l n : Linked) (m m' : Mailbox) (same : ButReader l n m m') where
   -- a sender that was taken in has ended
   still_ended : (views views' : List Known) (a : SenderSeat) → get_elem? views' (a.number + 1) ≡ get_elem? views (a.number + 1) → HasEnded l m views a → HasEnded n m' views' a
   still_ended views views' a view was = record {
-    within = omega (arith, was.within, many);
+    within = omega (arith, was.within, many l n m m' same);
     sender = same_sender l n m m' same a.number ∙ was.sender;
     items = (λ i. same.items i a.number) ∙ was.items;
     rest = was.rest;

@@ -32,14 +32,12 @@ use Rattle.mail_box.specs.declared.link_seats.Holding.{Holding}
 use Rattle.mail_box.specs.declared.link_seats.Known.{Known}
 use Rattle.mail_box.specs.declared.link_seats.Known.TheVariants.{Reads}
 use Rattle.mail_box.specs.declared.link_seats.ReaderSeat.{ReaderSeat}
-use Rattle.mail_box.specs.declared.seats.Shape.{Shape}
-use Rattle.mail_box.specs.BareRule.{stub_in}
-use Rattle.mail_box.specs.BareSteps.{after_head, after_head_at}
+use Rattle.mail_box.specs.declared.link_seats.Shape.{Shape}
+use Rattle.mail_box.specs.LinkSeats.{IsAlone, IsReaderSeat, got_in, stub_in}
+use Rattle.mail_box.specs.LinkSteps.{HasLoadedHead, IsAwaitedAt, IsWholeAt, LoadsHead, LoadsNext, after_give, after_head, after_head_at, reading_at, tells_give_back, tells_load_amount, tells_load_head, tells_load_line, tells_load_next, tells_stub_link, tells_stub_null, tells_stub_swap, with_reader_at}
 use Rattle.mail_box.specs.LinkRule.{AreWords, KeepsLink, amount_word_of, head_word, line_word_of, next_word, turn_word}
-use Rattle.mail_box.specs.LinkSeats.{IsAlone, IsReaderSeat, got_in}
-use Rattle.mail_box.specs.LinkSteps.{HasLoadedHead, IsAwaitedAt, IsWholeAt, LoadsHead, LoadsNext, after_give, reading_at, tells_give_back, tells_load_amount, tells_load_head, tells_load_line, tells_load_next, tells_stub_link, tells_stub_null, tells_stub_swap, with_reader_at}
-use Rattle.mail_box.proofs.BareReads.{head_due}
-use Rattle.mail_box.proofs.LinkHeld.{amount_found, give_kept, line_found, look_kept}
+use Rattle.mail_box.proofs.Dues.{head_due}
+use Rattle.mail_box.proofs.LinkHoldings.{amount_found, give_kept, line_found, look_kept}
 use Rattle.mail_box.proofs.LinkNext.{next_kept}
 use Rattle.mail_box.proofs.LinkReader.{gone_on, holds, own, stub_is}
 use Rattle.mail_box.proofs.LinkTaken.{find_awaited, head_alone, known_items, known_rests, sent_all}

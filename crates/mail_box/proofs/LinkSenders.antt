@@ -1,5 +1,5 @@
 -- What a step of a sender has to show, so that the rule of a linked queue with items is kept.
-use Rattle.std.proofs.Common.{◌≡◌, ◌∙◌, ◌<◌, ◌+◌, ◌*◌, ◌∷◌, [], ℕ, List, Option, Some, length, set, ap, sym, refl, subst, inl, inr, arith, get_or-set_other, get_or-set_same}
+use Rattle.std.proofs.Common.{◌≡◌, ◌∙◌, ◌<◌, ◌+◌, ◌*◌, ◌∷◌, [], ℕ, List, Option, Some, true, length, set, ap, sym, refl, subst, inl, inr, arith, get_or-set_other, get_or-set_same}
 use Rattle.std.specs.Prelude.{◌==◌, All}
 use Rattle.std.specs.List.{filter_map}
 use Rattle.std.proofs.lemmas.Bool.{cases_Bool, cases_eq, eqb-true}
@@ -9,7 +9,8 @@ use mathlib.Core.Option.{Option as Slot, some, some-injective}
 use lib.ListN.{get_elem?}
 use Rattle.atomic_table.specs.Table.{State}
 use Rattle.atomic_table.proofs.Lists.{at_set, set_else}
-use Rattle.queue_core.specs.declared.entry.Entry.TheVariants.{Of}
+use Rattle.queue_core.specs.declared.entry.Entry.{Entry}
+use Rattle.queue_core.specs.declared.entry.Entry.TheVariants.{Of, Stub}
 use Rattle.queue_core.specs.declared.item.Item.{Item}
 use Rattle.queue_core.specs.declared.sender.Sender.{Sender}
 use Rattle.queue_core.specs.declared.step.Step.{Step}
@@ -21,7 +22,7 @@ use Rattle.queue_core.specs.Linked.{Linked, sender_at}
 use Rattle.queue_core.specs.Steps.{stepped}
 use Rattle.queue_core.specs.StepEvents.{event_of}
 use Rattle.queue_core.specs.Laws.{ShowsAfter}
-use Rattle.queue_core.proofs.Entries.{among_first}
+use Rattle.queue_core.proofs.Entries.{among_first, same_received}
 use Rattle.queue_core.proofs.EventsKeep.{holds_after, not_left, same_passed, other_items}
 use Rattle.queue_core.proofs.FillLemmas.{item_placed}
 use Rattle.queue_core.proofs.MailboxHolds.{Holds}
@@ -33,14 +34,12 @@ use Rattle.mail_box.specs.declared.link_seats.Holding.{Holding}
 use Rattle.mail_box.specs.declared.link_seats.Known.{Known}
 use Rattle.mail_box.specs.declared.link_seats.Known.TheVariants.{Dealt, Sends, Reads, Holds as HoldsOne, Gone}
 use Rattle.mail_box.specs.declared.link_seats.SenderSeat.{SenderSeat}
-use Rattle.mail_box.specs.declared.seats.Shape.{Shape}
+use Rattle.mail_box.specs.declared.link_seats.Shape.{Shape}
 use Rattle.mail_box.specs.Mails.{IsInRange}
-use Rattle.mail_box.specs.Seats.{HasShape}
-use Rattle.mail_box.specs.LinkSeats.{HasEnded, IsHolding, IsSeat, IsSenderSeat, known_in}
+use Rattle.mail_box.specs.LinkSeats.{HasEnded, HasShape, IsHolding, IsSeat, IsSenderSeat, known_in}
 use Rattle.mail_box.specs.LinkRule.{AreWords, HasHolding, IsLinkedMail, KeepsLink}
 use Rattle.mail_box.specs.LinkSteps.{sender_at_seat}
 use Rattle.mail_box.proofs.CoreSteps.{events_after, leads_after, told_parts}
-use Rattle.mail_box.proofs.BareSends.{got_filled}
 use Rattle.mail_box.proofs.SeatLemmas.{at_within, seats_stay}
 
 -- ---- what a sender's step leaves as it was
@@ -70,6 +69,14 @@ pub record BoxButSender (m m' : Mailbox) (p : ℕ) : Type 0 where
   pub given : m'.given ≡ m.given
   pub got : got m' ≡ got m
   pub held : (q k : ℕ) → IsHeld m q k → item_at m' q k ≡ item_at m q k
+
+-- What was received stays what it was where a sender fills an item.
+got_filled : (ring : ℕ) (m : Mailbox) (holds : Holds ring m) (p : ℕ) (item : Item) (may : MayFill ring m p item) → got (after (Fill p item) m) ≡ got m
+got_filled ring m holds p item may = same_received (received_at (after (Fill p item) m)) (received_at m) (passed_entries m) same
+  where
+    same : (e : Entry) → is_among e (passed_entries m) ≡ true → received_at (after (Fill p item) m) e ≡ received_at m e
+    same (Of q j) passed = ap (λ i. Some (q, i)) (item_placed ring m holds p item may q j (among_first (Of q j) m.passed m.order passed))
+    same Stub passed = refl
 
 module _ (m : Mailbox) (p : ℕ) where
   pub box_still : BoxButSender m m p

@@ -28,13 +28,12 @@ use Rattle.queue_core.proofs.StepLemmas.{node_within, sender_keeps}
 use Rattle.mail_box.specs.declared.link_seats.Known.{Known}
 use Rattle.mail_box.specs.declared.link_seats.Known.TheVariants.{Dealt, Sends}
 use Rattle.mail_box.specs.declared.link_seats.SenderSeat.{SenderSeat}
-use Rattle.mail_box.specs.declared.seats.Shape.{Shape}
+use Rattle.mail_box.specs.declared.link_seats.Shape.{Shape}
 use Rattle.mail_box.specs.Mails.{IsInRange}
-use Rattle.mail_box.specs.BareRule.{stub_in}
-use Rattle.mail_box.specs.LinkSeats.{IsDealtSeat}
+use Rattle.mail_box.specs.LinkSeats.{IsDealtSeat, stub_in}
 use Rattle.mail_box.specs.LinkRule.{AreWords, KeepsLink, amount_word_of, head_word, line_word_of, next_word, turn_word}
 use Rattle.mail_box.specs.LinkSteps.{after_amount_at, after_line_at, after_link_at, after_null_at, after_swap_at, at_point, filling, is_free_at, new_seat, node_in, sender_at_seat, tells_give_slot, tells_load_turn, tells_store_amount, tells_store_line, tells_store_link, tells_store_null, tells_swap_head, tells_take_slot}
-use Rattle.mail_box.proofs.BareFills.{amount_at, at_amount, at_line, at_null, at_swap, end_due, line_at, null_at, turn_due}
+use Rattle.mail_box.proofs.Dues.{amount_at, at_amount, at_line, at_null, at_swap, end_due, line_at, null_at, turn_due}
 use Rattle.mail_box.proofs.LinkSenders.{IsHome, box_exchanged, box_filled, box_holds, box_linked, box_still, core_still, its_within, moved, own, put_together, stood, told}
 use Rattle.mail_box.proofs.LinkTurns.{early_free}
 use Rattle.mail_box.proofs.LinkWords.{amount_words, head_words, line_words, look_words, next_words}

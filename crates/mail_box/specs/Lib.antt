@@ -1,13 +1,10 @@
 pub mod Mails
-pub mod Seats
-pub mod BareRule
-pub mod BareSteps
-pub mod BareRest
-pub mod BareViews
 pub mod LinkSeats
 pub mod LinkRule
 pub mod LinkSteps
 pub mod LinkCalls
+pub mod LinkRest
+pub mod LinkViews
 pub mod Endings
 pub mod Lanes
 pub mod LaneViews

@@ -14,7 +14,7 @@ use Rattle.mail_box.specs.declared.link_seats.Known.{Known}
 use Rattle.mail_box.specs.declared.link_seats.Known.TheVariants.{Dealt, Sends, Reads, Holds}
 use Rattle.mail_box.specs.declared.link_seats.ReaderSeat.{ReaderSeat}
 use Rattle.mail_box.specs.declared.link_seats.SenderSeat.{SenderSeat}
-use Rattle.mail_box.specs.declared.seats.Shape.{Shape}
+use Rattle.mail_box.specs.declared.link_seats.Shape.{Shape}
 use Rattle.mail_box.specs.LinkRule.{opened_reader}
 use Rattle.mail_box.specs.LinkSteps.{at_point, filling, in_slot, new_seat, node_in, sender_at_seat}
 

@@ -13,11 +13,9 @@ use Rattle.mail_box.specs.declared.link_seats.Holding.{Holding}
 use Rattle.mail_box.specs.declared.link_seats.Known.{Known}
 use Rattle.mail_box.specs.declared.link_seats.Known.TheVariants.{Dealt, Sends, Reads, Holds, Gone}
 use Rattle.mail_box.specs.declared.link_seats.ReaderSeat.{ReaderSeat}
-use Rattle.mail_box.specs.declared.seats.Shape.{Shape}
+use Rattle.mail_box.specs.declared.link_seats.Shape.{Shape}
 use Rattle.mail_box.specs.Mails.{IsInRange}
-use Rattle.mail_box.specs.Seats.{HasShape}
-use Rattle.mail_box.specs.BareRule.{stub_in}
-use Rattle.mail_box.specs.LinkSeats.{IsSeat}
+use Rattle.mail_box.specs.LinkSeats.{HasShape, IsSeat, stub_in}
 
 -- ---- where the words are: the head has a line of memory for itself, and the first word is one that nobody writes
 

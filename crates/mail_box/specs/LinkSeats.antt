@@ -1,5 +1,5 @@
 -- What each seat at the table of a linked queue with items knows: its own part of a core, and of the mailbox that the core shows. What is in flight, and the order in which all senders were exchanged in, nobody knows.
-use Rattle.std.specs.Prelude.{ℕ, ◌≡◌, ◌<◌, ◌≤◌, ◌+◌, ◌==◌, All, List, [], ◌∷◌, Option, None, Some, length, map, true, if◌then◌else◌, ⊤}
+use Rattle.std.specs.Prelude.{ℕ, ◌≡◌, ◌<◌, ◌≤◌, ◌+◌, ◌*◌, ◌==◌, All, List, [], ◌∷◌, Option, None, Some, length, map, true, if◌then◌else◌, ⊤}
 use Rattle.std.specs.List.{filter}
 use mathlib.Core.Option.{Option as Slot, some}
 use lib.ListN.{get_elem?}
@@ -16,8 +16,23 @@ use Rattle.mail_box.specs.declared.link_seats.Known.{Known}
 use Rattle.mail_box.specs.declared.link_seats.Known.TheVariants.{Dealt, Sends, Reads, Holds, Gone}
 use Rattle.mail_box.specs.declared.link_seats.ReaderSeat.{ReaderSeat}
 use Rattle.mail_box.specs.declared.link_seats.SenderSeat.{SenderSeat}
-use Rattle.mail_box.specs.declared.seats.Shape.{Shape}
-use Rattle.mail_box.specs.Seats.{HasShape}
+use Rattle.mail_box.specs.declared.link_seats.Shape.{Shape}
+
+-- ---- the shape of a mailbox
+
+pub record IsSmall (shape : Shape) : Type 0 where
+  pub senders : (0 < shape.senders) × (shape.senders ≤ 8)
+  pub ring : (0 < shape.ring) × (shape.ring ≤ 64)
+
+-- the stub comes after the nodes of all senders
+abbrev pub stub_in : Shape → ℕ
+stub_in shape = shape.senders * (shape.ring + 1)
+
+-- so many senders, each with so many ring nodes
+abbrev pub HasShape : Shape → Linked → Type 0
+HasShape shape l = (length l.senders ≡ shape.senders) × (l.ring ≡ shape.ring)
+
+-- ---- what was received and taken in
 
 -- what was received of one sender
 abbrev pub got_in : List (ℕ × Item) → ℕ → List Item
@@ -30,6 +45,8 @@ known_in (w ∷ ws) p = if p == w.number then Some w.items else known_in ws p
 
 abbrev pub AreTakenIn : ReaderSeat → Type 0
 AreTakenIn v = (p : ℕ) → p < v.shape.senders → (items : List Item) × (known_in v.taken_in p ≡ Some items)
+
+-- ---- the seats
 
 -- An entry is held, and this is its node and its item.
 pub record IsHolding (l : Linked) (m : Mailbox) (h : Holding) : Type 0 where

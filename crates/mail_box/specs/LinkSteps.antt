@@ -5,7 +5,7 @@ use Rattle.queue_core.specs.declared.entry.Entry.TheVariants.{Of, Stub}
 use Rattle.queue_core.specs.declared.item.Item.{Item}
 use Rattle.queue_core.specs.declared.item.Item.TheVariants.{Post, End}
 use Rattle.queue_core.specs.declared.item.Posted.TheVariants.{Full}
-use Rattle.queue_core.specs.declared.item.Took.TheVariants.{Held}
+use Rattle.queue_core.specs.declared.item.Took.TheVariants.{Held, Empty, Busy}
 use Rattle.queue_core.specs.declared.reader.Reader.{Reader}
 use Rattle.queue_core.specs.declared.reader.ReaderPoint.{ReaderPoint}
 use Rattle.queue_core.specs.declared.reader.ReaderPoint.TheVariants as reads
@@ -19,11 +19,9 @@ use Rattle.mail_box.specs.declared.link_seats.Known.{Known}
 use Rattle.mail_box.specs.declared.link_seats.Known.TheVariants.{Dealt, Sends, Reads, Holds, Gone}
 use Rattle.mail_box.specs.declared.link_seats.ReaderSeat.{ReaderSeat}
 use Rattle.mail_box.specs.declared.link_seats.SenderSeat.{SenderSeat}
-use Rattle.mail_box.specs.declared.seats.Shape.{Shape}
+use Rattle.mail_box.specs.declared.link_seats.Shape.{Shape}
 use Rattle.mail_box.specs.Mails.{IsFirstOf, IsInRange}
-use Rattle.mail_box.specs.BareRule.{stub_in}
-use Rattle.mail_box.specs.BareSteps.{after_head, without_next}
-use Rattle.mail_box.specs.LinkSeats.{got_in, known_in}
+use Rattle.mail_box.specs.LinkSeats.{got_in, known_in, stub_in}
 
 -- ---- a sender
 
@@ -87,6 +85,25 @@ reading_at point v = with_reader_at (record v.reader { point = point }) v
 abbrev pub with_hand : Option Holding → ReaderSeat → ReaderSeat
 with_hand hand v =
     record { shape = v.shape; dealt = v.dealt; reader = v.reader; passed = v.passed; given = v.given; got = v.got; at_hand = hand; taken_in = v.taken_in }
+
+-- the tail has no next
+abbrev pub without_next_at : ReaderPoint → (stub : ℕ) → Reader → Reader
+without_next_at reads.Rest stub r = record r { point = if r.tail == stub then reads.StubHead else reads.NodeHead }
+without_next_at reads.Second stub r = record r { point = reads.NodeHead }
+without_next_at reads.Last stub r = record r { point = reads.Rest; last = Some Busy }
+without_next_at _ stub r = r
+
+abbrev pub without_next : (stub : ℕ) → Reader → Reader
+without_next stub r = without_next_at r.point stub r
+
+-- the head is the tail, or another node
+abbrev pub after_head_at : ReaderPoint → (found : ℕ) → Reader → Reader
+after_head_at reads.StubHead found r = record r { point = reads.Rest; last = Some (if found == r.tail + 1 then Empty else Busy) }
+after_head_at reads.NodeHead found r = if found == r.tail + 1 then record r { point = reads.Null } else record r { point = reads.Rest; last = Some Busy }
+after_head_at _ found r = r
+
+abbrev pub after_head : (found : ℕ) → Reader → Reader
+after_head found r = after_head_at r.point found r
 
 -- the stub is passed
 abbrev pub past_stub : (next : ℕ) → ReaderSeat → ReaderSeat

@@ -1,21 +1,19 @@
 //! A mailbox between threads: several senders, each with a list of its own, and one receiver.
 //!
 //! `Mail` is what every kind of mailbox does, and all that a caller may know of it. `LaneMail` has one queue of
-//! its own for each sender.
+//! its own for each sender; `LinkMail` is one linked queue of all senders, over atomic words.
 #![tactic(auto)]
 
-mod bare_mail;
-mod bare_steps;
 mod lane;
 mod lane_mail;
+mod link_mail;
 mod link_seats;
 mod link_steps;
 mod mail;
 mod receiving;
-mod seats;
 
-pub use bare_mail::{BareMail, BareReceiver, BareSender};
 pub use lane_mail::{LaneHeld, LaneMail, LaneReceiver, LaneSender};
+pub use link_mail::{LinkHeld, LinkMail, LinkReceiver, LinkSender};
 pub use mail::Mail;
 pub use queue_core::{Item, Posted, Took};
 pub use receiving::receive;

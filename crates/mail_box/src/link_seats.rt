@@ -1,8 +1,14 @@
 //! What the threads of a linked queue with items know of it, each by its seat at the table of words.
 
-use crate::seats::Shape;
 use queue_core::{Entry, Item, Reader, Sender};
 use std::collections::LinkedList;
+
+/// What a table is told when it is made: how many senders there are, and how many ring nodes each has.
+#[derive(Clone, Copy, Debug, PartialEq, Eq)]
+pub struct Shape {
+    pub senders: u64,
+    pub ring: u64,
+}
 
 /// What was taken and not given back: a node, whose item at which place stands in it, and the item. No value of it is
 /// made.

@@ -9,7 +9,7 @@ ghost use Rattle.queue_core.specs.declared.sender.SenderPoint.TheVariants as sen
 ghost use Rattle.queue_core.specs.Linked.{amount_word, line_word};
 ghost use Rattle.mail_box.specs.declared.link_seats.Holding.{Holding as AHolding};
 ghost use Rattle.mail_box.specs.declared.link_seats.Known.TheVariants.{Gone, Reads, Sends};
-ghost use Rattle.mail_box.specs.BareRule.{stub_in};
+ghost use Rattle.mail_box.specs.LinkSeats.{stub_in};
 ghost use Rattle.mail_box.specs.LinkRule.{KeepsLink, amount_word_of, head_word, line_word_of, link_opened, next_word, turn_word};
 ghost use Rattle.mail_box.specs.LinkCalls.{HasAtHand, HasEndedSeat, HasEndedSlot, IsAtRest, IsDealing, IsEnding, IsHandingOut, IsPosting, IsReading, IsSending, IsSlotless, IsTakingBack, after_look, after_swap_on, reader_in, sender_in};
 ghost use Rattle.mail_box.specs.LinkSteps.{HasLoadedHead, HasLoadedNext, LoadsHead, LoadsNext, after_amount_at, after_give, after_line_at, after_link_at, after_null_at, in_slot, reading_at};
@@ -17,7 +17,7 @@ ghost use Rattle.mail_box.specs.LinkSteps.{after_deal, after_hand, dealt, hand_o
 ghost use Rattle.mail_box.specs.LinkSteps.{tells_store_amount, tells_store_line, tells_store_link, tells_store_null, tells_stub_link, tells_stub_null, tells_stub_swap, tells_swap_head, tells_take_slot};
 
 use crate::link_seats::Known;
-use crate::seats::Shape;
+use crate::link_seats::Shape;
 use atomic_table::{Join, Play, Seat, Split, Table, TableRule};
 use queue_core::{Item, NULL};
 use std::alloc::Global;

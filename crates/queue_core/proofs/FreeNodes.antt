@@ -61,7 +61,7 @@ module _ (l : Linked) (ok : IsLinked l) (m : Mailbox) (holds : Holds l.ring m) (
   posts k low = false_from_ne_true (is_end (item_at m p k)) (λ ended.
       false≢true (sym going ∙ (shows.counted p in_table).ended.1 (k, omega (arith, low, ap (λ (xs : List Item). length xs) sent_all), ap (λ xs. is_end (slice_index_or xs k End)) sent_all ∙ ended)))
 
-  slot_is : (k : ℕ) → k < c → slot_at R m p k ≡ k % R
+  pub slot_is : (k : ℕ) → k < c → slot_at R m p k ≡ k % R
   slot_is k low = post_slot R (item_at m p k) k (posts k low)
 
   -- the slot of the end mark is no post's
@@ -108,7 +108,7 @@ module _ (l : Linked) (ok : IsLinked l) (m : Mailbox) (holds : Holds l.ring m) (
 
   module _ (once : IsDistinct is_same m.given) (told : length (filter is_here m.given) ≡ c / R) where
     -- the last earlier post of the slot is given back: else too few are
-    slot_free : (k : ℕ) → k < c → slot_at R m p k ≡ c % R → ((j : ℕ) → k < j → j < c → ¬ (slot_at R m p j ≡ slot_at R m p k)) → is_among (Of p k) m.given ≡ true
+    pub slot_free : (k : ℕ) → k < c → slot_at R m p k ≡ c % R → ((j : ℕ) → k < j → j < c → ¬ (slot_at R m p j ≡ slot_at R m p k)) → is_among (Of p k) m.given ≡ true
     slot_free k low same last = elim (cases_Bool (is_among (Of p k) m.given)) [
       | inl given ↦ given
       | inr kept ↦

@@ -21,6 +21,7 @@ pub mod LoadNextShows
 pub mod Parts
 pub mod Generations
 pub mod FreeNodes
+pub mod TurnTells
 pub mod HeldNodes
 pub mod MayHappen
 pub mod LinkedKept

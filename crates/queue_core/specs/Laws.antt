@@ -1,14 +1,16 @@
 -- What each step does to the abstract mailbox that a core shows: it is an event that may happen, or none, and what comes of it is shown.
-use Rattle.std.specs.Prelude.{ℕ, ◌≡◌, ◌<◌, ◌≤◌, List, [], ◌∷◌, Option, None, Some, true}
+use Rattle.std.specs.Prelude.{ℕ, ◌≡◌, ◌<◌, ◌≤◌, ◌↔◌, List, [], ◌∷◌, Option, None, Some, false, true, length}
 use Rattle.queue_core.specs.declared.entry.Entry.{Entry}
 use Rattle.queue_core.specs.declared.entry.Entry.TheVariants.{Of, Stub}
 use Rattle.queue_core.specs.declared.TheConstants.{MOST_NODES, MOST_SENDERS}
+use Rattle.queue_core.specs.declared.item.Item.TheVariants.{Post}
+use Rattle.queue_core.specs.declared.sender.SenderPoint.TheVariants as sends
 use Rattle.queue_core.specs.declared.step.Step.{Step}
 use Rattle.queue_core.specs.declared.step.Step.TheVariants as step
 use Rattle.queue_core.specs.Mailbox.{IsHeld, Mailbox, is_among, item_at, left_entries, opening}
 use Rattle.queue_core.specs.Events.{Event, Leads, May, after}
-use Rattle.queue_core.specs.Linked.{IsLinked, Linked, opening_core, stub_of}
-use Rattle.queue_core.specs.Steps.{Follows, is_last, stepped}
+use Rattle.queue_core.specs.Linked.{IsLinked, Linked, node_of, opening_core, sender_at, stub_of}
+use Rattle.queue_core.specs.Steps.{Follows, is_free, is_last, stepped}
 use Rattle.queue_core.specs.Shows.{HoldsItem, Shows, node_for}
 use Rattle.queue_core.specs.StepEvents.{event_of, events_along}
 
@@ -22,6 +24,11 @@ StepShows s = (events : List Event) (m : Mailbox) (l n : Linked) → IsLinked l 
 
 abbrev pub LoadTurnShows : Type 0
 LoadTurnShows = (p line amount : ℕ) → StepShows (step.LoadTurn p line amount)
+
+-- A sender that is in no call finds its next ring node free exactly where each of its items that stood in that node was given back.
+abbrev pub LoadTurnTells : Type 0
+LoadTurnTells = (events : List Event) (m : Mailbox) (l : Linked) (p line amount : ℕ) → IsLinked l → Leads l.ring events m → Shows l m → (sender_at l p).point ≡ sends.Rest → (sender_at l p).ended ≡ false
+    → (is_free l p (Post line amount) ≡ true) ↔ ((k : ℕ) → k < length (m.items p) → node_for l m (Of p k) ≡ node_of l p (Post line amount) → is_among (Of p k) m.given ≡ true)
 
 abbrev pub StoreLineShows : Type 0
 StoreLineShows = (p : ℕ) → StepShows (step.StoreLine p)

@@ -5,7 +5,7 @@ ghost use Rattle.std.specs.Prelude.{◌≡◌};
 ghost use Rattle.queue_core.specs.declared.TheConstants.{MOST_AMOUNT, MOST_NODES, MOST_POSTS, MOST_SENDERS};
 ghost use Rattle.queue_core.specs.declared.words.TheConstants.{NULL};
 ghost use Rattle.queue_core.specs.Received.{AllAreReceivedInOrder};
-ghost use Rattle.queue_core.specs.Laws.{AllRunsShow, EndLineShows, GiveBackShows, GiveBackTells, HeldTells, LoadAmountShows, LoadHeadShows, LoadHeadTells, LoadLineShows, LoadNextShows, LoadTurnShows};
+ghost use Rattle.queue_core.specs.Laws.{AllRunsShow, EndLineShows, GiveBackShows, GiveBackTells, HeldTells, LoadAmountShows, LoadHeadShows, LoadHeadTells, LoadLineShows, LoadNextShows, LoadTurnShows, LoadTurnTells};
 ghost use Rattle.queue_core.specs.Laws.{StoreAmountShows, StoreLineShows, StoreLinkShows, StoreNullShows, StubLinkShows, StubNullShows, StubSwapShows, SwapHeadShows};
 ghost use Rattle.queue_core.specs.Shows.{OpeningShows};
 
@@ -23,9 +23,10 @@ pub fn law_opening()
 {}
 
 /// Where a core shows what events lead to, a sender that finds its next node as often given back as it has gone round fills
-/// its item: every item that stood in the node was given back. Else nothing is different.
+/// its item. Else nothing is different. It finds that exactly where each of its items that stood in the node was given back.
 pub fn law_load_turn()
-    ensures { LoadTurnShows }
+    ensures shows { LoadTurnShows }
+    ensures tells { LoadTurnTells }
 {}
 
 /// A sender stores the line of its item, which nobody reads yet.

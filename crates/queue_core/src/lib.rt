@@ -26,7 +26,7 @@ pub use linked::Core;
 pub use reader::{Reader, ReaderPoint};
 pub use sender::{Sender, SenderPoint};
 pub use step::{Step, Stepped};
-pub use words::NULL;
+pub use words::{NULL, item_of};
 
 /// The most senders of a mailbox.
 pub const MOST_SENDERS: u64 = 8;

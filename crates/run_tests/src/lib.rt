@@ -4,13 +4,13 @@
 #![tactic(auto)]
 
 #[cfg(test)]
-mod bare_mail_tests;
-#[cfg(test)]
 mod csv_table_tests;
 #[cfg(test)]
 mod cwr_share_tests;
 #[cfg(test)]
 mod line_split_tests;
+#[cfg(test)]
+mod link_mail_tests;
 #[cfg(test)]
 mod mail_box_tests;
 #[cfg(test)]

@@ -17,7 +17,7 @@ use tis_tree::TisTable;
 const HEADER: &str = "usage,work,territory,right,amount\n";
 
 /// So many usage lines of 100 each, of the work of two parties.
-fn equal_uses(alloc: Global, lines: usize) -> Result<String, Fail> {
+pub fn equal_uses(alloc: Global, lines: usize) -> Result<String, Fail> {
     let mut text = String::new(alloc);
     text.push_str(HEADER)?;
     for _ in 0..lines {
@@ -35,7 +35,7 @@ pub fn inputs(alloc: Global, usage: &str) -> Result<(TisTable, Registry, Usage),
 }
 
 /// The book of a run over these usage lines, with so many workers, readers and nodes.
-fn book_of<M: Mail, G: Gate, R: Threads + Wait + Sync>(
+pub fn book_of<M: Mail, G: Gate, R: Threads + Wait + Sync>(
     rt: &R,
     alloc: Global,
     mail: &M,
@@ -51,13 +51,13 @@ fn book_of<M: Mail, G: Gate, R: Threads + Wait + Sync>(
 }
 
 /// Asserts the totals of the residue and the two parties.
-fn assert_totals(rt: &impl Abort, book: &Book, totals: (u128, u128, u128)) {
+pub fn assert_totals(rt: &impl Abort, book: &Book, totals: (u128, u128, u128)) {
     assert_eq!(rt; book.accounts(), 3);
     assert_eq!(rt; (book.total(0), book.total(1), book.total(2)), totals);
 }
 
 /// Asserts the statements of the small run.
-fn assert_small_run(rt: &impl Abort, book: &Book) {
+pub fn assert_small_run(rt: &impl Abort, book: &Book) {
     assert_eq!(rt; book.accounts(), 3);
     assert_eq!(rt; book.lines(0), [(1, 30), (2, 7)].as_slice());
     assert_eq!(rt; book.lines(1), [(0, 60)].as_slice());

@@ -11,7 +11,7 @@ use crate::fault::Fault;
 use csv_table::RowWriter;
 use cwr_share::Registry;
 use line_split::{RESIDUE, Reason, Usage};
-use mail_box::LaneMail;
+use mail_box::LinkMail;
 use payee_book::Book;
 use split_run::{NoGate, Plan, RunFault, run};
 use std::alloc::{AllocError, Global};
@@ -121,7 +121,7 @@ fn settled<R: Threads + Wait + Sync>(
     ensures reasons { IfOk result (λ settled. length settled.1.items ≡ length usage.now) }
     ensures statements { IfOk result (λ settled. AreStatementsFor tis.now registry.now usage.now (text_of (rows_of_book settled.0 usage.now registry.now.parties settled.1.items))) }
 {
-    let book = run(rt, alloc, &LaneMail, tis, registry, usage, plan, &NoGate)?;
+    let book = run(rt, alloc, &LinkMail, tis, registry, usage, plan, &NoGate)?;
     let reasons = reasons_of(alloc, tis, registry, usage, book.lines(RESIDUE))?;
     Ok((book, reasons))
 }
