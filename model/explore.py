@@ -9,8 +9,9 @@ explore.py SENDERS NODES POSTS [MOST] [--wrong NAME]
     visits every state that any interleaving reaches, with at most POSTS posts and an end mark a sender, and checks in each the whole relation
     between the two, the order of what is received and the held nodes, and of each step that its event is the one that event_of names, and may
     happen; stops at MOST states
-explore.py --vectors COUNT SEED
-    prints random schedules with what each step answers, for a test of the product's own core
+explore.py --vectors COUNT SEED [--long]
+    prints random schedules with what each step answers, for a test of the product's own core; long ones have three senders that go
+    round their rings several times
 
 Wrong cores, each of which the exploration finds out, no_turn only where a sender posts twice; --wrong all tries each of them, and 1 1 2 is enough:
     no_successor   the tail is returned without a successor
@@ -28,6 +29,7 @@ REST, LINE, AMOUNT, NULL, SWAP, LINK, SECOND, STUBHEAD, NODEHEAD, LAST = "Rest L
 END, STUB = ("End",), "Stub"
 WRONGS = "no_successor link_first stub_left stub_twice no_turn given_in_take".split()
 WRONG = None
+LONG = False
 
 # ---- the abstract mailbox: Mailbox.antt, Events.antt, Received.antt
 
@@ -234,7 +236,8 @@ def takes(l):
 
 
 def post(p, k):
-    return ("Post", p * 10 + k + 1, 100 + p * 10 + k)
+    place = p * (100 if LONG else 10) + k
+    return ("Post", place + 1, 100 + place)
 
 
 def steps(l, m, posts):
@@ -490,8 +493,14 @@ def shows(l, m):
 
 
 def tells(l, m):
-    """what the laws say of the loads of a core that shows the mailbox: LoadHeadTells, HeldTells, GiveBackTells"""
+    """what the laws say of the loads of a core that shows the mailbox: LoadTurnTells, LoadHeadTells, HeldTells, GiveBackTells"""
     left = left_entries(m)
+    for p, sender in enumerate(l.senders):
+        if sender.point == (REST,) and not sender.ended:
+            item = post(p, sender.count)
+            stood = [(p, k) for k in range(len(items_of(m, p))) if node_for(l, m, (p, k)) == node_of(l, p, item)]
+            if is_free(l, p, item) != all(e in m.given for e in stood):
+                yield "LoadTurnTells: a node is found free that was not given back, or the other way round"
     if l.reader.tail == stub_of(l) and is_last(l) and left != (STUB,):
         yield "LoadHeadTells: something else than the stub is left"
     for e in held_entries(m):
@@ -560,13 +569,17 @@ def vectors(count, seed):
     """Each schedule: a head 'core SENDERS NODES', its steps with 'moved' or 'not', and after each step that finished a call what the call
     answered; last the words head, and next, turn, line, amount of each node."""
     rng = random.Random(seed)
-    posts = 6
+    posts = 25 if LONG else 6
     for _ in range(count):
-        W, N = rng.randint(1, 3), rng.randint(1, 3)
+        W, N = 3 if LONG else rng.randint(1, 3), rng.randint(1, 3)
         l, m = opening_core(W, N), opening(W)
         print(f"core {W} {N}")
-        for _ in range(rng.randint(5, 120)):
+        for _ in range(800 if LONG else rng.randint(5, 120)):
             due = [x for x in steps(l, m, posts) if x[0][0] not in ("LoadLine", "LoadAmount")]
+            if LONG:
+                due = [x for x in due if x[0][0] != "EndLine" or l.senders[x[0][1]].count == posts]
+                if not due:
+                    break
             if rng.random() < 0.12:
                 p, n = rng.randint(0, W), rng.randint(0, len(l.nodes))
                 step = rng.choice([(rng.choice(STEPS), p), ("LoadNext",), ("LoadHead",), ("StubNull",), ("StubSwap",), ("StubLink",), ("GiveBack", n)])
@@ -592,12 +605,15 @@ def vectors(count, seed):
 
 
 def main(words):
-    global WRONG
+    global LONG, WRONG
     name = None
     if "--wrong" in words:
         at = words.index("--wrong")
         name = words[at + 1]
         del words[at:at + 2]
+    if "--long" in words:
+        LONG = True
+        words.remove("--long")
     if not words or name not in (None, "all", *WRONGS):
         sys.exit(__doc__)
     if words[0] == "--vectors":

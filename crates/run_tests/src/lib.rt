@@ -12,6 +12,8 @@ mod line_split_tests;
 #[cfg(test)]
 mod link_mail_tests;
 #[cfg(test)]
+mod link_threads_tests;
+#[cfg(test)]
 mod mail_box_tests;
 #[cfg(test)]
 mod pair_split_tests;

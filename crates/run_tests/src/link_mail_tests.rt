@@ -6,7 +6,7 @@ ghost use Rattle.mail_box.specs.Mails.{IsInRange, opened_sender};
 
 use crate::run_threads_tests::{assert_small_run, assert_totals, book_of, equal_uses};
 use crate::small_run::USES;
-use mail_box::{Item, LinkHeld, LinkMail, LinkReceiver, LinkSender, Mail, Posted, Took};
+use mail_box::{Item, LaneMail, LinkHeld, LinkMail, LinkReceiver, LinkSender, Mail, Posted, Took};
 use mail_relay::relay;
 use split_run::NoGate;
 use std::alloc::{AllocError, Global};
@@ -182,6 +182,21 @@ fn eight_workers_and_readers_share_linked_nodes(rt: HostRuntime) -> Result<(), F
     for nodes in [1, 2, 64] {
         let book = book_of(&rt, alloc, &LinkMail, uses.as_str(), (8, 8, nodes), &NoGate)?;
         assert_totals(&rt, &book, (0, 60_000, 40_000));
+    }
+    Ok(())
+}
+
+#[test]
+fn links_and_lanes_come_to_one_book(rt: HostRuntime) -> Result<(), Fail> {
+    let alloc = rt.alloc();
+    let uses = equal_uses(alloc, 100)?;
+    for nodes in [1, 2, 64] {
+        let links = book_of(&rt, alloc, &LinkMail, uses.as_str(), (8, 8, nodes), &NoGate)?;
+        let lanes = book_of(&rt, alloc, &LaneMail, uses.as_str(), (8, 8, nodes), &NoGate)?;
+        assert!(&rt; links.accounts() == 3 && lanes.accounts() == 3);
+        for account in 0..3 {
+            assert_eq!(&rt; links.lines(account), lanes.lines(account));
+        }
     }
     Ok(())
 }

@@ -3,7 +3,7 @@
 use crate::small_run::{TERRITORIES, TWO_PARTIES, USES};
 use cwr_share::Registry;
 use line_split::Usage;
-use mail_box::{LaneMail, Mail};
+use mail_box::{LaneMail, LinkMail, Mail};
 use payee_book::Book;
 use split_run::{CountingMail, Gate, MeetingGate, MeetingMail, NoGate, Plan, run};
 use std::alloc::Global;
@@ -64,17 +64,35 @@ pub fn assert_small_run(rt: &impl Abort, book: &Book) {
     assert_eq!(rt; book.lines(2), [(0, 40), (1, 20)].as_slice());
 }
 
-/// Asserts how many items a run with so many workers takes from its mailboxes.
-fn assert_takes<R: Abort + Threads + Wait + Sync>(
+/// Asserts how many items a run with so many workers takes from its mailboxes, which are of this kind.
+fn assert_takes<M: Mail, R: Abort + Threads + Wait + Sync>(
     rt: &R,
     alloc: Global,
+    mail: M,
     usage: &str,
     workers: u64,
     takes: u64,
 ) -> Result<(), Fail> {
-    let mail = CountingMail::new(alloc, LaneMail)?;
-    let _ = book_of(rt, alloc, &mail, usage, (workers, 1, 1), &NoGate)?;
-    assert_eq!(rt; mail.takes(), takes);
+    let counting = CountingMail::new(alloc, mail)?;
+    let _ = book_of(rt, alloc, &counting, usage, (workers, 1, 1), &NoGate)?;
+    assert_eq!(rt; counting.takes(), takes);
+    Ok(())
+}
+
+/// Asserts that two workers are at work at once over this kind of mailbox: the first is held until the other has come far.
+fn assert_workers_meet<M: Mail, R: Abort + Threads + Wait + Sync>(
+    rt: &R,
+    alloc: Global,
+    mail: &M,
+) -> Result<(), Fail> {
+    let uses = equal_uses(alloc, 128)?;
+    let gate = MeetingGate::new();
+    let book = book_of(rt, alloc, mail, uses.as_str(), (2, 1, 1), &gate)?;
+    assert!(rt;
+        gate.has_met(),
+        "the first worker was not let go by the other"
+    );
+    assert_totals(rt, &book, (0, 7680, 5120));
     Ok(())
 }
 
@@ -114,23 +132,18 @@ fn eight_workers_and_readers_share_one_node_each(rt: HostRuntime) -> Result<(), 
 
 #[test]
 fn takes_each_posting_and_each_end_mark_once(rt: HostRuntime) -> Result<(), Fail> {
-    assert_takes(&rt, rt.alloc(), USES, 2, 11)?;
-    assert_takes(&rt, rt.alloc(), USES, 8, 29)?;
-    assert_takes(&rt, rt.alloc(), HEADER, 2, 6)
+    let alloc = rt.alloc();
+    for (usage, workers, takes) in [(USES, 2, 11), (USES, 8, 29), (HEADER, 2, 6)] {
+        assert_takes(&rt, alloc, LaneMail, usage, workers, takes)?;
+        assert_takes(&rt, alloc, LinkMail, usage, workers, takes)?;
+    }
+    Ok(())
 }
 
 #[test]
 fn two_workers_are_at_work_at_once(rt: HostRuntime) -> Result<(), Fail> {
-    let alloc = rt.alloc();
-    let uses = equal_uses(alloc, 128)?;
-    let gate = MeetingGate::new();
-    let book = book_of(&rt, alloc, &LaneMail, uses.as_str(), (2, 1, 1), &gate)?;
-    assert!(&rt;
-        gate.has_met(),
-        "the first worker was not let go by the other"
-    );
-    assert_totals(&rt, &book, (0, 7680, 5120));
-    Ok(())
+    assert_workers_meet(&rt, rt.alloc(), &LaneMail)?;
+    assert_workers_meet(&rt, rt.alloc(), &LinkMail)
 }
 
 #[test]
