@@ -1,5 +1,7 @@
 //! A mailbox of linked nodes between threads: what each sender sends is received once and in order, however often its nodes are used again.
 
+ghost use Rattle.std.specs.Prelude.{◌<◌, ◌≤◌};
+
 use mail_box::{Item, LinkMail, LinkReceiver, LinkSender, Mail, Posted, Took};
 use std::alloc::Global;
 use std::process::Abort;
@@ -14,14 +16,16 @@ const POSTS: u64 = 666_667;
 const MOST_TURNS: u64 = 1_000_000_000;
 
 /// The amount of a sender's post.
-fn amount_of(sender: u64, line: u64) -> u64 {
+fn amount_of(sender: u64, line: u64) -> u64
+    ensures { (0 < result) × (result ≤ 1000000000000) }
+{
     sender % 8 * 1_000_000 + line % 1_000_000 + 1
 }
 
 /// Sends a post, once there is a node for it.
 fn send(rt: &impl Abort, sender: &mut LinkSender, line: u64) {
-    let amount = amount_of(LinkMail::number(sender), line);
     for _ in 0..MOST_TURNS {
+        let amount = amount_of(LinkMail::number(sender), line);
         assert!(rt; line < POSTS && LinkMail::left(sender) == POSTS - line && !LinkMail::ended(sender));
         if LinkMail::try_send(sender, line, amount) == Posted::Sent {
             return;

@@ -65,7 +65,7 @@ pub fn assert_small_run(rt: &impl Abort, book: &Book) {
 }
 
 /// Asserts how many items a run with so many workers takes from its mailboxes, which are of this kind.
-fn assert_takes<M: Mail, R: Abort + Threads + Wait + Sync>(
+fn assert_takes<M: Mail + Drop, R: Abort + Threads + Wait + Sync>(
     rt: &R,
     alloc: Global,
     mail: M,
