@@ -2,7 +2,10 @@
 """Runs the program and the plain Rust one on the same large data, side by side.
 
     python3 bench.py --program PATH [--lines 1000000] [--works 20000]
-        [--parties 400] [--seed 1] [--repeats 5] [--nodes 64] [--phases]
+        [--parties 400] [--seed 1] [--repeats 5] [--nodes 64] [--phases] [--lanes PATH]
+
+With --lanes PATH, a build of the program in which `settle` runs over `LaneMail`, only mailboxes are compared: linked nodes, lanes,
+and the plain program's linked queues, with 1, 2 and 4 workers, 1 and 2 readers, and 1, 8 and 64 nodes.
 
 The program runs with each number of workers and of readers. The plain one runs on one thread, as it is and
 without its hints to fetch memory ahead (`prefetch`), which Rattle has no word for; and in each
@@ -90,6 +93,28 @@ def times(ours, theirs):
     return f"{ours.wall / theirs.wall:.2f} times the time (median of the repeats {median:.2f})"
 
 
+def mailboxes(a, folder, words, program, plain):
+    """Compares kinds of mailboxes: a line for each plan, with the best wall time over each kind."""
+    kinds = {"links": [program], "lanes": [os.path.abspath(a.lanes)], "plain links": [plain, "--mode", "linked"]}
+    plans = [(w, r, n) for w in (1, 2, 4) for r in (1, 2) for n in (1, 8, 64)]
+    rows = {(plan, kind): Row(kind, [command[0], *words(*plan), *command[1:]])
+            for plan in plans for kind, command in kinds.items()}
+    load = os.getloadavg()[0]
+    for _ in range(a.repeats):
+        for row in rows.values():
+            row.run(folder)
+    print(f"{a.lines} lines, {a.works} works, {a.parties} parties, best of {a.repeats}, "
+          f"{os.cpu_count()} cores, load {load:.1f} to {os.getloadavg()[0]:.1f}")
+    print(f"{'workers x readers, nodes':<26}" + "".join(f"{kind:>14}" for kind in kinds))
+    for plan in plans:
+        print(f"{'{} x {}, {}'.format(*plan):<26}" + "".join(f"{rows[plan, kind].wall:>14.3f}" for kind in kinds))
+    if len({row.sha for row in rows.values()}) != 1:
+        print("the statements differ")
+        return 1
+    print("the statements are the same bytes")
+    return 0
+
+
 def main():
     parser = argparse.ArgumentParser(formatter_class=argparse.RawDescriptionHelpFormatter,
                                      description=__doc__)
@@ -101,6 +126,7 @@ def main():
     parser.add_argument("--repeats", type=int, default=5)
     parser.add_argument("--nodes", type=int, default=64)
     parser.add_argument("--phases", action="store_true", help="those of the plain program")
+    parser.add_argument("--lanes", help="a build of the program over lanes")
     a = parser.parse_args()
     plain = build_plain("target")
     no_hints = build_plain("target/no_hints", "--no-default-features")
@@ -112,10 +138,12 @@ def main():
         for option, name in (("tis", "tis.csv"), ("cwr", "works.cwr"), ("usage", "usage.csv")):
             files += [f"--{option}", os.path.join(folder, name)]
 
-        def words(workers, readers):
-            return [*files, "--workers", str(workers), "--readers", str(readers), "--nodes", str(a.nodes)]
+        def words(workers, readers, nodes=a.nodes):
+            return [*files, "--workers", str(workers), "--readers", str(readers), "--nodes", str(nodes)]
 
         program = os.path.abspath(a.program)
+        if a.lanes:
+            return mailboxes(a, folder, words, program, plain)
         ours = {plan: Row("program {} x {}".format(*plan), [program, *words(*plan)])
                 for plan in [(w, r) for w in (1, 2, 4, 8) for r in (1, 2, 4)] + [(8, 8)]}
         theirs = Row("plain", [plain, *words(1, 1), "--times"])
