@@ -6,7 +6,7 @@ help:
 	@echo 'make test     the gate: prove every crate from nothing, refuse every wrong body, run every test and the program'
 	@echo 'make compare  run the program and a plain Rust one on small made-up inputs, good and bad, and compare'
 	@echo 'make refuse   run the program on the example with each allocation refused in turn, for four plans'
-	@echo 'make bench    run both on a million usage lines, print times and peak memory'
+	@echo 'make bench    run both on a million usage lines, print times and peak memory; and a mailbox alone'
 	@echo 'make explore  go through every state of a small mailbox, with the model in Python'
 	@echo 'make help     this list'
 	@echo 'compare, refuse and bench build the program first, unless they are given one: make bench PROGRAM=out/royalty_run'
@@ -45,6 +45,8 @@ refuse:
 
 bench:
 	python3 bench/bench.py --program $(PROGRAM) --lines 1000000 --works 20000 --parties 400 --repeats 5
+	cd crates/mail_bench && rt run < stdin > /dev/null
+	python3 bench/mail.py --program crates/mail_bench/out/mail_bench
 
 explore:
 	python3 model/explore.py 2 1 1

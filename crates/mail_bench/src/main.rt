@@ -12,7 +12,11 @@ use std::process::ExitCode;
 
 /// The number at a place of a line, 0 where there is none.
 fn number_at(line: &str, place: usize) -> u64 {
-    line.split(' ').nth(place).unwrap_or("").parse().unwrap_or(0)
+    line.split(' ')
+        .nth(place)
+        .unwrap_or("")
+        .parse()
+        .unwrap_or(0)
 }
 
 fn main(rt: HostRuntime) -> io::Result<ExitCode> {

@@ -1,5 +1,5 @@
 -- A sender that has filled fewer items than it has ring nodes finds its next ring node free.
-use Rattle.std.proofs.Common.{◌≡◌, ◌∙◌, ◌+◌, ◌%◌, ◌<◌, ℕ, List, false, true, length, ap, arith}
+use Rattle.std.proofs.Common.{◌≡◌, ◌∙◌, ◌%◌, ◌<◌, ℕ, List, false, true, length, ap, arith}
 use Rattle.std.proofs.Math.Nat.{mod-eq_of_lt}
 use Rattle.queue_core.specs.declared.entry.Entry.TheVariants.{Of}
 use Rattle.queue_core.specs.declared.item.Item.TheVariants.{Post}

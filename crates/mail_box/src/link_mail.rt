@@ -17,10 +17,10 @@ ghost use Rattle.queue_core.specs.declared.item.Item.{Item as AnItem};
 ghost use Rattle.queue_core.specs.declared.reader.ReaderPoint.TheVariants as reads;
 ghost use Rattle.queue_core.specs.declared.sender.SenderPoint.TheVariants as sends;
 
+use crate::link_seats::Shape;
 use crate::link_steps;
 use crate::link_steps::{Board, LinkSeat};
 use crate::mail::Mail;
-use crate::link_seats::Shape;
 use queue_core::{Item, NULL, Posted, Took, item_of};
 use std::alloc::{AllocError, Global};
 use std::sync::{Arc, Wait};

@@ -16,8 +16,7 @@ ghost use Rattle.mail_box.specs.LinkSteps.{HasLoadedHead, HasLoadedNext, LoadsHe
 ghost use Rattle.mail_box.specs.LinkSteps.{after_deal, after_hand, dealt, hand_of, taken_back, taken_in, tells_give_back, tells_give_slot, tells_load_amount, tells_load_head, tells_load_line, tells_load_next, tells_load_turn, tells_look, BeginsAt};
 ghost use Rattle.mail_box.specs.LinkSteps.{tells_store_amount, tells_store_line, tells_store_link, tells_store_null, tells_stub_link, tells_stub_null, tells_stub_swap, tells_swap_head, tells_take_slot};
 
-use crate::link_seats::Known;
-use crate::link_seats::Shape;
+use crate::link_seats::{Known, Shape};
 use atomic_table::{Join, Play, Seat, Split, Table, TableRule};
 use queue_core::{Item, NULL};
 use std::alloc::Global;

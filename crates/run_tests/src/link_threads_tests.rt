@@ -26,7 +26,9 @@ fn amount_of(sender: u64, line: u64) -> u64
 fn send(rt: &impl Abort, sender: &mut LinkSender, line: u64) {
     for _ in 0..MOST_TURNS {
         let amount = amount_of(LinkMail::number(sender), line);
-        assert!(rt; line < POSTS && LinkMail::left(sender) == POSTS - line && !LinkMail::ended(sender));
+        assert!(rt;
+            line < POSTS && LinkMail::left(sender) == POSTS - line && !LinkMail::ended(sender)
+        );
         if LinkMail::try_send(sender, line, amount) == Posted::Sent {
             return;
         }
@@ -84,11 +86,7 @@ fn take_all(rt: &impl Abort, mut receiver: LinkReceiver, senders: u64) {
 }
 
 /// Two senders and a receiver, each in a thread of its own.
-fn post_of_two<R: Abort + Threads + Sync>(
-    rt: &R,
-    alloc: Global,
-    nodes: u64,
-) -> Result<(), Fail> {
+fn post_of_two<R: Abort + Threads + Sync>(rt: &R, alloc: Global, nodes: u64) -> Result<(), Fail> {
     assert!(rt; 0 < nodes && nodes <= 64);
     let (mut senders, receiver) = LinkMail.open(alloc, 2, nodes, POSTS)?;
     let (Some(second), Some(first)) = (senders.pop(), senders.pop()) else {
@@ -107,11 +105,7 @@ fn post_of_two<R: Abort + Threads + Sync>(
 }
 
 /// Three senders and a receiver, each in a thread of its own.
-fn post_of_three<R: Abort + Threads + Sync>(
-    rt: &R,
-    alloc: Global,
-    nodes: u64,
-) -> Result<(), Fail> {
+fn post_of_three<R: Abort + Threads + Sync>(rt: &R, alloc: Global, nodes: u64) -> Result<(), Fail> {
     assert!(rt; 0 < nodes && nodes <= 64);
     let (mut senders, receiver) = LinkMail.open(alloc, 3, nodes, POSTS)?;
     let (Some(third), Some(second), Some(first)) = (senders.pop(), senders.pop(), senders.pop())

@@ -1,4 +1,4 @@
-use Rattle.std.proofs.Common.{arith, ◌≡◌, ◌<◌, ◌≤◌, ℕ, zero, suc, false, [], ◌∷◌, ap, get_or, length}
+use Rattle.std.proofs.Common.{arith, ◌≡◌, ◌<◌, ◌≤◌, ℕ, zero, suc, false, [], ◌∷◌, ap, get_or}
 use Rattle.run_tests.proofs.split_run_tests.open_three.Goals as goal
 
 -- what holds of three holds of each of them
