@@ -1,5 +1,5 @@
 //! A mailbox of linked nodes: what its calls answer, two senders that post through one, and runs over it.
-ghost use Rattle.std.specs.Prelude.{◌≡◌, ◌<◌, ◌≤◌, IfOk, false};
+ghost use Rattle.std.specs.Prelude.{◌≡◌, ◌<◌, ◌≤◌, IfOk, false, true};
 ghost use Rattle.queue_core.specs.declared.item.Item.TheVariants.{Post};
 ghost use Rattle.mail_box.specs.LinkViews.{held_of, receiver_of, sender_of};
 ghost use Rattle.mail_box.specs.Mails.{IsInRange, opened_sender};
@@ -30,6 +30,14 @@ fn hold<R: Abort + Wait>(rt: &R, receiver: &mut LinkReceiver, pair: (u64, Item))
     held
 }
 
+/// Takes an item, asserts what it is, and gives it back.
+fn receive<R: Abort + Wait>(rt: &R, receiver: &mut LinkReceiver, pair: (u64, Item))
+    ensures { (receiver_of receiver.new).mailbox ≡ (receiver_of receiver.old).mailbox }
+{
+    let held = hold(rt, receiver, pair);
+    LinkMail::give_back(receiver, held);
+}
+
 /// Asserts that nothing is in the mailbox.
 fn assert_empty<R: Abort + Wait>(rt: &R, receiver: &mut LinkReceiver)
     ensures { (receiver_of receiver.new).mailbox ≡ (receiver_of receiver.old).mailbox }
@@ -56,6 +64,18 @@ fn assert_posted<R: Abort + Wait>(rt: &R, sender: &mut LinkSender, pair: (u64, u
         Posted::Sent => assert!(rt; has_room, "the mailbox is not full"),
         Posted::Full => assert!(rt; !has_room, "the mailbox is full"),
     }
+}
+
+/// Sends an end mark, which has a node for itself.
+fn assert_ends(rt: &impl Abort, sender: &mut LinkSender)
+    requires { (sender_of sender.old).is_ended ≡ false }
+    ensures ended { (sender_of sender.new).is_ended ≡ true }
+    ensures mailbox { (sender_of sender.new).mailbox ≡ (sender_of sender.old).mailbox }
+{
+    assert!(rt;
+        LinkMail::end(sender) == Posted::Sent,
+        "an end mark has a node for itself"
+    );
 }
 
 /// Asserts a sender's number, how many posts it has left, and whether it has ended.
@@ -87,7 +107,7 @@ fn open_two(
 
 #[test]
 fn is_full_until_an_item_is_given_back(rt: HostRuntime) -> Result<(), Fail> {
-    let (mut sender, _, mut receiver) = open_two(rt.alloc(), 1, 5)?;
+    let (mut sender, mut other, mut receiver) = open_two(rt.alloc(), 1, 5)?;
     assert_empty(&rt, &mut receiver);
     assert_posted(&rt, &mut sender, (3, 10), true);
     assert_sender(&rt, &sender, (0, 4, false));
@@ -101,17 +121,17 @@ fn is_full_until_an_item_is_given_back(rt: HostRuntime) -> Result<(), Fail> {
     LinkMail::give_back(&mut receiver, held);
     assert!(&rt; LinkMail::left(&sender) > 0);
     assert_posted(&rt, &mut sender, (4, 20), true);
-    assert_sender(&rt, &sender, (0, 3, false));
-    assert!(&rt;
-        LinkMail::end(&mut sender) == Posted::Sent,
-        "an end mark has a node for itself"
-    );
+    assert!(&rt; LinkMail::left(&sender) > 0);
+    assert_posted(&rt, &mut sender, (5, 30), false);
+    assert_ends(&rt, &mut sender);
     assert_sender(&rt, &sender, (0, 3, true));
-    let held = hold(&rt, &mut receiver, (0, post(4, 20)));
-    LinkMail::give_back(&mut receiver, held);
-    let held = hold(&rt, &mut receiver, (0, Item::End));
-    LinkMail::give_back(&mut receiver, held);
+    receive(&rt, &mut receiver, (0, post(4, 20)));
+    receive(&rt, &mut receiver, (0, Item::End));
+    assert_empty(&rt, &mut receiver);
+    assert_ends(&rt, &mut other);
+    receive(&rt, &mut receiver, (1, Item::End));
     LinkMail::take_in(&mut receiver, sender);
+    LinkMail::take_in(&mut receiver, other);
     assert_empty(&rt, &mut receiver);
     Ok(())
 }
@@ -123,8 +143,8 @@ fn takes_in_the_order_of_sending(rt: HostRuntime) -> Result<(), Fail> {
     assert_posted(&rt, &mut second, (3, 1_000_000_000_000), true);
     assert!(&rt; LinkMail::left(&first) > 0);
     assert_posted(&rt, &mut first, (999_999, 20), true);
-    assert!(&rt; LinkMail::end(&mut second) == Posted::Sent);
-    assert!(&rt; LinkMail::end(&mut first) == Posted::Sent);
+    assert_ends(&rt, &mut second);
+    assert_ends(&rt, &mut first);
     let items = [
         (0, post(1, 10)),
         (1, post(3, 1_000_000_000_000)),
@@ -133,8 +153,7 @@ fn takes_in_the_order_of_sending(rt: HostRuntime) -> Result<(), Fail> {
         (0, Item::End),
     ];
     for pair in items {
-        let held = hold(&rt, &mut receiver, pair);
-        LinkMail::give_back(&mut receiver, held);
+        receive(&rt, &mut receiver, pair);
     }
     assert_empty(&rt, &mut receiver);
     Ok(())
