@@ -576,15 +576,16 @@ def vectors(count, seed):
         print(f"core {W} {N}")
         for _ in range(800 if LONG else rng.randint(5, 120)):
             due = [x for x in steps(l, m, posts) if x[0][0] not in ("LoadLine", "LoadAmount")]
-            if LONG:
-                due = [x for x in due if x[0][0] != "EndLine" or l.senders[x[0][1]].count == posts]
-                if not due:
-                    break
+            picks = [x for x in due if not LONG or x[0][0] != "EndLine" or l.senders[x[0][1]].count == posts]
+            if not picks:
+                break
             if rng.random() < 0.12:
                 p, n = rng.randint(0, W), rng.randint(0, len(l.nodes))
                 step = rng.choice([(rng.choice(STEPS), p), ("LoadNext",), ("LoadHead",), ("StubNull",), ("StubSwap",), ("StubLink",), ("GiveBack", n)])
             else:
-                step = rng.choice(due)[0]
+                step = rng.choice(picks)[0]
+            if LONG and step[0] == "EndLine" and step not in [x[0] for x in picks]:
+                continue
             if step[0] == "LoadTurn":
                 p = step[1]
                 count_of = l.senders[p].count if p < W else 0
