@@ -1,0 +1,4 @@
+mod Counts
+mod Openings
+mod Draws
+mod Gathers
