@@ -32,9 +32,10 @@ use Rattle.mail_box.specs.declared.link_seats.ReaderSeat.{ReaderSeat}
 use Rattle.mail_box.specs.declared.link_seats.Shape.{Shape}
 use Rattle.mail_box.specs.LinkRule.{HasHolding, KeepsLink, amount_word_of, line_word_of, turn_word}
 use Rattle.mail_box.specs.LinkSeats.{IsAlone, IsHolding, IsReaderSeat}
-use Rattle.mail_box.specs.LinkSteps.{after_give}
+use Rattle.mail_box.specs.LinkSteps.{IsHeldAt, after_give}
 use Rattle.mail_box.proofs.LinkReader.{holds, moved, others_hold, own, seat_after, still_holding}
 use Rattle.mail_box.proofs.LinkWords.{turn_words}
+use Rattle.mail_box.proofs.SeatLemmas.{known_held}
 
 module _ (shape : Shape) (id : ℕ) (v : ReaderSeat) (s : State Item Known) (kept : KeepsLink shape s) (seen : get_elem? s.views id ≡ some (Reads v)) where
   abbrev l : Linked
@@ -80,6 +81,10 @@ module _ (shape : Shape) (id : ℕ) (v : ReaderSeat) (s : State Item Known) (kep
     amount_found g too = kept.words.amount h.node node_low ∙ (words_are.1 ∙ ap (λ (g : Holding). amount_word g.item) (hand_is g too))
 
     -- ---- GiveBack
+
+    -- what is at hand is held, by what the reader knows
+    pub hand_held : (g : Holding) → v.at_hand ≡ Some g → IsHeldAt v g
+    hand_held g too = subst (IsHeldAt v) (hand_is g too) (known_held m v.passed mine.passed h.sender h.place v.given mine.given held.held)
 
     module _ (at : v.reader.point ≡ reads.Rest) where
       abbrev n : Linked

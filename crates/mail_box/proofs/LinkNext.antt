@@ -1,5 +1,5 @@
 -- LoadNext keeps the rule of a linked queue with items: it is a look, or the first entry that is left is passed.
-use Rattle.std.proofs.Common.{◌≡◌, ◌∙◌, ◌≤◌, ◌+◌, ◌-◌, ◌/◌, ◌++◌, ◌∷◌, [], ℕ, true, false, None, Some, length, get_or, not, set, ap, sym, refl, subst, inl, inr, arith}
+use Rattle.std.proofs.Common.{◌≡◌, ◌∙◌, ◌≤◌, ◌+◌, ◌-◌, ◌/◌, ◌++◌, ◌∷◌, [], ℕ, List, true, false, None, Some, length, get_or, not, set, ap, sym, refl, subst, inl, inr, arith}
 use Rattle.std.specs.Prelude.{◌==◌, if◌then◌else◌}
 use Rattle.std.specs.List.{filter_map}
 use Rattle.std.proofs.lemmas.Bool.{cases_eq, eq-eqb, false_from_ne_true, false≢true, ne_eqb}
@@ -49,7 +49,7 @@ use Rattle.mail_box.proofs.LinkBegins.{begins_now}
 use Rattle.mail_box.proofs.LinkReader.{gone_on, holds, moved, others_hold, own, seat_after, still_holding, stub_is}
 use Rattle.mail_box.proofs.LinkTaken.{find_awaited, nothing_flies, tail_alone}
 use Rattle.mail_box.proofs.LinkWords.{look_words}
-use Rattle.mail_box.proofs.SeatLemmas.{at_within}
+use Rattle.mail_box.proofs.SeatLemmas.{at_within, known_held, not_taken}
 
 -- ---- the entry that is passed
 
@@ -176,7 +176,7 @@ module _ (shape : Shape) (id : ℕ) (v : ReaderSeat) (s : State Item Known) (kep
     -- the stub was put in behind the tail, so something was exchanged in between
     none_busy : v.reader.point ≡ reads.Last → IsAwaitedAt v
     none_busy last = elim (find_awaited v) [
-      | inl all ↦ let two : length (left_entries m) ≡ 2 = subst (IsAlone m) last (mine.alone all) in absurd (omega (arith, two, one_left all))
+      | inl all ↦ let two : length (left_entries m) ≡ 2 = ap (λ (xs : List Entry). length xs) (subst (IsAlone m) last (mine.alone all)).1 in absurd (omega (arith, two, one_left all))
       | inr awaited ↦ awaited
     ]
 
@@ -246,6 +246,9 @@ module _ (shape : Shape) (id : ℕ) (v : ReaderSeat) (s : State Item Known) (kep
       at_hand : IsHolding n m' h
       at_hand = record { held = held_first l kept.mail.linked m its kept.mail.shows.linked p k first; node = node_is; item = refl }
 
+      passed_is : passed_entries m' ≡ v.passed ++ Of p k ∷ []
+      passed_is = passed_then l kept.mail.linked m its kept.mail.shows.linked (Of p k) first ∙ ap (λ xs. xs ++ Of p k ∷ []) mine.passed
+
       -- the node is one of the sender's
       block_is : v.reader.tail / (v.shape.ring + 1) ≡ p
       block_is =
@@ -266,7 +269,7 @@ module _ (shape : Shape) (id : ℕ) (v : ReaderSeat) (s : State Item Known) (kep
         seat = seat_after shape s kept id v seen n m' record { ring = refl; senders = refl; items = refl } (record { point = reads.Rest; tail = found - 1; last = Some (took.Held v.reader.tail) })
             (v.passed ++ Of p k ∷ []) v.given (v.got ++ (p, item_at m p k) ∷ []) (Some h) record {
               reader_is = λ i. record { point = reads.Rest; tail = sym found_is i - 1; last = Some (took.Held (tail_is i)) };
-              passed_is = passed_then l kept.mail.linked m its kept.mail.shows.linked (Of p k) first ∙ ap (λ xs. xs ++ Of p k ∷ []) mine.passed;
+              passed_is = passed_is;
               given_is = mine.given;
               got_is = got_then l kept.mail.linked m its kept.mail.shows.linked (Of p k) first ∙ ap (λ xs. xs ++ (p, item_at m p k) ∷ []) mine.got;
               holding = λ g hand. let same : h ≡ g = cc in subst (IsHolding n m') same at_hand;
@@ -288,6 +291,8 @@ module _ (shape : Shape) (id : ℕ) (v : ReaderSeat) (s : State Item Known) (kep
             node = refl;
             block = block_is;
             within = omega (arith, in_table l kept.mail.linked m its kept.mail.shows.linked p k is_in, mine.shape.0);
+            fresh = not_taken m v.passed mine.passed p k (left_unpassed l.ring m its p k is_left);
+            kept = known_held m' (v.passed ++ Of p k ∷ []) passed_is p k v.given mine.given at_hand.held;
             ranged = kept.mail.ranged p k End (omega (arith, among_turn p k m.order turns.one_by_one is_in, turns.filled_first));
             begins = begins_now shape _ node_kept id (past_node (found - 1) h v) (set_here s.views id (Reads (past_node (found - 1) h v)) (at_within s.views id (Reads v) seen));
           }

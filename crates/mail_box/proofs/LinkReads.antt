@@ -1,5 +1,5 @@
 -- The steps of the reader keep the rule of a linked queue with items.
-use Rattle.std.proofs.Common.{◌≡◌, ◌∙◌, ◌<◌, ◌≤◌, ◌+◌, ◌-◌, ◌%◌, ◌^◌, ℕ, true, false, [], None, Some, length, get_or, set, ap, sym, refl, subst, inl, inr, arith}
+use Rattle.std.proofs.Common.{◌≡◌, ◌∙◌, ◌<◌, ◌≤◌, ◌+◌, ◌-◌, ◌%◌, ◌^◌, ◌++◌, ◌∷◌, ℕ, true, false, [], None, Some, length, get_or, set, ap, sym, refl, subst, inl, inr, arith}
 use Rattle.std.specs.Prelude.{◌==◌}
 use Rattle.std.specs.List.{filter_map}
 use Rattle.std.proofs.lemmas.Bool.{eq-eqb}
@@ -23,7 +23,7 @@ use Rattle.queue_core.specs.Shows.{links_of}
 use Rattle.queue_core.specs.Steps.{goes_to, is_last, stub_link_at, stub_null_at, stub_swap_at}
 use Rattle.queue_core.proofs.Entries.{own as entries_of}
 use Rattle.queue_core.proofs.EventsKeep.{same_passed}
-use Rattle.queue_core.proofs.ExchangeLemmas.{held_kept, left_long}
+use Rattle.queue_core.proofs.ExchangeLemmas.{held_kept, left_is}
 use Rattle.queue_core.proofs.LeftLemmas.{all_received}
 use Rattle.queue_core.proofs.ReaderLooks.{head_tells}
 use Rattle.queue_core.proofs.StepLaws.{step_shows}
@@ -37,10 +37,10 @@ use Rattle.mail_box.specs.LinkSeats.{IsAlone, IsReaderSeat, got_in, stub_in}
 use Rattle.mail_box.specs.LinkSteps.{HasLoadedHead, IsAwaitedAt, IsWholeAt, LoadsHead, LoadsNext, after_give, after_head, after_head_at, reading_at, tells_give_back, tells_load_amount, tells_load_head, tells_load_line, tells_load_next, tells_stub_link, tells_stub_null, tells_stub_swap, with_reader_at}
 use Rattle.mail_box.specs.LinkRule.{AreWords, KeepsLink, amount_word_of, head_word, line_word_of, next_word, turn_word}
 use Rattle.mail_box.proofs.Dues.{head_due}
-use Rattle.mail_box.proofs.LinkHoldings.{amount_found, give_kept, line_found, look_kept}
+use Rattle.mail_box.proofs.LinkHoldings.{amount_found, give_kept, hand_held, line_found, look_kept}
 use Rattle.mail_box.proofs.LinkNext.{next_kept}
 use Rattle.mail_box.proofs.LinkReader.{gone_on, holds, own, stub_is}
-use Rattle.mail_box.proofs.LinkTaken.{find_awaited, head_alone, known_items, known_rests, sent_all}
+use Rattle.mail_box.proofs.LinkTaken.{find_awaited, head_alone, known_items, known_rests, one_entry, sent_all}
 use Rattle.mail_box.proofs.LinkWords.{head_words, look_words, next_words}
 
 -- ---- LoadHead, and the steps that put the stub in
@@ -182,7 +182,9 @@ module _ (shape : Shape) (id : ℕ) (v : ReaderSeat) (s : State Item Known) (kep
           given_is = refl;
           got_is = ap (filter_map (received_at m)) passed;
           held = λ p k held. (held_kept l.ring m its Stub swap_may p k).0 held;
-          alone = λ all. let one : length (left_entries m) ≡ 1 = subst (IsAlone m) at (mine.alone all) in omega (arith, one, left_long l.ring m its Stub swap_may);
+          alone = λ all.
+              let one = one_entry (left_entries m) (subst (IsAlone m) at (mine.alone all)) in
+              (one.0, left_is l.ring m its Stub swap_may ∙ ap (λ xs. xs ++ Stub ∷ []) one.1);
         }
 
     swap_found : (0 < get_or s.words head_word 0) × (get_or s.words head_word 0 ≤ stub_in v.shape + 1)
@@ -247,4 +249,4 @@ module _ (shape : Shape) (slots id : ℕ) (v : ReaderSeat) where
     pub turn_adds : Allows (KeepsLink shape) slots id (Reads v, []) (turn_word h.node) (λ n. (n + 1) % 2 ^ 64) (tells_give_back (step slots (turn_word h.node) 1 0 none) (Reads v, []))
     turn_adds s kept deep seen small =
         let w : ReaderSeat = after_give (Some h) v in
-        (Reads w, keeps, tt, give_kept shape id v s kept seen h hand at, (w, refl, ap (λ o. after_give o v) (sym hand)))
+        (Reads w, keeps, tt, give_kept shape id v s kept seen h hand at, (w, refl, (ap (λ o. after_give o v) (sym hand), hand_held shape id v s kept seen h hand)))

@@ -84,6 +84,12 @@ module _ (l : Linked) (m : Mailbox) (shows : ShowsLinked l m) (p : ℕ) (rest : 
         ] in
         has.is ∙ take_all n (m.items p) far
 
+-- where there is one entry, it is the only one
+pub one_entry : (xs : List Entry) → length xs ≡ 1 → (entry : Entry) × (xs ≡ entry ∷ [])
+one_entry [] size = absurd (omega (arith, size))
+one_entry (x ∷ []) size = (x, refl)
+one_entry (x ∷ y ∷ xs) size = absurd (omega (arith, size))
+
 -- a sender that is not there is at rest
 absent_rests : (l : Linked) (p : ℕ) → length l.senders ≤ p → (sender_at l p).point ≡ sends.Rest
 absent_rests l p past = ap (λ (s : Sender). s.point) (get_or_past l.senders p _ past)

@@ -1,10 +1,15 @@
--- What a step changes of what seats know: the seat that steps alone.
-use Rattle.std.proofs.Common.{◌≡◌, ◌≢◌, ◌<◌, ◌∷◌, [], ℕ, List, length, set, zero, suc, sym, subst, ⊎_elim, arith}
+-- What a step changes of what seats know: the seat that steps alone. And what the reader knows of an entry.
+use Rattle.std.proofs.Common.{◌≡◌, ◌≢◌, ◌∙◌, ◌<◌, ◌∷◌, [], ℕ, List, true, false, length, not, set, zero, suc, ap, refl, sym, subst, ⊎_elim, arith}
+use Rattle.std.proofs.lemmas.Bool.{false≢true}
+use Rattle.std.proofs.lemmas.Map.Views.{any-filter_same}
 use mathlib.Core.Option.{some, some-ne-none}
 use lib.ListN.{get_elem?}
 use Rattle.atomic_table.proofs.Lists.{at_set}
-use Rattle.queue_core.specs.Mailbox.{Mailbox}
+use Rattle.queue_core.specs.declared.entry.Entry.{Entry}
+use Rattle.queue_core.specs.declared.entry.Entry.TheVariants.{Of, Stub}
+use Rattle.queue_core.specs.Mailbox.{IsHeld, Mailbox, is_among, is_same, passed_entries}
 use Rattle.queue_core.specs.Linked.{Linked, sender_at}
+use Rattle.mail_box.specs.LinkSeats.{own_entries}
 
 -- ---- lists of views
 
@@ -33,3 +38,25 @@ module _ (l n : Linked) (m m' : Mailbox) (same : ButReader l n m m') where
 
   pub same_sender : (q : ℕ) → sender_at n q ≡ sender_at l q
   same_sender q i = sender_at (record l { senders = same.senders i }) q
+
+-- ---- an entry of a sender, by what the reader knows
+
+-- it is among those of senders where it is among all
+own_among : (p k : ℕ) (xs : List Entry) → is_among (Of p k) (own_entries xs) ≡ is_among (Of p k) xs
+own_among p k xs = any-filter_same (is_same (Of p k)) (λ entry. not (is_same Stub entry)) true only xs
+  where
+    only : (e : Entry) → is_same (Of p k) e ≡ true → not (is_same Stub e) ≡ true
+    only (Of q j) same = refl
+    only Stub same = absurd (false≢true same)
+
+module _ (m : Mailbox) (passed : List Entry) (passed_is : passed_entries m ≡ passed) (p k : ℕ) where
+  -- it was not taken
+  pub not_taken : is_among (Of p k) (passed_entries m) ≡ false → is_among (Of p k) (own_entries passed) ≡ false
+  not_taken none = own_among p k passed ∙ (ap (is_among (Of p k)) (sym passed_is) ∙ none)
+
+  -- it was taken, and not given back
+  pub known_held : (given : List Entry) → m.given ≡ given → IsHeld m p k → (is_among (Of p k) (own_entries passed) ≡ true) × (is_among (Of p k) given ≡ false)
+  known_held given given_is held = (
+    own_among p k passed ∙ (ap (is_among (Of p k)) (sym passed_is) ∙ held.passed),
+    ap (is_among (Of p k)) (sym given_is) ∙ held.kept,
+  )

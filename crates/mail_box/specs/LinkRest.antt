@@ -1,16 +1,14 @@
 -- What the ends of a linked queue with items keep to between two calls, and what a take leaves.
-use Rattle.std.specs.Prelude.{ℕ, ◌≡◌, ◌<◌, ◌≤◌, ◌+◌, ◌/◌, ◌++◌, ◌∷◌, Bool, List, [], None, Some, not, if◌then◌else◌, ⊤}
-use Rattle.std.specs.List.{filter}
+use Rattle.std.specs.Prelude.{ℕ, ◌≡◌, ◌<◌, ◌≤◌, ◌+◌, ◌/◌, ◌++◌, ◌∷◌, Bool, [], None, Some, false, if◌then◌else◌, ⊤}
 use Rattle.atomic_table.specs.Table.{Me}
-use Rattle.queue_core.specs.declared.entry.Entry.{Entry}
-use Rattle.queue_core.specs.declared.entry.Entry.TheVariants.{Of, Stub}
+use Rattle.queue_core.specs.declared.entry.Entry.TheVariants.{Of}
 use Rattle.queue_core.specs.declared.item.Item.{Item}
 use Rattle.queue_core.specs.declared.item.Took.{Took}
 use Rattle.queue_core.specs.declared.reader.ReaderPoint.{ReaderPoint}
 use Rattle.queue_core.specs.declared.reader.ReaderPoint.TheVariants as reads
 use Rattle.queue_core.specs.declared.sender.SenderPoint.{SenderPoint}
 use Rattle.queue_core.specs.declared.sender.SenderPoint.TheVariants as sends
-use Rattle.queue_core.specs.Mailbox.{is_same}
+use Rattle.queue_core.specs.Mailbox.{is_among}
 use Rattle.queue_core.specs.Steps.{after_sent}
 use Rattle.mail_box.specs.declared.link_seats.Holding.{Holding}
 use Rattle.mail_box.specs.declared.link_seats.Known.{Known}
@@ -19,9 +17,9 @@ use Rattle.mail_box.specs.declared.link_seats.ReaderSeat.{ReaderSeat}
 use Rattle.mail_box.specs.declared.link_seats.SenderSeat.{SenderSeat}
 use Rattle.mail_box.specs.declared.link_seats.Shape.{Shape}
 use Rattle.mail_box.specs.Mails.{IsInRange, MatchTook}
-use Rattle.mail_box.specs.LinkSeats.{stub_in}
+use Rattle.mail_box.specs.LinkSeats.{own_entries, stub_in}
 use Rattle.mail_box.specs.LinkCalls.{holding_in, reader_in, sender_in}
-use Rattle.mail_box.specs.LinkSteps.{BeginsAt, IsAwaitedAt, IsWholeAt, in_slot, sender_at_seat}
+use Rattle.mail_box.specs.LinkSteps.{BeginsAt, IsAwaitedAt, IsHeldAt, IsWholeAt, in_slot, sender_at_seat}
 
 -- ---- a sender
 
@@ -73,10 +71,6 @@ AtNode reads.Rest = ⊤
 AtNode reads.Second = ⊤
 AtNode _ = ⊥
 
--- the entries of senders among some
-abbrev pub own_entries : List Entry → List Entry
-own_entries entries = filter (λ entry. not (is_same Stub entry)) entries
-
 -- what was received, given back and taken in is as it was
 pub record HasSameMail (v w : ReaderSeat) : Type 0 where
   pub passed : own_entries w.passed ≡ own_entries v.passed
@@ -93,6 +87,8 @@ pub record HasGotNode (shape : Shape) (node : ℕ) (v w : ReaderSeat) : Type 0 w
   pub within : held.sender < shape.senders
   pub ranged : IsInRange held.item
   pub passed : own_entries w.passed ≡ own_entries v.passed ++ Of held.sender held.place ∷ []
+  pub fresh : is_among (Of held.sender held.place) (own_entries v.passed) ≡ false
+  pub kept : IsHeldAt w held
   pub given : w.given ≡ v.given
   pub got : w.got ≡ v.got ++ (held.sender, held.item) ∷ []
   pub taken_in : w.taken_in ≡ v.taken_in

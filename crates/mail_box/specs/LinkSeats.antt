@@ -1,14 +1,15 @@
 -- What each seat at the table of a linked queue with items knows: its own part of a core, and of the mailbox that the core shows. What is in flight, and the order in which all senders were exchanged in, nobody knows.
-use Rattle.std.specs.Prelude.{ℕ, ◌≡◌, ◌<◌, ◌≤◌, ◌+◌, ◌*◌, ◌==◌, All, List, [], ◌∷◌, Option, None, Some, length, map, true, if◌then◌else◌, ⊤}
+use Rattle.std.specs.Prelude.{ℕ, ◌≡◌, ◌<◌, ◌≤◌, ◌+◌, ◌*◌, ◌==◌, All, List, [], ◌∷◌, Option, None, Some, length, map, not, true, if◌then◌else◌, ⊤}
 use Rattle.std.specs.List.{filter}
 use mathlib.Core.Option.{Option as Slot, some}
 use lib.ListN.{get_elem?}
-use Rattle.queue_core.specs.declared.entry.Entry.TheVariants.{Of}
+use Rattle.queue_core.specs.declared.entry.Entry.{Entry}
+use Rattle.queue_core.specs.declared.entry.Entry.TheVariants.{Of, Stub}
 use Rattle.queue_core.specs.declared.item.Item.{Item}
 use Rattle.queue_core.specs.declared.reader.ReaderPoint.{ReaderPoint}
 use Rattle.queue_core.specs.declared.reader.ReaderPoint.TheVariants as reads
 use Rattle.queue_core.specs.declared.sender.SenderPoint.TheVariants as sends
-use Rattle.queue_core.specs.Mailbox.{IsHeld, Mailbox, got, item_at, left_entries, passed_entries}
+use Rattle.queue_core.specs.Mailbox.{IsHeld, Mailbox, got, is_same, item_at, left_entries, passed_entries}
 use Rattle.queue_core.specs.Linked.{Linked, new_sender, sender_at}
 use Rattle.queue_core.specs.Shows.{node_for}
 use Rattle.mail_box.specs.declared.link_seats.Holding.{Holding}
@@ -37,6 +38,10 @@ HasShape shape l = (length l.senders ≡ shape.senders) × (l.ring ≡ shape.rin
 -- what was received of one sender
 abbrev pub got_in : List (ℕ × Item) → ℕ → List Item
 got_in pairs p = map (λ pair. pair.1) (filter (λ pair. pair.0 == p) pairs)
+
+-- the entries of senders among some
+abbrev pub own_entries : List Entry → List Entry
+own_entries entries = filter (λ entry. not (is_same Stub entry)) entries
 
 -- what a sender that was taken in has sent
 abbrev pub known_in : List SenderSeat → ℕ → Option (List Item)
@@ -78,7 +83,11 @@ pub record HasEnded (l : Linked) (m : Mailbox) (views : List Known) (v : SenderS
   pub ended : v.sender.ended ≡ true
   pub gone : get_elem? views (v.number + 1) ≡ some Gone
 
--- Once every sender was taken in, nothing but the tail is left where the reader has found no next, and then the stub behind it.
+-- an entry is left, and behind it the stub alone
+abbrev pub HasStubBehind : Mailbox → Type 0
+HasStubBehind m = (entry : Entry) × (left_entries m ≡ entry ∷ Stub ∷ [])
+
+-- Once every sender was taken in, nothing but the tail is left where the reader has found no next, and then the stub alone behind it.
 abbrev pub IsAlone : Mailbox → ReaderPoint → Type 0
 IsAlone m reads.Rest = ⊤
 IsAlone m reads.Second = ⊤
@@ -86,8 +95,8 @@ IsAlone m reads.StubHead = length (left_entries m) ≡ 1
 IsAlone m reads.NodeHead = length (left_entries m) ≡ 1
 IsAlone m reads.Null = length (left_entries m) ≡ 1
 IsAlone m reads.Swap = length (left_entries m) ≡ 1
-IsAlone m (reads.Link before) = length (left_entries m) ≡ 2
-IsAlone m reads.Last = length (left_entries m) ≡ 2
+IsAlone m (reads.Link before) = HasStubBehind m
+IsAlone m reads.Last = HasStubBehind m
 
 -- The reader has the first seat. Of a sender that has no seat yet it knows that it has done nothing.
 pub record IsReaderSeat (l : Linked) (m : Mailbox) (homes : List (Slot Item)) (views : List Known) (seat : ℕ) (v : ReaderSeat) : Type 0 where

@@ -1,5 +1,5 @@
 -- What a step of a linked queue with items tells its seat: what the seat knows then.
-use Rattle.std.specs.Prelude.{ℕ, ◌≡◌, ◌<◌, ◌≤◌, ◌+◌, ◌-◌, ◌*◌, ◌/◌, ◌%◌, ◌++◌, ◌∷◌, ◌==◌, Bool, false, List, [], Option, None, Some, length, if◌then◌else◌, ⊤}
+use Rattle.std.specs.Prelude.{ℕ, ◌≡◌, ◌<◌, ◌≤◌, ◌+◌, ◌-◌, ◌*◌, ◌/◌, ◌%◌, ◌++◌, ◌∷◌, ◌==◌, Bool, false, true, List, [], Option, None, Some, length, if◌then◌else◌, ⊤}
 use Rattle.atomic_table.specs.Table.{Me, Step}
 use Rattle.queue_core.specs.declared.entry.Entry.TheVariants.{Of, Stub}
 use Rattle.queue_core.specs.declared.item.Item.{Item}
@@ -13,6 +13,7 @@ use Rattle.queue_core.specs.declared.sender.Sender.{Sender}
 use Rattle.queue_core.specs.declared.sender.SenderPoint.{SenderPoint}
 use Rattle.queue_core.specs.declared.sender.SenderPoint.TheVariants as sends
 use Rattle.queue_core.specs.Linked.{amount_word, line_word, new_sender}
+use Rattle.queue_core.specs.Mailbox.{is_among}
 use Rattle.queue_core.specs.Steps.{after_sent}
 use Rattle.mail_box.specs.declared.link_seats.Holding.{Holding}
 use Rattle.mail_box.specs.declared.link_seats.Known.{Known}
@@ -21,7 +22,7 @@ use Rattle.mail_box.specs.declared.link_seats.ReaderSeat.{ReaderSeat}
 use Rattle.mail_box.specs.declared.link_seats.SenderSeat.{SenderSeat}
 use Rattle.mail_box.specs.declared.link_seats.Shape.{Shape}
 use Rattle.mail_box.specs.Mails.{IsFirstOf, IsInRange}
-use Rattle.mail_box.specs.LinkSeats.{got_in, known_in, stub_in}
+use Rattle.mail_box.specs.LinkSeats.{got_in, known_in, own_entries, stub_in}
 
 -- ---- a sender
 
@@ -157,7 +158,11 @@ IsWholeAt v = (p : ℕ) (items : List Item) → known_in v.taken_in p ≡ Some i
 abbrev pub BeginsAt : ReaderSeat → Type 0
 BeginsAt v = (p : ℕ) (items : List Item) → known_in v.taken_in p ≡ Some items → IsFirstOf (got_in v.got p) items
 
--- The node at the tail, one of a sender's, is taken with its item, which is within the limits.
+-- an item was taken, and not given back
+abbrev pub IsHeldAt : ReaderSeat → Holding → Type 0
+IsHeldAt v h = (is_among (Of h.sender h.place) (own_entries v.passed) ≡ true) × (is_among (Of h.sender h.place) v.given ≡ false)
+
+-- The node at the tail, one of a sender's, is taken with its item, which is within the limits. It was not taken before, and is held then.
 pub record HasTakenNode (next : ℕ) (v w : ReaderSeat) : Type 0 where
   pub held : Holding
   pub seat : w ≡ past_node next held v
@@ -165,6 +170,8 @@ pub record HasTakenNode (next : ℕ) (v w : ReaderSeat) : Type 0 where
   pub block : held.node / (v.shape.ring + 1) ≡ held.sender
   pub within : held.sender < v.shape.senders
   pub ranged : IsInRange held.item
+  pub fresh : is_among (Of held.sender held.place) (own_entries v.passed) ≡ false
+  pub kept : IsHeldAt w held
   pub begins : BeginsAt w
 
 pub record HasLoadedNext (found : ℕ) (v w : ReaderSeat) : Type 0 where
@@ -274,7 +281,7 @@ abbrev pub tells_load_amount : Step Item → Me Item Known → ℕ → Me Item K
 tells_load_amount s v found w = OfReader (λ a b. (b ≡ a) × ((h : Holding) → a.at_hand ≡ Some h → found ≡ amount_word h.item)) v w
 
 abbrev pub tells_give_back : Step Item → Me Item Known → ℕ → Me Item Known → Type 0
-tells_give_back s v found w = OfReader (λ a b. b ≡ after_give a.at_hand a) v w
+tells_give_back s v found w = OfReader (λ a b. (b ≡ after_give a.at_hand a) × ((h : Holding) → a.at_hand ≡ Some h → IsHeldAt a h)) v w
 
 -- ---- how seats are cut in two and put together
 

@@ -273,9 +273,50 @@ impl LinkReceiver {
 }
 
 impl LinkMail {
-    ghost use Rattle.std.specs.Prelude.{[], ◌++◌, ◌∷◌, false, true, length};
-    ghost use Rattle.mail_box.specs.Mails.{Begins, IsAwaited, IsItemFor, IsWhole, MatchPosted, MatchTook, with_end, with_item, with_post, with_sender};
-    ghost use Rattle.mail_box.specs.LinkViews.{entry_of, given_by, held_of, receiver_of, sender_of, taken_by};
+    ghost use Rattle.std.specs.Prelude.{[], ◌++◌, ◌∷◌, ⊤, false, true, length};
+    ghost use Rattle.queue_core.specs.Mailbox.{is_among};
+    ghost use Rattle.mail_box.specs.Mails.{Begins, IsAwaited, IsItemFor, IsWhole, MatchPosted, MatchTook, opened_receiver, opened_sender, with_end, with_item, with_post, with_sender};
+    ghost use Rattle.mail_box.specs.LinkViews.{IsHeldBy, entry_of, given_by, held_of, receiver_of, sender_of, taken_by};
+
+    /// A mailbox of 1 to 8 senders, in order of number. Each has room for `nodes` items (1 to 64) that were not
+    /// given back, and may post `most` times (at most 1,000,000). The only call that takes memory.
+    pub fn open(
+        alloc: Global,
+        senders: u64,
+        nodes: u64,
+        most: u64,
+    ) -> Result<(Vec<LinkSender>, LinkReceiver), AllocError>
+        requires senders { (0 < senders) × (senders ≤ 8) }
+        requires nodes { (0 < nodes) × (nodes ≤ 64) }
+        requires most { most ≤ 1000000 }
+        ensures count { IfOk result (λ r. vec_len r.0 ≡ senders) }
+        ensures senders { IfOk result (λ r. (i : ℕ) → i < senders → HoldsAt (λ s. sender_of s ≡ opened_sender (receiver_of r.1).mailbox i nodes most) (vec_items r.0) i) }
+        ensures receiver { IfOk result (λ r. receiver_of r.1 ≡ opened_receiver (receiver_of r.1).mailbox senders) }
+        ensures taken { IfOk result (λ r. (taken_by r.1 ≡ []) × (given_by r.1 ≡ [])) }
+    {
+        let shape = Shape {
+            senders,
+            ring: nodes,
+        };
+        let stub = stub_of(&shape);
+        let mut words = Vec::from_elem(alloc, NULL, 4 * (stub as usize + 1) + 32)?;
+        words[16] = stub + 1;
+        let slots = Vec::from_elem(alloc, Item::End, senders as usize)?;
+        let Ok((table, mut seat)) = Board::new(alloc, words.as_slice(), slots, &shape) else {
+            return Err(AllocError);
+        };
+        let board = Arc::new(alloc, table)?;
+        let dealt = LinkSender::deal_all(alloc, &board, &mut seat, shape, most)?;
+        Ok((
+            dealt,
+            LinkReceiver {
+                board,
+                seat,
+                shape,
+                tail: stub,
+            },
+        ))
+    }
 
     /// A sender's number in its mailbox, from 0.
     pub fn number(s: &LinkSender) -> u64
@@ -339,13 +380,14 @@ impl LinkMail {
         Posted::Sent
     }
 
-    /// Takes an item of any sender. `Empty`: all that the senders sent that were taken in is received. `Busy`: something
-    /// may be on its way, and some sender was not taken in.
+    /// Takes an item of any sender, which was not taken before, and is held from then on. `Empty`: all that the senders
+    /// sent that were taken in is received. `Busy`: something may be on its way, and some sender was not taken in.
     pub fn take(r: &mut LinkReceiver) -> Took<LinkHeld>
         ensures took { MatchTook result (λ h. IsItemFor (receiver_of r.old) (held_of h) × (receiver_of r.new ≡ with_item (receiver_of r.old) (held_of h))) ((receiver_of r.new ≡ receiver_of r.old) × IsWhole (receiver_of r.old)) ((receiver_of r.new ≡ receiver_of r.old) × IsAwaited (receiver_of r.old)) }
         ensures begins { Begins (receiver_of r.new) }
         ensures taken { MatchTook result (λ h. taken_by r.new ≡ taken_by r.old ++ entry_of h ∷ []) (taken_by r.new ≡ taken_by r.old) (taken_by r.new ≡ taken_by r.old) }
         ensures given { given_by r.new ≡ given_by r.old }
+        ensures held { MatchTook result (λ h. (is_among (entry_of h) (taken_by r.old) ≡ false) × IsHeldBy r.new h) ⊤ ⊤ }
     {
         let (took, tail) = take_from(&r.board, &mut r.seat, &r.shape, r.tail);
         r.tail = tail;
@@ -368,12 +410,13 @@ impl LinkMail {
         (h.number, h.item)
     }
 
-    /// Gives an item back, and with it the node that it stood in.
+    /// Gives an item back, which was held, and with it the node that it stood in.
     pub fn give_back(r: &mut LinkReceiver, h: LinkHeld)
         requires { (held_of h).mailbox ≡ (receiver_of r.old).mailbox }
         ensures same { receiver_of r.new ≡ receiver_of r.old }
         ensures taken { taken_by r.new ≡ taken_by r.old }
         ensures given { given_by r.new ≡ given_by r.old ++ entry_of h ∷ [] }
+        ensures held { IsHeldBy r.old h }
     {
         let LinkHeld {
             note,
@@ -423,28 +466,7 @@ impl Mail for LinkMail {
         nodes: u64,
         most: u64,
     ) -> Result<(Vec<LinkSender>, LinkReceiver), AllocError> {
-        let shape = Shape {
-            senders,
-            ring: nodes,
-        };
-        let stub = stub_of(&shape);
-        let mut words = Vec::from_elem(alloc, NULL, 4 * (stub as usize + 1) + 32)?;
-        words[16] = stub + 1;
-        let slots = Vec::from_elem(alloc, Item::End, senders as usize)?;
-        let Ok((table, mut seat)) = Board::new(alloc, words.as_slice(), slots, &shape) else {
-            return Err(AllocError);
-        };
-        let board = Arc::new(alloc, table)?;
-        let dealt = LinkSender::deal_all(alloc, &board, &mut seat, shape, most)?;
-        Ok((
-            dealt,
-            LinkReceiver {
-                board,
-                seat,
-                shape,
-                tail: stub,
-            },
-        ))
+        LinkMail::open(alloc, senders, nodes, most)
     }
 
     fn number(s: &LinkSender) -> u64 {

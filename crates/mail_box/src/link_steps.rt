@@ -12,7 +12,7 @@ ghost use Rattle.mail_box.specs.declared.link_seats.Known.TheVariants.{Gone, Rea
 ghost use Rattle.mail_box.specs.LinkSeats.{stub_in};
 ghost use Rattle.mail_box.specs.LinkRule.{KeepsLink, amount_word_of, head_word, line_word_of, link_opened, next_word, turn_word};
 ghost use Rattle.mail_box.specs.LinkCalls.{HasAtHand, HasEndedSeat, HasEndedSlot, IsAtRest, IsDealing, IsEnding, IsHandingOut, IsPosting, IsReading, IsSending, IsSlotless, IsTakingBack, after_look, after_swap_on, reader_in, sender_in};
-ghost use Rattle.mail_box.specs.LinkSteps.{HasLoadedHead, HasLoadedNext, LoadsHead, LoadsNext, after_amount_at, after_give, after_line_at, after_link_at, after_null_at, in_slot, reading_at};
+ghost use Rattle.mail_box.specs.LinkSteps.{HasLoadedHead, HasLoadedNext, IsHeldAt, LoadsHead, LoadsNext, after_amount_at, after_give, after_line_at, after_link_at, after_null_at, in_slot, reading_at};
 ghost use Rattle.mail_box.specs.LinkSteps.{after_deal, after_hand, dealt, hand_of, taken_back, taken_in, tells_give_back, tells_give_slot, tells_load_amount, tells_load_head, tells_load_line, tells_load_next, tells_load_turn, tells_look, BeginsAt};
 ghost use Rattle.mail_box.specs.LinkSteps.{tells_store_amount, tells_store_line, tells_store_link, tells_store_null, tells_stub_link, tells_stub_null, tells_stub_swap, tells_swap_head, tells_take_slot};
 
@@ -440,7 +440,7 @@ pub fn load_amount(board: &Board, seat: &mut LinkSeat, node: u64) -> u64
         .load::<LoadAmount>(seat, 4 * node as usize + 35)
 }
 
-/// It gives back what it has at hand: one more turn of its node.
+/// It gives back what it has at hand, which is held: one more turn of its node.
 pub fn give_back(board: &Board, seat: &mut LinkSeat, node: u64)
     requires seat { seat.old.table_id ≡ board.now.shared.table_id }
     requires words { turn_word node < board.now.shared.table_id.words }
@@ -448,6 +448,7 @@ pub fn give_back(board: &Board, seat: &mut LinkSeat, node: u64)
     requires at { HasAtHand node seat.old.me }
     ensures same { seat.new.table_id ≡ seat.old.table_id }
     ensures told { seat.new.me ≡ (Reads (after_give (reader_in seat.old.me.0).at_hand (reader_in seat.old.me.0)), []) }
+    ensures held { (h : AHolding) → (reader_in seat.old.me.0).at_hand ≡ Some h → IsHeldAt (reader_in seat.old.me.0) h }
 {
     board
         .shared

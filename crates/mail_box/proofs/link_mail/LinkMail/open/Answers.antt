@@ -6,7 +6,7 @@ use Rattle.mail_box.specs.declared.link_seats.Shape.{Shape}
 use Rattle.mail_box.specs.LinkSeats.{stub_in}
 use Rattle.mail_box.specs.LinkRule.{KeepsLink, head_word, link_opened}
 use Rattle.mail_box.proofs.LinkJoins.{table_opens}
-use Rattle.mail_box.proofs.link_mail.LinkMailMail.open.Goals as goal
+use Rattle.mail_box.proofs.link_mail.LinkMail.open.Goals as goal
 
 pub new-requires : goal.new-requires
 new-requires c =
