@@ -1,4 +1,4 @@
--- What the views of a linked queue with items are after a seat was cut in two, and after two were put together.
+-- What the views of a linked queue are after a seat was cut in two, and after two were put together.
 use Rattle.std.proofs.Common.{◌≡◌, ◌≢◌, ◌∙◌, ◌<◌, ◌+◌, ◌++◌, ◌∷◌, ◌⊎◌, [], ℕ, List, length, set, zero, suc, ap, sym, refl, subst, inl, inr, arith, length-append, length-set}
 use mathlib.Core.Option.{Option as Slot, some, some-injective, some-ne-none}
 use mathlib.Core.Logic.{dite}

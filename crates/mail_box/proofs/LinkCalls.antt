@@ -1,4 +1,4 @@
--- What a step of a linked queue with items asks of its caller, from where the seat is.
+-- What a step of a linked queue asks of its caller, from where the seat is.
 use Rattle.std.proofs.Common.{◌≡◌, ◌∙◌, ◌+◌, ◌*◌, ◌%◌, ◌^◌, ◌<◌, ◌∷◌, ℕ, [], List, None, ap, refl, subst, sym}
 use mathlib.Core.Option.{none}
 use Rattle.atomic_table.specs.Table.{Me, Allows, Joins, Splits, rest, step}

@@ -1,4 +1,4 @@
--- What the ends of a linked queue with items know when they are opened.
+-- What the ends of a linked queue know when they are opened.
 use Rattle.std.proofs.Common.{◌≡◌, ◌∙◌, ◌∷◌, [], ℕ, false, ap, sym}
 use Rattle.atomic_table.specs.Table.{Me}
 use Rattle.queue_core.specs.declared.item.Item.{Item}

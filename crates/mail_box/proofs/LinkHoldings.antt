@@ -1,4 +1,4 @@
--- What the reader has at hand: its words are its item's, and when it is given back the rule of a linked queue with items is kept.
+-- What the reader has at hand: its words are its item's, and when it is given back the rule of a linked queue is kept.
 use Rattle.std.proofs.Common.{◌≡◌, ◌∙◌, ◌<◌, ◌++◌, ◌∷◌, ◌+◌, ◌%◌, ◌^◌, ℕ, [], List, None, Some, true, length, get_or, set, ap, sym, refl, subst, arith}
 use Rattle.std.specs.Prelude.{if◌then◌else◌}
 use Rattle.std.proofs.lemmas.List.{set-get_or}

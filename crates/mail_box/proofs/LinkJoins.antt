@@ -1,4 +1,4 @@
--- Seats of a linked queue with items are cut in two and put together, and its table opens, under its rule.
+-- Seats of a linked queue are cut in two and put together, and its table opens, under its rule.
 use Rattle.std.proofs.Common.{◌≡◌, ◌≢◌, ◌∙◌, ◌+◌, ◌*◌, ◌<◌, ◌++◌, ◌∷◌, [], ℕ, All, List, None, Some, cond, zero, suc, get_or, map, eqb, eq-eqb, ne_eqb, length, replicate, set, true, ap, sym, refl, subst, inl, inr, arith, length-set, get_or-set_other, get_or-set_same}
 use Rattle.std.proofs.lemmas.List.{get_or-replicate, length-replicate}
 use Rattle.std.proofs.lemmas.List.Elements.{All-cons, All-nil, All-weaker}

@@ -1,4 +1,4 @@
--- LoadNext keeps the rule of a linked queue with items: it is a look, or the first entry that is left is passed.
+-- LoadNext keeps the rule of a linked queue: it is a look, or the first entry that is left is passed.
 use Rattle.std.proofs.Common.{◌≡◌, ◌∙◌, ◌≤◌, ◌+◌, ◌-◌, ◌/◌, ◌++◌, ◌∷◌, [], ℕ, List, true, false, None, Some, length, get_or, not, set, ap, sym, refl, subst, inl, inr, arith}
 use Rattle.std.specs.Prelude.{◌==◌, if◌then◌else◌}
 use Rattle.std.specs.List.{filter_map}

@@ -1,4 +1,4 @@
--- What a step of the reader has to show, so that the rule of a linked queue with items is kept.
+-- What a step of the reader has to show, so that the rule of a linked queue is kept.
 use Rattle.std.proofs.Common.{◌≡◌, ◌∙◌, ◌<◌, ◌+◌, ◌*◌, ℕ, List, Option, Some, length, set, ap, sym, subst, inl, inr, arith}
 use Rattle.std.specs.Prelude.{slice_index_or}
 use Rattle.std.proofs.lemmas.List.{length-set}

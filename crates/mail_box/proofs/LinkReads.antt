@@ -1,4 +1,4 @@
--- The steps of the reader keep the rule of a linked queue with items.
+-- The steps of the reader keep the rule of a linked queue.
 use Rattle.std.proofs.Common.{◌≡◌, ◌∙◌, ◌<◌, ◌≤◌, ◌+◌, ◌-◌, ◌%◌, ◌^◌, ◌++◌, ◌∷◌, ℕ, true, false, [], None, Some, length, get_or, set, ap, sym, refl, subst, inl, inr, arith}
 use Rattle.std.specs.Prelude.{◌==◌}
 use Rattle.std.specs.List.{filter_map}

@@ -1,4 +1,4 @@
--- What a step of a sender has to show, so that the rule of a linked queue with items is kept.
+-- What a step of a sender has to show, so that the rule of a linked queue is kept.
 use Rattle.std.proofs.Common.{◌≡◌, ◌∙◌, ◌<◌, ◌+◌, ◌*◌, ◌∷◌, [], ℕ, List, Option, Some, true, length, set, ap, sym, refl, subst, inl, inr, arith, get_or-set_other, get_or-set_same}
 use Rattle.std.specs.Prelude.{◌==◌, All}
 use Rattle.std.specs.List.{filter_map}

@@ -1,4 +1,4 @@
--- The words of a table of a linked queue with items after a load and after a store.
+-- The words of a table of a linked queue after a load and after a store.
 use Rattle.std.proofs.Common.{◌≡◌, ◌∙◌, ◌<◌, ◌+◌, ◌*◌, ℕ, List, length, get_or, set, ap, sym, subst, inl, inr, arith, get_or-set_other, get_or-set_same}
 use Rattle.std.specs.Prelude.{slice_index_or}
 use Rattle.std.proofs.lemmas.Bool.{cases_eq}

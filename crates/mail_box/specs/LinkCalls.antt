@@ -1,4 +1,4 @@
--- Where a seat of a linked queue with items is before a step, as the step asks for it.
+-- Where a seat of a linked queue is before a step, as the step asks for it.
 use Rattle.std.specs.Prelude.{ℕ, ◌≡◌, ◌<◌, ◌≤◌, ◌∷◌, Bool, false, true, [], None, Some, if◌then◌else◌}
 use Rattle.atomic_table.specs.Table.{Me}
 use Rattle.queue_core.specs.declared.TheConstants.{MOST_AMOUNT, MOST_POSTS}

@@ -1,4 +1,4 @@
--- What the ends of a linked queue with items keep to between two calls, and what a take leaves.
+-- What the ends of a linked queue keep to between two calls, and what a take leaves.
 use Rattle.std.specs.Prelude.{ℕ, ◌≡◌, ◌<◌, ◌≤◌, ◌+◌, ◌/◌, ◌++◌, ◌∷◌, Bool, [], None, Some, false, if◌then◌else◌, ⊤}
 use Rattle.atomic_table.specs.Table.{Me}
 use Rattle.queue_core.specs.declared.entry.Entry.TheVariants.{Of}

@@ -1,4 +1,4 @@
--- The rule of a linked queue with items: some events lead to a mailbox that a core shows, and the words and what each seat knows are that core's.
+-- The rule of a linked queue: some events lead to a mailbox that a core shows, and the words and what each seat knows are that core's.
 use Rattle.std.specs.Prelude.{ℕ, ◌≡◌, ◌<◌, ◌+◌, ◌*◌, All, List, [], None, Some, length, slice_index}
 use mathlib.Core.Option.{some}
 use lib.ListN.{get_elem?}

@@ -1,4 +1,4 @@
--- What each seat at the table of a linked queue with items knows: its own part of a core, and of the mailbox that the core shows. What is in flight, and the order in which all senders were exchanged in, nobody knows.
+-- What each seat at the table of a linked queue knows: its own part of a core, and of the mailbox that the core shows. What is in flight, and the order in which all senders were exchanged in, nobody knows.
 use Rattle.std.specs.Prelude.{ℕ, ◌≡◌, ◌<◌, ◌≤◌, ◌+◌, ◌*◌, ◌==◌, All, List, [], ◌∷◌, Option, None, Some, length, map, not, true, if◌then◌else◌, ⊤}
 use Rattle.std.specs.List.{filter}
 use mathlib.Core.Option.{Option as Slot, some}

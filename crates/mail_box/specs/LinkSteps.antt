@@ -1,4 +1,4 @@
--- What a step of a linked queue with items tells its seat: what the seat knows then.
+-- What a step of a linked queue tells its seat: what the seat knows then.
 use Rattle.std.specs.Prelude.{ℕ, ◌≡◌, ◌<◌, ◌≤◌, ◌+◌, ◌-◌, ◌*◌, ◌/◌, ◌%◌, ◌++◌, ◌∷◌, ◌==◌, Bool, false, true, List, [], Option, None, Some, length, if◌then◌else◌, ⊤}
 use Rattle.atomic_table.specs.Table.{Me, Step}
 use Rattle.queue_core.specs.declared.entry.Entry.TheVariants.{Of, Stub}

@@ -1,4 +1,4 @@
-//! What the threads of a linked queue with items know of it, each by its seat at the table of words.
+//! What the threads of a linked queue know of it, each by its seat at the table of words.
 
 use queue_core::{Entry, Item, Reader, Sender};
 use std::collections::LinkedList;

@@ -1,4 +1,4 @@
-//! The atomic steps of a linked queue with items. The words of its table are the head, and four of each node: its next,
+//! The atomic steps of a linked queue. The words of its table are the head, and four of each node: its next,
 //! its turn, and the line and the amount of its item. Each kind of step is a type with one thin function that makes it;
 //! its contract says what the seat knows then.
 ghost use Rattle.std.specs.Prelude.{◌≡◌, ◌<◌, ◌≤◌, ◌+◌, ◌*◌, ◌%◌, ◌∷◌, [], None, Some, false, length};
