@@ -1,13 +1,13 @@
 -- A drawer adds one to the counter, and the rule is kept.
-use Rattle.std.proofs.Common.{arith, ◌≡◌, ◌∙◌, ◌<◌, ◌≤◌, ◌+◌, ◌%◌, ◌^◌, ◌++◌, ◌∷◌, [], ℕ, All, Bool, false, true, zero, suc, cond, List, length, min, set, ap, sym, refl, subst, inl, inr, ⊎_elim}
-use Rattle.std.specs.Prelude.{◌==◌, if◌then◌else◌, nat_lt, slice_index}
+use Rattle.std.proofs.Common.{arith, ◌≡◌, ◌∙◌, ◌<◌, ◌≤◌, ◌+◌, ◌%◌, ◌^◌, ◌++◌, ◌∷◌, [], ℕ, All, Bool, false, true, suc, cond, List, length, min, set, ap, sym, refl, subst, inl, inr, ⊎_elim}
+use Rattle.std.specs.Prelude.{if◌then◌else◌, nat_lt, slice_index}
 use Rattle.std.specs.List.{sum_by}
 use Rattle.std.proofs.lemmas.Bool.{cases_lt}
 use Rattle.std.proofs.lemmas.Bool.Decides.{nat_tests}
 use Rattle.std.proofs.lemmas.List.{length-set}
 use mathlib.Core.Option.{none, some}
 use lib.ListN.{get_elem?}
-use Rattle.atomic_table.specs.Table.{State, Act, Allows, step}
+use Rattle.atomic_table.specs.Table.{State, Allows, step}
 use Rattle.atomic_table.specs.Table.Act.{keeps}
 use Rattle.atomic_table.proofs.Lists.{at_set}
 use Rattle.block_draw.specs.declared.seats.DrawerSeat.{DrawerSeat}
@@ -15,11 +15,11 @@ use Rattle.block_draw.specs.declared.seats.GathererSeat.{GathererSeat}
 use Rattle.block_draw.specs.declared.seats.Known.{Known}
 use Rattle.block_draw.specs.declared.seats.Known.TheVariants.{Draws, Gathers, Gone}
 use Rattle.block_draw.specs.declared.seats.Shape.{Shape}
-use Rattle.block_draw.specs.Drawn.{sum_below, times_drawn}
+use Rattle.block_draw.specs.Drawn.{times_drawn}
 use Rattle.block_draw.specs.Seats.{IsDrawer, IsGatherer, IsOther, done_in, draws_in, drawn_by, times_in}
-use Rattle.block_draw.specs.Rule.{KeepsDraw, times_so_far}
+use Rattle.block_draw.specs.Rule.{KeepsDraw}
 use Rattle.block_draw.specs.Steps.{after_draw, tells_draw}
-use Rattle.block_draw.proofs.Counts.{all_below, below_more, done_few, drawn_more, seen_at, sum_changed}
+use Rattle.block_draw.proofs.Counts.{all_below, below_more, done_few, drawn_more, sum_changed}
 use Rattle.block_draw.proofs.Openings.{at_drawer}
 
 -- done is done, also where the counter is greater

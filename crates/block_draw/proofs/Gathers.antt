@@ -1,13 +1,13 @@
 -- A drawer is gathered, and what is known then.
-use Rattle.std.proofs.Common.{arith, ◌≡◌, ◌≢◌, ◌∙◌, ◌<◌, ◌≤◌, ◌+◌, ◌∷◌, [], ℕ, Bool, false, true, zero, suc, cond, List, length, min, set, ap, sym, refl, subst, inl, inr, ⊎_elim, eqb, eq-eqb, ne_eqb}
-use Rattle.std.specs.Prelude.{◌==◌, nat_lt, slice_index}
+use Rattle.std.proofs.Common.{arith, ◌≡◌, ◌≢◌, ◌∙◌, ◌<◌, ◌≤◌, ◌+◌, ◌∷◌, [], ℕ, true, zero, suc, cond, List, length, min, set, ap, sym, refl, subst, inl, inr, ⊎_elim, eq-eqb, ne_eqb}
+use Rattle.std.specs.Prelude.{nat_lt, slice_index}
 use Rattle.std.specs.List.{sum_by}
 use Rattle.std.proofs.lemmas.Bool.{cases_lt}
 use Rattle.std.proofs.lemmas.Bool.Decides.{nat_tests}
 use Rattle.std.proofs.lemmas.List.{length-set}
 use mathlib.Core.Option.{none, some}
 use lib.ListN.{get_elem?}
-use Rattle.atomic_table.specs.Table.{State, Act, Allows, Joins, step}
+use Rattle.atomic_table.specs.Table.{State, Allows, Joins, step}
 use Rattle.atomic_table.specs.Table.Act.{keeps}
 use Rattle.atomic_table.proofs.Lists.{at_set}
 use Rattle.block_draw.specs.declared.seats.DrawerSeat.{DrawerSeat}
@@ -151,10 +151,10 @@ none_is_left = record {
       let one : ◌≡◌ {A = ℕ} (cond (nat_lt block (min kept.counter shape.blocks)) 1 0) 1 = let past = past in grind (arith, nat_tests, past, found, below) in
       kept.once block ∙ one;
   only = λ shape s kept each. ⊎_elim
-  (λ (h : kept.counter < shape.blocks).
-  let one = each kept.counter h in
-  let none : ◌≡◌ {A = ℕ} (cond (nat_lt kept.counter (min kept.counter shape.blocks)) 1 0) 0 = grind (arith, nat_tests) in
-  absurd (omega (arith, one, none, kept.once kept.counter)))
-  (λ (h : shape.blocks ≤ kept.counter). let found = ap (λ (ws : List ℕ). slice_index ws 0) kept.words in omega (arith, h, found))
-  (cases_lt kept.counter shape.blocks);
+      (λ (h : kept.counter < shape.blocks).
+      let one = each kept.counter h in
+      let none : ◌≡◌ {A = ℕ} (cond (nat_lt kept.counter (min kept.counter shape.blocks)) 1 0) 0 = grind (arith, nat_tests) in
+      absurd (omega (arith, one, none, kept.once kept.counter)))
+      (λ (h : shape.blocks ≤ kept.counter). let found = ap (λ (ws : List ℕ). slice_index ws 0) kept.words in omega (arith, h, found))
+      (cases_lt kept.counter shape.blocks);
 }

@@ -1,10 +1,10 @@
 -- What each step at the counter of a draw leaves its seat with, and what it tells.
-use Rattle.std.specs.Prelude.{ℕ, ◌≡◌, ◌<◌, ◌≤◌, ◌+◌, ◌++◌, ◌∷◌, [], All, Bool, List, false, true, length, nat_lt, if◌then◌else◌}
+use Rattle.std.specs.Prelude.{ℕ, ◌≡◌, ◌<◌, ◌+◌, ◌++◌, ◌∷◌, [], All, Bool, false, true, length, nat_lt, if◌then◌else◌}
 use Rattle.atomic_table.specs.Table.{Me, Step}
 use Rattle.block_draw.specs.declared.seats.DrawerSeat.{DrawerSeat}
 use Rattle.block_draw.specs.declared.seats.GathererSeat.{GathererSeat}
 use Rattle.block_draw.specs.declared.seats.Known.{Known}
-use Rattle.block_draw.specs.declared.seats.Known.TheVariants.{Draws, Gathers, Gone}
+use Rattle.block_draw.specs.declared.seats.Known.TheVariants.{Draws, Gathers}
 use Rattle.block_draw.specs.declared.seats.Shape.{Shape}
 use Rattle.block_draw.specs.Drawn.{AreDrawnOnce}
 use Rattle.block_draw.specs.Seats.{drawn_by}

@@ -40,11 +40,7 @@ impl Draw {
     ghost use Rattle.block_draw.specs.Views.{draw_of, drawer_of, opened_draw, opened_drawer, with_drawer};
 
     /// A draw of so many blocks, at most 15,625, and 1 to 8 drawers, by number.
-    pub fn open(
-        alloc: Global,
-        blocks: u64,
-        drawers: u64,
-    ) -> Result<(Draw, Vec<Drawer>), AllocError>
+    pub fn open(alloc: Global, blocks: u64, drawers: u64) -> Result<(Draw, Vec<Drawer>), AllocError>
         requires blocks { blocks ≤ 15625 }
         requires drawers { (0 < drawers) × (drawers ≤ 8) }
         ensures draw { IfOk result (λ r. draw_of r.0 ≡ opened_draw (draw_of r.0).draw blocks drawers) }

@@ -12,7 +12,8 @@ use Rattle.line_split.specs.UsageLine.{UsageLine}
 use Rattle.payee_book.specs.Counted.{times}
 use Rattle.payee_book.specs.Run.{portion_of, statement_of}
 use Rattle.payee_book.proofs.Counted.{times-append}
-use Rattle.split_run.specs.Blocks.{AreDrawnOnce, blocks_of, postings_in, postings_of, postings_on, sum_below, times_drawn}
+use Rattle.block_draw.specs.Drawn.{AreDrawnOnce, sum_below, times_drawn}
+use Rattle.split_run.specs.Blocks.{blocks_of, postings_in, postings_of, postings_on}
 use Rattle.split_run.proofs.Sums.{sum-same, sum-swap, sum-times, weigh, weighed}
 
 drawn_below : (k n : ℕ) → k < n → ◌≡◌ {A = ℕ} (cond (nat_lt k n) 1 0) 1

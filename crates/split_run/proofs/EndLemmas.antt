@@ -9,7 +9,7 @@ use Rattle.queue_core.specs.Items.{is_end}
 use Rattle.mail_box.specs.Endings.{HasEnd, IsClosed}
 use Rattle.mail_box.specs.Mails.{IsFirstOf}
 use Rattle.mail_box.proofs.Endings.{all_received}
-use Rattle.split_run.specs.Blocks.{sum_below}
+use Rattle.block_draw.specs.Drawn.{sum_below}
 use Rattle.split_run.specs.Reading.{ends_among}
 
 pub ends-append : (xs ys : List Item) → ends_among (xs ++ ys) ≡ ends_among xs + ends_among ys

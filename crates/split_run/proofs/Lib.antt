@@ -1,7 +1,6 @@
 pub mod Sums
 pub mod BlockLemmas
 pub mod TakenLemmas
-pub mod DealtLemmas
 pub mod SendingLemmas
 pub mod DivisionLemmas
 pub mod EndLemmas

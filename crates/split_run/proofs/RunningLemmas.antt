@@ -12,11 +12,12 @@ use Rattle.mail_box.specs.Endings.{IsClosed}
 use Rattle.mail_box.specs.Mails.{Begins, IsFirstOf, ReceiverView, SenderView, opened_receiver, opened_sender, put_at, with_end, with_sender}
 use Rattle.payee_book.specs.Run.{IsBookOf}
 use Rattle.payee_book.specs.Statement.{AreApart, AreJoined, IsRising}
-use Rattle.split_run.specs.Blocks.{blocks_of, dealt, list_of, postings_of}
+use Rattle.block_draw.specs.Drawn.{AreDrawnOnce}
+use Rattle.block_draw.specs.Views.{DrawView, DrawerView, with_drawer}
+use Rattle.split_run.specs.Blocks.{blocks_of, list_of, postings_of}
 use Rattle.split_run.specs.Reading.{IsServed, IsUntouched, inboxes_by, with_got}
-use Rattle.split_run.specs.Running.{AreForWork, AreGathered, AreGivenBack, AreMailboxes, AreSentBy, AreTakenIn, IsGivenBack, or_else}
-use Rattle.split_run.specs.Sending.{with_posts}
-use Rattle.split_run.proofs.DealtLemmas.{dealt_once}
+use Rattle.split_run.specs.Running.{AreForWork, AreGathered, AreGivenBack, AreMailboxes, AreTakenIn, IsGivenBack, or_else}
+use Rattle.split_run.specs.Sending.{HaveEnded, with_posts}
 use Rattle.split_run.proofs.EndLemmas.{all_whole}
 use Rattle.split_run.proofs.OpeningLemmas.{changed_at}
 use Rattle.split_run.proofs.TakenLemmas.{whole_statement}
@@ -134,17 +135,18 @@ no_end (post ∷ posts) = no_end posts
 closed : (division : UsageLine → List (ℕ × ℕ)) (usage : List UsageLine) (account : ℕ) (blocks : List ℕ) → IsClosed (list_of division usage account blocks)
 closed division usage account blocks = (map (λ posting. Post posting.0 posting.1) (postings_of division usage account blocks), no_end (postings_of division usage account blocks), refl)
 
-module _ {Name : Type 0} (division : UsageLine → List (ℕ × ℕ)) (usage : List UsageLine) (workers : ℕ) where
+module _ {Name : Type 0} (division : UsageLine → List (ℕ × ℕ)) (usage : List UsageLine) where
   -- nobody was taken in yet
-  pub none_taken_in : (inboxes : List (Option (ReceiverView Name))) → AreTakenIn division usage workers 0 inboxes inboxes
-  none_taken_in inboxes = record { count = refl; each = λ account r lt is. (r, is, refl, refl, (λ worker below. absurd (omega (arith, below))), (λ some. absurd (omega (arith, some)))) }
+  pub none_taken_in : (drawn : ℕ → List ℕ) (inboxes : List (Option (ReceiverView Name))) → AreTakenIn division usage drawn 0 inboxes inboxes
+  none_taken_in drawn inboxes = record { count = refl; each = λ account r lt is. (r, is, refl, refl, (λ worker below. absurd (omega (arith, below))), (λ some. absurd (omega (arith, some)))) }
 
   -- the senders of one worker more
-  pub one_taken_in : (done : ℕ) (before now after : List (Option (ReceiverView Name))) (senders : List (SenderView Name)) → AreTakenIn division usage workers done before now → AreGivenBack division usage workers done now senders
+  pub one_taken_in : (drawn drawn' : ℕ → List ℕ) (done : ℕ) (before now after : List (Option (ReceiverView Name))) (senders : List (SenderView Name)) → ((worker : ℕ) → worker < done → drawn' worker ≡ drawn worker)
+      → AreTakenIn division usage drawn done before now → AreGivenBack division usage done (drawn' done) now senders
       → length after ≡ length now
       → ((account : ℕ) (s : SenderView Name) (r : ReceiverView Name) → account < length now → get_or now account None ≡ Some r → (get_or after account None ≡ Some (with_sender r (get_or senders account s))) × Begins (with_sender r (get_or senders account s)))
-      → AreTakenIn division usage workers (done + 1) before after
-  one_taken_in done before now after senders taken given count put = record {
+      → AreTakenIn division usage drawn' (done + 1) before after
+  one_taken_in drawn drawn' done before now after senders still taken given count put = record {
     count = count ∙ taken.count;
     each = λ account r lt is.
         let had = taken.each account r lt is in
@@ -161,12 +163,13 @@ module _ {Name : Type 0} (division : UsageLine → List (ℕ × ℕ)) (usage : L
           (λ worker below.
               ⊎_elim
               (λ e.
-              subst (λ (y : ℕ × ℕ). put_at y.0 (Some sender.sent) had.0.known y.1 ≡ Some (list_of division usage account (dealt workers (blocks_of (length usage)) y.1)))
+              subst (λ (y : ℕ × ℕ). put_at y.0 (Some sender.sent) had.0.known y.1 ≡ Some (list_of division usage account (drawn' y.1)))
               (λ i. (sym number i, sym e.1 i))
               (here done (Some sender.sent) had.0.known ∙ ap Some of.5))
               (λ e.
-              subst (λ (n : ℕ). put_at n (Some sender.sent) had.0.known worker ≡ Some (list_of division usage account (dealt workers (blocks_of (length usage)) worker))) (sym number)
-              (ap (λ b. cond b (Some sender.sent) (had.0.known worker)) e.0 ∙ had.4 worker (omega (arith, below, e.1))))
+              let before_it : worker < done = omega (arith, below, e.1) in
+              subst (λ (n : ℕ). put_at n (Some sender.sent) had.0.known worker ≡ Some (list_of division usage account (drawn' worker))) (sym number)
+              (ap (λ b. cond b (Some sender.sent) (had.0.known worker)) e.0 ∙ (had.4 worker before_it ∙ ap (λ (l : List ℕ). Some (list_of division usage account l)) (sym (still worker before_it)))))
               (eqb_tells worker done)),
           λ some. got.1,
         );
@@ -176,17 +179,17 @@ module _ {Name : Type 0} (division : UsageLine → List (ℕ × ℕ)) (usage : L
       here n x f = let same : (n == n) ≡ true = grind arith in ap (λ b. cond b x (f n)) same
 
   -- a sender that was given back may be taken in
-  pub ended_there : (worker : ℕ) (inboxes : List (Option (ReceiverView Name))) (senders : List (SenderView Name)) → AreGivenBack division usage workers worker inboxes senders
+  pub ended_there : (worker : ℕ) (drawn : List ℕ) (inboxes : List (Option (ReceiverView Name))) (senders : List (SenderView Name)) → AreGivenBack division usage worker drawn inboxes senders
       → (account : ℕ) (s : SenderView Name) (r : ReceiverView Name) → account < length inboxes → get_or inboxes account None ≡ Some r → ((get_or senders account s).mailbox ≡ r.mailbox) × ((get_or senders account s).is_ended ≡ true)
-  ended_there worker inboxes senders given account s r lt there =
+  ended_there worker drawn inboxes senders given account s r lt there =
       let of = given.each account s lt in
       let same : of.0 ≡ r = same_there (sym of.1 ∙ there) in
       (of.2 ∙ ap (λ v. v.mailbox) same, of.4)
 
   -- also where others were taken in before
-  pub still_given : (done worker : ℕ) (before now : List (Option (ReceiverView Name))) (senders : List (SenderView Name)) → AreTakenIn division usage workers done before now → AreGivenBack division usage workers worker before senders
-      → AreGivenBack division usage workers worker now senders
-  still_given done worker before now senders taken given = record {
+  pub still_given : (drawn : ℕ → List ℕ) (own : List ℕ) (done worker : ℕ) (before now : List (Option (ReceiverView Name))) (senders : List (SenderView Name)) → AreTakenIn division usage drawn done before now → AreGivenBack division usage worker own before senders
+      → AreGivenBack division usage worker own now senders
+  still_given drawn own done worker before now senders taken given = record {
     count = given.count ∙ sym taken.count;
     each = λ account s lt.
         let inside : account < length before = omega (arith, lt, taken.count) in
@@ -196,12 +199,12 @@ module _ {Name : Type 0} (division : UsageLine → List (ℕ × ℕ)) (usage : L
   }
 
   -- so each account's statement is that of the run
-  pub is_book : (readers accounts : ℕ) (opened now after : List (Option (ReceiverView Name))) (book : List (List (ℕ × ℕ))) → 0 < workers → 0 < readers → length opened ≡ accounts
+  pub is_book : (drawn : ℕ → List ℕ) (workers readers accounts : ℕ) (opened now after : List (Option (ReceiverView Name))) (book : List (List (ℕ × ℕ))) → 0 < workers → 0 < readers → length opened ≡ accounts
       → ((account : ℕ) → account < accounts → (mailbox : Name) × (get_or opened account None ≡ Some (opened_receiver mailbox workers)))
-      → AreGathered workers readers readers opened now book → AreTakenIn division usage workers workers now after
+      → AreGathered workers readers readers opened now book → AreTakenIn division usage drawn workers now after → AreDrawnOnce workers drawn (blocks_of (length usage))
       → ((account : ℕ) → account < accounts → IsRising (get_or book account []))
       → IsBookOf division usage accounts book
-  is_book readers accounts opened now after book some_workers some_readers count mailboxes gathered taken rising = record {
+  is_book drawn workers readers accounts opened now after book some_workers some_readers count mailboxes gathered taken once rising = record {
     whole = gathered.accounts ∙ count;
     each = λ account below.
         let lt : account < length opened = omega (arith, below, count) in
@@ -213,15 +216,25 @@ module _ {Name : Type 0} (division : UsageLine → List (ℕ × ℕ)) (usage : L
         let r = with_got (opened_receiver own.0 workers) got in
         let in_ = taken.each account r (omega (arith, lt, gathered.count)) served.2 in
         let begins = in_.5 some_workers in
-        let sent : ℕ → List Item = λ worker. list_of division usage account (dealt workers (blocks_of (length usage)) worker) in
+        let sent : ℕ → List Item = λ worker. list_of division usage account (drawn worker) in
         let same : in_.0.got ≡ got = in_.3 in
-        whole_statement division account usage workers (dealt workers (blocks_of (length usage))) got (get_or book account [])
-        (dealt_once workers (blocks_of (length usage)) some_workers)
-        (all_whole workers got sent (λ worker low. closed division usage account (dealt workers (blocks_of (length usage)) worker))
+        whole_statement division account usage workers drawn got (get_or book account [])
+        once
+        (all_whole workers got sent (λ worker low. closed division usage account (drawn worker))
         (λ worker low. subst (λ (f : ℕ → List Item). IsFirstOf (f worker) (sent worker)) same (begins worker (sent worker) (in_.4 worker low)))
         served.3)
         (served.4 refl) (rising account below);
   }
+
+-- what a draw knows of its drawers after one more was gathered
+pub drawn_then : (v v' : DrawView) (d : DrawerView) (done : ℕ) → v' ≡ with_drawer v d → d.number ≡ done → (v'.drawn done ≡ d.drawn) × ((worker : ℕ) → worker < done → v'.drawn worker ≡ v.drawn worker)
+drawn_then v v' d done is number =
+    let here : (done == d.number) ≡ true = grind (arith, nat_tests, number) in (
+      ap (λ (w : DrawView). w.drawn done) is ∙ ap (λ b. cond b d.drawn (v.drawn done)) here,
+      λ worker below.
+          let other : (worker == d.number) ≡ false = grind (arith, nat_tests, number, below) in
+          ap (λ (w : DrawView). w.drawn worker) is ∙ ap (λ b. cond b d.drawn (v.drawn worker)) other,
+    )
 
 or_map : {A B : Type 0} (f : A → B) (x y : Option A) → option_map f (or_else x y) ≡ or_else (option_map f x) (option_map f y)
 or_map f None y = refl
@@ -304,8 +317,9 @@ module _ {Name : Type 0} (workers accounts nodes most : ℕ) (lists : List (List
 
   -- what a worker gave back belongs to what the readers gave back
   pub given_back : (division : UsageLine → List (ℕ × ℕ)) (usage : List UsageLine) (readers : ℕ) (now : List (Option (ReceiverView Name))) (book : List (List (ℕ × ℕ))) → 0 < readers → AreGathered workers readers readers opened now book
-      → (worker : ℕ) (after : List (SenderView Name)) → worker < workers → AreSentBy division usage workers worker (get_or lists worker []) after → AreGivenBack division usage workers worker now after
-  given_back division usage readers now book some gathered worker after low sent = record {
+      → (worker : ℕ) (drawn : List ℕ) (after : List (SenderView Name)) → worker < workers → HaveEnded (get_or lists worker []) after (λ account. postings_of division usage account drawn)
+      → AreGivenBack division usage worker drawn now after
+  given_back division usage readers now book some gathered worker drawn after low sent = record {
     count = sent.count ∙ mailboxes.whole worker low ∙ sym mailboxes.places ∙ sym gathered.count;
     each = λ account s lt.
         let inside : account < length opened = omega (arith, lt, gathered.count) in
@@ -314,7 +328,7 @@ module _ {Name : Type 0} (workers accounts nodes most : ℕ) (lists : List (List
         let dealt_out : nat_lt (account % readers) readers ≡ true = grind (arith, nat_tests) in
         let served : IsServed workers true (Some (opened_receiver own.0 workers)) (get_or now account None) workers (get_or book account []) =
         subst (λ o. IsServed workers true o (get_or now account None) workers (get_or book account [])) (ap (λ b. cond b (get_or opened account None) None) dealt_out ∙ own.1) (gathered.each account inside) in
-        let postings = postings_of division usage account (dealt workers (blocks_of (length usage)) worker) in
+        let postings = postings_of division usage account drawn in
         let is : get_or after account s ≡ with_end (with_posts (opened_sender own.0 worker nodes most) postings) =
         sent.each account s (omega (arith, below, mailboxes.whole worker low)) ∙ ap (λ v. with_end (with_posts v postings)) (own.2 worker s low) in
         (with_got (opened_receiver own.0 workers) served.1, served.2, ap (λ v. v.mailbox) is, ap (λ v. v.number) is, ap (λ v. v.is_ended) is, ap (λ v. v.sent) is);

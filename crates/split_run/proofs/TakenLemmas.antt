@@ -13,7 +13,8 @@ use Rattle.payee_book.specs.Counted.{times}
 use Rattle.payee_book.specs.Run.{portion_of, statement_of}
 use Rattle.payee_book.specs.Statement.{IsRising, comes_before}
 use Rattle.payee_book.proofs.Counted.{known_by_counts, times-append}
-use Rattle.split_run.specs.Blocks.{AreDrawnOnce, blocks_of, list_of, postings_of, sum_below}
+use Rattle.block_draw.specs.Drawn.{AreDrawnOnce, sum_below}
+use Rattle.split_run.specs.Blocks.{blocks_of, list_of, postings_of}
 use Rattle.split_run.specs.Taken.{HasTaken, posts_among}
 use Rattle.split_run.proofs.BlockLemmas.{sent_once}
 use Rattle.split_run.proofs.Sums.{sum-none, sum-same}

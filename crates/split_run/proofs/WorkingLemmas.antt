@@ -1,19 +1,19 @@
 -- What one line more, one block more and the end marks change of the senders.
-use Rattle.std.proofs.Common.{arith, ◌≡◌, ◌∙◌, ◌<◌, ◌≤◌, ◌+◌, ◌*◌, ◌-◌, ◌%◌, ◌++◌, ◌∷◌, [], ℕ, zero, suc, Bool, true, false, List, Some, append-nil, cond, drop, slice_get, get_or, length, map, set, take, ap, min, sym, subst, ⊎_elim}
-use Rattle.std.specs.Prelude.{◌==◌, if◌then◌else◌, nat_lt}
-use Rattle.std.specs.List.{enumerate_from, filter, flat_map, range_with_len}
+use Rattle.std.proofs.Common.{arith, ◌≡◌, ◌∙◌, ◌<◌, ◌≤◌, ◌+◌, ◌*◌, ◌-◌, ◌++◌, ◌∷◌, [], ℕ, Bool, true, false, List, Some, All, append-nil, cond, drop, slice_get, get_or, length, map, set, take, ap, max, min, sym, subst, ⊎_elim}
+use Rattle.std.specs.Prelude.{nat_lt}
+use Rattle.std.specs.List.{enumerate_from}
 use Rattle.std.proofs.lemmas.Bool.{cases_lt}
 use Rattle.std.proofs.lemmas.Bool.Decides.{eqb_tells, nat_tests}
 use Rattle.std.proofs.lemmas.Grind.{flat_map-append}
 use Rattle.std.proofs.lemmas.List.{get_or-drop, get_or-set_other, get_or-set_same, length-drop, length-map, length-take, take_all, take_more}
-use Rattle.std.proofs.lemmas.List.Elements.{filter-append}
+use Rattle.std.proofs.lemmas.List.Elements.{All-head, All-tail}
 use Rattle.std.proofs.lemmas.Option.{slice_get_cases}
 use Rattle.std.proofs.lemmas.List.FromFn.{get_or-enumerate_from, length-enumerate_from}
 use Rattle.std.proofs.lemmas.List.Sums.{count_by-le-length, length-filter}
 use Rattle.line_split.specs.UsageLine.{UsageLine}
 use Rattle.mail_box.specs.Mails.{SenderView, with_end}
 use Rattle.payee_book.specs.Run.{portion_of, posting_of}
-use Rattle.split_run.specs.Blocks.{dealt, postings_in, postings_of, postings_on}
+use Rattle.split_run.specs.Blocks.{postings_in, postings_of, postings_on}
 use Rattle.split_run.specs.Sending.{AreReadyFor, HaveEnded, HaveSent}
 use Rattle.split_run.proofs.BlockLemmas.{on-append}
 use Rattle.split_run.proofs.SendingLemmas.{with_none}
@@ -22,14 +22,19 @@ use Rattle.split_run.proofs.SendingLemmas.{with_none}
 pub line_here : {X : Type 0} (usage : List X) (place : ℕ) → place < length usage → (line : X) × (slice_get usage place ≡ Some line)
 line_here usage place within = ⊎_elim (λ e. (e.0, e.2)) (λ e. absurd (omega (arith, e.0, within))) (slice_get_cases usage place).1
 
-range_more : (a n b : ℕ) → b ≡ a + n → range_with_len a (n + 1) ≡ range_with_len a n ++ b ∷ []
-range_more a zero b is = ap (λ (k : ℕ). k ∷ []) (omega (arith, is))
-range_more a (suc n) b is =
-    let more : suc n + 1 ≡ suc (n + 1) = omega arith in
-    ap (range_with_len a) more ∙ ap (λ (l : List ℕ). a ∷ l) (range_more (a + 1) n b (omega (arith, is)))
+-- the number after the greatest of a list; 0 if there is none
+abbrev pub above : List ℕ → ℕ
+above [] = 0
+above (n ∷ ns) = max (n + 1) (above ns)
 
-dealt_more : (workers worker block : ℕ) → dealt workers (block + 1) worker ≡ dealt workers block worker ++ (if worker == block % workers then block ∷ [] else [])
-dealt_more workers worker block = ap (filter (λ b. worker == b % workers)) (range_more 0 block block (omega arith)) ∙ filter-append (λ b. worker == b % workers) (range_with_len 0 block) (block ∷ [])
+-- where all are below a number, it is at least that
+pub above_least : (n : ℕ) (ns : List ℕ) → All (λ k. k < n) ns → above ns ≤ n
+above_least n [] low = omega arith
+above_least n (k ∷ ns) low = let first = All-head (λ k. k < n) k ns low in let rest = above_least n ns (All-tail (λ k. k < n) k ns low) in omega (arith, first, rest)
+
+pub above_more : (n : ℕ) (ns : List ℕ) → above ns ≤ n → above (ns ++ n ∷ []) ≡ n + 1
+above_more n [] low = omega arith
+above_more n (k ∷ ns) low = let rest = above_more n ns (omega (arith, low)) in omega (arith, rest, low)
 
 module _ (division : UsageLine → List (ℕ × ℕ)) (account : ℕ) where
   -- no more postings than lines
@@ -92,23 +97,11 @@ module _ (division : UsageLine → List (ℕ × ℕ)) (account : ℕ) where
         let all = length-enumerate_from 0 usage in
         omega (arith, few, size, rest, all)
 
-    -- one block more, of this worker or of another
-    pub block_more : (workers worker block : ℕ) → (block % workers == worker) ≡ true
-        → postings_of division usage account (dealt workers block worker) ++ postings_in division usage account block ≡ postings_of division usage account (dealt workers (block + 1) worker)
-    block_more workers worker block is =
-        let mine : (worker == block % workers) ≡ true = let h = is in grind (arith, h) in
-        let more : dealt workers (block + 1) worker ≡ dealt workers block worker ++ block ∷ [] = dealt_more workers worker block ∙ ap (λ (b : Bool). dealt workers block worker ++ (if b then block ∷ [] else [])) mine in
+    -- one block more
+    pub block_more : (drawn : List ℕ) (block : ℕ) → postings_of division usage account drawn ++ postings_in division usage account block ≡ postings_of division usage account (drawn ++ block ∷ [])
+    block_more drawn block =
         let one : postings_in division usage account block ++ [] ≡ postings_in division usage account block = append-nil (postings_in division usage account block) in
-        sym (ap (flat_map (postings_in division usage account)) more ∙ flat_map-append (postings_in division usage account) (dealt workers block worker) (block ∷ [])
-        ∙ ap (λ (l : List (ℕ × ℕ)). postings_of division usage account (dealt workers block worker) ++ l) one)
-
-    pub block_passed : (workers worker block : ℕ) → (block % workers == worker) ≡ false
-        → postings_of division usage account (dealt workers block worker) ≡ postings_of division usage account (dealt workers (block + 1) worker)
-    block_passed workers worker block is =
-        let not_mine : (worker == block % workers) ≡ false = let h = is in grind (arith, h) in
-        let more : dealt workers (block + 1) worker ≡ dealt workers block worker =
-        dealt_more workers worker block ∙ ap (λ (b : Bool). dealt workers block worker ++ (if b then block ∷ [] else [])) not_mine ∙ append-nil (dealt workers block worker) in
-        sym (ap (flat_map (postings_in division usage account)) more)
+        sym (flat_map-append (postings_in division usage account) drawn (block ∷ []) ∙ ap (λ (l : List (ℕ × ℕ)). postings_of division usage account drawn ++ l) one)
 
 module _ {Name : Type 0} where
   -- who may send so many postings may, after some of them, send the others

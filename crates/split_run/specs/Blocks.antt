@@ -1,6 +1,6 @@
 -- Blocks of 64 usage lines, and what a worker sends of its blocks to the mailbox of an account.
-use Rattle.std.specs.Prelude.{ℕ, ◌≡◌, ◌+◌, ◌*◌, ◌/◌, ◌%◌, ◌==◌, ◌++◌, ◌∷◌, [], List, cond, drop, map, nat_lt, suc, take, zero}
-use Rattle.std.specs.List.{enumerate_from, filter, flat_map, range_with_len}
+use Rattle.std.specs.Prelude.{ℕ, ◌+◌, ◌*◌, ◌/◌, ◌++◌, ◌∷◌, [], List, drop, map, nat_lt, take}
+use Rattle.std.specs.List.{enumerate_from, filter, flat_map}
 use Rattle.line_split.specs.UsageLine.{UsageLine}
 use Rattle.payee_book.specs.Run.{portion_of}
 use Rattle.queue_core.specs.declared.item.Item.{Item}
@@ -25,21 +25,3 @@ postings_of division usage account blocks = flat_map (postings_in division usage
 -- what a worker with these blocks sends: the postings, and the end mark
 abbrev pub list_of : (UsageLine → List (ℕ × ℕ)) → List UsageLine → ℕ → List ℕ → List Item
 list_of division usage account blocks = map (λ posting. Post posting.0 posting.1) (postings_of division usage account blocks) ++ End ∷ []
-
--- how often a block stands in a list
-abbrev pub times_drawn : ℕ → List ℕ → ℕ
-times_drawn block [] = 0
-times_drawn block (other ∷ others) = cond (block == other) 1 0 + times_drawn block others
-
--- the sum over the first so many numbers
-abbrev pub sum_below : ℕ → (ℕ → ℕ) → ℕ
-sum_below zero each = 0
-sum_below (suc n) each = sum_below n each + each n
-
--- so many workers have each of so many blocks once, and no other
-abbrev pub AreDrawnOnce : ℕ → (ℕ → List ℕ) → ℕ → Type 0
-AreDrawnOnce workers drawn blocks = (block : ℕ) → sum_below workers (λ worker. times_drawn block (drawn worker)) ≡ cond (nat_lt block blocks) 1 0
-
--- the blocks of a worker where they are dealt out in turn: those whose number, divided by the number of workers, leaves the worker's
-abbrev pub dealt : ℕ → ℕ → ℕ → List ℕ
-dealt workers blocks worker = filter (λ block. worker == block % workers) (range_with_len 0 blocks)

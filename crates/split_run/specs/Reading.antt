@@ -3,7 +3,7 @@ use Rattle.std.specs.Prelude.{ℕ, ◌≡◌, ◌<◌, ◌≤◌, ◌+◌, ◌�
 use Rattle.queue_core.specs.declared.item.Item.{Item}
 use Rattle.queue_core.specs.declared.item.Item.TheVariants.{End, Post}
 use Rattle.mail_box.specs.Mails.{ReceiverView}
-use Rattle.split_run.specs.Blocks.{sum_below}
+use Rattle.block_draw.specs.Drawn.{sum_below}
 use Rattle.split_run.specs.Taken.{HasTaken}
 
 -- how many end marks there are among items

@@ -1,7 +1,8 @@
 -- What a run opens, and what its threads give back.
 use Rattle.std.specs.Prelude.{ℕ, ◌≡◌, ◌<◌, ◌%◌, ◌==◌, ◌++◌, ◌∷◌, [], List, None, Option, Some, cond, length, nat_lt, slice_index_or, true}
 use Rattle.line_split.specs.UsageLine.{UsageLine}
-use Rattle.split_run.specs.Blocks.{blocks_of, dealt, list_of, postings_of}
+use Rattle.block_draw.specs.Views.{DrawView, DrawerView}
+use Rattle.split_run.specs.Blocks.{blocks_of, list_of, postings_of}
 use Rattle.split_run.specs.Sending.{AreFresh, AreReadyFor, HaveEnded}
 use Rattle.split_run.specs.Reading.{AreServed, IsServed}
 use Rattle.mail_box.specs.Mails.{Begins, ReceiverView, SenderView, opened_receiver, opened_sender}
@@ -12,9 +13,11 @@ module _ {Name : Type 0} where
     pub count : length after ≡ length before
     pub each : (worker : ℕ) (s : SenderView Name) → worker < length before → slice_index_or after worker [] ≡ slice_index_or before worker [] ++ slice_index_or senders worker s ∷ []
 
-  -- the senders of this worker have sent what its blocks come to, and have ended
-  abbrev pub AreSentBy : (UsageLine → List (ℕ × ℕ)) → List UsageLine → (workers worker : ℕ) → (before after : List (SenderView Name)) → Type 0
-  AreSentBy division usage workers worker before after = HaveEnded before after (λ account. postings_of division usage account (dealt workers (blocks_of (length usage)) worker))
+  -- A worker's drawer has found that no block is left, and its senders have sent what the blocks come to that it drew, and have ended.
+  pub record HasWorked (division : UsageLine → List (ℕ × ℕ)) (usage : List UsageLine) (drawer now : DrawerView) (before after : List (SenderView Name)) : Type 0 where
+    pub sent : HaveEnded before after (λ account. postings_of division usage account now.drawn)
+    pub same : (now.draw ≡ drawer.draw) × (now.number ≡ drawer.number)
+    pub done : now.is_done ≡ true
 
   -- the senders of a worker before it starts: one for each account, each with room for a posting of every line
   abbrev pub AreForWork : (accounts lines : ℕ) → List (SenderView Name) → Type 0
@@ -56,15 +59,27 @@ module _ {Name : Type 0} where
   IsGivenBack workers readers reader opened now book = (dealt : List (Option (ReceiverView Name))) × AreDealt readers reader opened dealt × AreServed workers dealt now book
 
   -- There is a mailbox for each account, and the senders that a worker gave back belong to these; each has sent the worker's list for its account.
-  pub record AreGivenBack (division : UsageLine → List (ℕ × ℕ)) (usage : List UsageLine) (workers worker : ℕ) (inboxes : List (Option (ReceiverView Name))) (senders : List (SenderView Name)) : Type 0 where
+  pub record AreGivenBack (division : UsageLine → List (ℕ × ℕ)) (usage : List UsageLine) (worker : ℕ) (drawn : List ℕ) (inboxes : List (Option (ReceiverView Name))) (senders : List (SenderView Name)) : Type 0 where
     pub count : length senders ≡ length inboxes
     pub each : (account : ℕ) (s : SenderView Name) → account < length inboxes → (r : ReceiverView Name) × (slice_index_or inboxes account None ≡ Some r)
         × ((slice_index_or senders account s).mailbox ≡ r.mailbox) × ((slice_index_or senders account s).number ≡ worker) × ((slice_index_or senders account s).is_ended ≡ true)
-        × ((slice_index_or senders account s).sent ≡ list_of division usage account (dealt workers (blocks_of (length usage)) worker))
+        × ((slice_index_or senders account s).sent ≡ list_of division usage account drawn)
 
-  -- Each mailbox has taken in its sender of the first so many workers, and has received what it had.
-  pub record AreTakenIn (division : UsageLine → List (ℕ × ℕ)) (usage : List UsageLine) (workers done : ℕ) (before after : List (Option (ReceiverView Name))) : Type 0 where
+  -- What a worker gave back may be taken in: its senders have ended, each at the mailbox of its account, and its drawer is one of this draw and has found that no block is left.
+  pub record MayBeTakenIn (draw : DrawView) (drawer : DrawerView) (inboxes : List (Option (ReceiverView Name))) (senders : List (SenderView Name)) : Type 0 where
+    pub count : length senders ≡ length inboxes
+    pub ended : (account : ℕ) (s : SenderView Name) (r : ReceiverView Name) → account < length inboxes → slice_index_or inboxes account None ≡ Some r
+        → ((slice_index_or senders account s).mailbox ≡ r.mailbox) × ((slice_index_or senders account s).is_ended ≡ true)
+    pub same : drawer.draw ≡ draw.draw
+    pub done : drawer.is_done ≡ true
+
+  -- Each mailbox has taken in its sender of the first so many workers, which have drawn these blocks, and has received what it had.
+  pub record AreTakenIn (division : UsageLine → List (ℕ × ℕ)) (usage : List UsageLine) (drawn : ℕ → List ℕ) (done : ℕ) (before after : List (Option (ReceiverView Name))) : Type 0 where
     pub count : length after ≡ length before
     pub each : (account : ℕ) (r : ReceiverView Name) → account < length before → slice_index_or before account None ≡ Some r
         → (now : ReceiverView Name) × (slice_index_or after account None ≡ Some now) × (now.mailbox ≡ r.mailbox) × (now.got ≡ r.got)
-        × ((worker : ℕ) → worker < done → now.known worker ≡ Some (list_of division usage account (dealt workers (blocks_of (length usage)) worker))) × (0 < done → Begins now)
+        × ((worker : ℕ) → worker < done → now.known worker ≡ Some (list_of division usage account (drawn worker))) × (0 < done → Begins now)
+
+-- a drawer of the blocks of so many lines that has drawn none yet
+abbrev pub IsFresh : ℕ → DrawerView → Type 0
+IsFresh lines drawer = (drawer.blocks ≡ blocks_of lines) × (drawer.drawn ≡ [])

@@ -7,7 +7,8 @@ use Rattle.payee_book.specs.Counted.{times}
 use Rattle.payee_book.specs.Run.{statement_of}
 use Rattle.payee_book.specs.Statement.{IsRising}
 use Rattle.mail_box.specs.Mails.{put_at}
-use Rattle.split_run.specs.Blocks.{AreDrawnOnce, blocks_of, dealt, list_of, sum_below}
+use Rattle.block_draw.specs.Drawn.{AreDrawnOnce, sum_below}
+use Rattle.split_run.specs.Blocks.{blocks_of, list_of}
 
 -- the postings among items
 abbrev pub posts_among : List Item → List (ℕ × ℕ)
@@ -25,10 +26,6 @@ WhatWasSentIsTheStatement =
     (division : UsageLine → List (ℕ × ℕ)) (usage : List UsageLine) (account workers : ℕ) (drawn : ℕ → List ℕ) (got : ℕ → List Item) (statement : List (ℕ × ℕ))
     → AreDrawnOnce workers drawn (blocks_of (length usage)) → ((worker : ℕ) → worker < workers → got worker ≡ list_of division usage account (drawn worker))
     → HasTaken workers got statement → IsRising statement → statement ≡ statement_of division usage account
-
--- blocks that are dealt out in turn are drawn once each
-abbrev pub BlocksAreDealtOnce : Type 0
-BlocksAreDealtOnce = (workers blocks : ℕ) → 0 < workers → AreDrawnOnce workers (dealt workers blocks) blocks
 
 -- What a reader has taken stays what its statement has: at first nothing, after a posting one posting more, after an end mark the same.
 pub record TakingKeepsUp : Type 0 where

@@ -2,7 +2,7 @@
 
 ghost use Rattle.std.specs.Prelude.{◌≡◌};
 ghost use Rattle.split_run.specs.declared.TheConstants.{MOST_NODES, MOST_THREADS};
-ghost use Rattle.split_run.specs.Taken.{BlocksAreDealtOnce, TakingKeepsUp, WhatWasSentIsTheStatement};
+ghost use Rattle.split_run.specs.Taken.{TakingKeepsUp, WhatWasSentIsTheStatement};
 
 /// A run has at most 8 workers and 8 readers, and a worker at most 64 nodes in a mailbox.
 pub fn law_the_limits()
@@ -20,9 +20,4 @@ pub fn law_what_was_sent_is_the_statement()
 /// comes.
 pub fn law_taking_keeps_up()
     ensures { TakingKeepsUp }
-{}
-
-/// Blocks that are dealt out to the workers in turn are drawn once each, and none is left out.
-pub fn law_blocks_are_dealt_once()
-    ensures { BlocksAreDealtOnce }
 {}

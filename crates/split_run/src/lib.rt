@@ -14,6 +14,7 @@ mod sending;
 mod starting;
 mod working;
 
+pub use block_draw::{Draw, Drawer};
 pub use counting::{CountingMail, CountingReceiver};
 pub use fault::RunFault;
 pub use gate::{Gate, NoGate};

@@ -7,35 +7,41 @@ ghost use Rattle.split_run.specs.Reading.{AreTaken, IsUntouched, inboxes_by};
 ghost use Rattle.split_run.specs.Running.{AreDealt, AreMailboxes, HaveOneMore};
 
 use crate::reading::Reader;
+use block_draw::Drawer;
 use cwr_share::Registry;
 use line_split::{Claims, MOST_CLAIMS, Portions};
 use mail_box::Mail;
 use std::alloc::{AllocError, Global};
 
-/// The senders of one worker, one for each account, and its room for the division of a line.
+/// The senders of one worker, one for each account, its drawer, and its room for the division of a line.
 #[derive(Drop)]
 pub(crate) struct Worker<M: Mail> {
     pub senders: Vec<M::Sender>,
+    pub drawer: Drawer,
     pub claims: Claims,
     pub portions: Portions,
 }
 
-/// Opens a mailbox for each account: the workers that send to them, and their receivers in order of account.
+/// Opens a mailbox for each account: the workers that send to them, one with each drawer, and their receivers in order of
+/// account.
 pub(crate) fn open_mailboxes<M: Mail>(
     alloc: Global,
     mail: &M,
     registry: &Registry,
+    drawers: Vec<Drawer>,
     workers: u64,
     nodes: u64,
     most: u64,
 ) -> Result<(Vec<Worker<M>>, Vec<Option<M::Receiver>>), AllocError>
+    requires drawers { length drawers.items ≡ workers }
     requires workers { (0 < workers) × (workers ≤ 8) }
     requires nodes { (0 < nodes) × (nodes ≤ 64) }
     requires most { most ≤ 1000000 }
     ensures opened { IfOk result (λ r. AreMailboxes workers (length registry.now.parties) nodes most (map (λ worker. map M.sender worker.senders.items) r.0.items) (inboxes_by M.receiver r.1.items)) }
+    ensures drawers { IfOk result (λ r. (number : ℕ) (d : _) (e : _) → number < workers → (slice_index_or r.0.items number d).drawer ≡ slice_index_or drawers.items number e) }
     ensures room { IfOk result (λ r. All (λ worker. (MOST_CLAIMS ≤ worker.claims.room) × (MOST_CLAIMS + 1 ≤ worker.portions.room)) r.0.items) }
 {
-    let mut sending = idle_workers::<M>(alloc, registry, workers)?;
+    let mut sending = idle_workers::<M>(alloc, registry, drawers)?;
     let mut inboxes = Vec::new(alloc);
     for _ in 0..registry.accounts() {
         let (senders, receiver) = mail.open(alloc, workers, nodes, most)?;
@@ -45,19 +51,21 @@ pub(crate) fn open_mailboxes<M: Mail>(
     Ok((sending, inboxes))
 }
 
-/// So many workers, with no sender yet.
+/// A worker with each drawer, and with no sender yet.
 fn idle_workers<M: Mail>(
     alloc: Global,
     registry: &Registry,
-    count: u64,
+    drawers: Vec<Drawer>,
 ) -> Result<Vec<Worker<M>>, AllocError>
-    ensures senders { IfOk result (λ all. map (λ worker. map M.sender worker.senders.items) all.items ≡ replicate count []) }
+    ensures senders { IfOk result (λ all. map (λ worker. map M.sender worker.senders.items) all.items ≡ replicate (length drawers.items) []) }
+    ensures drawers { IfOk result (λ all. (number : ℕ) (d : _) (e : _) → number < length drawers.items → (slice_index_or all.items number d).drawer ≡ slice_index_or drawers.items number e) }
     ensures room { IfOk result (λ all. All (λ worker. (MOST_CLAIMS ≤ worker.claims.room) × (MOST_CLAIMS + 1 ≤ worker.portions.room)) all.items) }
 {
     let mut workers = Vec::new(alloc);
-    for _ in 0..count {
+    for drawer in drawers {
         workers.push(Worker {
             senders: Vec::new(alloc),
+            drawer,
             claims: registry.scratch(alloc)?,
             portions: Portions::room(alloc, MOST_CLAIMS + 1)?,
         })?;
@@ -72,6 +80,7 @@ fn hand_out<M: Mail>(
 ) -> Result<(), AllocError>
     requires { length senders.items ≡ length (vec_items workers.old) }
     ensures senders { OnOk result (HaveOneMore (map (λ worker. map M.sender worker.senders.items) (vec_items workers.old)) (map M.sender senders.items) (map (λ worker. map M.sender worker.senders.items) (vec_items workers.new))) }
+    ensures drawers { OnOk result ((number : ℕ) (d : _) (e : _) → number < length (vec_items workers.old) → (slice_index_or (vec_items workers.new) number d).drawer ≡ (slice_index_or (vec_items workers.old) number e).drawer) }
     ensures room { OnOk result (All (λ worker. (MOST_CLAIMS ≤ worker.claims.room) × (MOST_CLAIMS + 1 ≤ worker.portions.room)) (vec_items workers.old) → All (λ worker. (MOST_CLAIMS ≤ worker.claims.room) × (MOST_CLAIMS + 1 ≤ worker.portions.room)) (vec_items workers.new)) }
 {
     let mut number = 0;
@@ -85,6 +94,7 @@ fn hand_out<M: Mail>(
 /// Gives a worker a sender more.
 fn give<M: Mail>(worker: &mut Worker<M>, sender: M::Sender) -> Result<(), AllocError>
     ensures senders { OnOk result (map M.sender worker.new.senders.items ≡ map M.sender worker.old.senders.items ++ M.sender sender ∷ []) }
+    ensures drawer { OnOk result (worker.new.drawer ≡ worker.old.drawer) }
     ensures room { OnOk result ((worker.new.claims ≡ worker.old.claims) × (worker.new.portions ≡ worker.old.portions)) }
 {
     Ok(worker.senders.push(sender)?)

@@ -5,14 +5,17 @@ ghost use Rattle.mail_box.specs.Mails.{Begins, ReceiverView, SenderView, with_se
 ghost use Rattle.payee_book.specs.Run.{IsBookOf};
 ghost use Rattle.split_run.specs.Divisions.{division_by};
 ghost use Rattle.split_run.specs.Reading.{inboxes_by};
-ghost use Rattle.split_run.specs.Running.{AreGathered, IsGivenBack, or_else};
+ghost use Rattle.block_draw.specs.Drawn.{AreDrawnOnce};
+ghost use Rattle.block_draw.specs.Views.{draw_of, drawer_of, with_drawer};
+ghost use Rattle.split_run.specs.Running.{AreGathered, IsGivenBack, MayBeTakenIn, or_else};
 
 use crate::gate::Gate;
 use crate::opening::{open_mailboxes, readers_of};
 use crate::reading::Served;
-use crate::starting::at_once;
+use crate::starting::{Worked, at_once};
 use crate::working::Inputs;
-use crate::{Plan, RunFault};
+use crate::{LINES_IN_BLOCK, Plan, RunFault};
+use block_draw::Draw;
 use cwr_share::Registry;
 use line_split::Usage;
 use mail_box::Mail;
@@ -40,7 +43,17 @@ pub fn run<M: Mail, G: Gate, R: Threads + Wait + Sync>(
     let accounts = registry.accounts();
     let lines = usage.len() as u64;
     let workers = plan.workers;
-    let (jobs, receivers) = open_mailboxes(alloc, mail, registry, workers, plan.nodes, lines)?;
+    let blocks = (usage.len() + (LINES_IN_BLOCK - 1)) / LINES_IN_BLOCK;
+    let (mut draw, drawers) = Draw::open(alloc, blocks as u64, workers)?;
+    let (jobs, receivers) = open_mailboxes(
+        alloc,
+        mail,
+        registry,
+        drawers,
+        workers,
+        plan.nodes,
+        lines,
+    )?;
     let opened = Snapshot::of(&receivers);
     let readers = readers_of::<M>(alloc, accounts, workers, plan.readers, receivers)?;
     let inputs = Inputs {
@@ -61,11 +74,11 @@ pub fn run<M: Mail, G: Gate, R: Threads + Wait + Sync>(
     )?;
     prove!(book.accounts() == accounts, "each account has a statement");
     let inboxes = gathered.as_mut_slice();
-    for senders in worked {
-        let Some(senders) = senders else {
+    for worker in worked {
+        let Some(worker) = worker else {
             return Err(RunFault::Room);
         };
-        take_in_those::<M, R>(rt, inboxes, senders);
+        take_in_worker::<M, R>(rt, &mut draw, inboxes, worker);
     }
     Ok(book)
 }
@@ -128,6 +141,23 @@ fn put_if<T: Drop>(something: Option<T>, place: &mut Option<T>)
     if something.is_some() {
         *place = something;
     }
+}
+
+/// Takes in what a worker gave back: its senders, each at the mailbox of its account, and its drawer.
+fn take_in_worker<M: Mail, R: Wait>(
+    rt: &R,
+    draw: &mut Draw,
+    inboxes: &mut [Option<M::Receiver>],
+    worker: Worked<M>,
+)
+    requires ended { MayBeTakenIn (draw_of draw.old) (drawer_of worker.drawer) (inboxes_by M.receiver inboxes.old) (map M.sender worker.senders.items) }
+    ensures each { (account : ℕ) (s : SenderView _) (r : ReceiverView _) → account < length inboxes.old → slice_index_or (inboxes_by M.receiver inboxes.old) account None ≡ Some r → (slice_index_or (inboxes_by M.receiver inboxes.new) account None ≡ Some (with_sender r (slice_index_or (map M.sender worker.senders.items) account s))) × Begins (with_sender r (slice_index_or (map M.sender worker.senders.items) account s)) }
+    ensures count { length (inboxes_by M.receiver inboxes.new) ≡ length (inboxes_by M.receiver inboxes.old) }
+    ensures gathered { draw_of draw.new ≡ with_drawer (draw_of draw.old) (drawer_of worker.drawer) }
+    ensures whole { (draw_of draw.new).gathered ≡ (draw_of draw.new).drawers → AreDrawnOnce (draw_of draw.new).drawers (draw_of draw.new).drawn (draw_of draw.new).blocks }
+{
+    take_in_those::<M, R>(rt, inboxes, worker.senders);
+    draw.gather(worker.drawer);
 }
 
 /// Takes in the senders of a worker, each at the mailbox of its account.

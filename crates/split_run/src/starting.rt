@@ -4,12 +4,14 @@ ghost use Rattle.std.specs.Prelude.{◌≡◌, ◌+◌, ◌<◌, ◌≤◌, ℕ,
 ghost use Rattle.line_split.specs.declared.TheConstants.{MOST_CLAIMS};
 ghost use Rattle.split_run.specs.Divisions.{division_by};
 ghost use Rattle.split_run.specs.Reading.{AreServed, AreTaken, inboxes_by};
-ghost use Rattle.split_run.specs.Running.{AreForWork, AreSentBy};
+ghost use Rattle.block_draw.specs.Views.{drawer_of};
+ghost use Rattle.split_run.specs.Running.{AreForWork, HasWorked, IsFresh};
 
 use crate::gate::Gate;
 use crate::opening::Worker;
 use crate::reading::{Reader, Served};
 use crate::working::{Inputs, work};
+use block_draw::Drawer;
 use cwr_share::Registry;
 use line_split::Usage;
 use mail_box::Mail;
@@ -21,23 +23,31 @@ use std::thread;
 use std::thread::{Promise, PromisedHandle, Scope, Threads, join_promised};
 use tis_tree::TisTable;
 
-/// What a worker's thread gives back: its senders, which have sent all that its blocks come to and have ended.
+/// What a worker gives back: its senders, and its drawer.
+#[derive(Drop)]
+pub(crate) struct Worked<M: Mail> {
+    pub senders: Vec<M::Sender>,
+    pub drawer: Drawer,
+}
+
+/// What is promised of what a worker's thread gives back: no block is left, and its senders have sent all that the blocks come
+/// to that it drew, and have ended.
 #[derive(Drop)]
 pub(crate) struct WorkDone<M: Mail> {
     tis: Snapshot<TisTable>,
     registry: Snapshot<Registry>,
     usage: Snapshot<Usage>,
-    workers: u64,
-    number: u64,
+    drawer: Snapshot<Drawer>,
     senders: Snapshot<Vec<M::Sender>>,
 }
 
-impl<M: Mail> Promise<Option<Vec<M::Sender>>> for WorkDone<M> {
+impl<M: Mail> Promise<Option<Worked<M>>> for WorkDone<M> {
     ghost use Rattle.std.specs.Prelude.{IfSome, map};
+    ghost use Rattle.block_draw.specs.Views.{drawer_of};
     ghost use Rattle.split_run.specs.Divisions.{division_by};
-    ghost use Rattle.split_run.specs.Running.{AreSentBy};
+    ghost use Rattle.split_run.specs.Running.{HasWorked};
 
-    ghost kept_by = { λ p r. IfSome r (λ senders. AreSentBy (division_by p.tis.value p.registry.value) p.usage.value p.workers p.number (map M.sender p.senders.value.items) (map M.sender senders.items)) };
+    ghost kept_by = { λ p r. IfSome r (λ worked. HasWorked (division_by p.tis.value p.registry.value) p.usage.value (drawer_of p.drawer.value) (drawer_of worked.drawer) (map M.sender p.senders.value.items) (map M.sender worked.senders.items)) };
 }
 
 /// What a reader's thread gives back: its mailboxes, which have ended, and the statements of their accounts.
@@ -103,14 +113,13 @@ fn work_all<M: Mail, G: Gate, R: Wait>(
     inputs: Inputs<'_>,
     gate: &G,
     worker: Worker<M>,
-    workers: u64,
     number: u64,
     stop: &AtomicBool,
-) -> Option<Vec<M::Sender>>
+) -> Option<Worked<M>>
     requires senders { AreForWork (length inputs.registry.now.parties) (length inputs.usage.now) (map M.sender worker.senders.items) }
+    requires drawer { IsFresh (length inputs.usage.now) (drawer_of worker.drawer) }
     requires room { (MOST_CLAIMS ≤ worker.claims.room) × (MOST_CLAIMS + 1 ≤ worker.portions.room) }
-    requires number { number < workers }
-    ensures { IfSome result (λ senders. AreSentBy (division_by inputs.entry.tis.now inputs.entry.registry.now) inputs.entry.usage.now workers number (map M.sender worker.senders.items) (map M.sender senders.items)) }
+    ensures { IfSome result (λ worked. HasWorked (division_by inputs.entry.tis.now inputs.entry.registry.now) inputs.entry.usage.now (drawer_of worker.drawer) (drawer_of worked.drawer) (map M.sender worker.senders.items) (map M.sender worked.senders.items)) }
 {
     let mut worker = worker;
     let done = work::<M, G, R>(
@@ -119,14 +128,21 @@ fn work_all<M: Mail, G: Gate, R: Wait>(
         inputs.tis,
         inputs.registry,
         inputs.usage,
-        workers,
+        &mut worker.drawer,
         number,
         &mut worker.claims,
         &mut worker.portions,
         gate,
         stop,
     );
-    if done { Some(worker.senders) } else { None }
+    if done {
+        Some(Worked {
+            senders: worker.senders,
+            drawer: worker.drawer,
+        })
+    } else {
+        None
+    }
 }
 
 /// Starts a worker, if a thread can be made.
@@ -137,31 +153,29 @@ fn start_worker<'s, E, M: Mail, G: Gate, R: Threads + Wait + Sync>(
     inputs: Inputs<'s>,
     gate: &'s G,
     worker: Worker<M>,
-    workers: u64,
     number: u64,
     stop: &'s AtomicBool,
-) -> Option<PromisedHandle<Option<Vec<M::Sender>>, WorkDone<M>>>
+) -> Option<PromisedHandle<Option<Worked<M>>, WorkDone<M>>>
     requires senders { AreForWork (length inputs.registry.now.parties) (length inputs.usage.now) (map M.sender worker.senders.items) }
+    requires drawer { IsFresh (length inputs.usage.now) (drawer_of worker.drawer) }
     requires room { (MOST_CLAIMS ≤ worker.claims.room) × (MOST_CLAIMS + 1 ≤ worker.portions.room) }
-    requires number { number < workers }
     ensures inputs { IfSome result (λ h. (h.promise.tis.value ≡ inputs.entry.tis.now) × (h.promise.registry.value ≡ inputs.entry.registry.now) × (h.promise.usage.value ≡ inputs.entry.usage.now)) }
-    ensures worker { IfSome result (λ h. (h.promise.workers ≡ workers) × (h.promise.number ≡ number) × (h.promise.senders.value ≡ worker.senders)) }
+    ensures worker { IfSome result (λ h. (h.promise.drawer.value ≡ worker.drawer) × (h.promise.senders.value ≡ worker.senders)) }
 {
     let promise: WorkDone<M> = WorkDone {
         tis: Snapshot::of(inputs.tis),
         registry: Snapshot::of(inputs.registry),
         usage: Snapshot::of(inputs.usage),
-        workers,
-        number,
+        drawer: Snapshot::of(&worker.drawer),
         senders: Snapshot::of(&worker.senders),
     };
     scope
         .spawn_with(
             promise,
-            move || -> Option<Vec<M::Sender>>
-                requires { AreForWork (length inputs.registry.now.parties) (length inputs.usage.now) (map M.sender worker.senders.items) × (MOST_CLAIMS ≤ worker.claims.room) × (MOST_CLAIMS + 1 ≤ worker.portions.room) × (number < workers) }
-                ensures { IfSome result (λ senders. AreSentBy (division_by inputs.entry.tis.now inputs.entry.registry.now) inputs.entry.usage.now workers number (map M.sender worker.senders.items) (map M.sender senders.items)) }
-            { work_all::<M, G, R>(rt, mail, inputs, gate, worker, workers, number, stop) },
+            move || -> Option<Worked<M>>
+                requires { AreForWork (length inputs.registry.now.parties) (length inputs.usage.now) (map M.sender worker.senders.items) × IsFresh (length inputs.usage.now) (drawer_of worker.drawer) × (MOST_CLAIMS ≤ worker.claims.room) × (MOST_CLAIMS + 1 ≤ worker.portions.room) }
+                ensures { IfSome result (λ worked. HasWorked (division_by inputs.entry.tis.now inputs.entry.registry.now) inputs.entry.usage.now (drawer_of worker.drawer) (drawer_of worked.drawer) (map M.sender worker.senders.items) (map M.sender worked.senders.items)) }
+            { work_all::<M, G, R>(rt, mail, inputs, gate, worker, number, stop) },
         )
         .ok()
 }
@@ -196,21 +210,20 @@ fn start_workers<'s, E, M: Mail, G: Gate, R: Threads + Wait + Sync>(
     gate: &'s G,
     jobs: Vec<Worker<M>>,
     stop: &'s AtomicBool,
-    room: Vec<PromisedHandle<Option<Vec<M::Sender>>, WorkDone<M>>>,
-) -> Option<Vec<PromisedHandle<Option<Vec<M::Sender>>, WorkDone<M>>>>
+    room: Vec<PromisedHandle<Option<Worked<M>>, WorkDone<M>>>,
+) -> Option<Vec<PromisedHandle<Option<Worked<M>>, WorkDone<M>>>>
     requires room { vec_len room ≡ 0 }
     requires few { length jobs.items ≤ 8 }
-    requires ready { All (λ job. AreForWork (length inputs.registry.now.parties) (length inputs.usage.now) (map M.sender job.senders.items) × (MOST_CLAIMS ≤ job.claims.room) × (MOST_CLAIMS + 1 ≤ job.portions.room)) jobs.items }
+    requires ready { All (λ job. AreForWork (length inputs.registry.now.parties) (length inputs.usage.now) (map M.sender job.senders.items) × IsFresh (length inputs.usage.now) (drawer_of job.drawer) × (MOST_CLAIMS ≤ job.claims.room) × (MOST_CLAIMS + 1 ≤ job.portions.room)) jobs.items }
     ensures count { IfSome result (λ all. vec_len all ≡ vec_len jobs) }
     ensures inputs { IfSome result (λ all. (number : ℕ) (d : _) → number < length jobs.items → ((slice_index_or all.items number d).promise.tis.value ≡ inputs.entry.tis.now) × ((slice_index_or all.items number d).promise.registry.value ≡ inputs.entry.registry.now) × ((slice_index_or all.items number d).promise.usage.value ≡ inputs.entry.usage.now)) }
-    ensures workers { IfSome result (λ all. (number : ℕ) (d : _) (e : _) → number < length jobs.items → ((slice_index_or all.items number d).promise.workers ≡ length jobs.items) × ((slice_index_or all.items number d).promise.number ≡ number) × ((slice_index_or all.items number d).promise.senders.value ≡ (slice_index_or jobs.items number e).senders)) }
+    ensures workers { IfSome result (λ all. (number : ℕ) (d : _) (e : _) → number < length jobs.items → ((slice_index_or all.items number d).promise.drawer.value ≡ (slice_index_or jobs.items number e).drawer) × ((slice_index_or all.items number d).promise.senders.value ≡ (slice_index_or jobs.items number e).senders)) }
 {
-    let workers = jobs.len() as u64;
     let mut started = room;
     let mut number = 0;
     for job in jobs {
         let handle = start_worker::<E, M, G, R>(
-            scope, rt, mail, inputs, gate, job, workers, number, stop,
+            scope, rt, mail, inputs, gate, job, number, stop,
         )?;
         started.push(handle).ok()?;
         number += 1;
@@ -228,11 +241,11 @@ pub(crate) fn at_once<M: Mail, G: Gate, R: Threads + Wait + Sync>(
     gate: &G,
     workers: Vec<Worker<M>>,
     readers: Vec<Reader<M>>,
-) -> Option<(Vec<Option<Vec<M::Sender>>>, Vec<Option<Served<M>>>)>
+) -> Option<(Vec<Option<Worked<M>>>, Vec<Option<Served<M>>>)>
     requires few { length workers.items ≤ 8 }
-    requires ready { All (λ job. AreForWork (length inputs.registry.now.parties) (length inputs.usage.now) (map M.sender job.senders.items) × (MOST_CLAIMS ≤ job.claims.room) × (MOST_CLAIMS + 1 ≤ job.portions.room)) workers.items }
+    requires ready { All (λ job. AreForWork (length inputs.registry.now.parties) (length inputs.usage.now) (map M.sender job.senders.items) × IsFresh (length inputs.usage.now) (drawer_of job.drawer) × (MOST_CLAIMS ≤ job.claims.room) × (MOST_CLAIMS + 1 ≤ job.portions.room)) workers.items }
     requires taken { All (λ reader. (reader.workers ≡ length workers.items) × AreTaken reader.workers reader.whole (inboxes_by M.receiver reader.opened.value.items) (inboxes_by M.receiver reader.inboxes.items) reader.ends.items reader.journal) readers.items }
-    ensures worked { IfSome result (λ r. (length r.0.items ≡ length workers.items) × ((number : ℕ) (d : _) (e : _) → number < length workers.items → IfSome (slice_index_or r.0.items number d) (λ senders. AreSentBy (division_by inputs.entry.tis.now inputs.entry.registry.now) inputs.entry.usage.now (length workers.items) number (map M.sender (slice_index_or workers.items number e).senders.items) (map M.sender senders.items)))) }
+    ensures worked { IfSome result (λ r. (length r.0.items ≡ length workers.items) × ((number : ℕ) (d : _) (e : _) → number < length workers.items → IfSome (slice_index_or r.0.items number d) (λ worked. HasWorked (division_by inputs.entry.tis.now inputs.entry.registry.now) inputs.entry.usage.now (drawer_of (slice_index_or workers.items number e).drawer) (drawer_of worked.drawer) (map M.sender (slice_index_or workers.items number e).senders.items) (map M.sender worked.senders.items)))) }
     ensures read { IfSome result (λ r. (length r.1.items ≡ length readers.items) × ((number : ℕ) (d : _) (e : _) → number < length readers.items → IfSome (slice_index_or r.1.items number d) (λ reader. AreServed (length workers.items) (inboxes_by M.receiver (slice_index_or readers.items number e).opened.value.items) (inboxes_by M.receiver reader.inboxes.items) reader.book))) }
 {
     let working_room = Vec::with_capacity(alloc, workers.len()).ok()?;
@@ -242,12 +255,12 @@ pub(crate) fn at_once<M: Mail, G: Gate, R: Threads + Wait + Sync>(
     thread::scope(
         thread::scope_env(),
         rt,
-        move |scope| -> Option<(Vec<Option<Vec<M::Sender>>>, Vec<Option<Served<M>>>)>
+        move |scope| -> Option<(Vec<Option<Worked<M>>>, Vec<Option<Served<M>>>)>
             requires few { length workers.items ≤ 8 }
             requires rooms { (vec_len working_room ≡ 0) × (vec_len reading_room ≡ 0) }
-            requires ready { All (λ job. AreForWork (length inputs.registry.now.parties) (length inputs.usage.now) (map M.sender job.senders.items) × (MOST_CLAIMS ≤ job.claims.room) × (MOST_CLAIMS + 1 ≤ job.portions.room)) workers.items }
+            requires ready { All (λ job. AreForWork (length inputs.registry.now.parties) (length inputs.usage.now) (map M.sender job.senders.items) × IsFresh (length inputs.usage.now) (drawer_of job.drawer) × (MOST_CLAIMS ≤ job.claims.room) × (MOST_CLAIMS + 1 ≤ job.portions.room)) workers.items }
             requires taken { All (λ reader. (reader.workers ≡ length workers.items) × AreTaken reader.workers reader.whole (inboxes_by M.receiver reader.opened.value.items) (inboxes_by M.receiver reader.inboxes.items) reader.ends.items reader.journal) readers.items }
-            ensures worked { IfSome result (λ r. (length r.0.items ≡ length workers.items) × ((number : ℕ) (d : _) (e : _) → number < length workers.items → IfSome (slice_index_or r.0.items number d) (λ senders. AreSentBy (division_by inputs.entry.tis.now inputs.entry.registry.now) inputs.entry.usage.now (length workers.items) number (map M.sender (slice_index_or workers.items number e).senders.items) (map M.sender senders.items)))) }
+            ensures worked { IfSome result (λ r. (length r.0.items ≡ length workers.items) × ((number : ℕ) (d : _) (e : _) → number < length workers.items → IfSome (slice_index_or r.0.items number d) (λ worked. HasWorked (division_by inputs.entry.tis.now inputs.entry.registry.now) inputs.entry.usage.now (drawer_of (slice_index_or workers.items number e).drawer) (drawer_of worked.drawer) (map M.sender (slice_index_or workers.items number e).senders.items) (map M.sender worked.senders.items)))) }
             ensures read { IfSome result (λ r. (length r.1.items ≡ length readers.items) × ((number : ℕ) (d : _) (e : _) → number < length readers.items → IfSome (slice_index_or r.1.items number d) (λ reader. AreServed (length workers.items) (inboxes_by M.receiver (slice_index_or readers.items number e).opened.value.items) (inboxes_by M.receiver reader.inboxes.items) reader.book))) }
         {
             let Some(reading) = start_readers::<_, M, R>(

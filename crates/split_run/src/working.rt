@@ -6,13 +6,16 @@ ghost use Rattle.cwr_share.specs.Registered.{IsRegistered};
 ghost use Rattle.line_split.specs.UsageLine.{UsageLine};
 ghost use Rattle.line_split.specs.declared.TheConstants.{MOST_CLAIMS};
 ghost use Rattle.payee_book.specs.Run.{portion_of, posting_of};
-ghost use Rattle.split_run.specs.Blocks.{blocks_of, dealt, list_of, postings_in, postings_of};
+ghost use Rattle.block_draw.specs.Views.{drawer_of};
+ghost use Rattle.split_run.specs.Blocks.{list_of, postings_in, postings_of};
 ghost use Rattle.split_run.specs.Divisions.{division_by};
+ghost use Rattle.split_run.specs.Running.{IsFresh};
 ghost use Rattle.split_run.specs.Sending.{AreFresh, AreReadyFor, HaveEnded, HaveSent};
 
 use crate::LINES_IN_BLOCK;
 use crate::gate::Gate;
 use crate::sending::{send_end_to, send_line};
+use block_draw::Drawer;
 use cwr_share::{Registry, Work};
 use line_split::{Claims, MOST_CLAIMS, MOST_LINES, Portions, Usage, split};
 use mail_box::Mail;
@@ -28,16 +31,16 @@ pub(crate) struct Inputs<'a> {
     pub usage: &'a Usage,
 }
 
-/// Divides the lines of every block whose number leaves `worker` when it is divided by `workers`, and sends each
-/// portion that is not 0 to the mailbox of its account; at the end, an end mark to every mailbox. `senders` has one
-/// sender for each account. False: the stop word was found set, and some of it was not sent.
+/// Draws blocks until none is left, divides the lines of each, and sends each portion that is not 0 to the mailbox of its
+/// account; at the end, an end mark to every mailbox. `senders` has one sender for each account, and `worker` is the number
+/// that the gate is told. False: the stop word was found set, and some of it was not sent.
 pub fn work<M: Mail, G: Gate, R: Wait>(
     rt: &R,
     senders: &mut [M::Sender],
     tis: &TisTable,
     registry: &Registry,
     usage: &Usage,
-    workers: u64,
+    drawer: &mut Drawer,
     worker: u64,
     claims: &mut Claims,
     portions: &mut Portions,
@@ -47,11 +50,13 @@ pub fn work<M: Mail, G: Gate, R: Wait>(
     requires accounts { length senders.old ≡ length registry.now.parties }
     requires fresh { AreFresh (map M.sender senders.old) }
     requires ready { AreReadyFor (map M.sender senders.old) (length usage.now) }
+    requires drawer { IsFresh (length usage.now) (drawer_of drawer.old) }
     requires claims { MOST_CLAIMS ≤ claims.old.room }
     requires portions { MOST_CLAIMS + 1 ≤ portions.old.room }
-    requires worker { worker < workers }
-    ensures sent { result ≡ true → (account : ℕ) (s : _) → account < length senders.old → (slice_index_or (map M.sender senders.new) account s).sent ≡ list_of (division_by tis.now registry.now) usage.now account (dealt workers (blocks_of (length usage.now)) worker) }
-    ensures ended { result ≡ true → HaveEnded (map M.sender senders.old) (map M.sender senders.new) (λ account. postings_of (division_by tis.now registry.now) usage.now account (dealt workers (blocks_of (length usage.now)) worker)) }
+    ensures sent { result ≡ true → (account : ℕ) (s : _) → account < length senders.old → (slice_index_or (map M.sender senders.new) account s).sent ≡ list_of (division_by tis.now registry.now) usage.now account (drawer_of drawer.new).drawn }
+    ensures ended { result ≡ true → HaveEnded (map M.sender senders.old) (map M.sender senders.new) (λ account. postings_of (division_by tis.now registry.now) usage.now account (drawer_of drawer.new).drawn) }
+    ensures drawn { result ≡ true → (drawer_of drawer.new).is_done ≡ true }
+    ensures drawer { ((drawer_of drawer.new).draw ≡ (drawer_of drawer.old).draw) × ((drawer_of drawer.new).number ≡ (drawer_of drawer.old).number) }
 {
     prove!(registry.accounts() >= 1, "there is the residue's account");
     let inputs = Inputs {
@@ -59,20 +64,28 @@ pub fn work<M: Mail, G: Gate, R: Wait>(
         registry,
         usage,
     };
-    let blocks = (usage.len() + (LINES_IN_BLOCK - 1)) / LINES_IN_BLOCK;
-    for block in 0..blocks {
-        if block as u64 % workers == worker {
-            if stop.load(Ordering::SeqCst) {
-                return false;
-            }
-            if !work_block::<M, G, R>(
-                rt, senders, inputs, block, worker, claims, portions, gate, stop,
-            ) {
-                return false;
-            }
+    for _ in rt.forever() {
+        if stop.load(Ordering::SeqCst) {
+            return false;
+        }
+        let Some(block) = drawer.draw() else {
+            return send_ends::<M, R>(rt, senders, stop);
+        };
+        if !work_block::<M, G, R>(
+            rt,
+            senders,
+            inputs,
+            block as usize,
+            worker,
+            claims,
+            portions,
+            gate,
+            stop,
+        ) {
+            return false;
         }
     }
-    send_ends::<M, R>(rt, senders, stop)
+    unreachable!()
 }
 
 /// Divides and sends the lines of a block. False: the run was stopped.

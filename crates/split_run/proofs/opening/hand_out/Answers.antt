@@ -1,8 +1,8 @@
-use Rattle.std.proofs.Common.{arith, rules, ap, get_or, length, map, set, subst, sym, vec_items, ◌+◌, ◌≡◌, ◌<◌, ◌≤◌, ◌∙◌}
+use Rattle.std.proofs.Common.{arith, rules, ℕ, refl, ap, get_or, length, map, set, subst, sym, vec_items, ◌+◌, ◌≡◌, ◌<◌, ◌≤◌, ◌∙◌}
 use Rattle.std.specs.Vec.Iter.{into_iter_items}
 use Rattle.std.proofs.lemmas.List.{get_or-map, length-map}
 use Rattle.split_run.specs.Running.{HaveOneMore}
-use Rattle.split_run.proofs.OpeningLemmas.{all_given, given_at, one_given, room_kept}
+use Rattle.split_run.proofs.OpeningLemmas.{all_given, changed_at, given_at, one_given, room_kept}
 use Rattle.line_split.specs.declared.TheConstants.{MOST_CLAIMS}
 use Rattle.split_run.proofs.opening.hand_out.Goals as goal
 
@@ -24,9 +24,13 @@ loop-sender-preserved g c =
           (omega (arith, within, was.2.count, length-map workers (λ worker. map g.M.Mail.sender worker.senders.items)))
           (λ s. get_or-map g.M.Mail.sender all number sender s low ∙ ap g.M.Mail.sender (sym is))
           (given_at (λ worker. map g.M.Mail.sender worker.senders.items) workers number x c.give.new.worker (g.M.Mail.sender sender) within c.index_mut.ensures.value c.in_ok-give.ensures.senders),
-      λ had.
+      (λ had.
           room_kept (λ worker. (MOST_CLAIMS ≤ worker.claims.room) × (MOST_CLAIMS + 1 ≤ worker.portions.room)) workers number x c.give.new.worker within c.index_mut.ensures.value
-          (λ old. let same = c.in_ok-give.ensures.room in (omega (arith, old.0, ap (λ v. v.room) same.0), omega (arith, old.1, ap (λ v. v.room) same.1))) (was.3 had),
+          (λ old. let same = c.in_ok-give.ensures.room in (omega (arith, old.0, ap (λ v. v.room) same.0), omega (arith, old.1, ap (λ v. v.room) same.1))) (was.3 had)),
+      λ k d e lt.
+          let first = vec_items c.args.workers.now in
+          changed_at workers (set workers number c.give.new.worker) c.give.new.worker d number k refl within (λ w. w.drawer ≡ (get_or first k e).drawer) (λ other. was.4 k d e lt)
+          (λ same. c.in_ok-give.ensures.drawer ∙ ap (λ w. w.drawer) c.index_mut.ensures.value ∙ subst (λ (n : ℕ). (get_or workers n x).drawer ≡ (get_or first k e).drawer) same (was.4 k x e lt)),
     )
 
 pub returns-clause-senders : goal.returns-clause-senders

@@ -13,3 +13,4 @@ invariant-loop-sender g l =
     × ((k : ℕ) (d : _) → k < into_iter_len rest → slice_index_or (into_iter_items rest) k d ≡ slice_index_or all (l.number + k) d)
     × HaveOneMoreUpTo l.number (map (λ worker. map g.M.Mail.sender worker.senders.items) (vec_items l.initial.workers)) (map g.M.Mail.sender all) (map (λ worker. map g.M.Mail.sender worker.senders.items) (vec_items l.workers))
     × (All (λ worker. (MOST_CLAIMS ≤ worker.claims.room) × (MOST_CLAIMS + 1 ≤ worker.portions.room)) (vec_items l.initial.workers) → All (λ worker. (MOST_CLAIMS ≤ worker.claims.room) × (MOST_CLAIMS + 1 ≤ worker.portions.room)) (vec_items l.workers))
+    × ((k : ℕ) (d : _) (e : _) → k < length (vec_items l.initial.workers) → (slice_index_or (vec_items l.workers) k d).drawer ≡ (slice_index_or (vec_items l.initial.workers) k e).drawer)

@@ -1,6 +1,6 @@
 use Rattle.std.proofs.Common.{arith, rules, ap, length, map, subst, Some, ◌++◌, ◌∷◌, [], ◌≡◌, ◌∙◌, ℕ, ◌<◌}
 use Rattle.std.specs.Prelude.{option_map}
-use Rattle.std.proofs.lemmas.List.{get_or-map, map_push}
+use Rattle.std.proofs.lemmas.List.{get_or-map, length-map, map_push}
 use Rattle.split_run.proofs.WorkingLemmas.{line_here}
 use Rattle.split_run.specs.Running.{AreMailboxes}
 use Rattle.split_run.proofs.OpeningLemmas.{mailbox_more}
@@ -15,6 +15,7 @@ loop-preserved g c =
           c.loop.invariant.opened c.in_ok-hand_out.ensures.senders
           (ap (map (option_map g.M.Mail.receiver)) c.in_ok-push.ensures.items ∙ map_push (option_map g.M.Mail.receiver) c.loop.inboxes.items (Some c.in_ok-senders.receiver) ∙ ap (λ r. map (option_map g.M.Mail.receiver) c.loop.inboxes.items ++ Some r ∷ []) c.in_ok-senders.ensures.receiver)
           (λ worker s below. let there : worker < length c.in_ok-senders.senders.items = grind (arith, rules) in let x = (line_here c.in_ok-senders.senders.items worker there).0 in get_or-map g.M.Mail.sender c.in_ok-senders.senders.items worker x s there ∙ c.in_ok-senders.ensures.senders worker below x);
+      drawers = λ number d e lt. c.in_ok-hand_out.ensures.drawers number d d (omega (arith, lt, c.loop.invariant.opened.count, length-map c.loop.sending.items (λ worker. map g.M.Mail.sender worker.senders.items))) ∙ c.loop.invariant.drawers number d e lt;
       room = c.in_ok-hand_out.ensures.room c.loop.invariant.room;
     }
 

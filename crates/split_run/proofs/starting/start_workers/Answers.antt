@@ -1,4 +1,4 @@
-use Rattle.std.proofs.Common.{arith, rules, below_more, get_or, length, vec_items, ◌+◌, ◌≡◌}
+use Rattle.std.proofs.Common.{arith, rules, below_more, get_or, vec_items, ◌+◌, ◌≡◌}
 use Rattle.std.specs.Vec.Iter.{into_iter_items}
 use Rattle.split_run.proofs.starting.start_workers.Goals as goal
 
@@ -17,7 +17,7 @@ loop-job-preserved g c =
           (λ d. let h = c.in_ok-handle.ensures.inputs in grind rules)
           k (grind (arith, rules)) d),
       λ k d e below.
-          below_more (λ i. (d : _) (e : _) → ((get_or all i d).promise.workers ≡ length jobs) × ((get_or all i d).promise.number ≡ i) × ((get_or all i d).promise.senders.value ≡ (get_or jobs i e).senders)) done
+          below_more (λ i. (d : _) (e : _) → ((get_or all i d).promise.drawer.value ≡ (get_or jobs i e).drawer) × ((get_or all i d).promise.senders.value ≡ (get_or jobs i e).senders)) done
           (λ i low d e. let h = was.4 i d e low in grind rules)
           (λ d e. let h = was.2 0 e in let made = c.in_ok-handle.ensures.worker in grind rules)
           k (grind (arith, rules)) d e,
