@@ -4,6 +4,8 @@
 #![tactic(auto)]
 
 #[cfg(test)]
+mod block_draw_tests;
+#[cfg(test)]
 mod csv_table_tests;
 #[cfg(test)]
 mod cwr_share_tests;

@@ -79,20 +79,24 @@ fn assert_takes<M: Mail + Drop, R: Abort + Threads + Wait + Sync>(
     Ok(())
 }
 
-/// Asserts that two workers are at work at once over this kind of mailbox: the first is held until the other has come far.
+/// Asserts what a run of two workers comes to over so many equal lines and this kind of mailbox, where the first worker is
+/// held at its first line until the other has come to so many lines.
 fn assert_workers_meet<M: Mail, R: Abort + Threads + Wait + Sync>(
     rt: &R,
     alloc: Global,
     mail: &M,
+    lines: (usize, u64),
+    nodes: u64,
+    totals: (u128, u128, u128),
 ) -> Result<(), Fail> {
-    let uses = equal_uses(alloc, 128)?;
-    let gate = MeetingGate::new();
-    let book = book_of(rt, alloc, mail, uses.as_str(), (2, 1, 1), &gate)?;
+    let uses = equal_uses(alloc, lines.0)?;
+    let gate = MeetingGate::after(lines.1);
+    let book = book_of(rt, alloc, mail, uses.as_str(), (2, 1, nodes), &gate)?;
     assert!(rt;
         gate.has_met(),
         "the first worker was not let go by the other"
     );
-    assert_totals(rt, &book, (0, 7680, 5120));
+    assert_totals(rt, &book, totals);
     Ok(())
 }
 
@@ -142,8 +146,17 @@ fn takes_each_posting_and_each_end_mark_once(rt: HostRuntime) -> Result<(), Fail
 
 #[test]
 fn two_workers_are_at_work_at_once(rt: HostRuntime) -> Result<(), Fail> {
-    assert_workers_meet(&rt, rt.alloc(), &LaneMail)?;
-    assert_workers_meet(&rt, rt.alloc(), &LinkMail)
+    let totals = (0, 7680, 5120);
+    assert_workers_meet(&rt, rt.alloc(), &LaneMail, (128, 1), 1, totals)?;
+    assert_workers_meet(&rt, rt.alloc(), &LinkMail, (128, 1), 1, totals)
+}
+
+/// Where the lines were shared out before, the other worker would have 128 of them.
+#[test]
+fn a_worker_draws_while_the_other_is_held_up(rt: HostRuntime) -> Result<(), Fail> {
+    let totals = (0, 15_360, 10_240);
+    assert_workers_meet(&rt, rt.alloc(), &LaneMail, (256, 129), 64, totals)?;
+    assert_workers_meet(&rt, rt.alloc(), &LinkMail, (256, 129), 64, totals)
 }
 
 #[test]

@@ -2,13 +2,15 @@
 ghost use Rattle.std.specs.Prelude.{◌≡◌, IfOk, map};
 ghost use Rattle.mail_box.specs.LaneViews.{receiver_of, sender_of};
 ghost use Rattle.mail_box.specs.Mails.{opened_sender};
+ghost use Rattle.block_draw.specs.Views.{drawer_of};
+ghost use Rattle.split_run.specs.Running.{IsFresh};
 ghost use Rattle.split_run.specs.Sending.{AreFresh, AreReadyFor};
 
 use crate::run_threads_tests::inputs;
 use crate::small_run::USES;
 use line_split::{MOST_CLAIMS, Portions};
 use mail_box::{Item, LaneMail, LaneReceiver, LaneSender, Mail, receive};
-use split_run::{NoGate, Plan, work};
+use split_run::{Draw, Drawer, NoGate, Plan, work};
 use std::alloc::{AllocError, Global};
 use std::process::Abort;
 use std::sync::Wait;
@@ -51,6 +53,14 @@ fn open_three(alloc: Global) -> Result<([LaneSender; 3], [LaneReceiver; 3]), All
     Ok(([first, second, third], [to_first, to_second, to_third]))
 }
 
+/// The only drawer of the blocks of three lines.
+fn only_drawer(alloc: Global) -> Result<Drawer, AllocError>
+    ensures { IfOk result (λ drawer. IsFresh 3 (drawer_of drawer)) }
+{
+    let (_draw, mut drawers) = Draw::open(alloc, 1, 1)?;
+    Ok(drawers.swap_remove(0))
+}
+
 /// Asserts what the mailbox of an account gives: its only sender's items, and then nothing.
 fn assert_gives<R: Abort + Wait>(rt: &R, receiver: &mut LaneReceiver, items: &[Item]) {
     for item in items {
@@ -72,6 +82,7 @@ fn work_alone<R: Abort + Wait>(
     let (tis, registry, usage) = inputs(alloc, USES)?;
     let mut claims = registry.scratch(alloc)?;
     let mut portions = Portions::room(alloc, MOST_CLAIMS + 1)?;
+    let mut drawer = only_drawer(alloc)?;
     let stop = AtomicBool::new(is_stopped);
     assert_eq!(rt; registry.accounts() as usize, senders.len());
     assert_eq!(rt; usage.len(), 3);
@@ -81,7 +92,7 @@ fn work_alone<R: Abort + Wait>(
         &tis,
         &registry,
         &usage,
-        1,
+        &mut drawer,
         0,
         &mut claims,
         &mut portions,

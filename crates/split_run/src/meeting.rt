@@ -8,28 +8,32 @@ use std::sync::atomic::{AtomicBool, AtomicU64, Ordering};
 use std::sync::{Arc, Wait};
 use std::thread;
 
-/// The most turns that the first to come waits for another.
-const MOST_TURNS: u32 = 1_000_000;
+/// The most turns that the first to come waits for others.
+const MOST_TURNS: u32 = 10_000_000;
 
-/// Holds the first that comes until one of another party comes.
+/// Holds the first that comes until others, of another party, have come so many times.
 #[derive(Drop)]
 pub(crate) struct Meeting {
+    /// How often others have to come.
+    wanted: u64,
     /// The first party that came, counted from 1; 0 until then.
     first: AtomicU64,
-    another_came: AtomicBool,
+    /// How often others came.
+    others: AtomicU64,
     has_met: AtomicBool,
 }
 
 impl Meeting {
-    pub fn new() -> Meeting {
+    pub fn after(wanted: u64) -> Meeting {
         Meeting {
+            wanted,
             first: AtomicU64::new(0),
-            another_came: AtomicBool::new(false),
+            others: AtomicU64::new(0),
             has_met: AtomicBool::new(false),
         }
     }
 
-    /// Comes as one of this party. The first to come waits, for at most so many turns.
+    /// Comes as one of this party. The first to come waits, for a bounded number of turns.
     pub fn attend(&self, party: u64) {
         let mine = party.wrapping_add(1);
         match self
@@ -39,7 +43,7 @@ impl Meeting {
             Ok(_) => self.wait(),
             Err(first) => {
                 if first != mine {
-                    self.another_came.store(true, Ordering::SeqCst);
+                    self.others.fetch_add(1, Ordering::SeqCst);
                 }
             }
         }
@@ -47,7 +51,7 @@ impl Meeting {
 
     fn wait(&self) {
         for _ in 0..MOST_TURNS {
-            if self.another_came.load(Ordering::SeqCst) {
+            if self.others.load(Ordering::SeqCst) >= self.wanted {
                 self.has_met.store(true, Ordering::SeqCst);
                 return;
             }
@@ -55,27 +59,27 @@ impl Meeting {
         }
     }
 
-    /// Whether the first was let go by another.
+    /// Whether the first was let go by others.
     pub fn has_met(&self) -> bool {
         self.has_met.load(Ordering::SeqCst)
     }
 }
 
-/// A gate that holds the first worker until another worker comes.
+/// A gate that holds the first worker until other workers have come to it so many times.
 #[derive(Drop)]
 pub struct MeetingGate {
     meeting: Meeting,
 }
 
 impl MeetingGate {
-    /// A gate that nobody has passed.
-    pub fn new() -> MeetingGate {
+    /// A gate that nobody has passed, and that lets the first worker go once others have come to it so many times.
+    pub fn after(times: u64) -> MeetingGate {
         MeetingGate {
-            meeting: Meeting::new(),
+            meeting: Meeting::after(times),
         }
     }
 
-    /// Whether the first worker was let go by another.
+    /// Whether the first worker was let go by others.
     pub fn has_met(&self) -> bool {
         self.meeting.has_met()
     }
@@ -107,7 +111,7 @@ pub struct MeetingReceiver<M: Mail> {
 impl<M: Drop> MeetingMail<M> {
     /// Mailboxes of this kind, with none opened.
     pub fn new(alloc: Global, mail: M) -> Result<MeetingMail<M>, AllocError> {
-        let meeting = Arc::new(alloc, Meeting::new())?;
+        let meeting = Arc::new(alloc, Meeting::after(1))?;
         Ok(MeetingMail {
             mail,
             opened: AtomicU64::new(0),
