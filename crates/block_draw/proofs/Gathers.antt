@@ -21,7 +21,7 @@ use Rattle.block_draw.specs.Rule.{KeepsDraw, times_so_far}
 use Rattle.block_draw.specs.Steps.{AreAllDrawn, gathered_with, tells_look}
 use Rattle.block_draw.specs.Left.{NoneIsLeft}
 use Rattle.block_draw.proofs.Counts.{none_draws, seen_at, sum_changed, sum_raised}
-use Rattle.block_draw.proofs.Openings.{at_gatherer}
+use Rattle.block_draw.proofs.Openings.{at_drawer, at_gatherer}
 
 -- ---- the rule, in terms of what the gatherer's seat knows
 
@@ -144,12 +144,15 @@ module _ {S : Type 0} (shape : Shape) where
 
 -- ---- what it means that none is left
 
+-- where the counter is past the last block, each was drawn
+drawn_past : {S : Type 0} (shape : Shape) (s : State S Known) (kept : KeepsDraw shape s) → shape.blocks ≤ kept.counter → (block : ℕ) → block < shape.blocks → times_so_far shape kept.gatherer kept.others block ≡ 1
+drawn_past shape s kept past block below =
+    let one : ◌≡◌ {A = ℕ} (cond (nat_lt block (min kept.counter shape.blocks)) 1 0) 1 = grind (arith, nat_tests, past, below) in
+    kept.once block ∙ one
+
 pub none_is_left : NoneIsLeft
 none_is_left = record {
-  all = λ shape s kept past block below.
-      let found = ap (λ (ws : List ℕ). slice_index ws 0) kept.words in
-      let one : ◌≡◌ {A = ℕ} (cond (nat_lt block (min kept.counter shape.blocks)) 1 0) 1 = let past = past in grind (arith, nat_tests, past, found, below) in
-      kept.once block ∙ one;
+  all = λ shape s kept past. let found = ap (λ (ws : List ℕ). slice_index ws 0) kept.words in drawn_past shape s kept (omega (arith, past, found));
   only = λ shape s kept each. ⊎_elim
       (λ (h : kept.counter < shape.blocks).
       let one = each kept.counter h in
@@ -157,4 +160,6 @@ none_is_left = record {
       absurd (omega (arith, one, none, kept.once kept.counter)))
       (λ (h : shape.blocks ≤ kept.counter). let found = ap (λ (ws : List ℕ). slice_index ws 0) kept.words in omega (arith, h, found))
       (cases_lt kept.counter shape.blocks);
+  found = λ shape s kept seat d seen done. let at = at_drawer shape s kept seat d seen in drawn_past shape s kept ((kept.draws at.0 (Draws d) at.2).done done);
+  gathered = λ shape s kept some_one. drawn_past shape s kept (kept.gathers.done some_one);
 }

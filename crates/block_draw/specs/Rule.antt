@@ -26,7 +26,7 @@ module _ {S : Type 0} where
     pub gathers : IsGatherer shape counter others gatherer
     pub draws : (number : ℕ) (v : Known) → get_elem? others number ≡ some v → IsOther shape counter gatherer number v
     pub once : (block : ℕ) → times_so_far shape gatherer others block ≡ cond (nat_lt block (min counter shape.blocks)) 1 0
-    -- past the last block the counter is only where drawers found none left
+    -- the counter is past the last block by as many at most as have found none left
     pub past : counter ≤ shape.blocks + (length gatherer.gathered + sum_by done_in others)
 
 -- the first seat of a counter that was just made, when so many drawers have a seat

@@ -1,6 +1,7 @@
 -- What each seat at the counter of a draw knows, and what the counter and the other seats make of it.
 use Rattle.std.specs.Prelude.{ℕ, ◌≡◌, ◌<◌, ◌≤◌, ◌+◌, ◌==◌, ◌∷◌, [], List, cond, length, true, ⊤}
 use Rattle.std.specs.List.{sum_by}
+use Rattle.block_draw.specs.declared.TheConstants.{MOST_BLOCKS, MOST_DRAWERS}
 use Rattle.block_draw.specs.declared.seats.DrawerSeat.{DrawerSeat}
 use Rattle.block_draw.specs.declared.seats.GathererSeat.{GathererSeat}
 use Rattle.block_draw.specs.declared.seats.Known.{Known}
@@ -9,8 +10,8 @@ use Rattle.block_draw.specs.declared.seats.Shape.{Shape}
 use Rattle.block_draw.specs.Drawn.{times_drawn}
 
 pub record IsSmall (shape : Shape) : Type 0 where
-  pub blocks : shape.blocks ≤ 15625
-  pub drawers : (0 < shape.drawers) × (shape.drawers ≤ 8)
+  pub blocks : shape.blocks ≤ MOST_BLOCKS
+  pub drawers : (0 < shape.drawers) × (shape.drawers ≤ MOST_DRAWERS)
 
 -- what a drawer drew that was gathered; nothing, if it was not
 abbrev pub drawn_by : List DrawerSeat → ℕ → List ℕ
@@ -35,7 +36,7 @@ done_in (Draws d) = cond d.is_done 1 0
 done_in (Gathers g) = 0
 done_in Gone = 0
 
--- The seat that gathers: the others are those of the drawers that were dealt one; each was gathered or still draws; and who was gathered had found no block left.
+-- The seat that gathers: the others are those of the drawers that were dealt one; each of them was gathered or was not; and who was gathered had found no block left.
 pub record IsGatherer (shape : Shape) (counter : ℕ) (others : List Known) (g : GathererSeat) : Type 0 where
   pub shape_is : g.shape ≡ shape
   pub dealt : g.dealt ≡ length others

@@ -1,6 +1,7 @@
 //! A draw of blocks, and those who draw.
 ghost use Rattle.std.specs.Prelude.{◌≡◌, ◌<◌, ◌≤◌, ◌∷◌, [], ℕ, All, HoldsAt, IfOk, MatchOption, None, true, ⊤, vec_items, vec_len};
 ghost use Rattle.std.specs.Arc.{arc_value};
+ghost use Rattle.block_draw.specs.declared.TheConstants.{MOST_BLOCKS, MOST_DRAWERS};
 ghost use Rattle.block_draw.specs.declared.seats.Known.TheVariants.{Gathers};
 ghost use Rattle.block_draw.specs.Drawn.{AreDrawnOnce};
 ghost use Rattle.block_draw.specs.Rule.{draw_opened, opened_gatherer};
@@ -41,8 +42,8 @@ impl Draw {
 
     /// A draw of so many blocks, at most 15,625, and 1 to 8 drawers, by number.
     pub fn open(alloc: Global, blocks: u64, drawers: u64) -> Result<(Draw, Vec<Drawer>), AllocError>
-        requires blocks { blocks ≤ 15625 }
-        requires drawers { (0 < drawers) × (drawers ≤ 8) }
+        requires blocks { blocks ≤ MOST_BLOCKS }
+        requires drawers { (0 < drawers) × (drawers ≤ MOST_DRAWERS) }
         ensures draw { IfOk result (λ r. draw_of r.0 ≡ opened_draw (draw_of r.0).draw blocks drawers) }
         ensures count { IfOk result (λ r. vec_len r.1 ≡ drawers) }
         ensures drawers { IfOk result (λ r. (number : ℕ) → number < drawers → HoldsAt (λ d. drawer_of d ≡ opened_drawer (draw_of r.0).draw blocks number) (vec_items r.1) number) }

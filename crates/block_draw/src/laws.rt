@@ -1,4 +1,4 @@
-//! What finding no block left means. A law has an empty body: its contract is the law.
+//! The limits of a draw, and what finding no block left means. A law has an empty body: its contract is the law.
 
 ghost use Rattle.std.specs.Prelude.{◌≡◌};
 ghost use Rattle.block_draw.specs.declared.TheConstants.{MOST_BLOCKS, MOST_DRAWERS};
@@ -10,7 +10,8 @@ pub fn law_the_limits()
     ensures most_drawers { MOST_DRAWERS ≡ 8 }
 {}
 
-/// At any moment under the rule: the counter is past the last block exactly where each block was drawn, by one drawer.
+/// At any moment under the rule: the counter is past the last block exactly where each block was drawn, by one drawer. So each
+/// was drawn where a drawer has answered None, and where one was gathered.
 pub fn law_none_is_left()
     ensures { NoneIsLeft }
 {}

@@ -18,8 +18,8 @@ pub struct DrawerSeat {
     pub is_done: bool,
 }
 
-/// What the seat knows that gathers the drawers: how many drawers were dealt a seat, and those that were gathered. No value
-/// of it is made.
+/// What the draw's own seat knows, which gathers the drawers: how many were dealt a seat, and those that were gathered. No
+/// value of it is made.
 pub struct GathererSeat {
     pub shape: Shape,
     pub dealt: u64,

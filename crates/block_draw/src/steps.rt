@@ -27,6 +27,7 @@ impl Split<Known> for DealSeat {
     ghost right = { dealt };
 }
 
+/// A drawer that was gathered gives up its seat.
 struct TakeIn;
 
 impl Join<Known> for TakeIn {
@@ -35,12 +36,14 @@ impl Join<Known> for TakeIn {
     ghost spent = { Gone };
 }
 
+/// A drawer adds one to the counter.
 struct AddOne;
 
 impl Play<(), Known> for AddOne {
     ghost then = { tells_draw };
 }
 
+/// The draw looks at the counter.
 struct Look;
 
 impl Play<(), Known> for Look {

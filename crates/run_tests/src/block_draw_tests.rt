@@ -42,6 +42,13 @@ fn draws_each_block_once(rt: HostRuntime) -> Result<(), Fail> {
     Ok(())
 }
 
+#[test]
+fn finds_nothing_where_there_is_no_block(rt: HostRuntime) -> Result<(), Fail> {
+    let (mut draw, mut drawers) = Draw::open(rt.alloc(), 0, 1)?;
+    gather_done(&rt, &mut draw, drawers.swap_remove(0));
+    Ok(())
+}
+
 /// Asserts what two drawers draw of so many blocks, in an order whose bits say whose turn it is.
 fn assert_drawn(rt: &impl Abort, alloc: Global, blocks: u64, order: u64) -> Result<(), Fail>
     requires { blocks ≤ 15625 }
@@ -73,17 +80,16 @@ fn two_drawers_draw_in_any_order(rt: HostRuntime) -> Result<(), Fail> {
 }
 
 #[test]
-fn any_number_of_drawers_draws_all_blocks(rt: HostRuntime) -> Result<(), Fail> {
+fn each_of_any_number_of_drawers_draws_the_next_block(rt: HostRuntime) -> Result<(), Fail> {
     for drawers in 1..9 {
         for blocks in 0..9 {
             let (_draw, all) = Draw::open(rt.alloc(), blocks, drawers)?;
-            let mut drawn = 0;
+            let mut turn = 0u64;
             for mut drawer in all {
-                if drawer.draw() == Some(drawn) {
-                    drawn = drawn.wrapping_add(1);
-                }
+                let next = if turn < blocks { Some(turn) } else { None };
+                assert_eq!(&rt; drawer.draw(), next);
+                turn = turn.wrapping_add(1);
             }
-            assert_eq!(&rt; drawn, blocks.min(drawers));
         }
     }
     Ok(())

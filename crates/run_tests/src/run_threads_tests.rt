@@ -79,18 +79,18 @@ fn assert_takes<M: Mail + Drop, R: Abort + Threads + Wait + Sync>(
     Ok(())
 }
 
-/// Asserts what a run of two workers comes to over so many equal lines and this kind of mailbox, where the first worker is
-/// held at its first line until the other has come to so many lines.
+/// Asserts what a run of two workers comes to over so many equal lines and this kind of mailbox, where the gate
+/// holds the first worker at its first line until the other has come to some number of lines.
 fn assert_workers_meet<M: Mail, R: Abort + Threads + Wait + Sync>(
     rt: &R,
     alloc: Global,
     mail: &M,
-    lines: (usize, u64),
+    lines: usize,
     nodes: u64,
+    gate: MeetingGate,
     totals: (u128, u128, u128),
 ) -> Result<(), Fail> {
-    let uses = equal_uses(alloc, lines.0)?;
-    let gate = MeetingGate::after(lines.1);
+    let uses = equal_uses(alloc, lines)?;
     let book = book_of(rt, alloc, mail, uses.as_str(), (2, 1, nodes), &gate)?;
     assert!(rt;
         gate.has_met(),
@@ -146,17 +146,19 @@ fn takes_each_posting_and_each_end_mark_once(rt: HostRuntime) -> Result<(), Fail
 
 #[test]
 fn two_workers_are_at_work_at_once(rt: HostRuntime) -> Result<(), Fail> {
+    let gate = || -> MeetingGate { MeetingGate::after(1, 1_000_000) };
     let totals = (0, 7680, 5120);
-    assert_workers_meet(&rt, rt.alloc(), &LaneMail, (128, 1), 1, totals)?;
-    assert_workers_meet(&rt, rt.alloc(), &LinkMail, (128, 1), 1, totals)
+    assert_workers_meet(&rt, rt.alloc(), &LaneMail, 128, 1, gate(), totals)?;
+    assert_workers_meet(&rt, rt.alloc(), &LinkMail, 128, 1, gate(), totals)
 }
 
-/// Where the lines were shared out before, the other worker would have 128 of them.
+/// If the blocks were dealt out before the workers start, the other worker would have 128 lines.
 #[test]
 fn a_worker_draws_while_the_other_is_held_up(rt: HostRuntime) -> Result<(), Fail> {
+    let gate = || -> MeetingGate { MeetingGate::after(129, 10_000_000) };
     let totals = (0, 15_360, 10_240);
-    assert_workers_meet(&rt, rt.alloc(), &LaneMail, (256, 129), 64, totals)?;
-    assert_workers_meet(&rt, rt.alloc(), &LinkMail, (256, 129), 64, totals)
+    assert_workers_meet(&rt, rt.alloc(), &LaneMail, 256, 64, gate(), totals)?;
+    assert_workers_meet(&rt, rt.alloc(), &LinkMail, 256, 64, gate(), totals)
 }
 
 #[test]

@@ -1,4 +1,4 @@
--- How a run is shared out.
+-- How many threads a run has, and the room between them.
 use Rattle.std.specs.Prelude.{ℕ, ◌≤◌, ◌<◌}
 use Rattle.split_run.specs.declared.TheConstants.{MOST_NODES, MOST_THREADS}
 

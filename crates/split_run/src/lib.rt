@@ -1,4 +1,4 @@
-//! How a distribution run is shared out.
+//! The threads of a distribution run.
 #![tactic(auto)]
 
 mod counting;

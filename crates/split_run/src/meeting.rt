@@ -1,4 +1,4 @@
-//! A gate and a mailbox that hold one thread until another comes, for tests that look at whether two threads are at work at once.
+//! A gate and a mailbox that hold one thread until others come, for tests that look at whether two threads are at work at once.
 ghost use Rattle.mail_box.specs.Mails.{ReceiverView};
 
 use crate::gate::Gate;
@@ -8,14 +8,16 @@ use std::sync::atomic::{AtomicBool, AtomicU64, Ordering};
 use std::sync::{Arc, Wait};
 use std::thread;
 
-/// The most turns that the first to come waits for others.
-const MOST_TURNS: u32 = 10_000_000;
+/// The most turns that the first take of all waits for another.
+const MOST_TURNS: u32 = 1_000_000;
 
-/// Holds the first that comes until others, of another party, have come so many times.
+/// Holds the first that comes until others, of another party, have come so many times, or it has waited so many turns.
 #[derive(Drop)]
 pub(crate) struct Meeting {
     /// How often others have to come.
     wanted: u64,
+    /// The most turns that the first to come waits.
+    most_turns: u32,
     /// The first party that came, counted from 1; 0 until then.
     first: AtomicU64,
     /// How often others came.
@@ -24,16 +26,17 @@ pub(crate) struct Meeting {
 }
 
 impl Meeting {
-    pub fn after(wanted: u64) -> Meeting {
+    pub fn after(wanted: u64, most_turns: u32) -> Meeting {
         Meeting {
             wanted,
+            most_turns,
             first: AtomicU64::new(0),
             others: AtomicU64::new(0),
             has_met: AtomicBool::new(false),
         }
     }
 
-    /// Comes as one of this party. The first to come waits, for a bounded number of turns.
+    /// Comes as one of this party. The first to come waits.
     pub fn attend(&self, party: u64) {
         let mine = party.wrapping_add(1);
         match self
@@ -50,7 +53,7 @@ impl Meeting {
     }
 
     fn wait(&self) {
-        for _ in 0..MOST_TURNS {
+        for _ in 0..self.most_turns {
             if self.others.load(Ordering::SeqCst) >= self.wanted {
                 self.has_met.store(true, Ordering::SeqCst);
                 return;
@@ -65,17 +68,18 @@ impl Meeting {
     }
 }
 
-/// A gate that holds the first worker until other workers have come to it so many times.
+/// A gate that holds the first worker until other workers have come to it so many times, or it has waited so many turns.
 #[derive(Drop)]
 pub struct MeetingGate {
     meeting: Meeting,
 }
 
 impl MeetingGate {
-    /// A gate that nobody has passed, and that lets the first worker go once others have come to it so many times.
-    pub fn after(times: u64) -> MeetingGate {
+    /// A gate that nobody has passed. It lets the first worker go once others have come to it so many times, and at the latest
+    /// after so many turns.
+    pub fn after(times: u64, most_turns: u32) -> MeetingGate {
         MeetingGate {
-            meeting: Meeting::after(times),
+            meeting: Meeting::after(times, most_turns),
         }
     }
 
@@ -111,7 +115,7 @@ pub struct MeetingReceiver<M: Mail> {
 impl<M: Drop> MeetingMail<M> {
     /// Mailboxes of this kind, with none opened.
     pub fn new(alloc: Global, mail: M) -> Result<MeetingMail<M>, AllocError> {
-        let meeting = Arc::new(alloc, Meeting::after(1))?;
+        let meeting = Arc::new(alloc, Meeting::after(1, MOST_TURNS))?;
         Ok(MeetingMail {
             mail,
             opened: AtomicU64::new(0),

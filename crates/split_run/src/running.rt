@@ -46,13 +46,7 @@ pub fn run<M: Mail, G: Gate, R: Threads + Wait + Sync>(
     let blocks = (usage.len() + (LINES_IN_BLOCK - 1)) / LINES_IN_BLOCK;
     let (mut draw, drawers) = Draw::open(alloc, blocks as u64, workers)?;
     let (jobs, receivers) = open_mailboxes(
-        alloc,
-        mail,
-        registry,
-        drawers,
-        workers,
-        plan.nodes,
-        lines,
+        alloc, mail, registry, drawers, workers, plan.nodes, lines,
     )?;
     let opened = Snapshot::of(&receivers);
     let readers = readers_of::<M>(alloc, accounts, workers, plan.readers, receivers)?;

@@ -222,9 +222,7 @@ fn start_workers<'s, E, M: Mail, G: Gate, R: Threads + Wait + Sync>(
     let mut started = room;
     let mut number = 0;
     for job in jobs {
-        let handle = start_worker::<E, M, G, R>(
-            scope, rt, mail, inputs, gate, job, number, stop,
-        )?;
+        let handle = start_worker::<E, M, G, R>(scope, rt, mail, inputs, gate, job, number, stop)?;
         started.push(handle).ok()?;
         number += 1;
     }

@@ -33,7 +33,7 @@ pub(crate) struct Inputs<'a> {
 
 /// Draws blocks until none is left, divides the lines of each, and sends each portion that is not 0 to the mailbox of its
 /// account; at the end, an end mark to every mailbox. `senders` has one sender for each account, and `worker` is the number
-/// that the gate is told. False: the stop word was found set, and some of it was not sent.
+/// that the gate is told. False: the stop word was found set, and some postings or end marks were not sent.
 pub fn work<M: Mail, G: Gate, R: Wait>(
     rt: &R,
     senders: &mut [M::Sender],

@@ -28,16 +28,16 @@ at_once-requires-clause-ready g c κs within =
     let lists = map (λ worker. map g.M.Mail.sender worker.senders.items) jobs in
     let count : length jobs ≡ c.plan.inside.workers = sym (length-map jobs (λ worker. map g.M.Mail.sender worker.senders.items)) ∙ c.in_ok-jobs.ensures.opened.count in
     λ k d low.
-        let lt : k < c.plan.inside.workers = omega (arith, low, count) in
-        let e = (line_here c.in_ok-draw.drawers.items k (omega (arith, lt, c.in_ok-draw.ensures.count))).0 in
-        let is : drawer_of (get_or jobs k d).drawer ≡ opened_drawer (draw_of c.in_ok-draw.draw).draw _ k = ap drawer_of (c.in_ok-jobs.ensures.drawers k d e lt) ∙ c.in_ok-draw.ensures.drawers k lt e in (
-          subst (AreForWork (length c.args.registry.now.parties) (length c.args.usage.now)) (get_or-map (λ worker. map g.M.Mail.sender worker.senders.items) jobs k d [] low)
-              (subst (λ lines. AreForWork (length c.args.registry.now.parties) lines (get_or lists k [])) c.len-lines.ensures.lines
-              (for_work c.plan.inside.workers (length c.args.registry.now.parties) c.plan.inside.nodes c.len-lines.result lists (inboxes_by g.M.Mail.receiver c.in_ok-jobs.receivers.items) c.in_ok-jobs.ensures.opened k lt)),
-          (ap (λ v. v.blocks) is ∙ ap (λ (n : ℕ). blocks_of n) c.len.ensures.lines, ap (λ v. v.drawn) is),
-          (c.in_ok-jobs.ensures.room k d low).0,
-          (c.in_ok-jobs.ensures.room k d low).1,
-        )
+    let lt : k < c.plan.inside.workers = omega (arith, low, count) in
+    let e = (line_here c.in_ok-draw.drawers.items k (omega (arith, lt, c.in_ok-draw.ensures.count))).0 in
+    let is : drawer_of (get_or jobs k d).drawer ≡ opened_drawer (draw_of c.in_ok-draw.draw).draw _ k = ap drawer_of (c.in_ok-jobs.ensures.drawers k d e lt) ∙ c.in_ok-draw.ensures.drawers k lt e in (
+      subst (AreForWork (length c.args.registry.now.parties) (length c.args.usage.now)) (get_or-map (λ worker. map g.M.Mail.sender worker.senders.items) jobs k d [] low)
+          (subst (λ lines. AreForWork (length c.args.registry.now.parties) lines (get_or lists k [])) c.len-lines.ensures.lines
+          (for_work c.plan.inside.workers (length c.args.registry.now.parties) c.plan.inside.nodes c.len-lines.result lists (inboxes_by g.M.Mail.receiver c.in_ok-jobs.receivers.items) c.in_ok-jobs.ensures.opened k lt)),
+      (ap (λ v. v.blocks) is ∙ ap (λ (n : ℕ). blocks_of n) c.len.ensures.lines, ap (λ v. v.drawn) is),
+      (c.in_ok-jobs.ensures.room k d low).0,
+      (c.in_ok-jobs.ensures.room k d low).1,
+    )
 
 pub gather_all-requires-clause-read : goal.gather_all-requires-clause-read
 gather_all-requires-clause-read g c κs within = λ number d lt.
