@@ -43,12 +43,13 @@ impl RowWriter {
         RowWriter::over(alloc, Vec::new(alloc))
     }
 
-    /// No rows yet, with memory for two pages. Where the text goes on by the page, and no rows longer
-    /// than a page are added meanwhile, no more is needed.
-    pub fn with_room(alloc: Global) -> Result<RowWriter, AllocError>
+    /// No rows yet, with memory for so many pages of 131072 bytes. Where the text goes on by the page, and no
+    /// rows longer than a page are added meanwhile, two are enough.
+    pub fn with_room(alloc: Global, pages: u16) -> Result<RowWriter, AllocError>
         ensures { IfOk result (λ rows. rows ≡ empty_page) }
     {
-        Ok(RowWriter::over(alloc, Vec::with_capacity(alloc, 2 * PAGE_BYTES)?))
+        let memory = Vec::with_capacity(alloc, usize::from(pages) * PAGE_BYTES)?;
+        Ok(RowWriter::over(alloc, memory))
     }
 
     /// No rows yet, to be written into this memory, whatever it holds.

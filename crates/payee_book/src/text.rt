@@ -34,7 +34,7 @@ impl Book {
         ensures rows { IfOk result (λ text. text.items ≡ text_of (rows_of_book self.now usage.now (map (λ party. party.items) parties.now) reasons.now)) }
         ensures reads_back { IfOk result (λ text. rows_of text.items ≡ rows_of_book self.now usage.now (map (λ party. party.items) parties.now) reasons.now) }
     {
-        let rows = RowWriter::with_room(alloc)?;
+        let rows = RowWriter::with_room(alloc, 2)?;
         let mut text = Vec::new(alloc);
         match self.print(rows, usage, parties, reasons, &mut text) {
             Ok(()) => Ok(text),

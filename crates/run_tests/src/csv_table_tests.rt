@@ -73,7 +73,7 @@ fn writes_rows_of_any_width(rt: HostRuntime) -> Result<(), Fail> {
 
 #[test]
 fn passes_rows_on_by_the_page(rt: HostRuntime) -> Result<(), Fail> {
-    let mut rows = RowWriter::with_room(rt.alloc())?;
+    let mut rows = RowWriter::with_room(rt.alloc(), 2)?;
     let mut out = Vec::from_slice(rt.alloc(), b"before\n")?;
     rows.row(&[b"a", b"b"])?;
     rows.write_full_page_to(&mut out)?;

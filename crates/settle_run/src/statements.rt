@@ -58,7 +58,7 @@ pub fn settle_to<R: Threads + Wait + Sync, W: Write>(
 {
     let (territories, registry, lines) = read_all(alloc, tis, cwr, usage)?;
     let (book, reasons) = settled(rt, alloc, &territories, &registry, &lines, plan)?;
-    let rows = RowWriter::with_room(alloc)?;
+    let rows = RowWriter::with_room(alloc, 2)?;
     Ok(book.print(rows, &lines, registry.parties(), reasons.as_slice(), out))
 }
 
