@@ -6,7 +6,7 @@ use Rattle.std.proofs.Common.{◌≡◌, ◌∙◌, ◌-◌, ◌+◌, ◌<◌, �
 use Rattle.std.specs.Prelude.{◌==◌, flat_map, if◌then◌else◌, zip}
 use Rattle.std.proofs.lemmas.Grind.{flat_map-append, get_or_after_one}
 use Rattle.std.proofs.Math.Seq.{take-add}
-use Rattle.std.proofs.lemmas.List.{flat_map_more, length-drop, map-append, map_push, take_all, take_more}
+use Rattle.std.proofs.lemmas.List.{flat_map_more, length-drop, map-append, map_push, take-append-drop, take_all, take_more}
 use Rattle.std.proofs.lemmas.List.Elements.{All-append, All-cons, All-map, All-nil}
 use Rattle.std.proofs.lemmas.Slice.Zip.{get_or-zip, length-zip}
 use Rattle.csv.specs.Reading.{default_config, records, strip_bom}
@@ -16,14 +16,12 @@ use Rattle.csv_table.specs.Written.{text_of, text_of_row}
 use Rattle.csv_table.proofs.ReadBack.{no_mark, rows_read_back}
 use Rattle.line_split.specs.UsageLine.{UsageLine}
 use Rattle.line_split.specs.declared.reason.Reason.{Reason}
-use Rattle.payee_book.specs.Text.{payee_rows, posting_row, reason_at, residue_rows, rows_of_book, run_row, total_row}
+use Rattle.payee_book.specs.Text.{payee_rows, payees_rows, posting_row, reason_at, residue_rows, rows_of_book, run_row, total_row}
 
 -- the rows of one block more
 blocks_more : {X : Type 0} (block : X → List (List (List ℕ))) (xs : List X) (i : ℕ) (d : X) → i < length xs
-    → text_of (flat_map block (take i xs)) ++ text_of (block (get_or xs i d)) ≡ text_of (flat_map block (take (i + 1) xs))
-blocks_more block xs i d lt =
-    sym (flat_map-append text_of_row (flat_map block (take i xs)) (block (get_or xs i d)))
-    ∙ ap text_of (flat_map_more block [] (take i xs) (get_or xs i d) ∙ ap (flat_map block) (sym (take_more xs i d lt)))
+    → flat_map block (take i xs) ++ block (get_or xs i d) ≡ flat_map block (take (i + 1) xs)
+blocks_more block xs i d lt = flat_map_more block [] (take i xs) (get_or xs i d) ∙ ap (flat_map block) (sym (take_more xs i d lt))
 
 module _ (usage : List UsageLine) (parties : List (List ℕ)) (book : List (List (ℕ × ℕ))) where
   -- the accounts from 1 on, each with its party
@@ -34,36 +32,51 @@ module _ (usage : List UsageLine) (parties : List (List ℕ)) (book : List (List
   abbrev pub rows_for : List ℕ × List (ℕ × ℕ) → List (List (List ℕ))
   rows_for e = payee_rows usage e.0 e.1
 
-  -- the text of their first statements
+  -- the rows of their first statements, and the text of these
+  abbrev pub first_rows : ℕ → List (List (List ℕ))
+  first_rows n = flat_map rows_for (take n accounts)
+
   abbrev pub first_statements : ℕ → List ℕ
-  first_statements n = text_of (flat_map rows_for (take n accounts))
+  first_statements n = text_of (first_rows n)
 
   -- the statement of one account more
-  pub statements_more : (account : ℕ) (party : List ℕ) (statement : List (ℕ × ℕ)) → 0 < account → account < length parties → account < length book
+  pub first_rows_more : (account : ℕ) (party : List ℕ) (statement : List (ℕ × ℕ)) → 0 < account → account < length parties → account < length book
       → get_or parties account [] ≡ party → get_or book account [] ≡ statement
-      → first_statements (account - 1) ++ text_of (payee_rows usage party statement) ≡ first_statements (account + 1 - 1)
-  statements_more account party statement some in_parties in_book whose which =
+      → first_rows (account - 1) ++ payee_rows usage party statement ≡ first_rows (account + 1 - 1)
+  first_rows_more account party statement some in_parties in_book whose which =
       let place : 1 + (account - 1) ≡ account = omega arith in
       let whose_at : get_or (drop 1 parties) (account - 1) [] ≡ party = get_or_after_one parties (account - 1) [] ∙ (ap (λ k. get_or parties k []) place ∙ whose) in
       let which_at : get_or (drop 1 book) (account - 1) [] ≡ statement = get_or_after_one book (account - 1) [] ∙ (ap (λ k. get_or book k []) place ∙ which) in
       let at : get_or accounts (account - 1) ([], []) ≡ (party, statement) =
       get_or-zip (drop 1 parties) (drop 1 book) (account - 1) ([], []) (omega (arith, length-drop 1 parties)) (omega (arith, length-drop 1 book))
       ∙ cc (whose_at, which_at) in
-      ap (λ e. first_statements (account - 1) ++ text_of (rows_for e)) (sym at)
+      ap (λ e. first_rows (account - 1) ++ rows_for e) (sym at)
       ∙ (blocks_more rows_for accounts (account - 1) ([], [])
       (omega (arith, length-zip (drop 1 parties) (drop 1 book), length-drop 1 parties, length-drop 1 book))
-      ∙ ap first_statements (let same : account - 1 + 1 ≡ account + 1 - 1 = omega arith in same))
+      ∙ ap first_rows (let same : account - 1 + 1 ≡ account + 1 - 1 = omega arith in same))
+
+  pub statements_more : (account : ℕ) (party : List ℕ) (statement : List (ℕ × ℕ)) → 0 < account → account < length parties → account < length book
+      → get_or parties account [] ≡ party → get_or book account [] ≡ statement
+      → first_statements (account - 1) ++ text_of (payee_rows usage party statement) ≡ first_statements (account + 1 - 1)
+  statements_more account party statement some in_parties in_book whose which =
+      sym (flat_map-append text_of_row (first_rows (account - 1)) (payee_rows usage party statement))
+      ∙ ap text_of (first_rows_more account party statement some in_parties in_book whose which)
+
+  -- the rows of all statements, and those below the first
+  pub first_rows_all : (account : ℕ) → length book ≤ account → first_rows (account - 1) ≡ payees_rows book usage parties
+  first_rows_all account past = ap (flat_map rows_for) (take_all (account - 1) accounts (omega (arith, length-zip (drop 1 parties) (drop 1 book), length-drop 1 book)))
+
+  pub rows_after : (n : ℕ) → payees_rows book usage parties ≡ first_rows n ++ flat_map rows_for (drop n accounts)
+  rows_after n = ap (flat_map rows_for) (sym (take-append-drop n accounts)) ∙ flat_map-append rows_for (take n accounts) (drop n accounts)
 
   -- all statements, and the rows below them
   pub whole_text : (reasons : List Reason) (account : ℕ) → length book ≤ account
       → (first_statements (account - 1) ++ text_of (residue_rows usage reasons (get_or book 0 []))) ++ text_of_row (run_row usage)
       ≡ text_of (rows_of_book book usage parties reasons)
   whole_text reasons account past =
-      let payees = flat_map rows_for accounts in
+      let payees = payees_rows book usage parties in
       let below = residue_rows usage reasons (get_or book 0 []) in
-      let all : first_statements (account - 1) ≡ text_of payees =
-      ap (λ l. text_of (flat_map rows_for l))
-      (take_all (account - 1) accounts (omega (arith, length-zip (drop 1 parties) (drop 1 book), length-drop 1 book))) in
+      let all : first_statements (account - 1) ≡ text_of payees = ap text_of (first_rows_all account past) in
       let joined : (payees ++ below) ++ run_row usage ∷ [] ≡ payees ++ (below ++ run_row usage ∷ []) = append_assoc payees below (run_row usage ∷ []) in
       ap (λ text. text ++ text_of_row (run_row usage)) (ap (λ text. text ++ text_of below) all ∙ sym (flat_map-append text_of_row payees below))
       ∙ (flat_map_more text_of_row [] (payees ++ below) (run_row usage) ∙ ap text_of joined)

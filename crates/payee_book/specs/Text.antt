@@ -42,8 +42,12 @@ residue_rows usage reasons statement =
 abbrev pub run_row : List UsageLine → List (List ℕ)
 run_row usage = codes "R" ∷ [] ∷ decimal (length usage) ∷ decimal (sum_by (λ line. line.amount) usage) ∷ []
 
--- the statements of accounts 1 and on, each with its party, then that of account 0, the residue's, and last what was divided
+-- the statements of accounts 1 and on, each with its party
+abbrev pub payees_rows : List (List (ℕ × ℕ)) → List UsageLine → List (List ℕ) → List (List (List ℕ))
+payees_rows book usage parties = flat_map (λ e. payee_rows usage e.0 e.1) (zip (drop 1 parties) (drop 1 book))
+
+-- the payees' statements, then that of account 0, the residue's, and last what was divided
 abbrev pub rows_of_book : List (List (ℕ × ℕ)) → List UsageLine → List (List ℕ) → List Reason → List (List (List ℕ))
 rows_of_book book usage parties reasons =
-    flat_map (λ e. payee_rows usage e.0 e.1) (zip (drop 1 parties) (drop 1 book))
+    payees_rows book usage parties
     ++ (residue_rows usage reasons (slice_index_or book 0 []) ++ run_row usage ∷ [])

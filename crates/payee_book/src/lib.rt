@@ -3,10 +3,12 @@
 
 mod book;
 mod journal;
+mod sheets;
 mod text;
 
 pub use book::Book;
 pub use journal::Journal;
+pub use sheets::{Sheet, blank_sheets};
 
 /// The most accounts that a book has, the residue's included.
 pub const MOST_ACCOUNTS: usize = 65_535;

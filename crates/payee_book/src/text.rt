@@ -71,7 +71,7 @@ impl Book {
 
 /// How many usage lines are looked up before their rows are written. They lie far apart in memory, and
 /// look-ups that follow one another do not wait for each other.
-const LOOKED_UP_AT_ONCE: usize = 128;
+pub(crate) const LOOKED_UP_AT_ONCE: usize = 128;
 
 /// A payee's statement, where it has a posting. Full pages go on to `out`.
 fn write_payee<W: Write>(
@@ -99,7 +99,7 @@ fn write_payee<W: Write>(
 }
 
 /// Some of a payee's postings, as many as are looked up at once.
-fn write_postings(
+pub(crate) fn write_postings(
     rows: &mut RowWriter,
     usage: &Usage,
     party: &[u8],
@@ -120,7 +120,7 @@ fn write_postings(
 }
 
 /// The residue's statement. Full pages go on to `out`.
-fn write_residue<W: Write>(
+pub(crate) fn write_residue<W: Write>(
     rows: &mut RowWriter,
     usage: &Usage,
     reasons: &[Reason],
@@ -142,7 +142,7 @@ fn write_residue<W: Write>(
 }
 
 /// What the usage lines come to.
-fn write_run(rows: &mut RowWriter, usage: &Usage) -> Result<(), AllocError>
+pub(crate) fn write_run(rows: &mut RowWriter, usage: &Usage) -> Result<(), AllocError>
     ensures { OnOk result (rows.new.text ≡ rows.old.text ++ text_of_row (run_row usage.now)) }
 {
     let mut lines = Buffer::new();
@@ -191,7 +191,7 @@ fn write_posting<'a>(
 }
 
 /// What a statement comes to.
-fn write_total(
+pub(crate) fn write_total(
     rows: &mut RowWriter,
     kind: &str,
     whose: &[u8],

@@ -8,11 +8,10 @@ ghost use Rattle.payee_book.specs.Text.{residue_rows, rows_of_book};
 ghost use Rattle.settle_run.specs.Settled.{AreStatementsFor, AreStatementsOf, HaveNoFault, IsFaultOf, IsReading, reason_of};
 
 use crate::fault::Fault;
-use csv_table::RowWriter;
 use cwr_share::Registry;
 use line_split::{RESIDUE, Reason, Usage};
 use mail_box::LinkMail;
-use payee_book::Book;
+use payee_book::{Book, blank_sheets};
 use split_run::{NoGate, Plan, RunFault, run};
 use std::alloc::{AllocError, Global};
 use std::io::{self, Write};
@@ -39,9 +38,10 @@ pub fn settle<R: Threads + Wait + Sync>(
     Ok(book.text(alloc, &lines, registry.parties(), reasons.as_slice())?)
 }
 
-/// Prints the same to an output, by the page. The inputs are given away, and each is freed as soon as it
-/// is read. Once the first page is printed no memory is asked for. Where the output refuses a write, no
-/// input has a fault, and what it took before is the beginning of the statements.
+/// Prints the same to an output, by the sheet: as many threads as the plan has write the rows of payees. The
+/// inputs are given away, and each is freed as soon as it is read. Once the first sheet is printed no memory is
+/// asked for. Where the output refuses a write, no input has a fault, and what it took before is the beginning of
+/// the statements.
 pub fn settle_to<R: Threads + Wait + Sync, W: Write>(
     rt: &R,
     alloc: Global,
@@ -58,8 +58,9 @@ pub fn settle_to<R: Threads + Wait + Sync, W: Write>(
 {
     let (territories, registry, lines) = read_all(alloc, tis, cwr, usage)?;
     let (book, reasons) = settled(rt, alloc, &territories, &registry, &lines, plan)?;
-    let rows = RowWriter::with_room(alloc, 2)?;
-    Ok(book.print(rows, &lines, registry.parties(), reasons.as_slice(), out))
+    let sheets = blank_sheets(alloc, plan.thread_count() as usize)?;
+    let parties = registry.parties();
+    Ok(book.print_on(rt, sheets, &lines, parties, reasons.as_slice(), out))
 }
 
 /// The bytes of an input, lent or given away.

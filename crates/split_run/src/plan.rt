@@ -1,6 +1,7 @@
 //! How many threads a run has, and how much room their mailboxes.
 
-ghost use Rattle.std.specs.Prelude.{◌≡◌, IfSome, IfNone};
+ghost use Rattle.std.specs.Prelude.{◌≡◌, ◌+◌, ◌*◌, ◌≤◌, IfSome, IfNone};
+ghost use Rattle.split_run.specs.declared.TheConstants.{MOST_THREADS};
 ghost use Rattle.split_run.specs.Plans.{IsPlan};
 
 use crate::{MOST_NODES, MOST_THREADS};
@@ -48,5 +49,13 @@ impl Plan {
         } else {
             None
         }
+    }
+
+    /// How many threads a run has, workers and readers, 2 to 16.
+    pub fn thread_count(self) -> u64
+        ensures count { result ≡ self.workers + self.readers }
+        ensures range { (2 ≤ result) × (result ≤ 2 * MOST_THREADS) }
+    {
+        self.workers + self.readers
     }
 }
