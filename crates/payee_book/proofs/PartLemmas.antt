@@ -85,12 +85,6 @@ module _ (usage : List UsageLine) (party : List ℕ) (statement : List (ℕ × �
       ∙ (ap (λ (n : ℕ). between (length (map row statement) + 0) n (map row statement ++ below)) last
       ∙ between_second (map row statement) below 0 1))
 
-  -- how many rows it has
-  pub no_rows_of_none : length statement ≡ 0 → length (payee_rows usage party statement) ≡ 0
-  no_rows_of_none none =
-      let has_none : (length statement == 0) ≡ true = grind (arith, nat_tests) in
-      ap (λ b. length (rows_if_none b)) has_none
-
 -- how far the rows from one to another are written, where so many are gone through
 abbrev pub reached : (from end before : ℕ) → ℕ
 reached from end before = from + (min end before - from)

@@ -32,12 +32,9 @@ module _ (usage : List UsageLine) (parties : List (List ℕ)) (book : List (List
   abbrev pub rows_for : List ℕ × List (ℕ × ℕ) → List (List (List ℕ))
   rows_for e = payee_rows usage e.0 e.1
 
-  -- the rows of their first statements, and the text of these
+  -- the rows of their first statements
   abbrev pub first_rows : ℕ → List (List (List ℕ))
   first_rows n = flat_map rows_for (take n accounts)
-
-  abbrev pub first_statements : ℕ → List ℕ
-  first_statements n = text_of (first_rows n)
 
   -- the statement of one account more
   pub first_rows_more : (account : ℕ) (party : List ℕ) (statement : List (ℕ × ℕ)) → 0 < account → account < length parties → account < length book
@@ -55,13 +52,6 @@ module _ (usage : List UsageLine) (parties : List (List ℕ)) (book : List (List
       (omega (arith, length-zip (drop 1 parties) (drop 1 book), length-drop 1 parties, length-drop 1 book))
       ∙ ap first_rows (let same : account - 1 + 1 ≡ account + 1 - 1 = omega arith in same))
 
-  pub statements_more : (account : ℕ) (party : List ℕ) (statement : List (ℕ × ℕ)) → 0 < account → account < length parties → account < length book
-      → get_or parties account [] ≡ party → get_or book account [] ≡ statement
-      → first_statements (account - 1) ++ text_of (payee_rows usage party statement) ≡ first_statements (account + 1 - 1)
-  statements_more account party statement some in_parties in_book whose which =
-      sym (flat_map-append text_of_row (first_rows (account - 1)) (payee_rows usage party statement))
-      ∙ ap text_of (first_rows_more account party statement some in_parties in_book whose which)
-
   -- the rows of all statements, and those below the first
   pub first_rows_all : (account : ℕ) → length book ≤ account → first_rows (account - 1) ≡ payees_rows book usage parties
   first_rows_all account past = ap (flat_map rows_for) (take_all (account - 1) accounts (omega (arith, length-zip (drop 1 parties) (drop 1 book), length-drop 1 book)))
@@ -70,15 +60,14 @@ module _ (usage : List UsageLine) (parties : List (List ℕ)) (book : List (List
   rows_after n = ap (flat_map rows_for) (sym (take-append-drop n accounts)) ∙ flat_map-append rows_for (take n accounts) (drop n accounts)
 
   -- all statements, and the rows below them
-  pub whole_text : (reasons : List Reason) (account : ℕ) → length book ≤ account
-      → (first_statements (account - 1) ++ text_of (residue_rows usage reasons (get_or book 0 []))) ++ text_of_row (run_row usage)
+  pub whole_text : (reasons : List Reason)
+      → (text_of (payees_rows book usage parties) ++ text_of (residue_rows usage reasons (get_or book 0 []))) ++ text_of_row (run_row usage)
       ≡ text_of (rows_of_book book usage parties reasons)
-  whole_text reasons account past =
+  whole_text reasons =
       let payees = payees_rows book usage parties in
       let below = residue_rows usage reasons (get_or book 0 []) in
-      let all : first_statements (account - 1) ≡ text_of payees = ap text_of (first_rows_all account past) in
       let joined : (payees ++ below) ++ run_row usage ∷ [] ≡ payees ++ (below ++ run_row usage ∷ []) = append_assoc payees below (run_row usage ∷ []) in
-      ap (λ text. text ++ text_of_row (run_row usage)) (ap (λ text. text ++ text_of below) all ∙ sym (flat_map-append text_of_row payees below))
+      ap (λ text. text ++ text_of_row (run_row usage)) (sym (flat_map-append text_of_row payees below))
       ∙ (flat_map_more text_of_row [] (payees ++ below) (run_row usage) ∙ ap text_of joined)
 
 -- a row whose first field is one letter
@@ -147,14 +136,6 @@ module _ (usage : List UsageLine) where
       (All-flat_map HasLetter (rows_for usage parties book) (accounts usage parties book) (λ e. payee_letters e.0 e.1))
       (All-append HasLetter residue (run_row usage ∷ []) (residue_letters reasons (get_or book 0 []))
       (All-cons HasLetter (run_row usage) [] (82, _, refl, refl, refl) (All-nil HasLetter))))
-
--- the rows of the postings up to a place, and of those from there up to a later one
-pub postings_joined : {X : Type 0} (row : X → List (List ℕ)) (postings : List X) (i j : ℕ) → i ≤ j
-    → text_of (map row (take i postings)) ++ text_of (map row (take (j - i) (drop i postings))) ≡ text_of (map row (take j postings))
-postings_joined row postings i j le =
-    sym (flat_map-append text_of_row (map row (take i postings)) (map row (take (j - i) (drop i postings))))
-    ∙ ap text_of (sym (map-append row (take i postings) (take (j - i) (drop i postings)))
-    ∙ ap (map row) (sym (take-add i (j - i) postings) ∙ ap (λ n. take n postings) (omega (arith, le))))
 
 -- no rows on their way to an output
 pub no_rows : (known : Option (List ℕ)) (rows : List ℕ) → rows ≡ [] → Appends known (append_known known rows) []

@@ -18,7 +18,8 @@ use std::io::{self, Write};
 use std::thread;
 use std::thread::Threads;
 
-/// The most rows on a sheet. A thread is started for each sheet and wave, and so many rows are worth it.
+/// The least and the most rows on a sheet. A thread is started for each sheet of a wave, and so many rows are worth it.
+const LEAST_ON_SHEET: u128 = 1024;
 const MOST_ON_SHEET: u128 = 8192;
 
 /// The pages of room for so many rows. A row of a posting has 175 bytes at most: one of its kind, 20 of a
@@ -52,8 +53,9 @@ pub fn blank_sheets(alloc: Global, count: usize) -> Result<Vec<Sheet>, AllocErro
 }
 
 impl Book {
-    /// Prints the same as `print`, the payees' rows by as many threads as there are sheets, 1 to 64.
-    pub fn print_on<R: Threads + Sync, W: Write>(
+    /// Prints the same as `text` to an output, by the sheet: the rows of payees are written by as many threads as
+    /// there are sheets, 1 to 64. No memory is asked for.
+    pub fn print<R: Threads + Sync, W: Write>(
         &self,
         rt: &R,
         mut sheets: Vec<Sheet>,
@@ -98,7 +100,9 @@ fn write_payees<R: Threads + Sync, W: Write>(
     let threads = sheets.len();
     let mut from = 0;
     while from < count {
-        let size = ((count - from) / threads as u128 + 1).min(MOST_ON_SHEET);
+        let left = count - from;
+        let size = (left / threads as u128 + 1).clamp(LEAST_ON_SHEET, MOST_ON_SHEET);
+        let used = (left / size + 1).min(threads as u128) as usize;
         let wave = Wave {
             book,
             usage,
@@ -107,8 +111,8 @@ fn write_payees<R: Threads + Sync, W: Write>(
             from,
             size,
         };
-        write_wave(rt, sheets, wave, out)?;
-        from = wave.start_of(threads);
+        write_wave(rt, &mut sheets[..used], wave, out)?;
+        from = wave.start_of(used);
     }
     Ok(())
 }

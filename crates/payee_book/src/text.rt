@@ -3,26 +3,29 @@
 ghost use Rattle.std.specs.Io.KnownBytes.{Appends, append_known};
 ghost use Rattle.std.specs.Prelude.{◌≡◌, ◌≤◌, ◌<◌, ◌++◌, ◌∷◌, [], All, OnOk, IfOk, codes, decimal, length, map, sum_by};
 ghost use Rattle.csv_table.specs.Table.{rows_of};
-ghost use Rattle.csv_table.specs.Written.{empty_page, text_of, text_of_row};
+ghost use Rattle.csv_table.specs.Written.{text_of, text_of_row};
 ghost use Rattle.line_split.specs.declared.TheConstants.{MOST_AMOUNT};
 ghost use Rattle.payee_book.specs.declared.text.TheConstants.{LOOKED_UP_AT_ONCE};
-ghost use Rattle.payee_book.specs.Text.{payee_rows, posting_row, reason_text, residue_rows, rows_of_book, run_row, total_row, usage_at};
+ghost use Rattle.payee_book.specs.Text.{posting_row, reason_text, residue_rows, rows_of_book, run_row, total_row, usage_at};
 
 use crate::Book;
 use crate::book::sum;
+use crate::sheets::blank_sheets;
 use csv_table::RowWriter;
 use itoa::Buffer;
 use line_split::{RESIDUE, Reason, Usage};
 use std::alloc::{AllocError, Global};
 use std::io::{self, Write};
+use std::thread::Threads;
 
 impl Book {
     /// The statements as CSV, four fields a row: for each account from 1 on that has postings,
     /// a row `L,party,usage,amount` for each of them and `S,party,count,total`; then a row
     /// `M,reason,usage,amount` for each posting of the residue account and `T,,count,total`; and
     /// last `R,,lines,amount` for the usage lines.
-    pub fn text(
+    pub fn text<R: Threads + Sync>(
         &self,
+        rt: &R,
         alloc: Global,
         usage: &Usage,
         parties: &[Vec<u8>],
@@ -34,69 +37,19 @@ impl Book {
         ensures rows { IfOk result (λ text. text.items ≡ text_of (rows_of_book self.now usage.now (map (λ party. party.items) parties.now) reasons.now)) }
         ensures reads_back { IfOk result (λ text. rows_of text.items ≡ rows_of_book self.now usage.now (map (λ party. party.items) parties.now) reasons.now) }
     {
-        let rows = RowWriter::with_room(alloc, 2)?;
+        let sheets = blank_sheets(alloc, 1)?;
         let mut text = Vec::new(alloc);
-        match self.print(rows, usage, parties, reasons, &mut text) {
+        match self.print(rt, sheets, usage, parties, reasons, &mut text) {
             Ok(()) => Ok(text),
             // Writing into memory fails only where memory does.
             Err(_) => Err(AllocError),
         }
-    }
-
-    /// Prints the same to an output, by the page. `rows` are none yet, with room, as they are made by
-    /// `RowWriter::with_room`.
-    pub fn print<W: Write>(
-        &self,
-        mut rows: RowWriter,
-        usage: &Usage,
-        parties: &[Vec<u8>],
-        reasons: &[Reason],
-        out: &mut W,
-    ) -> io::Result<()>
-        requires empty { rows ≡ empty_page }
-        requires parties { length parties.now ≡ length self.now }
-        requires reasons { length reasons.now ≡ length usage.now }
-        requires lines { All (All (λ posting. posting.0 < length usage.now)) self.now }
-        ensures { OnOk result (Appends (W.contents out.old) (W.contents out.new) (text_of (rows_of_book self.now usage.now (map (λ party. party.items) parties.now) reasons.now))) }
-    {
-        for account in 1..self.accounts() {
-            let party = parties[account as usize].as_slice();
-            write_payee(&mut rows, usage, party, self.lines(account), out)?;
-        }
-        write_residue(&mut rows, usage, reasons, self.lines(RESIDUE), out)?;
-        write_run(&mut rows, usage)?;
-        rows.write_to(out)
     }
 }
 
 /// How many usage lines are looked up before their rows are written. They lie far apart in memory, and
 /// look-ups that follow one another do not wait for each other.
 pub(crate) const LOOKED_UP_AT_ONCE: usize = 128;
-
-/// A payee's statement, where it has a posting. Full pages go on to `out`.
-fn write_payee<W: Write>(
-    rows: &mut RowWriter,
-    usage: &Usage,
-    party: &[u8],
-    statement: &[(u64, u64)],
-    out: &mut W,
-) -> io::Result<()>
-    requires lines { All (λ posting. posting.0 < length usage.now) statement.now }
-    requires small { All (λ posting. posting.1 ≤ MOST_AMOUNT) statement.now }
-    ensures { OnOk result (Appends (append_known (W.contents out.old) rows.old.text) (append_known (W.contents out.new) rows.new.text) (text_of (payee_rows usage.now party.now statement.now))) }
-{
-    if statement.is_empty() {
-        return Ok(());
-    }
-    let mut written = 0;
-    while written < statement.len() {
-        let end = statement.len().min(written + LOOKED_UP_AT_ONCE);
-        write_postings(rows, usage, party, &statement[written..end])?;
-        rows.write_full_page_to(out)?;
-        written = end;
-    }
-    Ok(write_total(rows, "S", party, statement)?)
-}
 
 /// Some of a payee's postings, as many as are looked up at once.
 pub(crate) fn write_postings(

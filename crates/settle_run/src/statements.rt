@@ -35,7 +35,7 @@ pub fn settle<R: Threads + Wait + Sync>(
 {
     let (territories, registry, lines) = read_all(alloc, tis, cwr, usage)?;
     let (book, reasons) = settled(rt, alloc, &territories, &registry, &lines, plan)?;
-    Ok(book.text(alloc, &lines, registry.parties(), reasons.as_slice())?)
+    Ok(book.text(rt, alloc, &lines, registry.parties(), reasons.as_slice())?)
 }
 
 /// Prints the same to an output, by the sheet: as many threads as the plan has write the rows of payees. The
@@ -60,7 +60,7 @@ pub fn settle_to<R: Threads + Wait + Sync, W: Write>(
     let (book, reasons) = settled(rt, alloc, &territories, &registry, &lines, plan)?;
     let sheets = blank_sheets(alloc, plan.thread_count() as usize)?;
     let parties = registry.parties();
-    Ok(book.print_on(rt, sheets, &lines, parties, reasons.as_slice(), out))
+    Ok(book.print(rt, sheets, &lines, parties, reasons.as_slice(), out))
 }
 
 /// The bytes of an input, lent or given away.
