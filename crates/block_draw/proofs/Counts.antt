@@ -56,11 +56,11 @@ done_few (v ∷ l) = let rest = done_few l in omega (arith, rest, one_at_most v,
 
 -- ---- sums over drawers
 
-pub sum_none : (n : ℕ) (f : ℕ → ℕ) → ((k : ℕ) → f k ≡ 0) → sum_below n f ≡ 0
+pub sum_none : (n : ℕ) (f : ℕ → ℕ) → ((k : ℕ) → k < n → f k ≡ 0) → sum_below n f ≡ 0
 sum_none zero f none = refl
-sum_none (suc n) f none = let rest = sum_none n f none in omega (arith, rest, none n)
+sum_none (suc n) f none = let rest = sum_none n f (λ k below. none k (omega (arith, below))) in omega (arith, rest, none n (omega arith))
 
-pub sum_same : (n : ℕ) (f g : ℕ → ℕ) → ((k : ℕ) → k < n → g k ≡ f k) → sum_below n g ≡ sum_below n f
+pub sum_same : (n : ℕ) (f g : ℕ → ℕ) → ((k : ℕ) → k < n → f k ≡ g k) → sum_below n f ≡ sum_below n g
 sum_same zero f g same = refl
 sum_same (suc n) f g same = let rest = sum_same n f g (λ k below. same k (omega (arith, below))) in omega (arith, rest, same n (omega arith))
 
@@ -70,7 +70,7 @@ sum_raised zero k m f g below others here = absurd (omega (arith, below))
 sum_raised (suc n) k m f g below others here =
     ⊎_elim
     (λ e.
-    let rest = sum_same n f g (λ j less. others j (λ same. omega (arith, same, e.1, less))) in
+    let rest = sum_same n g f (λ j less. others j (λ same. omega (arith, same, e.1, less))) in
     let last : g n ≡ f n + m = ap g e.1 ∙ here ∙ ap (λ x. f x + m) (sym e.1) in
     omega (arith, rest, last))
     (λ e.
@@ -86,8 +86,8 @@ drawn_more block n [] = omega arith
 drawn_more block n (b ∷ bs) = let rest = drawn_more block n bs in omega (arith, rest)
 
 -- those below a number, and the number, are those below the next
-pub below_more : (block n : ℕ) → cond (block == n) 1 0 + cond (nat_lt block n) 1 0 ≡ cond (nat_lt block (n + 1)) 1 0
-below_more block n = grind (arith, nat_tests)
+pub below_or_here : (block n : ℕ) → cond (block == n) 1 0 + cond (nat_lt block n) 1 0 ≡ cond (nat_lt block (n + 1)) 1 0
+below_or_here block n = grind (arith, nat_tests)
 
 -- all blocks of a list are below a number, if none from there on stands in it
 pub all_below : (n : ℕ) (bs : List ℕ) → ((block : ℕ) → n ≤ block → times_drawn block bs ≡ 0) → All (λ block. block < n) bs

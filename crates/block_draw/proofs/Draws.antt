@@ -19,7 +19,7 @@ use Rattle.block_draw.specs.Drawn.{times_drawn}
 use Rattle.block_draw.specs.Seats.{IsDrawer, IsGatherer, IsOther, done_in, draws_in, drawn_by, times_in}
 use Rattle.block_draw.specs.Rule.{KeepsDraw}
 use Rattle.block_draw.specs.Steps.{after_draw, tells_draw}
-use Rattle.block_draw.proofs.Counts.{all_below, below_more, done_few, drawn_more, sum_changed}
+use Rattle.block_draw.proofs.Counts.{all_below, below_or_here, done_few, drawn_more, sum_changed}
 use Rattle.block_draw.proofs.Openings.{at_drawer}
 
 -- done is done, also where the counter is greater
@@ -82,7 +82,7 @@ module _ {S : Type 0} (shape : Shape) (s : State S Known) (kept : KeepsDraw shap
       → times_drawn block (d.drawn ++ kept.counter ∷ []) + cond (nat_lt block (min kept.counter shape.blocks)) 1 0 ≡ times_drawn block d.drawn + cond (nat_lt block (min (kept.counter + 1) shape.blocks)) 1 0
   next_drew left block =
       let more = drawn_more block kept.counter d.drawn in
-      let below = below_more block kept.counter in
+      let below = below_or_here block kept.counter in
       let old : min kept.counter shape.blocks ≡ kept.counter = omega (arith, left) in
       let new : min (kept.counter + 1) shape.blocks ≡ kept.counter + 1 = omega (arith, left) in
       let at_old : ◌≡◌ {A = ℕ} (cond (nat_lt block (min kept.counter shape.blocks)) 1 0) (cond (nat_lt block kept.counter) 1 0) = ap (λ (n : ℕ). cond (nat_lt block n) 1 0) old in

@@ -1,4 +1,4 @@
-mod Counts
+pub mod Counts
 mod Openings
 mod Draws
 mod Gathers

@@ -59,7 +59,7 @@ counter_opens shape small = record {
   gathers = record { shape_is = refl; dealt = refl; within = omega arith; counted = refl; late = λ number late. refl; done = λ some. absurd (omega (arith, some)) };
   draws = λ number v seen. absurd (some-ne-none v (sym seen));
   once = λ block.
-      let none = sum_none shape.drawers (λ drawer. times_drawn block (drawn_by [] drawer)) (λ k. refl) in
+      let none = sum_none shape.drawers (λ drawer. times_drawn block (drawn_by [] drawer)) (λ k below. refl) in
       let not_below : ◌≡◌ {A = ℕ} (cond (nat_lt block (min 0 shape.blocks)) 1 0) 0 = grind (arith, nat_tests) in
       omega (arith, none, not_below);
   past = omega arith;
