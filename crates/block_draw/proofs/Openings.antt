@@ -1,5 +1,5 @@
 -- A counter opens under its rule, and deals its seats.
-use Rattle.std.proofs.Common.{arith, ◌≡◌, ◌∙◌, ◌<◌, ◌≤◌, ◌+◌, ◌++◌, ◌∷◌, [], ℕ, Bool, false, true, zero, suc, cond, List, length, min, set, ap, sym, refl, subst, inl, inr}
+use Rattle.std.proofs.Common.{arith, ◌≡◌, ◌∙◌, ◌<◌, ◌+◌, ◌++◌, ◌∷◌, [], ℕ, Bool, false, true, zero, suc, cond, List, length, min, set, ap, sym, refl, subst, inl, inr}
 use Rattle.std.specs.Prelude.{nat_lt}
 use Rattle.std.specs.List.{sum_by}
 use Rattle.std.proofs.lemmas.Bool.Decides.{nat_tests}
@@ -15,8 +15,8 @@ use Rattle.block_draw.specs.declared.seats.Known.TheVariants.{Draws, Gathers, Go
 use Rattle.block_draw.specs.declared.seats.Shape.{Shape}
 use Rattle.block_draw.specs.Drawn.{times_drawn}
 use Rattle.block_draw.specs.Seats.{IsGatherer, IsOther, IsSmall, done_in, draws_in, drawn_by, times_in}
-use Rattle.block_draw.specs.Rule.{KeepsDraw, draw_opened, opened_gatherer, times_so_far}
-use Rattle.block_draw.specs.Steps.{after_deal, dealt, new_drawer}
+use Rattle.block_draw.specs.Rule.{KeepsDraw, draw_opened, opened_gatherer}
+use Rattle.block_draw.specs.Steps.{after_deal, dealt, gatherer_in}
 use Rattle.block_draw.proofs.Counts.{at_end, sum_none}
 
 -- ---- whose seat it is
@@ -67,48 +67,57 @@ counter_opens shape small = record {
 
 -- ---- a seat is dealt
 
-module _ {S : Type 0} (shape : Shape) (id : ℕ) where
-  pub seat_deals : (own : Shape) (many : ℕ) → many < own.drawers → Splits (KeepsDraw {S = S} shape) id (Gathers (opened_gatherer own many)) (after_deal (Gathers (opened_gatherer own many))) (dealt (Gathers (opened_gatherer own many)))
-  seat_deals own many more s kept seen =
-      let g : GathererSeat = opened_gatherer own many in
-      let at = at_gatherer shape s kept id g seen in
-      let was : IsGatherer shape kept.counter kept.others g = subst (IsGatherer shape kept.counter kept.others) at.1 kept.gathers in
-      let last : Known = Draws (new_drawer own many) in
-      let others : List Known = kept.others ++ last ∷ [] in
+module _ {S : Type 0} (shape : Shape) (s : State S Known) (kept : KeepsDraw shape s) where
+  abbrev last : Known
+  last = dealt (Gathers kept.gatherer)
+
+  abbrev others : List Known
+  others = kept.others ++ last ∷ []
+
+  abbrev with_one : GathererSeat
+  with_one = gatherer_in (after_deal (Gathers kept.gatherer))
+
+  still : (number : ℕ) (v : Known) → IsOther shape kept.counter kept.gatherer number v → IsOther shape kept.counter with_one number v
+  still number (Draws d) was = record { shape_is = was.shape_is; number_is = was.number_is; fresh = was.fresh; done = was.done }
+  still number (Gathers other) was = was
+  still number Gone was = was
+
+  true_is_not : ◌≡◌ {A = Bool} false true → ⊥
+  true_is_not e = cc
+
+  dealt_one : kept.gatherer.dealt < kept.gatherer.shape.drawers → (views : List Known) → views ≡ Gathers with_one ∷ others → KeepsDraw shape record { words = s.words; homes = s.homes; views = views }
+  dealt_one more views views_are =
+      let was : IsGatherer shape kept.counter kept.others kept.gatherer = kept.gathers in
       let long : length others ≡ length kept.others + 1 = length-append kept.others (last ∷ []) in
-      let left : Known = Gathers record { shape = own; dealt = many + 1; gathered = [] } in
       let added : (f : Known → ℕ) → sum_by f others ≡ sum_by f kept.others + f last = λ f. let all = sum_by-append f kept.others (last ∷ []) in omega (arith, all, sum_by-cons f last []) in
       record {
         counter = kept.counter;
-        gatherer = record { shape = own; dealt = many + 1; gathered = [] };
+        gatherer = with_one;
         others = others;
         small = kept.small;
         words = kept.words;
-        views = ap (λ (i : ℕ). set s.views i left ++ last ∷ []) at.0 ∙ ap (λ (l : List Known). set l 0 left ++ last ∷ []) kept.views;
+        views = views_are;
         gathers = record {
           shape_is = was.shape_is;
           dealt = omega (arith, was.dealt, long);
           within = let drawers = ap (λ (o : Shape). o.drawers) was.shape_is in omega (arith, long, was.dealt, more, drawers);
           counted = let all = added draws_in in omega (arith, all, long, was.counted);
-          late = λ number late. refl;
-          done = λ some. absurd (omega (arith, some));
+          late = λ number late. was.late number (omega (arith, late, long));
+          done = was.done;
         };
         draws = λ number v there. elim (at_end kept.others last v number there) [
           | inl old ↦ still number v (kept.draws number v old)
-          | inr new ↦ subst (IsOther shape kept.counter record { shape = own; dealt = many + 1; gathered = [] } number) new.1
-              (record { shape_is = was.shape_is; number_is = was.dealt ∙ sym new.0; fresh = refl; done = λ no. absurd (true_is_not no) })
+          | inr new ↦ subst (IsOther shape kept.counter with_one number) new.1
+              (record { shape_is = was.shape_is; number_is = was.dealt ∙ sym new.0; fresh = was.late number (omega (arith, new.0)); done = λ no. absurd (true_is_not no) })
         ];
-        once = λ block.
-            let all = added (times_in block) in
-            let old : times_so_far shape g kept.others block ≡ cond (nat_lt block (min kept.counter shape.blocks)) 1 0 = subst (λ (x : GathererSeat). times_so_far shape x kept.others block ≡ cond (nat_lt block (min kept.counter shape.blocks)) 1 0) at.1 (kept.once block) in
-            omega (arith, all, old);
-        past = let all = added done_in in let old = subst (λ (x : GathererSeat). kept.counter ≤ shape.blocks + (length x.gathered + sum_by done_in kept.others)) at.1 kept.past in omega (arith, all, old);
+        once = λ block. let all = added (times_in block) in omega (arith, all, kept.once block);
+        past = let all = added done_in in omega (arith, all, kept.past);
       }
-    where
-      true_is_not : ◌≡◌ {A = Bool} false true → ⊥
-      true_is_not e = cc
 
-      still : (number : ℕ) (v : Known) → IsOther shape kept.counter kept.gatherer number v → IsOther shape kept.counter record { shape = own; dealt = many + 1; gathered = [] } number v
-      still number (Draws d) was = record { shape_is = was.shape_is; number_is = was.number_is; fresh = refl; done = was.done }
-      still number (Gathers other) was = was
-      still number Gone was = was
+module _ {S : Type 0} (shape : Shape) (id : ℕ) where
+  pub seat_deals : (g : GathererSeat) → g.dealt < g.shape.drawers → Splits (KeepsDraw {S = S} shape) id (Gathers g) (after_deal (Gathers g)) (dealt (Gathers g))
+  seat_deals g more s kept seen =
+      let at = at_gatherer shape s kept id g seen in
+      subst (λ (x : GathererSeat). KeepsDraw shape record { words = s.words; homes = s.homes; views = set s.views id (after_deal (Gathers x)) ++ dealt (Gathers x) ∷ [] }) at.1
+      (dealt_one shape s kept (subst (λ (x : GathererSeat). x.dealt < x.shape.drawers) (sym at.1) more) (set s.views id (after_deal (Gathers kept.gatherer)) ++ dealt (Gathers kept.gatherer) ∷ [])
+      (λ i. set (kept.views i) (at.0 i) (after_deal (Gathers kept.gatherer)) ++ dealt (Gathers kept.gatherer) ∷ []))

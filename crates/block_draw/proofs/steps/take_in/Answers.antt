@@ -19,5 +19,5 @@ join_seat-requires c =
       ap (λ (x : Me _ Known). x.1) at.1.0,
       omega (arith, c.requires.words),
       subst (λ (x : Me _ Known). Joins (KeepsDraw shape) seat.id x.0 other.id other.me.0 (gathered_with x.0 other.me.0) Gone) (sym at.0.is)
-          (subst (λ (x : Me _ Known). Joins (KeepsDraw shape) seat.id g other.id x.0 (gathered_with g x.0) Gone) (sym at.1.0) (gathers_in shape seat.id (gatherer_in seat.me.0) other.id (drawer_in other.me.0) at.0.all at.1.1)),
+          (subst (λ (x : Me _ Known). Joins (KeepsDraw shape) seat.id g other.id x.0 (gathered_with g x.0) Gone) (sym at.1.0) (gathers_in shape seat.id (gatherer_in seat.me.0) other.id (drawer_in other.me.0) at.1.1)),
     )
