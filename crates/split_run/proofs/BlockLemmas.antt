@@ -13,8 +13,9 @@ use Rattle.payee_book.specs.Counted.{times}
 use Rattle.payee_book.specs.Run.{portion_of, statement_of}
 use Rattle.payee_book.proofs.Counted.{times-append}
 use Rattle.block_draw.specs.Drawn.{AreDrawnOnce, sum_below, times_drawn}
+use Rattle.block_draw.proofs.Counts.{sum_same}
 use Rattle.split_run.specs.Blocks.{blocks_of, postings_in, postings_of, postings_on}
-use Rattle.split_run.proofs.Sums.{sum-same, sum-swap, sum-times, weigh, weighed}
+use Rattle.split_run.proofs.Sums.{sum-swap, sum-times, weigh, weighed}
 
 drawn_below : (k n : ℕ) → k < n → ◌≡◌ {A = ℕ} (cond (nat_lt k n) 1 0) 1
 drawn_below k n below = grind (arith, nat_tests)
@@ -64,9 +65,9 @@ module _ (division : UsageLine → List (ℕ × ℕ)) (account : ℕ) where
         let size = length-enumerate_from 0 usage in
         let by_block : (k : ℕ) → k < blocks → sum_below workers (λ worker. times_drawn k (drawn worker) * in_block k) ≡ in_block k =
         λ k below. sum-times workers (λ worker. times_drawn k (drawn worker)) (in_block k) ∙ ap (λ n. n * in_block k) (once k ∙ drawn_below k blocks below) ∙ one-mul (in_block k) in
-        sum-same workers (λ worker. times p (postings_of division usage account (drawn worker))) (λ worker. sum_below blocks (λ k. times_drawn k (drawn worker) * in_block k))
+        sum_same workers (λ worker. times p (postings_of division usage account (drawn worker))) (λ worker. sum_below blocks (λ k. times_drawn k (drawn worker) * in_block k))
         (λ worker _. counted (drawn worker) ∙ weighed blocks in_block (drawn worker) past_the_last)
         ∙ sum-swap workers blocks (λ worker k. times_drawn k (drawn worker) * in_block k)
-        ∙ sum-same blocks (λ k. sum_below workers (λ worker. times_drawn k (drawn worker) * in_block k)) in_block by_block
+        ∙ sum_same blocks (λ k. sum_below workers (λ worker. times_drawn k (drawn worker) * in_block k)) in_block by_block
         ∙ sym (first_blocks blocks)
         ∙ ap (λ l. times p (postings_on division account l)) (take_all (64 * blocks) (enumerate_from 0 usage) (omega (arith, size)))

@@ -5,18 +5,11 @@ use Rattle.std.proofs.Math.Nat.{add-mul, one-mul, zero-mul}
 use Rattle.std.proofs.lemmas.Bool.{cases_lt}
 use Rattle.std.proofs.lemmas.Bool.Decides.{eqb_tells}
 use Rattle.block_draw.specs.Drawn.{sum_below, times_drawn}
-
-pub sum-same : (n : ℕ) (f g : ℕ → ℕ) → ((k : ℕ) → k < n → f k ≡ g k) → sum_below n f ≡ sum_below n g
-sum-same zero f g same = refl
-sum-same (suc n) f g same = let rest = sum-same n f g (λ k below. same k (omega (arith, below))) in omega (arith, rest, same n (omega arith))
+use Rattle.block_draw.proofs.Counts.{sum_none, sum_same}
 
 pub sum-add : (n : ℕ) (f g : ℕ → ℕ) → sum_below n (λ k. f k + g k) ≡ sum_below n f + sum_below n g
 sum-add zero f g = refl
 sum-add (suc n) f g = let rest = sum-add n f g in omega (arith, rest)
-
-pub sum-none : (n : ℕ) (f : ℕ → ℕ) → ((k : ℕ) → k < n → f k ≡ 0) → sum_below n f ≡ 0
-sum-none zero f none = refl
-sum-none (suc n) f none = let rest = sum-none n f (λ k below. none k (omega (arith, below))) in omega (arith, rest, none n (omega arith))
 
 pub sum-times : (n : ℕ) (f : ℕ → ℕ) (m : ℕ) → sum_below n (λ k. f k * m) ≡ sum_below n f * m
 sum-times zero f m = sym (zero-mul m)
@@ -24,13 +17,13 @@ sum-times (suc n) f m = ap (λ x. x + f n * m) (sum-times n f m) ∙ sym (add-mu
 
 -- the order of two sums does not matter
 pub sum-swap : (n m : ℕ) (f : ℕ → ℕ → ℕ) → sum_below n (λ i. sum_below m (λ j. f i j)) ≡ sum_below m (λ j. sum_below n (λ i. f i j))
-sum-swap zero m f = sym (sum-none m (λ j. 0) (λ k below. refl))
+sum-swap zero m f = sym (sum_none m (λ j. 0) (λ k below. refl))
 sum-swap (suc n) m f = let rest = sum-swap n m f in let both = sum-add m (λ j. sum_below n (λ i. f i j)) (λ j. f n j) in omega (arith, rest, both)
 
 -- a sum in which one number alone counts
 none_here : (n b : ℕ) (t : ℕ → ℕ) → n ≤ b → sum_below n (λ k. cond (k == b) 1 0 * t k) ≡ 0
 none_here n b t past =
-    sum-none n (λ k. cond (k == b) 1 0 * t k)
+    sum_none n (λ k. cond (k == b) 1 0 * t k)
     (λ k below. ⊎_elim (λ e. absurd (omega (arith, e.1, below, past))) (λ e. ap (λ c. cond c 1 0 * t k) e.0 ∙ zero-mul (t k)) (eqb_tells k b))
 
 pub one_here : (n b : ℕ) (t : ℕ → ℕ) → b < n → sum_below n (λ k. cond (k == b) 1 0 * t k) ≡ t b
@@ -50,9 +43,9 @@ weigh t [] = 0
 weigh t (b ∷ bs) = t b + weigh t bs
 
 pub weighed : (n : ℕ) (t : ℕ → ℕ) (bs : List ℕ) → ((k : ℕ) → n ≤ k → t k ≡ 0) → weigh t bs ≡ sum_below n (λ k. times_drawn k bs * t k)
-weighed n t [] past = sym (sum-none n (λ k. 0 * t k) (λ k below. zero-mul (t k)))
+weighed n t [] past = sym (sum_none n (λ k. 0 * t k) (λ k below. zero-mul (t k)))
 weighed n t (b ∷ bs) past =
-    let parts = sum-same n (λ k. (cond (k == b) 1 0 + times_drawn k bs) * t k) (λ k. cond (k == b) 1 0 * t k + times_drawn k bs * t k) (λ k below. add-mul (cond (k == b) 1 0) (times_drawn k bs) (t k)) in
+    let parts = sum_same n (λ k. (cond (k == b) 1 0 + times_drawn k bs) * t k) (λ k. cond (k == b) 1 0 * t k + times_drawn k bs * t k) (λ k below. add-mul (cond (k == b) 1 0) (times_drawn k bs) (t k)) in
     let both = sum-add n (λ k. cond (k == b) 1 0 * t k) (λ k. times_drawn k bs * t k) in
     let first = sum-one n b t past in
     let rest = weighed n t bs past in

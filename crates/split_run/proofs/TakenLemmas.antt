@@ -1,8 +1,7 @@
 -- A statement that has all that the workers sent is the statement of the account.
-use Rattle.std.proofs.Common.{arith, ◌≡◌, ◌∙◌, ◌<◌, ◌≤◌, ◌+◌, ◌++◌, ◌∷◌, [], ℕ, false, zero, suc, cond, All, List, length, map, ap, sym, refl, ⊎_elim}
+use Rattle.std.proofs.Common.{arith, ◌≡◌, ◌∙◌, ◌<◌, ◌≤◌, ◌+◌, ◌++◌, ◌∷◌, [], ℕ, false, cond, All, List, length, map, ap, sym, refl, eq-eqb, ne_eqb}
 use Rattle.std.specs.Prelude.{nat_lt}
 use Rattle.std.specs.List.{enumerate_from}
-use Rattle.std.proofs.lemmas.Bool.Decides.{eqb_tells}
 use Rattle.std.proofs.lemmas.List.Elements.{All-cons, All-nil}
 use Rattle.std.proofs.lemmas.List.Kept.{AllPairs-cons, AllPairs-filter}
 use Rattle.line_split.specs.UsageLine.{UsageLine}
@@ -14,10 +13,10 @@ use Rattle.payee_book.specs.Run.{portion_of, statement_of}
 use Rattle.payee_book.specs.Statement.{IsRising, comes_before}
 use Rattle.payee_book.proofs.Counted.{known_by_counts, times-append}
 use Rattle.block_draw.specs.Drawn.{AreDrawnOnce, sum_below}
+use Rattle.block_draw.proofs.Counts.{sum_none, sum_raised, sum_same}
 use Rattle.split_run.specs.Blocks.{blocks_of, list_of, postings_of}
 use Rattle.split_run.specs.Taken.{HasTaken, posts_among}
 use Rattle.split_run.proofs.BlockLemmas.{sent_once}
-use Rattle.split_run.proofs.Sums.{sum-none, sum-same}
 
 posts-append : (xs ys : List Item) → posts_among (xs ++ ys) ≡ posts_among xs ++ posts_among ys
 posts-append [] ys = refl
@@ -29,25 +28,14 @@ posts_back [] = refl
 posts_back (posting ∷ postings) = ap (λ l. posting ∷ l) (posts_back postings)
 
 -- one number more of one sender
-module _ {A : Type 0} (sender m : ℕ) (value : A) (f : ℕ → A) (c : A → ℕ) where
-  pub untouched : (n : ℕ) → n ≤ sender → sum_below n (λ k. c (put_at sender value f k)) ≡ sum_below n (λ k. c (f k))
-  untouched n past =
-      sum-same n (λ k. c (put_at sender value f k)) (λ k. c (f k))
-      (λ k below. ⊎_elim (λ e. absurd (omega (arith, e.1, below, past))) (λ e. ap (λ b. c (cond b value (f k))) e.0) (eqb_tells k sender))
-
-  pub sum_put : (n : ℕ) → sender < n → c value ≡ c (f sender) + m → sum_below n (λ k. c (put_at sender value f k)) ≡ sum_below n (λ k. c (f k)) + m
-  sum_put zero below more = absurd (omega (arith, below))
-  sum_put (suc n) below more =
-      ⊎_elim
-      (λ e.
-      let before = untouched n (omega (arith, e.1)) in
-      let here = ap (λ b. c (cond b value (f n))) e.0 ∙ more ∙ ap (λ k. c (f k) + m) (sym e.1) in
-      omega (arith, before, here))
-      (λ e. let before = sum_put n (omega (arith, e.1, below)) more in let here = ap (λ b. c (cond b value (f n))) e.0 in omega (arith, before, here))
-      (eqb_tells n sender)
+pub sum_put : {A : Type 0} (sender m : ℕ) (value : A) (f : ℕ → A) (c : A → ℕ) (n : ℕ) → sender < n → c value ≡ c (f sender) + m → sum_below n (λ k. c (put_at sender value f k)) ≡ sum_below n (λ k. c (f k)) + m
+sum_put sender m value f c n below more =
+    sum_raised n sender m (λ k. c (f k)) (λ k. c (put_at sender value f k)) below
+    (λ k other. ap (λ b. c (cond b value (f k))) (ne_eqb k sender other))
+    (ap (λ b. c (cond b value (f sender))) (eq-eqb sender sender refl) ∙ more)
 
 pub has_none : (senders : ℕ) → HasTaken senders (λ sender. []) []
-has_none senders posting = sym (sum-none senders (λ sender. 0) (λ k below. refl))
+has_none senders posting = sym (sum_none senders (λ sender. 0) (λ k below. refl))
 
 pub has_post : (senders sender line amount : ℕ) (got : ℕ → List Item) (statement : List (ℕ × ℕ)) → sender < senders → HasTaken senders got statement
     → HasTaken senders (put_at sender (got sender ++ Post line amount ∷ []) got) (statement ++ (line, amount) ∷ [])
@@ -92,6 +80,6 @@ module _ (division : UsageLine → List (ℕ × ℕ)) (account : ℕ) where
       known_by_counts statement (statement_of division usage account) rising (statement_rises usage)
       (λ posting.
       has posting
-      ∙ sum-same workers (λ worker. times posting (posts_among (got worker))) (λ worker. times posting (postings_of division usage account (drawn worker)))
+      ∙ sum_same workers (λ worker. times posting (posts_among (got worker))) (λ worker. times posting (postings_of division usage account (drawn worker)))
       (λ worker below. ap (λ l. times posting (posts_among l)) (sent worker below) ∙ ap (times posting) (posts_back (postings_of division usage account (drawn worker))))
       ∙ sent_once division account usage posting workers drawn once)
