@@ -4,6 +4,7 @@ use Rattle.std.specs.Prelude.{◌==◌, nat_lt, option_map}
 use Rattle.std.proofs.lemmas.Bool.Decides.{eqb_tells, nat_tests}
 use Rattle.std.proofs.lemmas.List.{get_or-map, get_or-replicate, get_or-set_other, get_or-set_same, length-map, length-replicate, map-set}
 use Rattle.std.specs.List.{All, list_any}
+use Rattle.std.specs.Option.{IfSome}
 use Rattle.line_split.specs.UsageLine.{UsageLine}
 use Rattle.queue_core.specs.declared.item.Item.{Item}
 use Rattle.queue_core.specs.declared.item.Item.TheVariants.{Post}
@@ -16,7 +17,7 @@ use Rattle.block_draw.specs.Drawn.{AreDrawnOnce}
 use Rattle.block_draw.specs.Views.{DrawView, DrawerView, with_drawer}
 use Rattle.split_run.specs.Blocks.{blocks_of, list_of, postings_of}
 use Rattle.split_run.specs.Reading.{IsServed, IsUntouched, inboxes_by, with_got}
-use Rattle.split_run.specs.Running.{AreForWork, AreGathered, AreGivenBack, AreMailboxes, AreTakenIn, IsGivenBack, or_else}
+use Rattle.split_run.specs.Running.{AreForWork, AreMerged, AreGivenBack, AreMailboxes, AreTakenIn, IsGivenBack, or_else}
 use Rattle.split_run.specs.Sending.{HaveEnded, with_posts}
 use Rattle.split_run.proofs.EndLemmas.{all_whole}
 use Rattle.split_run.proofs.OpeningLemmas.{changed_at}
@@ -32,18 +33,22 @@ or_none : {X : Type 0} (x : Option X) → or_else x None ≡ x
 or_none None = refl
 or_none (Some x) = refl
 
--- what is left of a list after one more of it
-pub rest_more : {X : Type 0} (rest left all : List X) (x : X) (done n m : ℕ) → rest ≡ x ∷ left → m + 1 ≡ n → ((k : ℕ) (d : X) → k < n → get_or rest k d ≡ get_or all (done + k) d) → (k : ℕ) (d : X) → k < m
-    → get_or left k d ≡ get_or all (done + 1 + k) d
-rest_more rest left all x done n m is size had k d below =
-    let next : done + suc k ≡ done + 1 + k = omega arith in
-    sym (ap (λ l. get_or l (suc k) d) is) ∙ had (suc k) d (omega (arith, below, size)) ∙ ap (λ (n : ℕ). get_or all n d) next
+-- what holds of each thing that was given back, where it was: at first of all, then of the next, and of those after it
+pub first_given : {X : Type 0} (P : ℕ → X → Type 0) (rest given : List (Option X)) (k : ℕ) (d : Option X) → rest ≡ given → IfSome (get_or given k d) (P k) → IfSome (get_or rest k d) (P (0 + k))
+first_given P rest given k d is each =
+    let same : k ≡ 0 + k = omega arith in
+    subst (λ (n : ℕ). IfSome (get_or rest k d) (P n)) same (subst (λ l. IfSome (get_or l k d) (P k)) (sym is) each)
 
--- and the first of it
-pub rest_first : {X : Type 0} (rest left all : List X) (x : X) (done n m : ℕ) → rest ≡ x ∷ left → m + 1 ≡ n → ((k : ℕ) (d : X) → k < n → get_or rest k d ≡ get_or all (done + k) d) → x ≡ get_or all done x
-rest_first rest left all x done n m is size had =
-    let here : done + 0 ≡ done = omega arith in
-    sym (ap (λ l. get_or l 0 x) is) ∙ had 0 x (omega (arith, size)) ∙ ap (λ (n : ℕ). get_or all n x) here
+module _ {X : Type 0} (P : ℕ → X → Type 0) (rest left : List (Option X)) (item : Option X) (done n m : ℕ) (is : rest ≡ item ∷ left) (size : m + 1 ≡ n) (each : (k : ℕ) (d : Option X) → k < n → IfSome (get_or rest k d) (P (done + k))) where
+  pub next_given : (x : X) → item ≡ Some x → P done x
+  next_given x there =
+      let here : done + 0 ≡ done = omega arith in
+      subst (λ (k : ℕ). P k x) here (subst (λ o. IfSome o (P (done + 0))) (ap (λ l. get_or l 0 item) is ∙ there) (each 0 item (omega (arith, size))))
+
+  pub rest_given : (k : ℕ) (d : Option X) → k < m → IfSome (get_or left k d) (P (done + 1 + k))
+  rest_given k d below =
+      let next : done + suc k ≡ done + 1 + k = omega arith in
+      subst (λ (j : ℕ). IfSome (get_or left k d) (P j)) next (subst (λ l. IfSome (get_or l (suc k) d) (P (done + suc k))) is (each (suc k) d (omega (arith, below, size))))
 
 -- a sender that was taken in at its mailbox
 module _ {R Name : Type 0} (receiver : R → ReceiverView Name) (items : List (Option R)) (account : ℕ) where
@@ -62,10 +67,10 @@ module _ {R Name : Type 0} (receiver : R → ReceiverView Name) (items : List (O
   others_same new other apart = ap (λ l. get_or l other None) (map-set (option_map receiver) items account new) ∙ get_or-set_other (inboxes_by receiver items) account other (option_map receiver new) None apart
 
 module _ {Name : Type 0} (workers readers : ℕ) (opened : List (Option (ReceiverView Name))) where
-  -- nothing was gathered yet
-  pub none_gathered : (accounts : ℕ) (now : List (Option (ReceiverView Name))) (book : List (List (ℕ × ℕ))) → length opened ≡ accounts → now ≡ replicate accounts None → book ≡ replicate accounts []
-      → AreGathered workers readers 0 opened now book
-  none_gathered accounts now book count none empty = record {
+  -- nothing was merged yet
+  pub none_merged : (accounts : ℕ) (now : List (Option (ReceiverView Name))) (book : List (List (ℕ × ℕ))) → length opened ≡ accounts → now ≡ replicate accounts None → book ≡ replicate accounts []
+      → AreMerged workers readers 0 opened now book
+  none_merged accounts now book count none empty = record {
     count = ap length none ∙ length-replicate accounts None ∙ sym count;
     accounts = ap length empty ∙ length-replicate accounts [] ∙ sym count;
     each = λ account lt.
@@ -76,7 +81,7 @@ module _ {Name : Type 0} (workers readers : ℕ) (opened : List (Option (Receive
         (ap (λ l. get_or l account None) none ∙ get_or-replicate accounts account None None below, ap (λ l. get_or l account []) empty ∙ get_or-replicate accounts account [] [] below);
   }
 
-  module _ (reader : ℕ) (now more now' : List (Option (ReceiverView Name))) (book other book' : List (List (ℕ × ℕ))) (gathered : AreGathered workers readers reader opened now book) (given : IsGivenBack workers readers reader opened more other) where
+  module _ (reader : ℕ) (now more now' : List (Option (ReceiverView Name))) (book other book' : List (List (ℕ × ℕ))) (merged : AreMerged workers readers reader opened now book) (given : IsGivenBack workers readers reader opened more other) where
     -- of an account of another reader there is nothing
     not_its : (account : ℕ) → account < length opened → (reader == account % readers) ≡ false → (get_or more account None ≡ None) × (get_or other account [] ≡ [])
     not_its account lt apart =
@@ -88,21 +93,21 @@ module _ {Name : Type 0} (workers readers : ℕ) (opened : List (Option (Receive
     its_own account lt is =
         let before : nat_lt (account % readers) reader ≡ false = grind (arith, nat_tests, is) in
         let none : cond (nat_lt (account % readers) reader) (get_or opened account None) None ≡ None = ap (λ b. cond b (get_or opened account None) None) before in
-        subst (λ o. IsServed workers true o (get_or now account None) workers (get_or book account [])) none (gathered.each account lt)
+        subst (λ o. IsServed workers true o (get_or now account None) workers (get_or book account [])) none (merged.each account lt)
 
     pub are_apart : AreApart book other
     are_apart account lt =
-        let inside : account < length opened = omega (arith, lt, gathered.accounts) in
+        let inside : account < length opened = omega (arith, lt, merged.accounts) in
         ⊎_elim (λ e. inl (its_own account inside e.1).1) (λ e. inr (not_its account inside e.0).1) (eqb_tells reader (account % readers))
 
-    pub one_gathered : length now' ≡ length now → ((account : ℕ) → account < length now → get_or now' account None ≡ or_else (get_or more account None) (get_or now account None)) → AreJoined book other book'
-        → AreGathered workers readers (reader + 1) opened now' book'
-    one_gathered count put joined = record {
-      count = count ∙ gathered.count;
-      accounts = joined.count ∙ gathered.accounts;
+    pub one_merged : length now' ≡ length now → ((account : ℕ) → account < length now → get_or now' account None ≡ or_else (get_or more account None) (get_or now account None)) → AreJoined book other book'
+        → AreMerged workers readers (reader + 1) opened now' book'
+    one_merged count put joined = record {
+      count = count ∙ merged.count;
+      accounts = joined.count ∙ merged.accounts;
       each = λ account lt.
-          let stands = put account (omega (arith, lt, gathered.count)) in
-          let both = joined.each account (omega (arith, lt, gathered.accounts)) in
+          let stands = put account (omega (arith, lt, merged.count)) in
+          let both = joined.each account (omega (arith, lt, merged.accounts)) in
           ⊎_elim
           (λ e.
           let is : reader ≡ account % readers = e.1 in
@@ -123,7 +128,7 @@ module _ {Name : Type 0} (workers readers : ℕ) (opened : List (Option (Receive
           let statement : get_or book' account [] ≡ get_or book account [] = both ∙ ap (λ l. get_or book account [] ++ l) none.1 ∙ append-nil (get_or book account []) in
           subst (λ (y : Option (ReceiverView Name) × Option (ReceiverView Name) × List (ℕ × ℕ)). IsServed workers true y.0 y.1 workers y.2)
           (λ i. (ap (λ b. cond b (get_or opened account None) None) same i, sym inbox i, sym statement i))
-          (gathered.each account lt))
+          (merged.each account lt))
           (eqb_tells reader (account % readers));
     }
 
@@ -201,20 +206,20 @@ module _ {Name : Type 0} (division : UsageLine → List (ℕ × ℕ)) (usage : L
   -- so each account's statement is that of the run
   pub is_book : (drawn : ℕ → List ℕ) (workers readers accounts : ℕ) (opened now after : List (Option (ReceiverView Name))) (book : List (List (ℕ × ℕ))) → 0 < workers → 0 < readers → length opened ≡ accounts
       → ((account : ℕ) → account < accounts → (mailbox : Name) × (get_or opened account None ≡ Some (opened_receiver mailbox workers)))
-      → AreGathered workers readers readers opened now book → AreTakenIn division usage drawn workers now after → AreDrawnOnce workers drawn (blocks_of (length usage))
+      → AreMerged workers readers readers opened now book → AreTakenIn division usage drawn workers now after → AreDrawnOnce workers drawn (blocks_of (length usage))
       → ((account : ℕ) → account < accounts → IsRising (get_or book account []))
       → IsBookOf division usage accounts book
-  is_book drawn workers readers accounts opened now after book some_workers some_readers count mailboxes gathered taken once rising = record {
-    whole = gathered.accounts ∙ count;
+  is_book drawn workers readers accounts opened now after book some_workers some_readers count mailboxes merged taken once rising = record {
+    whole = merged.accounts ∙ count;
     each = λ account below.
         let lt : account < length opened = omega (arith, below, count) in
         let own = mailboxes account below in
         let dealt_out : nat_lt (account % readers) readers ≡ true = grind (arith, nat_tests) in
         let served : IsServed workers true (Some (opened_receiver own.0 workers)) (get_or now account None) workers (get_or book account []) =
-        subst (λ o. IsServed workers true o (get_or now account None) workers (get_or book account [])) (ap (λ b. cond b (get_or opened account None) None) dealt_out ∙ own.1) (gathered.each account lt) in
+        subst (λ o. IsServed workers true o (get_or now account None) workers (get_or book account [])) (ap (λ b. cond b (get_or opened account None) None) dealt_out ∙ own.1) (merged.each account lt) in
         let got = served.1 in
         let r = with_got (opened_receiver own.0 workers) got in
-        let in_ = taken.each account r (omega (arith, lt, gathered.count)) served.2 in
+        let in_ = taken.each account r (omega (arith, lt, merged.count)) served.2 in
         let begins = in_.5 some_workers in
         let sent : ℕ → List Item = λ worker. list_of division usage account (drawn worker) in
         let same : in_.0.got ≡ got = in_.3 in
@@ -316,18 +321,18 @@ module _ {Name : Type 0} (workers accounts nodes most : ℕ) (lists : List (List
       (sym (ap (λ v. v.senders) same), sym (ap (λ v. v.got) same))
 
   -- what a worker gave back belongs to what the readers gave back
-  pub given_back : (division : UsageLine → List (ℕ × ℕ)) (usage : List UsageLine) (readers : ℕ) (now : List (Option (ReceiverView Name))) (book : List (List (ℕ × ℕ))) → 0 < readers → AreGathered workers readers readers opened now book
+  pub given_back : (division : UsageLine → List (ℕ × ℕ)) (usage : List UsageLine) (readers : ℕ) (now : List (Option (ReceiverView Name))) (book : List (List (ℕ × ℕ))) → 0 < readers → AreMerged workers readers readers opened now book
       → (worker : ℕ) (drawn : List ℕ) (after : List (SenderView Name)) → worker < workers → HaveEnded (get_or lists worker []) after (λ account. postings_of division usage account drawn)
       → AreGivenBack division usage worker drawn now after
-  given_back division usage readers now book some gathered worker drawn after low sent = record {
-    count = sent.count ∙ mailboxes.whole worker low ∙ sym mailboxes.places ∙ sym gathered.count;
+  given_back division usage readers now book some merged worker drawn after low sent = record {
+    count = sent.count ∙ mailboxes.whole worker low ∙ sym mailboxes.places ∙ sym merged.count;
     each = λ account s lt.
-        let inside : account < length opened = omega (arith, lt, gathered.count) in
+        let inside : account < length opened = omega (arith, lt, merged.count) in
         let below : account < accounts = omega (arith, inside, mailboxes.places) in
         let own = mailboxes.each account below in
         let dealt_out : nat_lt (account % readers) readers ≡ true = grind (arith, nat_tests) in
         let served : IsServed workers true (Some (opened_receiver own.0 workers)) (get_or now account None) workers (get_or book account []) =
-        subst (λ o. IsServed workers true o (get_or now account None) workers (get_or book account [])) (ap (λ b. cond b (get_or opened account None) None) dealt_out ∙ own.1) (gathered.each account inside) in
+        subst (λ o. IsServed workers true o (get_or now account None) workers (get_or book account [])) (ap (λ b. cond b (get_or opened account None) None) dealt_out ∙ own.1) (merged.each account inside) in
         let postings = postings_of division usage account drawn in
         let is : get_or after account s ≡ with_end (with_posts (opened_sender own.0 worker nodes most) postings) =
         sent.each account s (omega (arith, below, mailboxes.whole worker low)) ∙ ap (λ v. with_end (with_posts v postings)) (own.2 worker s low) in

@@ -48,7 +48,7 @@ or_else (Some x) other = Some x
 
 module _ {Name : Type 0} where
   -- What the first so many readers gave back, put together: of the accounts that were dealt to them, the mailboxes and the statements.
-  pub record AreGathered (workers readers done : ℕ) (opened now : List (Option (ReceiverView Name))) (book : List (List (ℕ × ℕ))) : Type 0 where
+  pub record AreMerged (workers readers done : ℕ) (opened now : List (Option (ReceiverView Name))) (book : List (List (ℕ × ℕ))) : Type 0 where
     pub count : length now ≡ length opened
     pub accounts : length book ≡ length opened
     pub each : (account : ℕ) → account < length opened
@@ -64,6 +64,12 @@ module _ {Name : Type 0} where
     pub each : (account : ℕ) (s : SenderView Name) → account < length inboxes → (r : ReceiverView Name) × (slice_index_or inboxes account None ≡ Some r)
         × ((slice_index_or senders account s).mailbox ≡ r.mailbox) × ((slice_index_or senders account s).number ≡ worker) × ((slice_index_or senders account s).is_ended ≡ true)
         × ((slice_index_or senders account s).sent ≡ list_of division usage account drawn)
+
+  -- What a worker gave back: those senders, and the drawer of its number of this draw, which has found that no block is left.
+  pub record IsWorkOf (division : UsageLine → List (ℕ × ℕ)) (usage : List UsageLine) (draw : DrawView) (worker : ℕ) (drawer : DrawerView) (inboxes : List (Option (ReceiverView Name))) (senders : List (SenderView Name)) : Type 0 where
+    pub sent : AreGivenBack division usage worker drawer.drawn inboxes senders
+    pub same : (drawer.draw ≡ draw.draw) × (drawer.number ≡ worker)
+    pub done : drawer.is_done ≡ true
 
   -- What a worker gave back may be taken in: its senders have ended, each at the mailbox of its account, and its drawer is one of this draw and has found that no block is left.
   pub record MayBeTakenIn (draw : DrawView) (drawer : DrawerView) (inboxes : List (Option (ReceiverView Name))) (senders : List (SenderView Name)) : Type 0 where

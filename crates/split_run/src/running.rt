@@ -1,13 +1,14 @@
 //! A run: workers divide the usage lines, readers keep the statements, and between them lies a mailbox for each account.
 
-ghost use Rattle.std.specs.Prelude.{◌≡◌, ◌<◌, ℕ, IfOk, IfSome, None, Some, length, map, replicate, slice_index_or, true, vec_items};
+ghost use Rattle.std.specs.Prelude.{◌≡◌, ◌<◌, ℕ, IfOk, IfSome, None, OnOk, Some, length, map, replicate, slice_index_or, true, vec_items};
 ghost use Rattle.mail_box.specs.Mails.{Begins, ReceiverView, SenderView, with_sender};
 ghost use Rattle.payee_book.specs.Run.{IsBookOf};
 ghost use Rattle.split_run.specs.Divisions.{division_by};
 ghost use Rattle.split_run.specs.Reading.{inboxes_by};
 ghost use Rattle.block_draw.specs.Drawn.{AreDrawnOnce};
-ghost use Rattle.block_draw.specs.Views.{draw_of, drawer_of, with_drawer};
-ghost use Rattle.split_run.specs.Running.{AreGathered, IsGivenBack, MayBeTakenIn, or_else};
+ghost use Rattle.block_draw.specs.Views.{draw_of, drawer_of, opened_draw, with_drawer};
+ghost use Rattle.split_run.specs.Blocks.{blocks_of};
+ghost use Rattle.split_run.specs.Running.{AreMerged, AreTakenIn, IsGivenBack, IsWorkOf, MayBeTakenIn, or_else};
 
 use crate::gate::Gate;
 use crate::opening::{open_mailboxes, readers_of};
@@ -58,28 +59,15 @@ pub fn run<M: Mail, G: Gate, R: Threads + Wait + Sync>(
     let Some((worked, read)) = at_once(rt, alloc, mail, inputs, gate, jobs, readers) else {
         return Err(RunFault::Room);
     };
-    let (mut gathered, book) = gather_all::<M>(
-        alloc,
-        accounts,
-        workers,
-        plan.readers,
-        opened,
-        read,
-    )?;
+    let (mut inboxes, book) = merge_all::<M>(alloc, accounts, workers, plan.readers, opened, read)?;
     prove!(book.accounts() == accounts, "each account has a statement");
-    let inboxes = gathered.as_mut_slice();
-    for worker in worked {
-        let Some(worker) = worker else {
-            return Err(RunFault::Room);
-        };
-        take_in_worker::<M, R>(rt, &mut draw, inboxes, worker);
-    }
+    take_in_all::<M, R>(rt, inputs, &mut draw, inboxes.as_mut_slice(), worked)?;
     Ok(book)
 }
 
-/// Puts together what the readers gave back: the mailbox of each account, and the book of all statements. `opened` are the
+/// Merges what the readers gave back: the mailbox of each account, and the book of all statements. `opened` are the
 /// mailboxes as they were opened.
-fn gather_all<M: Mail>(
+fn merge_all<M: Mail>(
     alloc: Global,
     accounts: u16,
     workers: u64,
@@ -90,7 +78,7 @@ fn gather_all<M: Mail>(
     requires some { (0 < accounts) × (0 < readers) }
     requires count { (length opened.value.items ≡ accounts) × (length read.items ≡ readers) }
     requires read { (number : ℕ) (d : _) → number < readers → IfSome (slice_index_or read.items number d) (λ reader. IsGivenBack workers readers number (inboxes_by M.receiver opened.value.items) (inboxes_by M.receiver reader.inboxes.items) reader.book) }
-    ensures { IfOk result (λ r. AreGathered workers readers readers (inboxes_by M.receiver opened.value.items) (inboxes_by M.receiver r.0.items) r.1) }
+    ensures { IfOk result (λ r. AreMerged workers readers readers (inboxes_by M.receiver opened.value.items) (inboxes_by M.receiver r.0.items) r.1) }
 {
     let mut inboxes = no_inboxes::<M>(alloc, accounts)?;
     let mut book = Book::open(alloc, accounts)?;
@@ -98,7 +86,7 @@ fn gather_all<M: Mail>(
         let Some(reader) = reader else {
             return Err(RunFault::Room);
         };
-        gather::<M>(&mut inboxes, reader.inboxes);
+        merge::<M>(&mut inboxes, reader.inboxes);
         book.join(reader.book);
     }
     Ok((inboxes, book))
@@ -116,7 +104,7 @@ fn no_inboxes<M: Mail>(alloc: Global, accounts: u16) -> Result<Vec<Option<M::Rec
 }
 
 /// Puts the receivers of one reader with those of the others.
-fn gather<M: Mail>(inboxes: &mut Vec<Option<M::Receiver>>, more: Vec<Option<M::Receiver>>)
+fn merge<M: Mail>(inboxes: &mut Vec<Option<M::Receiver>>, more: Vec<Option<M::Receiver>>)
     requires { length more.items ≡ length (vec_items inboxes.old) }
     ensures count { length (vec_items inboxes.new) ≡ length (vec_items inboxes.old) }
     ensures each { (account : ℕ) → account < length (vec_items inboxes.old) → slice_index_or (inboxes_by M.receiver (vec_items inboxes.new)) account None ≡ or_else (slice_index_or (inboxes_by M.receiver more.items) account None) (slice_index_or (inboxes_by M.receiver (vec_items inboxes.old)) account None) }
@@ -135,6 +123,30 @@ fn put_if<T: Drop>(something: Option<T>, place: &mut Option<T>)
     if something.is_some() {
         *place = something;
     }
+}
+
+/// Takes in what all workers gave back, each its senders and its drawer. `inputs` is what they divided. An error: one of them
+/// was stopped, and gave back nothing.
+fn take_in_all<M: Mail, R: Wait>(
+    rt: &R,
+    inputs: Inputs<'_>,
+    draw: &mut Draw,
+    inboxes: &mut [Option<M::Receiver>],
+    worked: Vec<Option<Worked<M>>>,
+) -> Result<(), RunFault>
+    requires some { 0 < length worked.items }
+    requires opened { draw_of draw.old ≡ opened_draw (draw_of draw.old).draw (blocks_of (length inputs.usage.now)) (length worked.items) }
+    requires worked { (worker : ℕ) (d : _) → worker < length worked.items → IfSome (slice_index_or worked.items worker d) (λ own. IsWorkOf (division_by inputs.tis.now inputs.registry.now) inputs.usage.now (draw_of draw.old) worker (drawer_of own.drawer) (inboxes_by M.receiver inboxes.old) (map M.sender own.senders.items)) }
+    ensures taken { OnOk result (AreTakenIn (division_by inputs.entry.tis.now inputs.entry.registry.now) inputs.entry.usage.now (draw_of draw.new).drawn (length worked.items) (inboxes_by M.receiver inboxes.old) (inboxes_by M.receiver inboxes.new)) }
+    ensures once { OnOk result (AreDrawnOnce (length worked.items) (draw_of draw.new).drawn (blocks_of (length inputs.entry.usage.now))) }
+{
+    for worker in worked {
+        let Some(worker) = worker else {
+            return Err(RunFault::Room);
+        };
+        take_in_worker::<M, R>(rt, draw, inboxes, worker);
+    }
+    Ok(())
 }
 
 /// Takes in what a worker gave back: its senders, each at the mailbox of its account, and its drawer.

@@ -4,7 +4,7 @@ use Rattle.std.specs.Vec.Iter.{into_iter_items}
 use Rattle.std.proofs.lemmas.List.{length-map, length-set}
 use Rattle.split_run.specs.Reading.{inboxes_by}
 use Rattle.split_run.proofs.RunningLemmas.{put_at_place, put_more}
-use Rattle.split_run.proofs.running.gather.Goals as goal
+use Rattle.split_run.proofs.running.merge.Goals as goal
 
 pub loop-inbox-preserved : goal.loop-inbox-preserved
 loop-inbox-preserved g c =

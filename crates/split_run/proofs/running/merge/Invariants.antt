@@ -2,7 +2,7 @@ use Rattle.std.specs.Prelude.{ℕ, ◌+◌, ◌<◌, ◌≡◌, ◌≤◌, None,
 use Rattle.std.specs.Vec.Iter.{into_iter_items, into_iter_len}
 use Rattle.split_run.specs.Reading.{inboxes_by}
 use Rattle.split_run.specs.Running.{or_else}
-use Rattle.split_run.proofs.running.gather.Given as goal
+use Rattle.split_run.proofs.running.merge.Given as goal
 
 -- the receivers so far are put with the others
 abbrev pub invariant-loop-inbox : goal.invariant-loop-inbox

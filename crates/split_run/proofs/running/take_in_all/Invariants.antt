@@ -1,0 +1,30 @@
+use Rattle.std.specs.Prelude.{ℕ, ◌+◌, ◌<◌, ◌≡◌, length, map, slice_index_or}
+use Rattle.std.specs.Option.{IfSome}
+use Rattle.std.specs.Vec.Iter.{into_iter_items, into_iter_len}
+use Rattle.block_draw.specs.Drawn.{AreDrawnOnce}
+use Rattle.block_draw.specs.Views.{draw_of, drawer_of}
+use Rattle.split_run.specs.Blocks.{blocks_of}
+use Rattle.split_run.specs.Divisions.{division_by}
+use Rattle.split_run.specs.Reading.{inboxes_by}
+use Rattle.split_run.specs.Running.{AreTakenIn, IsWorkOf}
+use Rattle.split_run.proofs.running.take_in_all.Given as goal
+
+-- the senders and the drawers of the workers so far are taken in, and the others gave back theirs
+abbrev pub invariant-loop-worker : goal.invariant-loop-worker
+invariant-loop-worker g l =
+    let division = division_by l.inputs.tis.now l.inputs.registry.now in
+    let usage = l.inputs.usage.now in
+    let rest = l.worker-iterator in
+    let workers = length (into_iter_items l.initial.worker-iterator) in
+    let before = inboxes_by g.M.Mail.receiver l.initial.inboxes in
+    let draw = draw_of l.draw in
+    (done : ℕ)
+    × (done + into_iter_len rest ≡ workers)
+    × ((k : ℕ) (d : _) → k < into_iter_len rest
+    → IfSome (slice_index_or (into_iter_items rest) k d) (λ own. IsWorkOf division usage (draw_of l.initial.draw) (done + k) (drawer_of own.drawer) before (map g.M.Mail.sender own.senders.items)))
+    × AreTakenIn division usage draw.drawn done before (inboxes_by g.M.Mail.receiver l.inboxes)
+    × (draw.draw ≡ (draw_of l.initial.draw).draw)
+    × (draw.gathered ≡ done)
+    × (draw.drawers ≡ workers)
+    × (draw.blocks ≡ blocks_of (length usage))
+    × (draw.gathered ≡ draw.drawers → AreDrawnOnce draw.drawers draw.drawn draw.blocks)
