@@ -2,7 +2,7 @@
 
 use crate::program::program;
 use crate::test_outputs::{Answer, Narrow, run, words};
-use run_tests::small_run::{SHORT, STATEMENTS, TERRITORIES, TWO_PARTIES, USES};
+use small_run::{SHORT, STATEMENTS, TERRITORIES, TWO_PARTIES, USES};
 use std::alloc::Global;
 use std::rt::{Env, Files};
 use std::sync::Wait;

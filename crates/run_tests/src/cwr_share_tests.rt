@@ -4,9 +4,9 @@
 //! again, and the rows have to come out as they stand. So a test is few calls, and is proved in a
 //! second or two: the prover follows each call of a test, but not into the helpers.
 
-use crate::small_run::{TERRITORIES, TWO_PARTIES};
 use cwr_share::{CwrFault, Registry};
 use line_split::{Line, Right};
+use small_run::{TERRITORIES, TWO_PARTIES};
 use std::alloc::Global;
 use std::process::Abort;
 use std::test::Fail;

@@ -1,4 +1,5 @@
-//! A small run: its three inputs, and its statements.
+//! A small run: its three inputs, and its statements. Several tests share it.
+#![tactic(auto)]
 
 /// A table of territories, in which 9001 is a group of our own.
 pub const TERRITORIES: &str = "code,groups\n2136,\n9001,2136\n276,9001\n840,2136\n";

@@ -1,8 +1,8 @@
 //! Runs over three small inputs. As texts go in and come out of helpers without contracts, the prover
 //! has little to follow in a test.
 
-use crate::small_run::{SHORT, STATEMENTS, TERRITORIES, TWO_PARTIES, USES};
 use settle_run::{Fault, settle, settle_to};
+use small_run::{SHORT, STATEMENTS, TERRITORIES, TWO_PARTIES, USES};
 use split_run::Plan;
 use std::alloc::Global;
 use std::io::{self, Write};
@@ -72,15 +72,17 @@ fn repeated(alloc: Global, row: &str, times: usize) -> Result<String, Fail> {
     Ok(text)
 }
 
-/// 65 lines of the first work, and the statements that they come to.
-fn many_uses(alloc: Global) -> Result<(String, String), Fail> {
-    let lines = repeated(alloc, "u,W1,276,P,100\n", 65)?;
+/// So many lines of the first work, and the statements that they come to.
+fn many_uses(alloc: Global, count: usize) -> Result<(String, String), Fail> {
+    let lines = repeated(alloc, "u,W1,276,P,100\n", count)?;
     let uses = format!(in alloc; "usage,work,territory,right,amount\n{lines}")?;
     let (first, second) = (
-        repeated(alloc, "L,A,u,60\n", 65)?,
-        repeated(alloc, "L,B,u,40\n", 65)?,
+        repeated(alloc, "L,A,u,60\n", count)?,
+        repeated(alloc, "L,B,u,40\n", count)?,
     );
-    let rows = format!(in alloc; "{first}S,A,65,3900\n{second}S,B,65,2600\nT,,0,0\nR,,65,6500\n")?;
+    let (most, least) = (count.wrapping_mul(60), count.wrapping_mul(40));
+    let all = count.wrapping_mul(100);
+    let rows = format!(in alloc; "{first}S,A,{count},{most}\n{second}S,B,{count},{least}\nT,,0,0\nR,,{count},{all}\n")?;
     Ok((uses, rows))
 }
 
@@ -118,9 +120,25 @@ fn settles_no_lines(rt: HostRuntime) -> Result<(), Fail> {
 
 #[test]
 fn settles_many_lines(rt: HostRuntime) -> Result<(), Fail> {
-    let (uses, rows) = many_uses(rt.alloc())?;
+    let (uses, rows) = many_uses(rt.alloc(), 65)?;
     let inputs = [TERRITORIES, TWO_PARTIES, uses.as_str()];
     assert_outcome(&rt, rt.alloc(), inputs, rows.as_str())
+}
+
+/// Two payees with 10,001 rows each: a wave of four sheets has 20,002 rows in all, one of two has 16,384, and its second goes
+/// over both statements.
+#[test]
+fn prints_more_rows_than_a_wave_of_sheets_holds(rt: HostRuntime) -> Result<(), Fail> {
+    let (uses, rows) = many_uses(rt.alloc(), 10_000)?;
+    let inputs = [TERRITORIES, TWO_PARTIES, uses.as_str()];
+    for (workers, readers) in [(1, 1), (2, 2), (8, 8)] {
+        let Some(plan) = Plan::new(workers, readers, 64) else {
+            return Err(Fail::new("no plan"));
+        };
+        let text = outcome(&rt, rt.alloc(), inputs, plan)?;
+        assert!(&rt; text.as_str() == rows.as_str());
+    }
+    Ok(())
 }
 
 #[test]
@@ -254,12 +272,13 @@ fn assert_prints<R: Abort + Threads + Wait + Sync>(
     assert_eq!(rt; out.kept.len(), room);
     assert!(rt; text.as_bytes().starts_with(out.kept.as_slice()));
     assert!(rt; out.longest < 200_000);
-    assert!(rt; printed.is_err() || out.writes == 3);
+    assert!(rt; printed.is_err() || out.writes == 5);
     Ok(())
 }
 
+/// Of 24,002 rows of payees two sheets of 8,192 are written, two of the rest, and what is below them.
 #[test]
-fn prints_many_pages(rt: HostRuntime) -> Result<(), Fail> {
+fn prints_by_the_sheet(rt: HostRuntime) -> Result<(), Fail> {
     let alloc = rt.alloc();
     let uses = uses(alloc, 12_000)?;
     let Some(plan) = Plan::new(1, 1, 1) else {

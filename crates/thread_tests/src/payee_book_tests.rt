@@ -8,6 +8,7 @@ use payee_book::{Book, Journal};
 use std::alloc::Global;
 use std::process::Abort;
 use std::test::Fail;
+use std::thread::Threads;
 
 /// Asserts that the postings of a book are of the first so many lines.
 fn assert_lines(rt: &impl Abort, book: &Book, lines: usize)
@@ -63,8 +64,8 @@ fn assert_statement(
 }
 
 /// The text of a book over usage lines, with these parties and reasons.
-fn text_of(
-    rt: &impl Abort,
+fn text_of<R: Threads + Sync + Abort>(
+    rt: &R,
     alloc: Global,
     book: &Book,
     usage: &[u8],
@@ -78,7 +79,7 @@ fn text_of(
     }
     assert_lines(rt, book, usage.len());
     assert!(rt; parties.len() == book.accounts() as usize && reasons.len() == usage.len());
-    Ok(book.text(alloc, &usage, parties.as_slice(), reasons)?)
+    Ok(book.text(rt, alloc, &usage, parties.as_slice(), reasons)?)
 }
 
 #[test]

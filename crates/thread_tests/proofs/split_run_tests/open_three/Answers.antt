@@ -1,5 +1,5 @@
 use Rattle.std.proofs.Common.{arith, ◌≡◌, ◌<◌, ◌≤◌, ℕ, zero, suc, false, [], ◌∷◌, ap, get_or}
-use Rattle.run_tests.proofs.split_run_tests.open_three.Goals as goal
+use Rattle.thread_tests.proofs.split_run_tests.open_three.Goals as goal
 
 -- what holds of three holds of each of them
 each_of_three : {X : Type 0} (P : X → Type 0) (x y z : X) → P x → P y → P z → (n : ℕ) (d : X) → n < 3 → P (get_or (x ∷ y ∷ z ∷ []) n d)

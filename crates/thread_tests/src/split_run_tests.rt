@@ -7,9 +7,9 @@ ghost use Rattle.split_run.specs.Running.{IsFresh};
 ghost use Rattle.split_run.specs.Sending.{AreFresh, AreReadyFor};
 
 use crate::run_threads_tests::inputs;
-use crate::small_run::USES;
 use line_split::{MOST_CLAIMS, Portions};
 use mail_box::{Item, LaneMail, LaneReceiver, LaneSender, Mail, receive};
+use small_run::USES;
 use split_run::{Draw, Drawer, NoGate, Plan, work};
 use std::alloc::{AllocError, Global};
 use std::process::Abort;

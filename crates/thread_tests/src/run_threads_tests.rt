@@ -1,15 +1,18 @@
-//! A run over the threads of a plan: what it comes to, how it uses its mail, and that its threads are at work at once.
+//! A run over the threads of a plan: what it comes to, how it uses its mail, what it tells its gate, and that its threads are
+//! at work at once.
 
-use crate::small_run::{TERRITORIES, TWO_PARTIES, USES};
 use cwr_share::Registry;
 use line_split::Usage;
 use mail_box::{LaneMail, LinkMail, Mail};
 use payee_book::Book;
+use small_run::{TERRITORIES, TWO_PARTIES, USES};
 use split_run::{CountingMail, Gate, MeetingGate, MeetingMail, NoGate, Plan, run};
-use std::alloc::Global;
+use std::alloc::{AllocError, Global};
 use std::process::Abort;
 use std::sync::Wait;
+use std::sync::atomic::{AtomicU64, Ordering};
 use std::test::Fail;
+use std::thread;
 use std::thread::Threads;
 use tis_tree::TisTable;
 
@@ -79,6 +82,94 @@ fn assert_takes<M: Mail + Drop, R: Abort + Threads + Wait + Sync>(
     Ok(())
 }
 
+/// The most turns that a worker waits at a roll call.
+const MOST_TURNS: u32 = 1_000_000;
+
+/// A gate that holds each worker at its first line until all of them have come, or it has waited too many turns. It keeps
+/// which lines it was told.
+#[derive(Drop)]
+struct RollCall {
+    /// For each worker, one more than the last line that it came with; 0 until it comes.
+    ends: Vec<AtomicU64>,
+    /// For each line, how often it was told.
+    told: Vec<AtomicU64>,
+    /// How often it was told a worker or a line that there is not, or a line before the worker's last.
+    faults: AtomicU64,
+}
+
+impl RollCall {
+    /// A gate for so many workers and lines, of which it was told none.
+    fn of(alloc: Global, workers: u64, lines: usize) -> Result<RollCall, AllocError> {
+        Ok(RollCall {
+            ends: counters(alloc, workers as usize)?,
+            told: counters(alloc, lines)?,
+            faults: AtomicU64::new(0),
+        })
+    }
+
+    /// Whether each worker has come.
+    fn is_full(&self) -> bool {
+        self.ends.iter().all(|end| end.load(Ordering::SeqCst) > 0)
+    }
+
+    fn wait(&self) {
+        for _ in 0..MOST_TURNS {
+            if self.is_full() {
+                return;
+            }
+            thread::yield_now();
+        }
+    }
+}
+
+impl Gate for RollCall {
+    fn pass(&self, worker: u64, line: u64) {
+        let (Some(end), Some(told)) = (
+            self.ends.get(worker as usize),
+            self.told.get(line as usize),
+        ) else {
+            self.faults.fetch_add(1, Ordering::SeqCst);
+            return;
+        };
+        told.fetch_add(1, Ordering::SeqCst);
+        let before = end.swap(line.wrapping_add(1), Ordering::SeqCst);
+        if line < before {
+            self.faults.fetch_add(1, Ordering::SeqCst);
+        }
+        if before == 0 {
+            self.wait();
+        }
+    }
+}
+
+/// So many counters, at 0.
+fn counters(alloc: Global, count: usize) -> Result<Vec<AtomicU64>, AllocError> {
+    let mut counters = Vec::new(alloc);
+    for _ in 0..count {
+        counters.push(AtomicU64::new(0))?;
+    }
+    Ok(counters)
+}
+
+/// Asserts that a run with so many workers tells its gate each of so many lines once, and that each worker comes under a number of
+/// its own, with its lines in order. There are 64 lines or more for each worker.
+fn assert_tells<R: Abort + Threads + Wait + Sync>(
+    rt: &R,
+    alloc: Global,
+    workers: u64,
+    lines: usize,
+) -> Result<(), Fail> {
+    let uses = equal_uses(alloc, lines)?;
+    let gate = RollCall::of(alloc, workers, lines)?;
+    let _ = book_of(rt, alloc, &LinkMail, uses.as_str(), (workers, 2, 64), &gate)?;
+    assert!(rt; gate.is_full(), "a worker has not come");
+    assert_eq!(rt; gate.faults.load(Ordering::SeqCst), 0);
+    for told in &gate.told {
+        assert_eq!(rt; told.load(Ordering::SeqCst), 1);
+    }
+    Ok(())
+}
+
 /// Asserts what a run of two workers comes to over so many equal lines and this kind of mailbox, where the gate
 /// holds the first worker at its first line until the other has come to some number of lines.
 fn assert_workers_meet<M: Mail, R: Abort + Threads + Wait + Sync>(
@@ -140,6 +231,15 @@ fn takes_each_posting_and_each_end_mark_once(rt: HostRuntime) -> Result<(), Fail
     for (usage, workers, takes) in [(USES, 2, 11), (USES, 8, 29), (HEADER, 2, 6)] {
         assert_takes(&rt, alloc, LaneMail, usage, workers, takes)?;
         assert_takes(&rt, alloc, LinkMail, usage, workers, takes)?;
+    }
+    Ok(())
+}
+
+/// A worker alone tells the lines in order, since each is told once and none comes before an earlier one.
+#[test]
+fn tells_the_gate_each_line_once_and_whose_it_is(rt: HostRuntime) -> Result<(), Fail> {
+    for workers in [1, 2, 3, 8] {
+        assert_tells(&rt, rt.alloc(), workers, 520)?;
     }
     Ok(())
 }

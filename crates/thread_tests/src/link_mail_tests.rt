@@ -5,9 +5,9 @@ ghost use Rattle.mail_box.specs.LinkViews.{held_of, receiver_of, sender_of};
 ghost use Rattle.mail_box.specs.Mails.{IsInRange, opened_sender};
 
 use crate::run_threads_tests::{assert_small_run, assert_totals, book_of, equal_uses};
-use crate::small_run::USES;
 use mail_box::{Item, LaneMail, LinkHeld, LinkMail, LinkReceiver, LinkSender, Mail, Posted, Took};
 use mail_relay::relay;
+use small_run::USES;
 use split_run::NoGate;
 use std::alloc::{AllocError, Global};
 use std::process::Abort;
