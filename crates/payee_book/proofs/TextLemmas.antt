@@ -5,8 +5,7 @@ use Rattle.std.specs.Prelude.{None, Option, Some}
 use Rattle.std.proofs.Common.{◌≡◌, ◌∙◌, ◌-◌, ◌+◌, ◌<◌, ◌≤◌, ◌++◌, ◌∷◌, [], ℕ, Bool, true, false, List, length, map, take, drop, get_or, codes, ap, sym, subst, refl, arith, append_assoc, suc, All}
 use Rattle.std.specs.Prelude.{◌==◌, flat_map, if◌then◌else◌, zip}
 use Rattle.std.proofs.lemmas.Grind.{flat_map-append, get_or_after_one}
-use Rattle.std.proofs.Math.Seq.{take-add}
-use Rattle.std.proofs.lemmas.List.{flat_map_more, length-drop, map-append, map_push, take-append-drop, take_all, take_more}
+use Rattle.std.proofs.lemmas.List.{flat_map_more, length-drop, map_push, take-append-drop, take_all, take_more}
 use Rattle.std.proofs.lemmas.List.Elements.{All-append, All-cons, All-map, All-nil}
 use Rattle.std.proofs.lemmas.Slice.Zip.{get_or-zip, length-zip}
 use Rattle.csv.specs.Reading.{default_config, records, strip_bom}

@@ -1,5 +1,5 @@
 -- The rows of all payees, shared out among threads: from a row on, each has as many, one thread's after another's.
-use Rattle.std.specs.Prelude.{ℕ, ◌≡◌, ◌≤◌, ◌<◌, ◌+◌, ◌*◌, ◌-◌, List, All, drop, length, map, min, take}
+use Rattle.std.specs.Prelude.{ℕ, ◌≡◌, ◌≤◌, ◌<◌, ◌+◌, ◌*◌, ◌-◌, List, All, drop, length, min, take}
 use Rattle.line_split.specs.UsageLine.{UsageLine}
 use Rattle.payee_book.specs.Text.{payees_rows}
 use Rattle.payee_book.specs.declared.sheets.TheConstants.{MOST_ON_SHEET, MOST_ROWS}

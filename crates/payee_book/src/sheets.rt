@@ -18,12 +18,14 @@ use std::io::{self, Write};
 use std::thread;
 use std::thread::Threads;
 
-/// The least and the most rows on a sheet. A thread is started for each sheet of a wave, and so many rows are worth it.
+/// The fewest rows on a sheet, but for those of the last wave: fewer are not worth a thread.
 const LEAST_ON_SHEET: u128 = 1024;
+
+/// The most rows on a sheet.
 const MOST_ON_SHEET: u128 = 8192;
 
-/// The pages of room for so many rows. A row of a posting has 175 bytes at most: one of its kind, 20 of a
-/// party of 9 bytes in quotes, all doubled, 130 likewise of a use of 64, 20 of an amount, and 4 between and after.
+/// The pages of room for so many rows. A row has 175 bytes at most: one of its kind, 20 of a party of 9 bytes
+/// that are quotes, 130 likewise of a use of 64, 20 of an amount, and 4 between and after.
 const PAGES_OF_SHEET: u16 = 11;
 
 /// More rows than there can be, of 65,535 statements that each fit into memory.

@@ -1,4 +1,4 @@
-use Rattle.std.proofs.Common.{◌≡◌, ◌∙◌, ◌<◌, ◌++◌, [], Vec, Global, ℕ, get_or, length, map, ap, append-nil, subst, sym, refl, arith}
+use Rattle.std.proofs.Common.{◌≡◌, ◌++◌, [], Vec, Global, ℕ, get_or, map, ap, append-nil, subst, arith}
 use Rattle.std.proofs.KnownBytes.{Appends-trans}
 use Rattle.std.proofs.lemmas.Result.{on_ok_weaker}
 use Rattle.std.specs.Io.KnownBytes.{Appends, append_known}
