@@ -1,21 +1,23 @@
-.PHONY: help build demo test compare refuse bench explore
+.PHONY: help build demo test compare fuzz sizes refuse bench explore
 
 help:
 	@echo 'make demo     make the statements of the example in about a minute, with a build that is not proved'
 	@echo 'make build    prove and build the program, leave it as out/royalty_run'
 	@echo 'make test     the gate: prove every crate from nothing, refuse every wrong body, run every test and the program'
 	@echo 'make compare  run the program and a plain Rust one on small made-up inputs, good and bad, and compare'
+	@echo 'make fuzz     the same on 100000 damaged inputs; some ten minutes on four cores'
+	@echo 'make sizes    run both at each limit and one beyond it, print times and peak memory; two minutes, 2 GB of memory'
 	@echo 'make refuse   run the program on the example with each allocation refused in turn, for four plans'
 	@echo 'make bench    run both on a million usage lines, print times and peak memory; and a mailbox alone'
 	@echo 'make explore  go through every state of a small mailbox, with the model in Python'
 	@echo 'make help     this list'
-	@echo 'compare, refuse and bench build the program first, unless they are given one: make bench PROGRAM=out/royalty_run'
-	@echo 'All but explore need the command rt of the Rattle kit on the path; compare, bench and explore also python3,'
-	@echo 'compare and bench cargo, and refuse a C compiler.'
+	@echo 'compare, fuzz, sizes, refuse and bench build the program first, unless they are given one: make bench PROGRAM=out/royalty_run'
+	@echo 'All but explore need the command rt of the Rattle kit on the path; compare, fuzz, sizes, bench and explore also'
+	@echo 'python3, compare, fuzz, sizes and bench cargo, and refuse a C compiler.'
 
 PROGRAM = out/royalty_run
 ifeq ($(origin PROGRAM),file)
-compare refuse bench: build
+compare fuzz sizes refuse bench: build
 endif
 
 build:
@@ -39,6 +41,12 @@ test:
 
 compare:
 	python3 bench/compare.py --program $(PROGRAM) --cases 2000
+
+fuzz:
+	python3 bench/fuzz.py --program $(PROGRAM) --cases 100000 --jobs 4
+
+sizes:
+	python3 bench/sizes.py --program $(PROGRAM)
 
 refuse:
 	tests/refuse.sh $(PROGRAM)
