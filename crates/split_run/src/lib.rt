@@ -20,7 +20,7 @@ pub use fault::RunFault;
 pub use gate::{Gate, NoGate};
 pub use meeting::{MeetingGate, MeetingMail, MeetingReceiver};
 pub use plan::Plan;
-pub use running::run;
+pub use running::{run, run_cut};
 pub use working::work;
 
 /// The most workers, and the most readers, of a run.

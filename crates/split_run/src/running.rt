@@ -1,6 +1,6 @@
 //! A run: workers divide the usage lines, readers keep the statements, and between them lies a mailbox for each account.
 
-ghost use Rattle.std.specs.Prelude.{◌≡◌, ◌<◌, ℕ, IfOk, IfSome, None, OnOk, Some, length, map, replicate, slice_index_or, true, vec_items};
+ghost use Rattle.std.specs.Prelude.{◌≡◌, ◌+◌, ◌<◌, ◌≤◌, ℕ, IfOk, IfSome, None, OnOk, Some, length, map, replicate, slice_index_or, true, vec_items};
 ghost use Rattle.mail_box.specs.Mails.{Begins, ReceiverView, SenderView, with_sender};
 ghost use Rattle.payee_book.specs.Run.{IsBookOf};
 ghost use Rattle.split_run.specs.Divisions.{division_by};
@@ -41,6 +41,28 @@ pub fn run<M: Mail, G: Gate, R: Threads + Wait + Sync>(
 ) -> Result<Book, RunFault>
     ensures { IfOk result (IsBookOf (division_by tis.now registry.now) usage.now (length registry.now.parties)) }
 {
+    let threads = plan.readers + plan.workers;
+    run_cut(
+        rt, alloc, mail, tis, registry, usage, plan, gate, threads,
+    )
+}
+
+/// The same, where the thread with a number counts as refused: readers first, then workers, from 0. It is refused
+/// wherever there is such a thread. A test can see here what becomes of the threads that were started before.
+pub fn run_cut<M: Mail, G: Gate, R: Threads + Wait + Sync>(
+    rt: &R,
+    alloc: Global,
+    mail: &M,
+    tis: &TisTable,
+    registry: &Registry,
+    usage: &Usage,
+    plan: Plan,
+    gate: &G,
+    threads: u64,
+) -> Result<Book, RunFault>
+    ensures book { IfOk result (IsBookOf (division_by tis.now registry.now) usage.now (length registry.now.parties)) }
+    ensures cut { IfOk result (λ _. plan.readers + plan.workers ≤ threads) }
+{
     let accounts = registry.accounts();
     let lines = usage.len() as u64;
     let workers = plan.workers;
@@ -56,7 +78,8 @@ pub fn run<M: Mail, G: Gate, R: Threads + Wait + Sync>(
         registry,
         usage,
     };
-    let Some((worked, read)) = at_once(rt, alloc, mail, inputs, gate, jobs, readers) else {
+    let Some((worked, read)) = at_once(rt, alloc, mail, inputs, gate, jobs, readers, threads)
+    else {
         return Err(RunFault::Room);
     };
     let (mut inboxes, book) = merge_all::<M>(alloc, accounts, workers, plan.readers, opened, read)?;

@@ -180,28 +180,33 @@ fn start_worker<'s, E, M: Mail, G: Gate, R: Threads + Wait + Sync>(
         .ok()
 }
 
-/// Starts all readers. None: a thread was refused.
+/// Starts all readers. None: a thread was refused, as the one with the number `cut` is, from 0.
 fn start_readers<'s, E, M: Mail, R: Threads + Wait + Sync>(
     scope: &Scope<'s, E>,
     rt: &'s R,
     mail: &'s M,
     readers: Vec<Reader<M>>,
+    cut: u64,
     stop: &'s AtomicBool,
     room: Vec<PromisedHandle<Option<Served<M>>, ReadingDone<M>>>,
 ) -> Option<Vec<PromisedHandle<Option<Served<M>>, ReadingDone<M>>>>
     requires room { vec_len room ≡ 0 }
     requires taken { All (λ reader. AreTaken reader.workers reader.whole (inboxes_by M.receiver reader.opened.value.items) (inboxes_by M.receiver reader.inboxes.items) reader.ends.items reader.journal) readers.items }
-    ensures { IfSome result (λ all. (vec_len all ≡ vec_len readers) × ((number : ℕ) (d : _) (e : _) → number < length readers.items → (slice_index_or all.items number d).promise.reader.value ≡ slice_index_or readers.items number e)) }
+    ensures cut { IfSome result (λ _. vec_len readers ≤ cut) }
+    ensures started { IfSome result (λ all. (vec_len all ≡ vec_len readers) × ((number : ℕ) (d : _) (e : _) → number < length readers.items → (slice_index_or all.items number d).promise.reader.value ≡ slice_index_or readers.items number e)) }
 {
     let mut started = room;
     for reader in readers {
+        if started.len() as u64 == cut {
+            return None;
+        }
         let handle = start_reader::<E, M, R>(scope, rt, mail, reader, stop)?;
         started.push(handle).ok()?;
     }
     Some(started)
 }
 
-/// Starts all workers. None: a thread was refused.
+/// Starts all workers. None: a thread was refused, as the one with the number `cut` is, from 0.
 fn start_workers<'s, E, M: Mail, G: Gate, R: Threads + Wait + Sync>(
     scope: &Scope<'s, E>,
     rt: &'s R,
@@ -209,12 +214,14 @@ fn start_workers<'s, E, M: Mail, G: Gate, R: Threads + Wait + Sync>(
     inputs: Inputs<'s>,
     gate: &'s G,
     jobs: Vec<Worker<M>>,
+    cut: u64,
     stop: &'s AtomicBool,
     room: Vec<PromisedHandle<Option<Worked<M>>, WorkDone<M>>>,
 ) -> Option<Vec<PromisedHandle<Option<Worked<M>>, WorkDone<M>>>>
     requires room { vec_len room ≡ 0 }
     requires few { length jobs.items ≤ 8 }
     requires ready { All (λ job. AreForWork (length inputs.registry.now.parties) (length inputs.usage.now) (map M.sender job.senders.items) × IsFresh (length inputs.usage.now) (drawer_of job.drawer) × (MOST_CLAIMS ≤ job.claims.room) × (MOST_CLAIMS + 1 ≤ job.portions.room)) jobs.items }
+    ensures cut { IfSome result (λ _. vec_len jobs ≤ cut) }
     ensures count { IfSome result (λ all. vec_len all ≡ vec_len jobs) }
     ensures inputs { IfSome result (λ all. (number : ℕ) (d : _) → number < length jobs.items → ((slice_index_or all.items number d).promise.tis.value ≡ inputs.entry.tis.now) × ((slice_index_or all.items number d).promise.registry.value ≡ inputs.entry.registry.now) × ((slice_index_or all.items number d).promise.usage.value ≡ inputs.entry.usage.now)) }
     ensures workers { IfSome result (λ all. (number : ℕ) (d : _) (e : _) → number < length jobs.items → ((slice_index_or all.items number d).promise.drawer.value ≡ (slice_index_or jobs.items number e).drawer) × ((slice_index_or all.items number d).promise.senders.value ≡ (slice_index_or jobs.items number e).senders)) }
@@ -222,6 +229,9 @@ fn start_workers<'s, E, M: Mail, G: Gate, R: Threads + Wait + Sync>(
     let mut started = room;
     let mut number = 0;
     for job in jobs {
+        if number == cut {
+            return None;
+        }
         let handle = start_worker::<E, M, G, R>(scope, rt, mail, inputs, gate, job, number, stop)?;
         started.push(handle).ok()?;
         number += 1;
@@ -229,8 +239,8 @@ fn start_workers<'s, E, M: Mail, G: Gate, R: Threads + Wait + Sync>(
     Some(started)
 }
 
-/// Lets all readers and workers run at once, and answers what each gave back. None: memory or a thread was refused; then
-/// those that were started have stopped.
+/// Lets all readers and workers run at once, and answers what each gave back. None: memory or a thread was refused, as the one
+/// with the number `cut` is, readers first; then those that were started have stopped.
 pub(crate) fn at_once<M: Mail, G: Gate, R: Threads + Wait + Sync>(
     rt: &R,
     alloc: Global,
@@ -239,10 +249,12 @@ pub(crate) fn at_once<M: Mail, G: Gate, R: Threads + Wait + Sync>(
     gate: &G,
     workers: Vec<Worker<M>>,
     readers: Vec<Reader<M>>,
+    cut: u64,
 ) -> Option<(Vec<Option<Worked<M>>>, Vec<Option<Served<M>>>)>
     requires few { length workers.items ≤ 8 }
     requires ready { All (λ job. AreForWork (length inputs.registry.now.parties) (length inputs.usage.now) (map M.sender job.senders.items) × IsFresh (length inputs.usage.now) (drawer_of job.drawer) × (MOST_CLAIMS ≤ job.claims.room) × (MOST_CLAIMS + 1 ≤ job.portions.room)) workers.items }
     requires taken { All (λ reader. (reader.workers ≡ length workers.items) × AreTaken reader.workers reader.whole (inboxes_by M.receiver reader.opened.value.items) (inboxes_by M.receiver reader.inboxes.items) reader.ends.items reader.journal) readers.items }
+    ensures cut { IfSome result (λ _. length readers.items + length workers.items ≤ cut) }
     ensures worked { IfSome result (λ r. (length r.0.items ≡ length workers.items) × ((number : ℕ) (d : _) (e : _) → number < length workers.items → IfSome (slice_index_or r.0.items number d) (λ worked. HasWorked (division_by inputs.entry.tis.now inputs.entry.registry.now) inputs.entry.usage.now (drawer_of (slice_index_or workers.items number e).drawer) (drawer_of worked.drawer) (map M.sender (slice_index_or workers.items number e).senders.items) (map M.sender worked.senders.items)))) }
     ensures read { IfSome result (λ r. (length r.1.items ≡ length readers.items) × ((number : ℕ) (d : _) (e : _) → number < length readers.items → IfSome (slice_index_or r.1.items number d) (λ reader. AreServed (length workers.items) (inboxes_by M.receiver (slice_index_or readers.items number e).opened.value.items) (inboxes_by M.receiver reader.inboxes.items) reader.book))) }
 {
@@ -258,14 +270,17 @@ pub(crate) fn at_once<M: Mail, G: Gate, R: Threads + Wait + Sync>(
             requires rooms { (vec_len working_room ≡ 0) × (vec_len reading_room ≡ 0) }
             requires ready { All (λ job. AreForWork (length inputs.registry.now.parties) (length inputs.usage.now) (map M.sender job.senders.items) × IsFresh (length inputs.usage.now) (drawer_of job.drawer) × (MOST_CLAIMS ≤ job.claims.room) × (MOST_CLAIMS + 1 ≤ job.portions.room)) workers.items }
             requires taken { All (λ reader. (reader.workers ≡ length workers.items) × AreTaken reader.workers reader.whole (inboxes_by M.receiver reader.opened.value.items) (inboxes_by M.receiver reader.inboxes.items) reader.ends.items reader.journal) readers.items }
+            ensures cut { IfSome result (λ _. length readers.items + length workers.items ≤ cut) }
             ensures worked { IfSome result (λ r. (length r.0.items ≡ length workers.items) × ((number : ℕ) (d : _) (e : _) → number < length workers.items → IfSome (slice_index_or r.0.items number d) (λ worked. HasWorked (division_by inputs.entry.tis.now inputs.entry.registry.now) inputs.entry.usage.now (drawer_of (slice_index_or workers.items number e).drawer) (drawer_of worked.drawer) (map M.sender (slice_index_or workers.items number e).senders.items) (map M.sender worked.senders.items)))) }
             ensures read { IfSome result (λ r. (length r.1.items ≡ length readers.items) × ((number : ℕ) (d : _) (e : _) → number < length readers.items → IfSome (slice_index_or r.1.items number d) (λ reader. AreServed (length workers.items) (inboxes_by M.receiver (slice_index_or readers.items number e).opened.value.items) (inboxes_by M.receiver reader.inboxes.items) reader.book))) }
         {
+            let count = readers.len() as u64;
             let Some(reading) = start_readers::<_, M, R>(
                 scope,
                 rt,
                 mail,
                 readers,
+                cut,
                 stop,
                 reading_room,
             ) else {
@@ -279,6 +294,7 @@ pub(crate) fn at_once<M: Mail, G: Gate, R: Threads + Wait + Sync>(
                 inputs,
                 gate,
                 workers,
+                cut - count,
                 stop,
                 working_room,
             ) else {

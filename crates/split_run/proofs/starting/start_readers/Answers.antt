@@ -9,9 +9,10 @@ loop-reader-preserved g c =
     let all = vec_items c.push.new.self in (
       search rules,
       (λ k d below. let h = was.1 (k + 1) d in grind rules),
-      λ k d e below.
+      (λ k d e below.
           below_more (λ i. (d : _) (e : _) → (get_or all i d).promise.reader.value ≡ get_or (into_iter_items c.into_iter-reader-iterator.result) i e) done
           (λ i low d e. let h = was.2 i d e low in grind rules)
           (λ d e. let h = was.1 0 e in grind rules)
-          k (grind (arith, rules)) d e,
+          k (grind (arith, rules)) d e),
+      grind (arith, rules),
     )

@@ -1,4 +1,4 @@
-use Rattle.std.specs.Prelude.{ℕ, ◌+◌, ◌<◌, ◌≡◌, length, slice_index_or, vec_items, vec_len}
+use Rattle.std.specs.Prelude.{ℕ, ◌+◌, ◌<◌, ◌≤◌, ◌≡◌, length, slice_index_or, vec_items, vec_len}
 use Rattle.std.specs.Vec.Iter.{into_iter_items, into_iter_len}
 use Rattle.split_run.proofs.starting.start_readers.Given as goal
 
@@ -10,3 +10,4 @@ invariant-loop-reader g l =
     (vec_len l.started + into_iter_len rest ≡ length all)
     × ((k : ℕ) (d : _) → k < into_iter_len rest → slice_index_or (into_iter_items rest) k d ≡ slice_index_or all (vec_len l.started + k) d)
     × ((k : ℕ) (d : _) (e : _) → k < vec_len l.started → (slice_index_or (vec_items l.started) k d).promise.reader.value ≡ slice_index_or all k e)
+    × (vec_len l.started ≤ l.cut)

@@ -1,4 +1,4 @@
-use Rattle.std.specs.Prelude.{ℕ, ◌+◌, ◌<◌, ◌≡◌, length, slice_index_or, vec_items, vec_len}
+use Rattle.std.specs.Prelude.{ℕ, ◌+◌, ◌<◌, ◌≤◌, ◌≡◌, length, slice_index_or, vec_items, vec_len}
 use Rattle.std.specs.Vec.Iter.{into_iter_items, into_iter_len}
 use Rattle.split_run.proofs.starting.start_workers.Given as goal
 
@@ -12,3 +12,4 @@ invariant-loop-job g l =
     × ((k : ℕ) (d : _) → k < into_iter_len rest → slice_index_or (into_iter_items rest) k d ≡ slice_index_or all (l.number + k) d)
     × ((k : ℕ) (d : _) → k < l.number → ((slice_index_or (vec_items l.started) k d).promise.tis.value ≡ l.inputs.tis.now) × ((slice_index_or (vec_items l.started) k d).promise.registry.value ≡ l.inputs.registry.now) × ((slice_index_or (vec_items l.started) k d).promise.usage.value ≡ l.inputs.usage.now))
     × ((k : ℕ) (d : _) (e : _) → k < l.number → ((slice_index_or (vec_items l.started) k d).promise.drawer.value ≡ (slice_index_or all k e).drawer) × ((slice_index_or (vec_items l.started) k d).promise.senders.value ≡ (slice_index_or all k e).senders))
+    × (l.number ≤ l.cut)

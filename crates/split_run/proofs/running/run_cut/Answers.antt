@@ -12,7 +12,7 @@ use Rattle.split_run.specs.Running.{AreDealt, AreForWork, AreMerged, AreTakenIn}
 use Rattle.split_run.specs.Sending.{HaveEnded}
 use Rattle.split_run.proofs.RunningLemmas.{for_work, given_back, is_book, untouched_mailbox}
 use Rattle.split_run.proofs.WorkingLemmas.{line_here}
-use Rattle.split_run.proofs.running.run.Goals as goal
+use Rattle.split_run.proofs.running.run_cut.Goals as goal
 
 pub readers_of-requires-clause-untouched : goal.readers_of-requires-clause-untouched
 readers_of-requires-clause-untouched g c κs within = λ account lt.
@@ -77,8 +77,8 @@ take_in_all-requires-clause-worked g c κs within = λ worker d lt.
       done = worked.done;
     })
 
-pub returns : goal.returns
-returns g c =
+pub returns-clause-book : goal.returns-clause-book
+returns-clause-book g c =
     let division = division_by c.args.tis.now c.args.registry.now in
     let opened = inboxes_by g.M.Mail.receiver c.in_ok-jobs.receivers.items in
     let draw = draw_of c.take_in_all.new.draw in
