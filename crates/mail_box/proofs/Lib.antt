@@ -19,3 +19,4 @@ pub mod JoinLemmas
 pub mod LinkCalls
 pub mod LinkEnds
 pub mod LinkJoins
+pub mod AwaitedLemmas

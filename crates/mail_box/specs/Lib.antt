@@ -8,3 +8,4 @@ pub mod LinkViews
 pub mod Endings
 pub mod Lanes
 pub mod LaneViews
+pub mod Awaited

@@ -2,14 +2,11 @@
 ghost use Rattle.std.specs.Prelude.{◌≡◌, ◌<◌, ◌≤◌};
 ghost use Rattle.block_draw.specs.Views.{draw_of, drawer_of};
 
-use block_draw::{Draw, Drawer};
+use block_draw::{Draw, Drawer, MOST_BLOCKS};
 use std::alloc::{AllocError, Global};
 use std::process::Abort;
 use std::test::Fail;
 use std::thread::map_vec;
-
-/// The most blocks that a draw may have.
-const MOST_BLOCKS: u64 = 15_625;
 
 /// Gathers a drawer that finds no block left.
 fn gather_done(rt: &impl Abort, draw: &mut Draw, mut drawer: Drawer)

@@ -124,10 +124,8 @@ impl RollCall {
 
 impl Gate for RollCall {
     fn pass(&self, worker: u64, line: u64) {
-        let (Some(end), Some(told)) = (
-            self.ends.get(worker as usize),
-            self.told.get(line as usize),
-        ) else {
+        let (Some(end), Some(told)) = (self.ends.get(worker as usize), self.told.get(line as usize))
+        else {
             self.faults.fetch_add(1, Ordering::SeqCst);
             return;
         };

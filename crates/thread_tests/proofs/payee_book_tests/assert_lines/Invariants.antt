@@ -1,5 +1,5 @@
 use Rattle.std.proofs.Common.{ℕ, ◌<◌, [], All, get_or}
-use Rattle.run_tests.proofs.payee_book_tests.assert_lines.Given as goal
+use Rattle.thread_tests.proofs.payee_book_tests.assert_lines.Given as goal
 
 -- the postings of the accounts so far are of these lines
 abbrev pub invariant-loop-account : goal.invariant-loop-account

@@ -1,6 +1,6 @@
 use Rattle.std.proofs.Common.{◌<◌, [], All, subst, arith}
 use Rattle.std.proofs.lemmas.List.{get_or_default}
-use Rattle.run_tests.proofs.payee_book_tests.assert_lines.Goals as goal
+use Rattle.thread_tests.proofs.payee_book_tests.assert_lines.Goals as goal
 
 pub returns : goal.returns
 returns g c = λ k d lt.
