@@ -4,7 +4,9 @@ ghost use Rattle.queue_core.specs.declared.item.Item.TheVariants.{Post};
 ghost use Rattle.mail_box.specs.LaneViews.{held_of, receiver_of, sender_of};
 ghost use Rattle.mail_box.specs.Mails.{IsInRange, opened_sender, with_end, with_post};
 
-use mail_box::{Item, LaneHeld, LaneMail, LaneReceiver, LaneSender, Mail, Posted, Took};
+use mail_box::{
+    Item, LaneHeld, LaneMail, LaneReceiver, LaneSender, Mail, Posted, ShyMail, Took, receive,
+};
 use mail_relay::relay;
 use split_run::CountingMail;
 use std::alloc::{AllocError, Global};
@@ -208,5 +210,26 @@ fn counts_what_is_taken(rt: HostRuntime) -> Result<(), Fail> {
     let posts = [(1, 10), (2, 20), (3, 30)];
     let _ = relay(&rt, &mail, first, second, receiver, &posts, &[(8, 80)]);
     assert_eq!(rt; mail.takes(), 6);
+    Ok(())
+}
+
+/// Of a mailbox whose sender is not taken in every odd take finds nothing.
+#[test]
+fn odd_takes_are_busy_until_the_sender_is_taken_in(rt: HostRuntime) -> Result<(), Fail> {
+    let (mut senders, mut receiver) = ShyMail(LaneMail).open(rt.alloc(), 1, 2, 1)?;
+    let mut sender = senders.swap_remove(0);
+    assert_sent(&rt, &mut sender, 1, 10);
+    assert_end_sent(&rt, &mut sender);
+    assert_eq!(&rt; receive::<ShyMail<LaneMail>, _>(&rt, &mut receiver), None);
+    assert_eq!(&rt;
+        receive::<ShyMail<LaneMail>, _>(&rt, &mut receiver),
+        Some((0, post(1, 10)))
+    );
+    assert_eq!(&rt; receive::<ShyMail<LaneMail>, _>(&rt, &mut receiver), None);
+    ShyMail::<LaneMail>::take_in(&rt, &mut receiver, sender);
+    assert_eq!(&rt;
+        receive::<ShyMail<LaneMail>, _>(&rt, &mut receiver),
+        Some((0, Item::End))
+    );
     Ok(())
 }

@@ -3,10 +3,10 @@
 
 use cwr_share::Registry;
 use line_split::Usage;
-use mail_box::{LaneMail, LinkMail, Mail};
+use mail_box::{LaneMail, LinkMail, Mail, ShyMail};
 use payee_book::Book;
 use small_run::{TERRITORIES, TWO_PARTIES, USES};
-use split_run::{CountingMail, Gate, MeetingGate, MeetingMail, NoGate, Plan, run};
+use split_run::{CountingMail, Gate, MeetingGate, MeetingMail, NoGate, Plan, run, run_cut};
 use std::alloc::{AllocError, Global};
 use std::process::Abort;
 use std::sync::Wait;
@@ -51,6 +51,23 @@ pub fn book_of<M: Mail, G: Gate, R: Threads + Wait + Sync>(
         return Err(Fail::new("no plan"));
     };
     Ok(run(rt, alloc, mail, &tis, &registry, &usage, plan, gate)?)
+}
+
+/// The book of a run of two workers and two readers, of which the thread with a number counts as refused. None: there is no book.
+fn book_cut_at<R: Threads + Wait + Sync>(
+    rt: &R,
+    alloc: Global,
+    usage: &str,
+    threads: u64,
+) -> Result<Option<Book>, Fail> {
+    let (tis, registry, usage) = inputs(alloc, usage)?;
+    let Some(plan) = Plan::new(2, 2, 1) else {
+        return Err(Fail::new("no plan"));
+    };
+    let book = run_cut(
+        rt, alloc, &LinkMail, &tis, &registry, &usage, plan, &NoGate, threads,
+    );
+    Ok(book.ok())
 }
 
 /// Asserts the totals of the residue and the two parties.
@@ -214,6 +231,26 @@ fn comes_to_a_book_of_no_lines(rt: HostRuntime) -> Result<(), Fail> {
     Ok(())
 }
 
+/// The threads that were started before the one that is refused end: readers that nobody sends to, and a worker whose mailboxes are full.
+#[test]
+fn has_no_book_where_a_thread_is_refused(rt: HostRuntime) -> Result<(), Fail> {
+    let alloc = rt.alloc();
+    let uses = equal_uses(alloc, 128)?;
+    for threads in 0..4 {
+        assert!(&rt; book_cut_at(&rt, alloc, USES, threads)?.is_none());
+        assert!(&rt; book_cut_at(&rt, alloc, uses.as_str(), threads)?.is_none());
+    }
+    let (Some(few), Some(many)) = (
+        book_cut_at(&rt, alloc, USES, 4)?,
+        book_cut_at(&rt, alloc, uses.as_str(), 4)?,
+    ) else {
+        return Err(Fail::new("there are four threads, and all were started"));
+    };
+    assert_small_run(&rt, &few);
+    assert_totals(&rt, &many, (0, 7680, 5120));
+    Ok(())
+}
+
 #[test]
 fn eight_workers_and_readers_share_one_node_each(rt: HostRuntime) -> Result<(), Fail> {
     let alloc = rt.alloc();
@@ -229,6 +266,8 @@ fn takes_each_posting_and_each_end_mark_once(rt: HostRuntime) -> Result<(), Fail
     for (usage, workers, takes) in [(USES, 2, 11), (USES, 8, 29), (HEADER, 2, 6)] {
         assert_takes(&rt, alloc, LaneMail, usage, workers, takes)?;
         assert_takes(&rt, alloc, LinkMail, usage, workers, takes)?;
+        assert_takes(&rt, alloc, ShyMail(LaneMail), usage, workers, takes)?;
+        assert_takes(&rt, alloc, ShyMail(LinkMail), usage, workers, takes)?;
     }
     Ok(())
 }
@@ -247,7 +286,10 @@ fn two_workers_are_at_work_at_once(rt: HostRuntime) -> Result<(), Fail> {
     let gate = || -> MeetingGate { MeetingGate::after(1, 1_000_000) };
     let totals = (0, 7680, 5120);
     assert_workers_meet(&rt, rt.alloc(), &LaneMail, 128, 1, gate(), totals)?;
-    assert_workers_meet(&rt, rt.alloc(), &LinkMail, 128, 1, gate(), totals)
+    assert_workers_meet(&rt, rt.alloc(), &LinkMail, 128, 1, gate(), totals)?;
+    let (lanes, links) = (ShyMail(LaneMail), ShyMail(LinkMail));
+    assert_workers_meet(&rt, rt.alloc(), &lanes, 128, 1, gate(), totals)?;
+    assert_workers_meet(&rt, rt.alloc(), &links, 128, 1, gate(), totals)
 }
 
 /// If the blocks were dealt out before the workers start, the other worker would have 128 lines.

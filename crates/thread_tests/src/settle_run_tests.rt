@@ -82,7 +82,9 @@ fn many_uses(alloc: Global, count: usize) -> Result<(String, String), Fail> {
     );
     let (most, least) = (count.wrapping_mul(60), count.wrapping_mul(40));
     let all = count.wrapping_mul(100);
-    let rows = format!(in alloc; "{first}S,A,{count},{most}\n{second}S,B,{count},{least}\nT,,0,0\nR,,{count},{all}\n")?;
+    let rows = format!(in alloc;
+        "{first}S,A,{count},{most}\n{second}S,B,{count},{least}\nT,,0,0\nR,,{count},{all}\n"
+    )?;
     Ok((uses, rows))
 }
 
