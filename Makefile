@@ -7,7 +7,7 @@ help:
 	@echo 'make compare  run the program and a plain Rust one on small made-up inputs, good and bad, and compare'
 	@echo 'make fuzz     the same on 100000 damaged inputs; some ten minutes on four cores'
 	@echo 'make sizes    run both at each limit and one beyond it, print times and peak memory; two minutes, 2 GB of memory'
-	@echo 'make refuse   run the program on the example with each allocation refused in turn, for four plans'
+	@echo 'make refuse   run the program with each allocation refused in turn, for four plans and on 2000 lines; a minute or two'
 	@echo 'make bench    run both on a million usage lines, print times and peak memory; and a mailbox alone'
 	@echo 'make explore  go through every state of a small mailbox, with the model in Python'
 	@echo 'make help     this list'
