@@ -42,9 +42,7 @@ pub fn run<M: Mail, G: Gate, R: Threads + Wait + Sync>(
     ensures { IfOk result (IsBookOf (division_by tis.now registry.now) usage.now (length registry.now.parties)) }
 {
     let threads = plan.readers + plan.workers;
-    run_cut(
-        rt, alloc, mail, tis, registry, usage, plan, gate, threads,
-    )
+    run_cut(rt, alloc, mail, tis, registry, usage, plan, gate, threads)
 }
 
 /// The same, where the thread with a number counts as refused: readers first, then workers, from 0. It is refused
@@ -78,8 +76,7 @@ pub fn run_cut<M: Mail, G: Gate, R: Threads + Wait + Sync>(
         registry,
         usage,
     };
-    let Some((worked, read)) = at_once(rt, alloc, mail, inputs, gate, jobs, readers, threads)
-    else {
+    let Some((worked, read)) = at_once(rt, alloc, mail, inputs, gate, jobs, readers, threads) else {
         return Err(RunFault::Room);
     };
     let (mut inboxes, book) = merge_all::<M>(alloc, accounts, workers, plan.readers, opened, read)?;
