@@ -7,7 +7,7 @@ help:
 	@echo 'make compare  run the program and a plain Rust one on small made-up inputs, good and bad, and compare'
 	@echo 'make fuzz     the same on 100000 damaged inputs; some ten minutes on four cores'
 	@echo 'make sizes    run both at each limit and one beyond it, print times and peak memory; two minutes, 2 GB of memory'
-	@echo 'make refuse   run the program with each allocation refused in turn, for four plans and on 2000 lines; a minute or two'
+	@echo 'make refuse   run the program and each call with each allocation refused in turn; two minutes'
 	@echo 'make bench    run both on a million usage lines, print times and peak memory; and a mailbox alone'
 	@echo 'make explore  go through every state of a small mailbox, with the model in Python'
 	@echo 'make help     this list'
@@ -50,6 +50,8 @@ sizes:
 
 refuse:
 	tests/refuse.sh $(PROGRAM)
+	cd crates/refusal_runs && rt run < stdin > /dev/null
+	tests/refuse_calls.sh crates/refusal_runs/out/refusal_runs
 
 bench:
 	python3 bench/bench.py --program $(PROGRAM) --lines 1000000 --works 20000 --parties 400 --repeats 5

@@ -1,4 +1,5 @@
-// Refuses one allocation of a program that is run with this library before it: the one whose number REFUSE has, from 1.
+// Refuses allocations of a program that is run with this library before it: the one whose number REFUSE has, from 1, or all from the
+// number of REFUSE_FROM on.
 #define _GNU_SOURCE
 #include <dlfcn.h>
 #include <errno.h>
@@ -6,15 +7,22 @@
 #include <stdlib.h>
 
 static atomic_long count;
-static long refused;
+static long refused, refused_from;
+
+static long number_in(const char *name) {
+    const char *number = getenv(name);
+    return number ? atol(number) : 0;
+}
 
 __attribute__((constructor)) static void begin(void) {
-    const char *number = getenv("REFUSE");
-    refused = number ? atol(number) : 0;
+    refused = number_in("REFUSE");
+    refused_from = number_in("REFUSE_FROM");
 }
 
 static int is_refused(void) {
-    return refused && atomic_fetch_add(&count, 1) + 1 == refused;
+    if (!refused && !refused_from) return 0;
+    long number = atomic_fetch_add(&count, 1) + 1;
+    return number == refused || (refused_from && number >= refused_from);
 }
 
 void *malloc(size_t size) {

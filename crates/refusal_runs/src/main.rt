@@ -1,0 +1,34 @@
+//! Makes calls on small inputs and prints what they answer, so that each of their allocations can be refused in turn.
+//!
+//! Each line of the input says what to do: `calls`, each call that takes memory, a line each; `open links` or `open lanes`, open a mailbox of
+//! that kind; `links` or `lanes`, the same and what its calls answer then; `counted`, a run whose gate and mailboxes count.
+#![tactic(auto)]
+
+mod calls;
+mod counted;
+mod mailboxes;
+
+use calls::make_calls;
+use counted::run_counted;
+use mail_box::{LaneMail, LinkMail};
+use mailboxes::{exchange, open};
+use std::io;
+use std::process::ExitCode;
+
+fn main(rt: HostRuntime) -> io::Result<ExitCode> {
+    let alloc = rt.alloc();
+    let mut out = rt.stdout();
+    for line in rt.lines(alloc) {
+        let line = line?;
+        match line.as_str() {
+            "calls" => make_calls(&rt, alloc, &mut out)?,
+            "open links" => open(alloc, &LinkMail, &mut out)?,
+            "open lanes" => open(alloc, &LaneMail, &mut out)?,
+            "links" => exchange(&rt, alloc, &LinkMail, &mut out)?,
+            "lanes" => exchange(&rt, alloc, &LaneMail, &mut out)?,
+            "counted" => run_counted(&rt, alloc, &mut out)?,
+            _ => return Ok(ExitCode::FAILURE),
+        }
+    }
+    Ok(ExitCode::SUCCESS)
+}

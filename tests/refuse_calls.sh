@@ -1,0 +1,79 @@
+#!/usr/bin/env bash
+# Runs a build of refusal_runs with its memory refused. Each allocation in turn: each call answers as it does with ample memory, or that memory
+# was refused, and each is refused at some number. All of them once a mailbox is open: its calls answer as they do with ample memory. Each allocation of a
+# run in turn: if its workers came to all lines, all their postings and end marks were taken, with a book or without. It takes a C compiler,
+# and a minute. Usage: tests/refuse_calls.sh PROGRAM
+set -euo pipefail
+program=$(realpath "$1")
+room=$(mktemp -d)
+trap 'rm -rf "$room"' EXIT
+"${CC:-cc}" -shared -fPIC -O1 -o "$room/refuse.so" "$(dirname "$0")/refuse.c" -ldl
+
+fail() {
+    echo "refuse_calls.sh: $1"
+    head -c 2000 "$room/out" "$room/err"
+    exit 1
+}
+
+# answers WORD NAME NUMBER: what it prints for a word, where the variable NAME says which allocations are refused. It ends by itself.
+answers() {
+    local status=0
+    printf '%s\n' "$1" | env "$2=$3" LD_PRELOAD="$room/refuse.so" timeout 60 "$program" > "$room/out" 2> "$room/err" || status=$?
+    ((status < 2)) || fail "$1, $2=$3: status $status"
+}
+
+# past the last allocation, if so many numbers in a row change nothing. A run that has no book anyway has some hundred.
+past=200
+
+# sweep WORD CHECK: each allocation of a word refused in turn; what it then prints is looked at by the function CHECK.
+sweep() {
+    local number=0 same=0 refusals=0
+    answers "$1" REFUSE 0
+    cp "$room/out" "$room/all"
+    while ((same < past)); do
+        number=$((number + 1))
+        answers "$1" REFUSE "$number"
+        if cmp -s "$room/out" "$room/all"; then
+            same=$((same + 1))
+        else
+            same=0 refusals=$((refusals + 1))
+            "$2" || fail "$1, allocation $number"
+        fi
+    done
+    ((refusals > 0)) || fail "$1: nothing was refused"
+    echo "$1: $refusals allocations refused in turn"
+}
+
+# each line is that of ample memory, or says that memory was refused; there are none where the word itself was not read
+is_answered() {
+    awk 'NR == FNR { all[FNR] = $0; lines = FNR; next }
+        { none = all[FNR]; sub(/: [^:]*$/, ": no memory", none) }
+        $0 != all[FNR] && $0 != none { exit 1 }
+        END { if (FNR != lines && FNR != 0) exit 1 }' "$room/all" "$room/out" || return 1
+    grep ': no memory$' "$room/out" >> "$room/refused" || true
+}
+
+is_counted() {
+    ! grep -q '^65 lines' "$room/out" || grep -q '^65 lines, 133 items, ' "$room/out"
+}
+
+: > "$room/refused"
+sweep calls is_answered
+calls=$(wc -l < "$room/all") seen=$(sort -u "$room/refused" | wc -l)
+((calls == seen)) || fail "only $seen of $calls calls were refused anything"
+
+for kind in links lanes; do
+    answers "$kind" REFUSE 0
+    cp "$room/out" "$room/all"
+    from=0
+    until grep -q opened "$room/out" && ((from > 0)); do
+        from=$((from + 1))
+        ((from < 1000)) || fail "open $kind: never opened"
+        answers "open $kind" REFUSE_FROM "$from"
+    done
+    answers "$kind" REFUSE_FROM "$from"
+    cmp -s "$room/out" "$room/all" || fail "$kind, all allocations from $from on"
+    echo "$kind: the same with all allocations refused from number $from on"
+done
+
+sweep counted is_counted
