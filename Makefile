@@ -3,17 +3,17 @@
 help:
 	@echo 'make demo     make the statements of the example in about a minute, with a build that is not proved'
 	@echo 'make build    prove and build the program, leave it as out/royalty_run'
-	@echo 'make test     the gate: prove every crate from nothing, refuse every wrong body, run every test and the program'
+	@echo 'make test     the gate: prove every crate from nothing, refuse every wrong body, run every test, the program, and each call with its memory refused'
 	@echo 'make compare  run the program and a plain Rust one on small made-up inputs, good and bad, and compare'
 	@echo 'make fuzz     the same on 100000 damaged inputs; some ten minutes on four cores'
 	@echo 'make sizes    run both at each limit and one beyond it, print times and peak memory; two minutes, 2 GB of memory'
-	@echo 'make refuse   run the program and each call with each allocation refused in turn; two minutes'
+	@echo 'make refuse   run the program with each allocation, thread, read and write refused in turn, and each call as make test does; a minute'
 	@echo 'make bench    run both on a million usage lines, print times and peak memory; and a mailbox alone'
 	@echo 'make explore  go through every state of a small mailbox, with the model in Python'
 	@echo 'make help     this list'
 	@echo 'compare, fuzz, sizes, refuse and bench build the program first, unless they are given one: make bench PROGRAM=out/royalty_run'
 	@echo 'All but explore need the command rt of the Rattle kit on the path; compare, fuzz, sizes, bench and explore also'
-	@echo 'python3, compare, fuzz, sizes and bench cargo, and refuse a C compiler.'
+	@echo 'python3, compare, fuzz, sizes and bench cargo, and test and refuse a C compiler.'
 
 PROGRAM = out/royalty_run
 ifeq ($(origin PROGRAM),file)
@@ -38,6 +38,7 @@ demo:
 test:
 	rt ci
 	tests/program.sh crates/royalty_run/out/royalty_run
+	tests/refuse_calls.sh crates/refusal_runs/out/refusal_runs
 
 compare:
 	python3 bench/compare.py --program $(PROGRAM) --cases 2000

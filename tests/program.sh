@@ -47,6 +47,7 @@ check 'an argument that is not UTF-8' 2 '' 'royalty_run: an argument is not UTF-
 check 'a file that is not there' 4 '' 'royalty_run: cannot read absent\n' "$program" run --tis absent --cwr works.cwr --usage usage.csv "${plan[@]}"
 printf 'code\n' >'territories.csv '
 check 'a path that ends in a blank' 1 '' 'royalty_run: tis fault 1 at row 0\n' "$program" run --tis 'territories.csv ' --cwr works.cwr --usage usage.csv "${plan[@]}"
+check 'a standard error that is full' 1 '' '' bash -c '"$0" "$@" 2>/dev/full' "$program" run --tis usage.csv --cwr works.cwr --usage usage.csv "${plan[@]}"
 check 'an output that is full' 4 '' 'royalty_run: cannot write\n' bash -c '"$0" split 3 A=5000 >/dev/full' "$program"
 
 # A table of the most bytes is read and refused for its first row, and one of a byte more is not cut short but not

@@ -1,13 +1,20 @@
-// Refuses allocations of a program that is run with this library before it: the one whose number REFUSE has, from 1, or all from the
-// number of REFUSE_FROM on.
+// Stands between a program and the system, and refuses what the environment says:
+//   REFUSE=N          the allocation with this number, from 1
+//   REFUSE_FROM=N     all allocations from this number on
+//   REFUSE_THREAD=N   the thread with this number
+//   REFUSE_IO=N       the read or write with this number: an error of the device
+//   INTERRUPT_IO=N    each read or write whose number is a multiple of this: it has to be made again
+//   SHORT_IO=N        nothing, but a read or a write takes so many bytes at most
 #define _GNU_SOURCE
 #include <dlfcn.h>
 #include <errno.h>
+#include <pthread.h>
 #include <stdatomic.h>
 #include <stdlib.h>
+#include <sys/types.h>
 
-static atomic_long count;
-static long refused, refused_from;
+static atomic_long allocations, threads, transfers;
+static long refused, refused_from, refused_thread, refused_io, interrupted_io, short_io;
 
 static long number_in(const char *name) {
     const char *number = getenv(name);
@@ -17,11 +24,15 @@ static long number_in(const char *name) {
 __attribute__((constructor)) static void begin(void) {
     refused = number_in("REFUSE");
     refused_from = number_in("REFUSE_FROM");
+    refused_thread = number_in("REFUSE_THREAD");
+    refused_io = number_in("REFUSE_IO");
+    interrupted_io = number_in("INTERRUPT_IO");
+    short_io = number_in("SHORT_IO");
 }
 
 static int is_refused(void) {
     if (!refused && !refused_from) return 0;
-    long number = atomic_fetch_add(&count, 1) + 1;
+    long number = atomic_fetch_add(&allocations, 1) + 1;
     return number == refused || (refused_from && number >= refused_from);
 }
 
@@ -52,3 +63,34 @@ int posix_memalign(void **memory, size_t alignment, size_t size) {
     if (is_refused()) return ENOMEM;
     return next(memory, alignment, size);
 }
+
+int pthread_create(pthread_t *thread, const pthread_attr_t *attributes, void *(*start)(void *), void *argument) {
+    static int (*next)(pthread_t *, const pthread_attr_t *, void *(*)(void *), void *);
+    if (!next) next = dlsym(RTLD_NEXT, "pthread_create");
+    if (atomic_fetch_add(&threads, 1) + 1 == refused_thread) return EAGAIN;
+    return next(thread, attributes, start, argument);
+}
+
+// How many of so many bytes a read or a write may take. 0: it fails, and errno says why.
+static size_t taken(size_t bytes) {
+    long number = atomic_fetch_add(&transfers, 1) + 1;
+    if (number == refused_io) return errno = EIO, 0;
+    if (interrupted_io && number % interrupted_io == 0) return errno = EINTR, 0;
+    return short_io && bytes > (size_t)short_io ? (size_t)short_io : bytes;
+}
+
+ssize_t read(int file, void *bytes, size_t count) {
+    static ssize_t (*next)(int, void *, size_t);
+    if (!next) next = dlsym(RTLD_NEXT, "read");
+    size_t most = taken(count);
+    return most || !count ? next(file, bytes, most) : -1;
+}
+
+ssize_t write(int file, const void *bytes, size_t count) {
+    static ssize_t (*next)(int, const void *, size_t);
+    if (!next) next = dlsym(RTLD_NEXT, "write");
+    size_t most = taken(count);
+    return most || !count ? next(file, bytes, most) : -1;
+}
+
+ssize_t __write(int file, const void *bytes, size_t count) { return write(file, bytes, count); }

@@ -1,7 +1,9 @@
 #!/usr/bin/env bash
-# Runs a program with each of its allocations refused in turn: on the examples with several plans, and on 2,000 usage lines whose rows
-# are written by four threads. Each such run has to end within a minute, with the statements, or with status 3 and nothing
-# printed. It takes a C compiler, and some minutes. Usage: tests/refuse.sh PROGRAM
+# Runs a program with what it asks of the system refused: each allocation, each thread, and each read and write in turn; and with reads and
+# writes that are cut short or interrupted. It divides one amount, and runs on the examples with several plans and on 2,000 usage lines, whose rows
+# are written by four threads. Each run has to end within a minute: with the whole answer; where memory or a thread was refused, with status 3 and nothing
+# printed; where a read or a write was, with status 4, what the output took, and a message that says which. It takes a C compiler, and half a
+# minute. Usage: tests/refuse.sh PROGRAM
 set -euo pipefail
 program=$(realpath "$1")
 examples=$(dirname "$(realpath "$0")")/../examples
@@ -12,37 +14,98 @@ trap 'rm -rf "$room"' EXIT
 # A run is over where this many numbers in a row are past its last allocation; how many there are depends on the threads.
 past=40
 
-# sweep USAGE STATEMENTS WORKERS READERS NODES
-sweep() {
-    local usage=$1 statements=$2 workers=$3 readers=$4 nodes=$5
-    local number=0 answered=0 refusals=0 status
-    while ((answered < past)); do
-        number=$((number + 1)) status=0
-        REFUSE=$number LD_PRELOAD=$room/refuse.so timeout 60 "$program" run --tis "$examples/territories.csv" \
-            --cwr "$examples/works.cwr" --usage "$usage" \
-            --workers "$workers" --readers "$readers" --nodes "$nodes" > "$room/out" 2> "$room/err" || status=$?
-        if [[ $status == 0 ]] && cmp -s "$room/out" "$statements"; then
-            answered=$((answered + 1))
-        elif [[ $status == 3 && ! -s $room/out ]]; then
-            answered=0 refusals=$((refusals + 1))
-        else
-            echo "allocation $number, $workers x $readers x $nodes: status $status: $(cat "$room/err")"
-            exit 1
-        fi
-    done
-    ((refusals > 0))
-    echo "$workers workers, $readers readers, $nodes nodes: $refusals allocations refused in turn"
+# The words of the runs that follow, what they are called, and the file that has their whole answer.
+words=() name='' whole=''
+
+fail() {
+    echo "refuse.sh: $name, $1: status $status: $(cat "$room/err")"
+    exit 1
 }
 
+# answer VARIABLE=NUMBER..: runs the words with this in the environment
+answer() {
+    status=0
+    env "$@" LD_PRELOAD="$room/refuse.so" timeout 60 "$program" "${words[@]}" > "$room/out" 2> "$room/err" || status=$?
+}
+
+is_whole() {
+    [[ $status == 0 && ! -s $room/err ]] && cmp -s "$room/out" "$whole"
+}
+
+is_out_of_room() {
+    [[ $status == 3 && ! -s $room/out && $(< "$room/err") == 'royalty_run: out of room' ]]
+}
+
+is_cut_off() {
+    cmp -s -n "$(stat -c %s "$room/out")" "$room/out" "$whole" || return 1
+    case $status:$(< "$room/err") in
+        '4:royalty_run: cannot write') ;;
+        '4:royalty_run: cannot read '*) [[ ! -s $room/out ]] ;;
+        *) return 1 ;;
+    esac
+}
+
+# sweep VARIABLE CHECK: refuses one number after another; where the answer is not whole, CHECK has to hold. `refusals` counts these.
+sweep() {
+    local number=0 answered=0
+    refusals=0
+    while ((answered < past)); do
+        number=$((number + 1))
+        answer "$1=$number"
+        if is_whole; then
+            answered=$((answered + 1))
+        elif "$2"; then
+            answered=0 refusals=$((refusals + 1))
+        else
+            fail "$1=$number"
+        fi
+    done
+    ((refusals > 0)) || fail "$1: nothing was refused"
+}
+
+# sweep_all: all of it over the words, whose run starts so many threads that it cannot do without
+sweep_all() {
+    local threads=$1 allocations transfers
+    answer REFUSE=0
+    is_whole || fail 'nothing refused'
+    sweep REFUSE is_out_of_room
+    allocations=$refusals
+    sweep REFUSE_IO is_cut_off
+    transfers=$refusals
+    if ((threads > 0)); then
+        sweep REFUSE_THREAD is_out_of_room
+        ((refusals == threads)) || fail "$refusals threads refused, not $threads"
+    fi
+    for few in SHORT_IO=1 INTERRUPT_IO=2 'SHORT_IO=7 INTERRUPT_IO=3'; do
+        # shellcheck disable=SC2086
+        answer $few
+        is_whole || fail "$few"
+    done
+    echo "$name: $allocations allocations, $threads threads, $transfers reads and writes refused in turn"
+}
+
+# set_run USAGE WORKERS READERS NODES
+set_run() {
+    words=(run --tis "$examples/territories.csv" --cwr "$examples/works.cwr" --usage "$1" --workers "$2" --readers "$3" --nodes "$4")
+    name="$2 workers, $3 readers, $4 nodes"
+}
+
+words=(split 100 A=3333 B=3333 C=3333) name='a division' whole=$room/portions
+printf 'P,A,34\nP,B,33\nP,C,33\nM,,0\n' > "$whole"
+sweep_all 0
+
+whole=$examples/statements.csv
 for plan in '1 1 1' '2 2 16' '3 1 2' '8 8 64'; do
-    # shellcheck disable=SC2086
-    sweep "$examples/usage.csv" "$examples/statements.csv" $plan
+    read -r workers readers nodes <<< "$plan"
+    set_run "$examples/usage.csv" "$workers" "$readers" "$nodes"
+    sweep_all "$((workers + readers))"
 done
 
 # The statements of many lines are those of a run in which nothing is refused.
 head -n 1 "$examples/usage.csv" > "$room/usage.csv"
 for _ in {1..200}; do tail -n +2 "$examples/usage.csv" | head -n 10; done >> "$room/usage.csv"
-"$program" run --tis "$examples/territories.csv" --cwr "$examples/works.cwr" --usage "$room/usage.csv" \
-    --workers 2 --readers 2 --nodes 4 > "$room/statements.csv"
-wc -l < "$room/statements.csv" | sed 's/ *$/ rows of many lines:/'
-sweep "$room/usage.csv" "$room/statements.csv" 2 2 4
+set_run "$room/usage.csv" 2 2 4
+whole=$room/statements.csv
+"$program" "${words[@]}" > "$whole"
+name="$name, $(wc -l < "$whole") rows of many lines"
+sweep_all 4

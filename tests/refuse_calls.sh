@@ -1,8 +1,8 @@
 #!/usr/bin/env bash
-# Runs a build of refusal_runs with its memory refused. Each allocation in turn: each call answers as it does with ample memory, or that memory
-# was refused, and each is refused at some number. All of them once a mailbox is open: its calls answer as they do with ample memory. Each allocation of a
-# run in turn: if its workers came to all lines, all their postings and end marks were taken, with a book or without. It takes a C compiler,
-# and a minute. Usage: tests/refuse_calls.sh PROGRAM
+# Runs a build of refusal_runs with its memory and its threads refused. Each allocation and each thread in turn: each call answers as it does where nothing is
+# refused, or that memory was, and each is refused an allocation at some number. All allocations once a mailbox is open: its calls answer as they do with ample
+# memory. Each allocation and thread of a run in turn: if its workers came to all lines, all their postings and end marks were taken, with a book or without.
+# It takes a C compiler, and half a minute. Usage: tests/refuse_calls.sh PROGRAM
 set -euo pipefail
 program=$(realpath "$1")
 room=$(mktemp -d)
@@ -22,26 +22,26 @@ answers() {
     ((status < 2)) || fail "$1, $2=$3: status $status"
 }
 
-# past the last allocation, if so many numbers in a row change nothing. A run that has no book anyway has some hundred.
+# past the last one, if so many numbers in a row change nothing. A run that has no book anyway has some hundred allocations.
 past=200
 
-# sweep WORD CHECK: each allocation of a word refused in turn; what it then prints is looked at by the function CHECK.
+# sweep WORD VARIABLE CHECK: one number of a word refused after another; what it then prints is looked at by the function CHECK
 sweep() {
     local number=0 same=0 refusals=0
-    answers "$1" REFUSE 0
+    answers "$1" "$2" 0
     cp "$room/out" "$room/all"
     while ((same < past)); do
         number=$((number + 1))
-        answers "$1" REFUSE "$number"
+        answers "$1" "$2" "$number"
         if cmp -s "$room/out" "$room/all"; then
             same=$((same + 1))
         else
             same=0 refusals=$((refusals + 1))
-            "$2" || fail "$1, allocation $number"
+            "$3" || fail "$1, $2=$number"
         fi
     done
-    ((refusals > 0)) || fail "$1: nothing was refused"
-    echo "$1: $refusals allocations refused in turn"
+    ((refusals > 0)) || fail "$1, $2: nothing was refused"
+    echo "$1, $2: $refusals refused in turn"
 }
 
 # each line is that of ample memory, or says that memory was refused; there are none where the word itself was not read
@@ -58,9 +58,10 @@ is_counted() {
 }
 
 : > "$room/refused"
-sweep calls is_answered
+sweep calls REFUSE is_answered
 calls=$(wc -l < "$room/all") seen=$(sort -u "$room/refused" | wc -l)
-((calls == seen)) || fail "only $seen of $calls calls were refused anything"
+((calls == seen)) || fail "only $seen of $calls calls were refused memory"
+sweep calls REFUSE_THREAD is_answered
 
 for kind in links lanes; do
     answers "$kind" REFUSE 0
@@ -76,4 +77,5 @@ for kind in links lanes; do
     echo "$kind: the same with all allocations refused from number $from on"
 done
 
-sweep counted is_counted
+sweep counted REFUSE is_counted
+sweep counted REFUSE_THREAD is_counted

@@ -3,9 +3,9 @@
 use cwr_share::Registry;
 use line_split::Usage;
 use mail_box::LinkMail;
-use small_run::{TERRITORIES, TWO_PARTIES};
+use small_run::{TERRITORIES, TWO_PARTIES, equal_uses};
 use split_run::{CountingMail, Gate, Plan, run};
-use std::alloc::{AllocError, Global};
+use std::alloc::Global;
 use std::io::{self, Write};
 use std::sync::Wait;
 use std::sync::atomic::{AtomicU64, Ordering};
@@ -22,16 +22,6 @@ impl Gate for CallCount {
     fn pass(&self, _worker: u64, _line: u64) {
         self.calls.fetch_add(1, Ordering::SeqCst);
     }
-}
-
-/// So many usage lines, each of which has a posting for two parties.
-pub fn equal_uses(alloc: Global, lines: usize) -> Result<String, AllocError> {
-    let mut text = String::new(alloc);
-    text.push_str("usage,work,territory,right,amount\n")?;
-    for _ in 0..lines {
-        text.push_str("u,W1,276,P,100\n")?;
-    }
-    Ok(text)
 }
 
 /// Prints how many lines the gate was told, how many items were taken, and whether there was a book, of a run over 65 lines with

@@ -1,8 +1,13 @@
 //! A small run: its three inputs, and its statements. Several tests share it.
 #![tactic(auto)]
 
+use std::alloc::{AllocError, Global};
+
 /// A table of territories, in which 9001 is a group of our own.
 pub const TERRITORIES: &str = "code,groups\n2136,\n9001,2136\n276,9001\n840,2136\n";
+
+/// A table of no usage lines: the header alone.
+pub const NO_USES: &str = "usage,work,territory,right,amount\n";
 
 /// Three usage lines, the last of a work that has no registration.
 pub const USES: &str = "\
@@ -44,3 +49,13 @@ M,WORK,u3,7
 T,,2,37
 R,,3,157
 ";
+
+/// A table of so many usage lines of 100 each, of the work of two parties.
+pub fn equal_uses(alloc: Global, lines: usize) -> Result<String, AllocError> {
+    let mut text = String::new(alloc);
+    text.push_str(NO_USES)?;
+    for _ in 0..lines {
+        text.push_str("u,W1,276,P,100\n")?;
+    }
+    Ok(text)
+}

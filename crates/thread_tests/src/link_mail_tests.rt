@@ -4,10 +4,10 @@ ghost use Rattle.queue_core.specs.declared.item.Item.TheVariants.{Post};
 ghost use Rattle.mail_box.specs.LinkViews.{held_of, receiver_of, sender_of};
 ghost use Rattle.mail_box.specs.Mails.{IsInRange, opened_sender};
 
-use crate::run_threads_tests::{assert_small_run, assert_totals, book_of, equal_uses};
+use crate::run_threads_tests::{assert_small_run, assert_totals, book_of};
 use mail_box::{Item, LaneMail, LinkHeld, LinkMail, LinkReceiver, LinkSender, Mail, Posted, Took};
 use mail_relay::relay;
-use small_run::USES;
+use small_run::{USES, equal_uses};
 use split_run::NoGate;
 use std::alloc::{AllocError, Global};
 use std::process::Abort;

@@ -5,6 +5,7 @@ ghost use Rattle.payee_book.specs.Statement.{AreApart};
 
 use line_split::{Account, MOST_AMOUNT, Reason, Usage};
 use payee_book::{Book, Journal};
+use small_run::{NO_USES, USES};
 use std::alloc::Global;
 use std::process::Abort;
 use std::test::Fail;
@@ -114,7 +115,7 @@ fn writes_the_statements(rt: HostRuntime) -> Result<(), Fail> {
         &rt,
         alloc,
         &book,
-        b"usage,work,territory,right,amount\nu1,W1,276,P,100\nu2,W1,840,P,50\nu3,W9,276,P,7\n",
+        USES.as_bytes(),
         &["", "A,B", "say \"B\""],
         &[Reason::Open, Reason::Open, Reason::Work],
     )?;
@@ -142,7 +143,7 @@ fn takes_the_most_accounts(rt: HostRuntime) -> Result<(), Fail> {
 #[test]
 fn writes_many_lines(rt: HostRuntime) -> Result<(), Fail> {
     let alloc = rt.alloc();
-    let mut usage = Vec::from_slice(alloc, b"usage,work,territory,right,amount\n")?;
+    let mut usage = Vec::from_slice(alloc, NO_USES.as_bytes())?;
     let mut want = Vec::new(alloc);
     let mut reasons = Vec::new(alloc);
     let mut postings = Vec::new(alloc);

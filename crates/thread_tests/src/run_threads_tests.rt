@@ -5,29 +5,16 @@ use cwr_share::Registry;
 use line_split::Usage;
 use mail_box::{LaneMail, LinkMail, Mail, ShyMail};
 use payee_book::Book;
-use small_run::{TERRITORIES, TWO_PARTIES, USES};
+use small_run::{NO_USES, TERRITORIES, TWO_PARTIES, USES, equal_uses};
 use split_run::{CountingMail, Gate, MeetingGate, MeetingMail, NoGate, Plan, run, run_cut};
 use std::alloc::{AllocError, Global};
 use std::process::Abort;
 use std::sync::Wait;
-use std::sync::atomic::{AtomicU64, Ordering};
+use std::sync::atomic::{AtomicBool, AtomicU64, Ordering};
 use std::test::Fail;
 use std::thread;
-use std::thread::Threads;
+use std::thread::{Threads, join};
 use tis_tree::TisTable;
-
-/// The header of a table of usage lines.
-const HEADER: &str = "usage,work,territory,right,amount\n";
-
-/// So many usage lines of 100 each, of the work of two parties.
-pub fn equal_uses(alloc: Global, lines: usize) -> Result<String, Fail> {
-    let mut text = String::new(alloc);
-    text.push_str(HEADER)?;
-    for _ in 0..lines {
-        text.push_str("u,W1,276,P,100\n")?;
-    }
-    Ok(text)
-}
 
 /// The table, the registrations and the usage lines of a small run.
 pub fn inputs(alloc: Global, usage: &str) -> Result<(TisTable, Registry, Usage), Fail> {
@@ -68,6 +55,41 @@ fn book_cut_at<R: Threads + Wait + Sync>(
         rt, alloc, &LinkMail, &tis, &registry, &usage, plan, &NoGate, threads,
     );
     Ok(book.ok())
+}
+
+/// The most turns that a watch waits for the threads of a run to end.
+const MOST_WATCHED: u64 = 10_000_000;
+
+/// Waits until something is done, and fails the test where that takes too many turns.
+fn watch(rt: &impl Abort, done: &AtomicBool) {
+    for _ in 0..MOST_WATCHED {
+        if done.load(Ordering::SeqCst) {
+            return;
+        }
+        thread::yield_now();
+    }
+    panic!(rt; "the threads of a run that was stopped go on");
+}
+
+/// Asserts that such a run ends, and has no book.
+fn assert_stops<R: Abort + Threads + Wait + Sync>(
+    rt: &R,
+    alloc: Global,
+    usage: &str,
+    threads: u64,
+) -> Result<(), Fail> {
+    let done = AtomicBool::new(false);
+    let (book, _) = join(
+        rt,
+        || -> Result<Option<Book>, Fail> {
+            let book = book_cut_at(rt, alloc, usage, threads);
+            done.store(true, Ordering::SeqCst);
+            book
+        },
+        || watch(rt, &done),
+    );
+    assert!(rt; book?.is_none(), "there is a book without a thread");
+    Ok(())
 }
 
 /// Asserts the totals of the residue and the two parties.
@@ -225,7 +247,7 @@ fn comes_to_one_book_whatever_the_plan(rt: HostRuntime) -> Result<(), Fail> {
 fn comes_to_a_book_of_no_lines(rt: HostRuntime) -> Result<(), Fail> {
     let alloc = rt.alloc();
     for threads in [(1, 1, 1), (2, 2, 1), (8, 8, 64)] {
-        let book = book_of(&rt, alloc, &LaneMail, HEADER, threads, &NoGate)?;
+        let book = book_of(&rt, alloc, &LaneMail, NO_USES, threads, &NoGate)?;
         assert_totals(&rt, &book, (0, 0, 0));
     }
     Ok(())
@@ -237,8 +259,8 @@ fn has_no_book_where_a_thread_is_refused(rt: HostRuntime) -> Result<(), Fail> {
     let alloc = rt.alloc();
     let uses = equal_uses(alloc, 128)?;
     for threads in 0..4 {
-        assert!(&rt; book_cut_at(&rt, alloc, USES, threads)?.is_none());
-        assert!(&rt; book_cut_at(&rt, alloc, uses.as_str(), threads)?.is_none());
+        assert_stops(&rt, alloc, USES, threads)?;
+        assert_stops(&rt, alloc, uses.as_str(), threads)?;
     }
     let (Some(few), Some(many)) = (
         book_cut_at(&rt, alloc, USES, 4)?,
@@ -263,7 +285,7 @@ fn eight_workers_and_readers_share_one_node_each(rt: HostRuntime) -> Result<(), 
 #[test]
 fn takes_each_posting_and_each_end_mark_once(rt: HostRuntime) -> Result<(), Fail> {
     let alloc = rt.alloc();
-    for (usage, workers, takes) in [(USES, 2, 11), (USES, 8, 29), (HEADER, 2, 6)] {
+    for (usage, workers, takes) in [(USES, 2, 11), (USES, 8, 29), (NO_USES, 2, 6)] {
         assert_takes(&rt, alloc, LaneMail, usage, workers, takes)?;
         assert_takes(&rt, alloc, LinkMail, usage, workers, takes)?;
         assert_takes(&rt, alloc, ShyMail(LaneMail), usage, workers, takes)?;

@@ -2,7 +2,7 @@
 //! has little to follow in a test.
 
 use settle_run::{Fault, settle, settle_to};
-use small_run::{SHORT, STATEMENTS, TERRITORIES, TWO_PARTIES, USES};
+use small_run::{NO_USES, SHORT, STATEMENTS, TERRITORIES, TWO_PARTIES, USES, equal_uses};
 use split_run::Plan;
 use std::alloc::Global;
 use std::io::{self, Write};
@@ -74,8 +74,7 @@ fn repeated(alloc: Global, row: &str, times: usize) -> Result<String, Fail> {
 
 /// So many lines of the first work, and the statements that they come to.
 fn many_uses(alloc: Global, count: usize) -> Result<(String, String), Fail> {
-    let lines = repeated(alloc, "u,W1,276,P,100\n", count)?;
-    let uses = format!(in alloc; "usage,work,territory,right,amount\n{lines}")?;
+    let uses = equal_uses(alloc, count)?;
     let (first, second) = (
         repeated(alloc, "L,A,u,60\n", count)?,
         repeated(alloc, "L,B,u,40\n", count)?,
@@ -115,8 +114,7 @@ fn settles_whatever_the_plan(rt: HostRuntime) -> Result<(), Fail> {
 
 #[test]
 fn settles_no_lines(rt: HostRuntime) -> Result<(), Fail> {
-    let header = "usage,work,territory,right,amount\n";
-    let inputs = [TERRITORIES, TWO_PARTIES, header];
+    let inputs = [TERRITORIES, TWO_PARTIES, NO_USES];
     assert_outcome(&rt, rt.alloc(), inputs, "T,,0,0\nR,,0,0\n")
 }
 
@@ -242,7 +240,7 @@ impl Write for Narrow {
 /// So many usage lines, each of another use.
 fn uses(alloc: Global, lines: u64) -> Result<String, Fail> {
     let mut uses = String::new(alloc);
-    uses.push_str("usage,work,territory,right,amount\n")?;
+    uses.push_str(NO_USES)?;
     for line in 0..lines {
         uses.push_str(format!(in alloc; "use {line},W1,276,P,100\n")?.as_str())?;
     }
