@@ -57,18 +57,18 @@ fn book_cut_at<R: Threads + Wait + Sync>(
     Ok(book.ok())
 }
 
-/// The most turns that a watch waits for the threads of a run to end.
+/// The most turns that a watch waits.
 const MOST_WATCHED: u64 = 10_000_000;
 
-/// Waits until something is done, and fails the test where that takes too many turns.
-fn watch(rt: &impl Abort, done: &AtomicBool) {
+/// Waits until a thread says that it is done, and fails the test where that takes too many turns.
+pub fn watch(rt: &impl Abort, done: &AtomicBool) {
     for _ in 0..MOST_WATCHED {
         if done.load(Ordering::SeqCst) {
             return;
         }
         thread::yield_now();
     }
-    panic!(rt; "the threads of a run that was stopped go on");
+    panic!(rt; "a thread goes on that should be done");
 }
 
 /// Asserts that such a run ends, and has no book.

@@ -6,16 +6,18 @@ ghost use Rattle.block_draw.specs.Views.{drawer_of};
 ghost use Rattle.split_run.specs.Running.{IsFresh};
 ghost use Rattle.split_run.specs.Sending.{AreFresh, AreReadyFor};
 
-use crate::run_threads_tests::inputs;
+use crate::run_threads_tests::{inputs, watch};
 use line_split::{MOST_CLAIMS, Portions};
 use mail_box::{Item, LaneMail, LaneReceiver, LaneSender, Mail, receive};
-use small_run::USES;
-use split_run::{Draw, Drawer, NoGate, Plan, work};
+use small_run::{NO_USES, USES};
+use split_run::{Draw, Drawer, Gate, NoGate, Plan, work};
 use std::alloc::{AllocError, Global};
 use std::process::Abort;
 use std::sync::Wait;
-use std::sync::atomic::AtomicBool;
+use std::sync::atomic::{AtomicBool, Ordering};
 use std::test::Fail;
+use std::thread;
+use std::thread::{Threads, join};
 
 #[test]
 fn takes_plans_in_range(rt: HostRuntime) -> Result<(), Fail> {
@@ -34,22 +36,24 @@ fn takes_plans_in_range(rt: HostRuntime) -> Result<(), Fail> {
     Ok(())
 }
 
-/// A mailbox of one sender, which may post three times.
-fn open_one(alloc: Global) -> Result<(LaneSender, LaneReceiver), AllocError>
-    ensures { IfOk result (λ r. sender_of r.0 ≡ opened_sender (receiver_of r.1).mailbox 0 64 3) }
+/// A mailbox of one sender with so many nodes, which may post three times.
+fn open_one(alloc: Global, nodes: u64) -> Result<(LaneSender, LaneReceiver), AllocError>
+    requires { (0 < nodes) × (nodes ≤ 64) }
+    ensures { IfOk result (λ r. sender_of r.0 ≡ opened_sender (receiver_of r.1).mailbox 0 nodes 3) }
 {
-    let (mut senders, receiver) = LaneMail.open(alloc, 1, 64, 3)?;
+    let (mut senders, receiver) = LaneMail.open(alloc, 1, nodes, 3)?;
     Ok((senders.swap_remove(0), receiver))
 }
 
 /// Three such mailboxes.
-fn open_three(alloc: Global) -> Result<([LaneSender; 3], [LaneReceiver; 3]), AllocError>
+fn open_three(alloc: Global, nodes: u64) -> Result<([LaneSender; 3], [LaneReceiver; 3]), AllocError>
+    requires { (0 < nodes) × (nodes ≤ 64) }
     ensures fresh { IfOk result (λ r. AreFresh (map sender_of r.0)) }
     ensures ready { IfOk result (λ r. AreReadyFor (map sender_of r.0) 3) }
 {
-    let (first, to_first) = open_one(alloc)?;
-    let (second, to_second) = open_one(alloc)?;
-    let (third, to_third) = open_one(alloc)?;
+    let (first, to_first) = open_one(alloc, nodes)?;
+    let (second, to_second) = open_one(alloc, nodes)?;
+    let (third, to_third) = open_one(alloc, nodes)?;
     Ok(([first, second, third], [to_first, to_second, to_third]))
 }
 
@@ -69,24 +73,25 @@ fn assert_gives<R: Abort + Wait>(rt: &R, receiver: &mut LaneReceiver, items: &[I
     assert_eq!(rt; receive::<LaneMail, R>(rt, receiver), None);
 }
 
-/// What the only worker of the small run answers over these senders.
-fn work_alone<R: Abort + Wait>(
+/// What the only worker of a run over three usage lines answers over these senders.
+fn work_alone<G: Gate, R: Abort + Wait>(
     rt: &R,
     alloc: Global,
     senders: &mut [LaneSender],
-    is_stopped: bool,
+    usage: &str,
+    gate: &G,
+    stop: &AtomicBool,
 ) -> Result<bool, Fail>
     requires fresh { AreFresh (map sender_of senders.old) }
     requires ready { AreReadyFor (map sender_of senders.old) 3 }
 {
-    let (tis, registry, usage) = inputs(alloc, USES)?;
+    let (tis, registry, usage) = inputs(alloc, usage)?;
     let mut claims = registry.scratch(alloc)?;
     let mut portions = Portions::room(alloc, MOST_CLAIMS + 1)?;
     let mut drawer = only_drawer(alloc)?;
-    let stop = AtomicBool::new(is_stopped);
     assert_eq!(rt; registry.accounts() as usize, senders.len());
     assert_eq!(rt; usage.len(), 3);
-    Ok(work::<LaneMail, NoGate, R>(
+    Ok(work::<LaneMail, G, R>(
         rt,
         senders,
         &tis,
@@ -96,8 +101,8 @@ fn work_alone<R: Abort + Wait>(
         0,
         &mut claims,
         &mut portions,
-        &NoGate,
-        &stop,
+        gate,
+        stop,
     ))
 }
 
@@ -110,8 +115,9 @@ fn assert_work<R: Abort + Wait>(
     left: [u64; 3],
     items: [&[Item]; 3],
 ) -> Result<(), Fail> {
-    let (mut senders, mut receivers) = open_three(alloc)?;
-    let is_done = work_alone(rt, alloc, &mut senders, is_stopped)?;
+    let (mut senders, mut receivers) = open_three(alloc, 64)?;
+    let stop = AtomicBool::new(is_stopped);
+    let is_done = work_alone(rt, alloc, &mut senders, USES, &NoGate, &stop)?;
     assert_eq!(rt; is_done, !is_stopped);
     for account in 0..3 {
         assert_eq!(rt; LaneMail::left(&senders[account]), left[account]);
@@ -138,4 +144,80 @@ fn a_worker_sends_what_its_lines_come_to(rt: HostRuntime) -> Result<(), Fail> {
 fn a_worker_that_is_stopped_sends_nothing(rt: HostRuntime) -> Result<(), Fail> {
     let none: &[Item] = &[];
     assert_work(&rt, rt.alloc(), true, [3, 3, 3], [none; 3])
+}
+
+/// A gate that says when a worker has come to the second line.
+#[derive(Drop)]
+struct SecondLine {
+    has_come: AtomicBool,
+}
+
+impl Gate for SecondLine {
+    fn pass(&self, _worker: u64, line: u64) {
+        if line == 1 {
+            self.has_come.store(true, Ordering::SeqCst);
+        }
+    }
+}
+
+/// What the only worker answers where each mailbox has room for one item, and nobody takes it.
+fn work_stuck<R: Abort + Wait>(
+    rt: &R,
+    alloc: Global,
+    usage: &str,
+    gate: &SecondLine,
+    stop: &AtomicBool,
+) -> Result<bool, Fail> {
+    let (mut senders, _receivers) = open_three(alloc, 1)?;
+    work_alone(rt, alloc, &mut senders, usage, gate, stop)
+}
+
+/// Stops a worker some turns after it has come to the second line, and sees that it ends.
+fn stop_late(rt: &impl Abort, gate: &SecondLine, stop: &AtomicBool, done: &AtomicBool) {
+    watch(rt, &gate.has_come);
+    for _ in 0..10_000 {
+        thread::yield_now();
+    }
+    assert!(rt;
+        !done.load(Ordering::SeqCst),
+        "a worker whose mailbox is full waits"
+    );
+    stop.store(true, Ordering::SeqCst);
+    watch(rt, done);
+}
+
+/// Asserts that the only worker, which waits for room in a mailbox, ends once it is stopped.
+fn assert_stops_waiting<R: Abort + Threads + Wait + Sync>(
+    rt: &R,
+    alloc: Global,
+    usage: &str,
+) -> Result<(), Fail> {
+    let gate = SecondLine {
+        has_come: AtomicBool::new(false),
+    };
+    let stop = AtomicBool::new(false);
+    let done = AtomicBool::new(false);
+    let (answer, _) = join(
+        rt,
+        || -> Result<bool, Fail> {
+            let answer = work_stuck(rt, alloc, usage, &gate, &stop);
+            done.store(true, Ordering::SeqCst);
+            answer
+        },
+        || stop_late(rt, &gate, &stop, &done),
+    );
+    assert_eq!(rt; answer?, false);
+    Ok(())
+}
+
+#[test]
+fn a_worker_that_waits_with_a_post_is_stopped(rt: HostRuntime) -> Result<(), Fail> {
+    assert_stops_waiting(&rt, rt.alloc(), USES)
+}
+
+/// Only the first line has postings, one for each party, whose mailboxes are full from then on.
+#[test]
+fn a_worker_that_waits_with_an_end_mark_is_stopped(rt: HostRuntime) -> Result<(), Fail> {
+    let uses = format!(in rt.alloc(); "{NO_USES}u,W1,276,P,100\nu,W1,276,P,0\nu,W1,276,P,0\n")?;
+    assert_stops_waiting(&rt, rt.alloc(), uses.as_str())
 }
