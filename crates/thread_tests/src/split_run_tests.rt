@@ -1,5 +1,5 @@
 //! Plans in range and out of it, and what a worker alone sends.
-ghost use Rattle.std.specs.Prelude.{◌≡◌, IfOk, map};
+ghost use Rattle.std.specs.Prelude.{◌≡◌, ◌<◌, ◌≤◌, IfOk, map};
 ghost use Rattle.mail_box.specs.LaneViews.{receiver_of, sender_of};
 ghost use Rattle.mail_box.specs.Mails.{opened_sender};
 ghost use Rattle.block_draw.specs.Views.{drawer_of};
