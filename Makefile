@@ -6,7 +6,7 @@ help:
 	@echo 'make test     the gate: prove every crate from nothing, refuse every wrong body, run every test, the program, and each call with its memory refused'
 	@echo 'make compare  run the program and a plain Rust one on small made-up inputs, good and bad, and compare'
 	@echo 'make fuzz     the same on 100000 damaged inputs; some ten minutes on four cores'
-	@echo 'make sizes    run both at each limit and one beyond it, print times and peak memory; two minutes, 2 GB of memory'
+	@echo 'make sizes    run both at each limit and one beyond it, print times and peak memory; a minute, 2 GB of memory'
 	@echo 'make refuse   run the program with each allocation, thread, read and write refused in turn, and each call as make test does; a minute'
 	@echo 'make bench    run both on a million usage lines, print times and peak memory; and a mailbox alone'
 	@echo 'make explore  go through every state of a small mailbox, with the model in Python'

@@ -5,7 +5,7 @@
 
 Each line is one case: its status and message, the wall time and the greatest memory of the program, and whether the plain one
 gave the same. A case that does not end as it has to makes the script fail. The last case, a million lines that are divided among 256 parties
-each, takes minutes, 16 GB of memory and 4 GB of disk for its statements, so it is run with --largest alone, and without the plain program.
+each, takes a minute, 5 GB of memory and 3 GB of disk for its statements, so it is run with --largest alone, and without the plain program.
 """
 import argparse
 import hashlib
