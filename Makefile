@@ -7,11 +7,11 @@ help:
 	@echo 'make compare  run the program and a plain Rust one on small made-up inputs, good and bad, and compare'
 	@echo 'make fuzz     the same on 100000 damaged inputs; some ten minutes on four cores'
 	@echo 'make sizes    run both at each limit and one beyond it, print times and peak memory; a minute, 2 GB of memory'
-	@echo 'make refuse   run the program with each allocation, thread, read and write refused in turn, and each call as make test does; a minute'
+	@echo 'make refuse   run the program with each allocation, thread, read and write refused in turn, and each call as make test does; a minute once both are built'
 	@echo 'make bench    run both on a million usage lines, print times and peak memory; and a mailbox alone'
 	@echo 'make explore  go through every state of a small mailbox, with the model in Python'
 	@echo 'make help     this list'
-	@echo 'compare, fuzz, sizes, refuse and bench build the program first, unless they are given one: make bench PROGRAM=out/royalty_run'
+	@echo 'compare, fuzz, sizes, refuse and bench build and prove the program first, unless they are given one: make bench PROGRAM=out/royalty_run'
 	@echo 'All but explore need the command rt of the Rattle kit on the path; compare, fuzz, sizes, bench and explore also'
 	@echo 'python3, compare, fuzz, sizes and bench cargo, and test and refuse a C compiler.'
 

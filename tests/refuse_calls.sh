@@ -15,7 +15,7 @@ fail() {
     exit 1
 }
 
-# answers WORD NAME NUMBER: what it prints for a word, where the variable NAME says which allocations are refused. It ends by itself.
+# answers WORD VARIABLE NUMBER: what it prints for a word, where a variable of refuse.c has this number. It ends by itself.
 answers() {
     local status=0
     printf '%s\n' "$1" | env "$2=$3" LD_PRELOAD="$room/refuse.so" timeout 60 "$program" > "$room/out" 2> "$room/err" || status=$?
@@ -53,8 +53,14 @@ is_answered() {
     grep ': no memory$' "$room/out" >> "$room/refused" || true
 }
 
+# a run without a book, all of whose items were taken if its workers came to all lines: `finished` counts those. Or none was begun.
 is_counted() {
-    ! grep -q '^65 lines' "$room/out" || grep -q '^65 lines, 133 items, ' "$room/out"
+    case $(< "$room/out") in
+        '65 lines, 133 items, no room') finished=$((finished + 1)) ;;
+        '65 lines, '*) return 1 ;;
+        *' lines, '*' items, no room' | 'no memory' | '') ;;
+        *) return 1 ;;
+    esac
 }
 
 : > "$room/refused"
@@ -77,5 +83,7 @@ for kind in links lanes; do
     echo "$kind: the same with all allocations refused from number $from on"
 done
 
+finished=0
 sweep counted REFUSE is_counted
+((finished > 0)) || fail 'no run came to all lines and then had no book'
 sweep counted REFUSE_THREAD is_counted
