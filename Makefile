@@ -1,9 +1,10 @@
-.PHONY: help build demo test compare fuzz sizes refuse bench explore
+.PHONY: help build demo test edits compare fuzz sizes refuse bench explore
 
 help:
 	@echo 'make demo     make the statements of the example in about a minute, with a build that is not proved'
 	@echo 'make build    prove and build the program, leave it as out/royalty_run'
 	@echo 'make test     the gate: prove every crate from nothing, refuse every wrong body, run every test, the program, and each call with its memory refused'
+	@echo 'make edits    refuse the wrong bodies that the gate leaves out, of every crate or of one: make edits CRATE=mail_box; an hour for all'
 	@echo 'make compare  run the program and a plain Rust one on small made-up inputs, good and bad, and compare'
 	@echo 'make fuzz     the same on 100000 damaged inputs; some ten minutes on four cores'
 	@echo 'make sizes    run both at each limit and one beyond it, print times and peak memory; a minute, 2 GB of memory'
@@ -39,6 +40,9 @@ test:
 	rt ci
 	tests/program.sh crates/royalty_run/out/royalty_run
 	tests/refuse_calls.sh crates/refusal_runs/out/refusal_runs
+
+edits:
+	tests/edits.sh $(CRATE)
 
 compare:
 	python3 bench/compare.py --program $(PROGRAM) --cases 2000

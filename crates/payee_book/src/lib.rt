@@ -3,6 +3,7 @@
 
 mod book;
 mod journal;
+pub mod laws;
 mod sheets;
 mod text;
 

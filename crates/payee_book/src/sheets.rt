@@ -24,8 +24,7 @@ const LEAST_ON_SHEET: u128 = 1024;
 /// The most rows on a sheet.
 const MOST_ON_SHEET: u128 = 8192;
 
-/// The pages of room for so many rows. A row has 175 bytes at most: one of its kind, 20 of a party of 9 bytes
-/// that are quotes, 130 likewise of a use of 64, 20 of an amount, and 4 between and after.
+/// The pages of room for so many rows, of which each has 175 bytes at most (`laws`).
 const PAGES_OF_SHEET: u16 = 11;
 
 /// More rows than there can be, of 65,535 statements that each fit into memory.

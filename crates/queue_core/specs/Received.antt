@@ -15,6 +15,8 @@ pub record IsReceivedInOrder (ring : ℕ) (m : Mailbox) : Type 0 where
   pub in_order : (p : ℕ) → IsPrefix (got_of m p) (sent m p)
   -- an end mark is sent once, and last
   pub end_is_last : (p k : ℕ) → k < length (sent m p) → is_end (slice_index_or (sent m p) k End) ≡ true → k + 1 ≡ length (sent m p)
+  -- so where the end mark is among what was received of a sender, that is all of what it sent
+  pub all_with_end : (p k : ℕ) → k < length (got_of m p) → is_end (slice_index_or (got_of m p) k End) ≡ true → got_of m p ≡ sent m p
   -- no item that the reader holds shares its slot with one that was filled later
   pub held_alone : (p k j : ℕ) → IsHeld m p k → k < j → j < length (m.items p) → ¬ (slot_at ring m p j ≡ slot_at ring m p k)
 

@@ -8,3 +8,4 @@ pub mod WorkingLemmas
 pub mod ReadingLemmas
 pub mod OpeningLemmas
 pub mod RunningLemmas
+pub mod AddsUp

@@ -1,8 +1,9 @@
 //! A run: workers divide the usage lines, readers keep the statements, and between them lies a mailbox for each account.
 
-ghost use Rattle.std.specs.Prelude.{◌≡◌, ◌+◌, ◌<◌, ◌≤◌, ℕ, IfOk, IfSome, None, OnOk, Some, length, map, replicate, slice_index_or, true, vec_items};
+ghost use Rattle.std.specs.Prelude.{◌≡◌, ◌+◌, ◌<◌, ◌≤◌, ℕ, IfOk, IfSome, None, OnOk, Some, length, map, replicate, slice_index_or, sum_by, true, vec_items};
 ghost use Rattle.mail_box.specs.Mails.{Begins, ReceiverView, SenderView, with_sender};
 ghost use Rattle.payee_book.specs.Run.{IsBookOf};
+ghost use Rattle.payee_book.specs.Statement.{total_of};
 ghost use Rattle.split_run.specs.Divisions.{division_by};
 ghost use Rattle.split_run.specs.Reading.{inboxes_by};
 ghost use Rattle.block_draw.specs.Drawn.{AreDrawnOnce};
@@ -28,7 +29,7 @@ use std::thread::Threads;
 use tis_tree::TisTable;
 
 /// The statements of all accounts, worked out by the threads of a plan over mailboxes of any kind. They do not depend on the
-/// plan, the mailboxes, the gate or the order in which the threads run.
+/// plan, the mailboxes, the gate or the order in which the threads run, and their totals come to all amounts.
 pub fn run<M: Mail, G: Gate, R: Threads + Wait + Sync>(
     rt: &R,
     alloc: Global,
@@ -39,7 +40,8 @@ pub fn run<M: Mail, G: Gate, R: Threads + Wait + Sync>(
     plan: Plan,
     gate: &G,
 ) -> Result<Book, RunFault>
-    ensures { IfOk result (IsBookOf (division_by tis.now registry.now) usage.now (length registry.now.parties)) }
+    ensures book { IfOk result (IsBookOf (division_by tis.now registry.now) usage.now (length registry.now.parties)) }
+    ensures adds_up { IfOk result (λ book. sum_by total_of book ≡ sum_by (λ line. line.amount) usage.now) }
 {
     let threads = plan.readers + plan.workers;
     run_cut(rt, alloc, mail, tis, registry, usage, plan, gate, threads)
@@ -59,6 +61,7 @@ pub fn run_cut<M: Mail, G: Gate, R: Threads + Wait + Sync>(
     threads: u64,
 ) -> Result<Book, RunFault>
     ensures book { IfOk result (IsBookOf (division_by tis.now registry.now) usage.now (length registry.now.parties)) }
+    ensures adds_up { IfOk result (λ book. sum_by total_of book ≡ sum_by (λ line. line.amount) usage.now) }
     ensures cut { IfOk result (λ _. plan.readers + plan.workers ≤ threads) }
 {
     let accounts = registry.accounts();

@@ -56,7 +56,7 @@ pub fn work<M: Mail, G: Gate, R: Wait>(
     ensures sent { result ≡ true → (account : ℕ) (s : _) → account < length senders.old → (slice_index_or (map M.sender senders.new) account s).sent ≡ list_of (division_by tis.now registry.now) usage.now account (drawer_of drawer.new).drawn }
     ensures ended { result ≡ true → HaveEnded (map M.sender senders.old) (map M.sender senders.new) (λ account. postings_of (division_by tis.now registry.now) usage.now account (drawer_of drawer.new).drawn) }
     ensures drawn { result ≡ true → (drawer_of drawer.new).is_done ≡ true }
-    ensures drawer { ((drawer_of drawer.new).draw ≡ (drawer_of drawer.old).draw) × ((drawer_of drawer.new).number ≡ (drawer_of drawer.old).number) }
+    ensures drawer { ((drawer_of drawer.new).draw ≡ (drawer_of drawer.old).draw) × ((drawer_of drawer.new).number ≡ (drawer_of drawer.old).number) × ((drawer_of drawer.new).blocks ≡ (drawer_of drawer.old).blocks) }
 {
     prove!(registry.accounts() >= 1, "there is the residue's account");
     let inputs = Inputs {

@@ -4,19 +4,19 @@ use Rattle.payee_book.specs.Text.{residue_rows}
 use Rattle.settle_run.specs.Settled.{reason_of}
 use Rattle.split_run.specs.Divisions.{division_by}
 use Rattle.settle_run.proofs.BookLemmas.{book_lines_below}
-use Rattle.settle_run.proofs.SettleLemmas.{adds_up, book_rows_same}
+use Rattle.settle_run.proofs.SettleLemmas.{book_rows_same}
 use Rattle.split_run.proofs.DivisionLemmas.{some_accounts}
 use Rattle.settle_run.proofs.statements.settled.Goals as goal
 
 pub reasons_of-requires : goal.reasons_of-requires
 reasons_of-requires g c =
-    let some : 0 < length c.in_ok-book.book = omega (arith, some_accounts c.args.registry.now c.requires.sound, c.in_ok-book.ensures.whole) in
+    let some : 0 < length c.in_ok-book.book = omega (arith, some_accounts c.args.registry.now c.requires.sound, c.in_ok-book.ensures.book.whole) in
     rw c.lines.ensures.postings
-    (book_lines_below (division_by c.args.tis.now c.args.registry.now) c.args.usage.now (length c.args.registry.now.parties) c.in_ok-book.book c.in_ok-book.ensures 0 [] some)
+    (book_lines_below (division_by c.args.tis.now c.args.registry.now) c.args.usage.now (length c.args.registry.now.parties) c.in_ok-book.book c.in_ok-book.ensures.book 0 [] some)
 
 pub returns-clause-lines : goal.returns-clause-lines
 returns-clause-lines g c =
-    book_lines_below (division_by c.args.tis.now c.args.registry.now) c.args.usage.now (length c.args.registry.now.parties) c.in_ok-book.book c.in_ok-book.ensures
+    book_lines_below (division_by c.args.tis.now c.args.registry.now) c.args.usage.now (length c.args.registry.now.parties) c.in_ok-book.book c.in_ok-book.ensures.book
 
 pub returns-clause-statements : goal.returns-clause-statements
 returns-clause-statements g c =
@@ -30,7 +30,7 @@ returns-clause-statements g c =
     subst (λ postings. residue_rows lines reasons postings ≡ residue_rows lines owns postings) c.lines.ensures.postings c.in_ok-reasons.ensures.rows in
     record {
       statements = book;
-      divided = c.in_ok-book.ensures;
-      adds_up = adds_up table registered lines book c.requires.sound c.in_ok-book.ensures;
+      divided = c.in_ok-book.ensures.book;
+      adds_up = c.in_ok-book.ensures.adds_up;
       rows = ap text_of (book_rows_same book lines registered.parties reasons owns residue);
     }

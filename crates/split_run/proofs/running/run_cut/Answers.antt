@@ -10,6 +10,7 @@ use Rattle.split_run.specs.Divisions.{division_by}
 use Rattle.split_run.specs.Reading.{AreServed, inboxes_by}
 use Rattle.split_run.specs.Running.{AreDealt, AreForWork, AreMerged, AreTakenIn}
 use Rattle.split_run.specs.Sending.{HaveEnded}
+use Rattle.split_run.proofs.AddsUp.{adds_up}
 use Rattle.split_run.proofs.RunningLemmas.{for_work, given_back, is_book, untouched_mailbox}
 use Rattle.split_run.proofs.WorkingLemmas.{line_here}
 use Rattle.split_run.proofs.running.run_cut.Goals as goal
@@ -96,3 +97,7 @@ returns-clause-book g c =
     (λ account below. let own = c.in_ok-jobs.ensures.opened.each account below in (own.0, own.1)) merged (subst (λ n. AreTakenIn division c.args.usage.now draw.drawn n before after) all c.in_ok-take_in_all.ensures.taken)
     (subst (λ n. AreDrawnOnce n draw.drawn (blocks_of (length c.args.usage.now))) all c.in_ok-take_in_all.ensures.once)
     (λ account below. All-get_or IsRising c.in_ok-inboxes.book account [] (omega (arith, below, merged.accounts, c.in_ok-jobs.ensures.opened.places)) c.accounts.ensures.sound.rising)
+
+pub returns-clause-adds_up : goal.returns-clause-adds_up
+returns-clause-adds_up g c =
+    adds_up c.args.tis.now c.args.registry.now c.args.usage.now c.in_ok-inboxes.book c.accounts-accounts.ensures.sound (returns-clause-book g c)
