@@ -5,6 +5,8 @@ use Rattle.queue_core.specs.declared.item.Item.TheVariants.{End, Post}
 use Rattle.mail_box.specs.Mails.{ReceiverView}
 use Rattle.block_draw.specs.Drawn.{sum_below}
 use Rattle.split_run.specs.Taken.{HasTaken}
+use Rattle.split_run.specs.declared.reading.Reader.{Reader}
+use Rattle.split_run.specs.declared.reading.Served.{Served}
 
 -- how many end marks there are among items
 abbrev pub ends_among : List Item → ℕ
@@ -43,3 +45,16 @@ module _ {Name : Type 0} where
 -- the receivers that there are, as a clause sees them
 abbrev pub inboxes_by : {R Name : Type 0} → (R → ReceiverView Name) → List (Option R) → List (Option (ReceiverView Name))
 inboxes_by receiver inboxes = map (option_map receiver) inboxes
+
+module _ {M Sender Receiver Held Name : Type 0} where
+  -- what a reader has taken from its mailboxes since they were opened, and what it keeps of it
+  abbrev pub HasKept : (Receiver → ReceiverView Name) → Reader M Sender Receiver Held → Type 0
+  HasKept receiver reader = AreTaken reader.workers reader.whole (inboxes_by receiver reader.opened.value.items) (inboxes_by receiver reader.inboxes.items) reader.ends.items reader.journal
+
+  -- it has taken and kept all
+  abbrev pub HasKeptAll : (Receiver → ReceiverView Name) → Reader M Sender Receiver Held → Type 0
+  HasKeptAll receiver reader = AreServed reader.workers (inboxes_by receiver reader.opened.value.items) (inboxes_by receiver reader.inboxes.items) reader.journal
+
+  -- and this is what it gave back
+  abbrev pub HasServed : (Receiver → ReceiverView Name) → Reader M Sender Receiver Held → Served M Sender Receiver Held → Type 0
+  HasServed receiver reader served = AreServed reader.workers (inboxes_by receiver reader.opened.value.items) (inboxes_by receiver served.inboxes.items) served.book

@@ -1,23 +1,24 @@
 -- What a run opens, and what its threads give back.
-use Rattle.std.specs.Prelude.{ℕ, ◌≡◌, ◌<◌, ◌%◌, ◌==◌, ◌++◌, ◌∷◌, [], List, None, Option, Some, cond, length, nat_lt, slice_index_or, true}
+use Rattle.std.specs.Prelude.{ℕ, ◌≡◌, ◌+◌, ◌<◌, ◌≤◌, ◌%◌, ◌==◌, ◌++◌, ◌∷◌, [], List, None, Option, Some, cond, length, map, nat_lt, slice_index_or, true}
 use Rattle.line_split.specs.UsageLine.{UsageLine}
-use Rattle.block_draw.specs.Views.{DrawView, DrawerView}
+use Rattle.line_split.specs.declared.TheConstants.{MOST_CLAIMS}
+use Rattle.block_draw.specs.Views.{DrawView, DrawerView, drawer_of}
 use Rattle.split_run.specs.Blocks.{blocks_of, list_of, postings_of}
 use Rattle.split_run.specs.Sending.{AreFresh, AreReadyFor, HaveEnded}
 use Rattle.split_run.specs.Reading.{AreServed, IsServed}
+use Rattle.split_run.specs.declared.opening.Worker.{Worker}
+use Rattle.split_run.specs.declared.starting.Worked.{Worked}
 use Rattle.mail_box.specs.Mails.{Begins, ReceiverView, SenderView, opened_receiver, opened_sender}
+
+-- a drawer of the blocks of so many lines that has drawn none yet
+abbrev pub IsFresh : ℕ → DrawerView → Type 0
+IsFresh lines drawer = (drawer.blocks ≡ blocks_of lines) × (drawer.drawn ≡ [])
 
 module _ {Name : Type 0} where
   -- each list has one sender more, the one at its place
   pub record HaveOneMore (before : List (List (SenderView Name))) (senders : List (SenderView Name)) (after : List (List (SenderView Name))) : Type 0 where
     pub count : length after ≡ length before
     pub each : (worker : ℕ) (s : SenderView Name) → worker < length before → slice_index_or after worker [] ≡ slice_index_or before worker [] ++ slice_index_or senders worker s ∷ []
-
-  -- A worker's drawer has found that no block is left, and its senders have sent what the blocks come to that it drew, and have ended.
-  pub record HasWorked (division : UsageLine → List (ℕ × ℕ)) (usage : List UsageLine) (drawer now : DrawerView) (before after : List (SenderView Name)) : Type 0 where
-    pub sent : HaveEnded before after (λ account. postings_of division usage account now.drawn)
-    pub same : (now.draw ≡ drawer.draw) × (now.number ≡ drawer.number)
-    pub done : now.is_done ≡ true
 
   -- the senders of a worker before it starts: one for each account, each with room for a posting of every line
   abbrev pub AreForWork : (accounts lines : ℕ) → List (SenderView Name) → Type 0
@@ -30,6 +31,19 @@ module _ {Name : Type 0} where
     pub whole : (worker : ℕ) → worker < workers → length (slice_index_or senders worker []) ≡ accounts
     pub each : (account : ℕ) → account < accounts → (mailbox : Name) × (slice_index_or inboxes account None ≡ Some (opened_receiver mailbox workers))
         × ((worker : ℕ) (s : SenderView Name) → worker < workers → slice_index_or (slice_index_or senders worker []) account s ≡ opened_sender mailbox worker nodes most)
+
+module _ {M Sender Receiver Held Name : Type 0} where
+  -- A worker may start: it has a sender for each account, with room for a posting of every line, a drawer of the blocks of so many lines, and room for the division of a line.
+  pub record IsReady (sender : Sender → SenderView Name) (accounts lines : ℕ) (worker : Worker M Sender Receiver Held) : Type 0 where
+    pub senders : AreForWork accounts lines (map sender worker.senders.items)
+    pub drawer : IsFresh lines (drawer_of worker.drawer)
+    pub room : (MOST_CLAIMS ≤ worker.claims.room) × (MOST_CLAIMS + 1 ≤ worker.portions.room)
+
+  -- A worker is done: its drawer has found that no block is left, and its senders have sent what the blocks come to that it drew, and have ended.
+  pub record HasWorked (sender : Sender → SenderView Name) (division : UsageLine → List (ℕ × ℕ)) (usage : List UsageLine) (worker : Worker M Sender Receiver Held) (worked : Worked M Sender Receiver Held) : Type 0 where
+    pub sent : HaveEnded (map sender worker.senders.items) (map sender worked.senders.items) (λ account. postings_of division usage account (drawer_of worked.drawer).drawn)
+    pub same : ((drawer_of worked.drawer).draw ≡ (drawer_of worker.drawer).draw) × ((drawer_of worked.drawer).number ≡ (drawer_of worker.drawer).number)
+    pub done : (drawer_of worked.drawer).is_done ≡ true
 
 -- those of the accounts whose number leaves this one, when it is divided by so many
 pub record AreDealt {A : Type 0} (readers reader : ℕ) (all own : List (Option A)) : Type 0 where
@@ -85,7 +99,3 @@ module _ {Name : Type 0} where
     pub each : (account : ℕ) (r : ReceiverView Name) → account < length before → slice_index_or before account None ≡ Some r
         → (now : ReceiverView Name) × (slice_index_or after account None ≡ Some now) × (now.mailbox ≡ r.mailbox) × (now.got ≡ r.got)
         × ((worker : ℕ) → worker < done → now.known worker ≡ Some (list_of division usage account (drawn worker))) × (0 < done → Begins now)
-
--- a drawer of the blocks of so many lines that has drawn none yet
-abbrev pub IsFresh : ℕ → DrawerView → Type 0
-IsFresh lines drawer = (drawer.blocks ≡ blocks_of lines) × (drawer.drawn ≡ [])

@@ -3,7 +3,7 @@
 ghost use Rattle.std.specs.Prelude.{◌≡◌, ◌==◌, ◌%◌, ◌+◌, ◌<◌, ◌≤◌, ◌++◌, ◌∷◌, [], ℕ, All, IfOk, None, OnOk, cond, length, map, replicate, slice_index_or, vec_items, vec_len};
 ghost use Rattle.cwr_share.specs.Registered.{IsRegistered};
 ghost use Rattle.line_split.specs.declared.TheConstants.{MOST_CLAIMS};
-ghost use Rattle.split_run.specs.Reading.{AreTaken, IsUntouched, inboxes_by};
+ghost use Rattle.split_run.specs.Reading.{HasKept, IsUntouched, inboxes_by};
 ghost use Rattle.split_run.specs.Running.{AreDealt, AreMailboxes, HaveOneMore};
 
 use crate::reading::Reader;
@@ -113,7 +113,7 @@ pub(crate) fn readers_of<M: Mail>(
     requires untouched { (account : ℕ) → account < accounts → IsUntouched workers (slice_index_or (inboxes_by M.receiver inboxes.items) account None) }
     ensures count { IfOk result (λ all. vec_len all ≡ readers) }
     ensures dealt { IfOk result (λ all. (reader : ℕ) (d : _) → reader < readers → AreDealt readers reader (inboxes_by M.receiver inboxes.items) (inboxes_by M.receiver (slice_index_or all.items reader d).opened.value.items)) }
-    ensures taken { IfOk result (λ all. All (λ r. (r.workers ≡ workers) × AreTaken workers r.whole (inboxes_by M.receiver r.opened.value.items) (inboxes_by M.receiver r.inboxes.items) r.ends.items r.journal) all.items) }
+    ensures taken { IfOk result (λ all. All (λ r. (r.workers ≡ workers) × HasKept M.receiver r) all.items) }
 {
     let mut inboxes = inboxes;
     let mut all = Vec::new(alloc);

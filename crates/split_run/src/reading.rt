@@ -2,7 +2,7 @@
 
 ghost use Rattle.std.specs.Prelude.{◌≡◌, ◌⊎◌, ◌<◌, ◌≤◌, ℕ, IfOk, MatchOption, None, Some, [], length, slice_index_or, slice_set, true, vec_items};
 ghost use Rattle.mail_box.specs.Mails.{HasReceived, ReceiverView};
-ghost use Rattle.split_run.specs.Reading.{AreServed, AreTaken, IsUntouched, inboxes_by};
+ghost use Rattle.split_run.specs.Reading.{HasKept, HasKeptAll, HasServed, IsUntouched, inboxes_by};
 
 use crate::MOST_NODES;
 use crossbeam_utils::Backoff;
@@ -49,7 +49,7 @@ impl<M: Mail> Reader<M> {
         requires count { length inboxes.items ≡ accounts }
         requires untouched { (account : ℕ) → account < accounts → IsUntouched workers (slice_index_or (inboxes_by M.receiver inboxes.items) account None) }
         ensures opened { IfOk result (λ r. (r.opened.value ≡ inboxes) × (r.workers ≡ workers)) }
-        ensures taken { IfOk result (λ r. AreTaken workers r.whole (inboxes_by M.receiver r.opened.value.items) (inboxes_by M.receiver r.inboxes.items) r.ends.items r.journal) }
+        ensures taken { IfOk result (HasKept M.receiver) }
     {
         let opened = Snapshot::of(&inboxes);
         let ends = vec![in alloc; 0u64; inboxes.len()]?;
@@ -67,8 +67,8 @@ impl<M: Mail> Reader<M> {
     /// Takes from each mailbox in turn until every one has given an end mark of each worker. False: the run was stopped,
     /// or a posting was refused its memory.
     pub fn serve<R: Wait>(&mut self, rt: &R, stop: &AtomicBool) -> bool
-        requires taken { AreTaken self.old.workers self.old.whole (inboxes_by M.receiver self.old.opened.value.items) (inboxes_by M.receiver self.old.inboxes.items) self.old.ends.items self.old.journal }
-        ensures served { result ≡ true → AreServed self.new.workers (inboxes_by M.receiver self.new.opened.value.items) (inboxes_by M.receiver self.new.inboxes.items) self.new.journal }
+        requires taken { HasKept M.receiver self.old }
+        ensures served { result ≡ true → HasKeptAll M.receiver self.new }
         ensures opened { (self.new.opened.value ≡ self.old.opened.value) × (self.new.workers ≡ self.old.workers) }
     {
         let turn = Backoff::new();
@@ -90,8 +90,8 @@ impl<M: Mail> Reader<M> {
 
     /// The mailboxes, and the statements of what was taken.
     pub fn into_served(self) -> Served<M>
-        requires { AreServed self.workers (inboxes_by M.receiver self.opened.value.items) (inboxes_by M.receiver self.inboxes.items) self.journal }
-        ensures { AreServed self.workers (inboxes_by M.receiver self.opened.value.items) (inboxes_by M.receiver result.inboxes.items) result.book }
+        requires { HasKeptAll M.receiver self }
+        ensures { HasServed M.receiver self result }
     {
         Served {
             inboxes: self.inboxes,
@@ -101,8 +101,8 @@ impl<M: Mail> Reader<M> {
 
     /// Takes from each mailbox in turn. False: none had anything.
     fn take_round<R: Wait>(&mut self, rt: &R) -> bool
-        requires taken { AreTaken self.old.workers self.old.whole (inboxes_by M.receiver self.old.opened.value.items) (inboxes_by M.receiver self.old.inboxes.items) self.old.ends.items self.old.journal }
-        ensures taken { AreTaken self.new.workers self.new.whole (inboxes_by M.receiver self.new.opened.value.items) (inboxes_by M.receiver self.new.inboxes.items) self.new.ends.items self.new.journal }
+        requires taken { HasKept M.receiver self.old }
+        ensures taken { HasKept M.receiver self.new }
         ensures opened { (self.new.opened.value ≡ self.old.opened.value) × (self.new.workers ≡ self.old.workers) }
     {
         let mut took = false;
@@ -117,8 +117,8 @@ impl<M: Mail> Reader<M> {
     /// Takes what the mailbox of an account has, up to as many items as a worker may have in it. False: it had none.
     fn take_some<R: Wait>(&mut self, rt: &R, account: Account) -> bool
         requires account { account < length self.old.journal }
-        requires taken { AreTaken self.old.workers self.old.whole (inboxes_by M.receiver self.old.opened.value.items) (inboxes_by M.receiver self.old.inboxes.items) self.old.ends.items self.old.journal }
-        ensures taken { AreTaken self.new.workers self.new.whole (inboxes_by M.receiver self.new.opened.value.items) (inboxes_by M.receiver self.new.inboxes.items) self.new.ends.items self.new.journal }
+        requires taken { HasKept M.receiver self.old }
+        ensures taken { HasKept M.receiver self.new }
         ensures opened { (self.new.opened.value ≡ self.old.opened.value) × (self.new.workers ≡ self.old.workers) × (length self.new.journal ≡ length self.old.journal) }
     {
         let mut took = false;
@@ -134,8 +134,8 @@ impl<M: Mail> Reader<M> {
     /// Takes from the mailbox of an account, and records a posting. False: there was none, or no more is to come.
     fn take_from<R: Wait>(&mut self, rt: &R, account: Account) -> bool
         requires account { account < length self.old.journal }
-        requires taken { AreTaken self.old.workers self.old.whole (inboxes_by M.receiver self.old.opened.value.items) (inboxes_by M.receiver self.old.inboxes.items) self.old.ends.items self.old.journal }
-        ensures taken { AreTaken self.new.workers self.new.whole (inboxes_by M.receiver self.new.opened.value.items) (inboxes_by M.receiver self.new.inboxes.items) self.new.ends.items self.new.journal }
+        requires taken { HasKept M.receiver self.old }
+        ensures taken { HasKept M.receiver self.new }
         ensures opened { (self.new.opened.value ≡ self.old.opened.value) × (self.new.workers ≡ self.old.workers) × (length self.new.journal ≡ length self.old.journal) }
     {
         let place = account as usize;

@@ -1,11 +1,9 @@
 //! The threads of a run: how they are started, and what each gives back.
 
-ghost use Rattle.std.specs.Prelude.{◌≡◌, ◌+◌, ◌<◌, ◌≤◌, ℕ, All, IfSome, length, map, slice_index_or, vec_len};
-ghost use Rattle.line_split.specs.declared.TheConstants.{MOST_CLAIMS};
+ghost use Rattle.std.specs.Prelude.{◌≡◌, ◌+◌, ◌<◌, ◌≤◌, ℕ, All, IfSome, length, slice_index_or, vec_len};
 ghost use Rattle.split_run.specs.Divisions.{division_by};
-ghost use Rattle.split_run.specs.Reading.{AreServed, AreTaken, inboxes_by};
-ghost use Rattle.block_draw.specs.Views.{drawer_of};
-ghost use Rattle.split_run.specs.Running.{AreForWork, HasWorked, IsFresh};
+ghost use Rattle.split_run.specs.Reading.{HasKept, HasServed};
+ghost use Rattle.split_run.specs.Running.{HasWorked, IsReady};
 
 use crate::gate::Gate;
 use crate::opening::Worker;
@@ -37,17 +35,15 @@ pub(crate) struct WorkDone<M: Mail> {
     tis: Snapshot<TisTable>,
     registry: Snapshot<Registry>,
     usage: Snapshot<Usage>,
-    drawer: Snapshot<Drawer>,
-    senders: Snapshot<Vec<M::Sender>>,
+    worker: Snapshot<Worker<M>>,
 }
 
 impl<M: Mail> Promise<Option<Worked<M>>> for WorkDone<M> {
-    ghost use Rattle.std.specs.Prelude.{IfSome, map};
-    ghost use Rattle.block_draw.specs.Views.{drawer_of};
+    ghost use Rattle.std.specs.Prelude.{IfSome};
     ghost use Rattle.split_run.specs.Divisions.{division_by};
     ghost use Rattle.split_run.specs.Running.{HasWorked};
 
-    ghost kept_by = { λ p r. IfSome r (λ worked. HasWorked (division_by p.tis.value p.registry.value) p.usage.value (drawer_of p.drawer.value) (drawer_of worked.drawer) (map M.sender p.senders.value.items) (map M.sender worked.senders.items)) };
+    ghost kept_by = { λ p r. IfSome r (HasWorked M.sender (division_by p.tis.value p.registry.value) p.usage.value p.worker.value) };
 }
 
 /// What a reader's thread gives back: its mailboxes, which have ended, and the statements of their accounts.
@@ -58,9 +54,9 @@ pub(crate) struct ReadingDone<M: Mail> {
 
 impl<M: Mail> Promise<Option<Served<M>>> for ReadingDone<M> {
     ghost use Rattle.std.specs.Prelude.{IfSome};
-    ghost use Rattle.split_run.specs.Reading.{AreServed, inboxes_by};
+    ghost use Rattle.split_run.specs.Reading.{HasServed};
 
-    ghost kept_by = { λ p r. IfSome r (λ served. AreServed p.reader.value.workers (inboxes_by M.receiver p.reader.value.opened.value.items) (inboxes_by M.receiver served.inboxes.items) served.book) };
+    ghost kept_by = { λ p r. IfSome r (HasServed M.receiver p.reader.value) };
 }
 
 /// What a reader's thread does. None: the run was stopped, or memory was refused.
@@ -70,8 +66,8 @@ fn read_all<M: Mail, R: Wait>(
     reader: Reader<M>,
     stop: &AtomicBool,
 ) -> Option<Served<M>>
-    requires taken { AreTaken reader.workers reader.whole (inboxes_by M.receiver reader.opened.value.items) (inboxes_by M.receiver reader.inboxes.items) reader.ends.items reader.journal }
-    ensures { IfSome result (λ r. AreServed reader.workers (inboxes_by M.receiver reader.opened.value.items) (inboxes_by M.receiver r.inboxes.items) r.book) }
+    requires taken { HasKept M.receiver reader }
+    ensures { IfSome result (HasServed M.receiver reader) }
 {
     let mut reader = reader;
     if reader.serve(rt, stop) {
@@ -89,7 +85,7 @@ fn start_reader<'s, E, M: Mail, R: Threads + Wait + Sync>(
     reader: Reader<M>,
     stop: &'s AtomicBool,
 ) -> Option<PromisedHandle<Option<Served<M>>, ReadingDone<M>>>
-    requires taken { AreTaken reader.workers reader.whole (inboxes_by M.receiver reader.opened.value.items) (inboxes_by M.receiver reader.inboxes.items) reader.ends.items reader.journal }
+    requires taken { HasKept M.receiver reader }
     ensures { IfSome result (λ h. h.promise.reader.value ≡ reader) }
 {
     let promise: ReadingDone<M> = ReadingDone {
@@ -99,8 +95,8 @@ fn start_reader<'s, E, M: Mail, R: Threads + Wait + Sync>(
         .spawn_with(
             promise,
             move || -> Option<Served<M>>
-                requires { AreTaken reader.workers reader.whole (inboxes_by M.receiver reader.opened.value.items) (inboxes_by M.receiver reader.inboxes.items) reader.ends.items reader.journal }
-                ensures { IfSome result (λ r. AreServed reader.workers (inboxes_by M.receiver reader.opened.value.items) (inboxes_by M.receiver r.inboxes.items) r.book) }
+                requires { HasKept M.receiver reader }
+                ensures { IfSome result (HasServed M.receiver reader) }
             { read_all::<M, R>(rt, mail, reader, stop) },
         )
         .ok()
@@ -116,10 +112,8 @@ fn work_all<M: Mail, G: Gate, R: Wait>(
     number: u64,
     stop: &AtomicBool,
 ) -> Option<Worked<M>>
-    requires senders { AreForWork (length inputs.registry.now.parties) (length inputs.usage.now) (map M.sender worker.senders.items) }
-    requires drawer { IsFresh (length inputs.usage.now) (drawer_of worker.drawer) }
-    requires room { (MOST_CLAIMS ≤ worker.claims.room) × (MOST_CLAIMS + 1 ≤ worker.portions.room) }
-    ensures { IfSome result (λ worked. HasWorked (division_by inputs.entry.tis.now inputs.entry.registry.now) inputs.entry.usage.now (drawer_of worker.drawer) (drawer_of worked.drawer) (map M.sender worker.senders.items) (map M.sender worked.senders.items)) }
+    requires { IsReady M.sender (length inputs.registry.now.parties) (length inputs.usage.now) worker }
+    ensures { IfSome result (HasWorked M.sender (division_by inputs.entry.tis.now inputs.entry.registry.now) inputs.entry.usage.now worker) }
 {
     let mut worker = worker;
     let done = work::<M, G, R>(
@@ -156,25 +150,22 @@ fn start_worker<'s, E, M: Mail, G: Gate, R: Threads + Wait + Sync>(
     number: u64,
     stop: &'s AtomicBool,
 ) -> Option<PromisedHandle<Option<Worked<M>>, WorkDone<M>>>
-    requires senders { AreForWork (length inputs.registry.now.parties) (length inputs.usage.now) (map M.sender worker.senders.items) }
-    requires drawer { IsFresh (length inputs.usage.now) (drawer_of worker.drawer) }
-    requires room { (MOST_CLAIMS ≤ worker.claims.room) × (MOST_CLAIMS + 1 ≤ worker.portions.room) }
+    requires { IsReady M.sender (length inputs.registry.now.parties) (length inputs.usage.now) worker }
     ensures inputs { IfSome result (λ h. (h.promise.tis.value ≡ inputs.entry.tis.now) × (h.promise.registry.value ≡ inputs.entry.registry.now) × (h.promise.usage.value ≡ inputs.entry.usage.now)) }
-    ensures worker { IfSome result (λ h. (h.promise.drawer.value ≡ worker.drawer) × (h.promise.senders.value ≡ worker.senders)) }
+    ensures worker { IfSome result (λ h. h.promise.worker.value ≡ worker) }
 {
     let promise: WorkDone<M> = WorkDone {
         tis: Snapshot::of(inputs.tis),
         registry: Snapshot::of(inputs.registry),
         usage: Snapshot::of(inputs.usage),
-        drawer: Snapshot::of(&worker.drawer),
-        senders: Snapshot::of(&worker.senders),
+        worker: Snapshot::of(&worker),
     };
     scope
         .spawn_with(
             promise,
             move || -> Option<Worked<M>>
-                requires { AreForWork (length inputs.registry.now.parties) (length inputs.usage.now) (map M.sender worker.senders.items) × IsFresh (length inputs.usage.now) (drawer_of worker.drawer) × (MOST_CLAIMS ≤ worker.claims.room) × (MOST_CLAIMS + 1 ≤ worker.portions.room) }
-                ensures { IfSome result (λ worked. HasWorked (division_by inputs.entry.tis.now inputs.entry.registry.now) inputs.entry.usage.now (drawer_of worker.drawer) (drawer_of worked.drawer) (map M.sender worker.senders.items) (map M.sender worked.senders.items)) }
+                requires { IsReady M.sender (length inputs.registry.now.parties) (length inputs.usage.now) worker }
+                ensures { IfSome result (HasWorked M.sender (division_by inputs.entry.tis.now inputs.entry.registry.now) inputs.entry.usage.now worker) }
             { work_all::<M, G, R>(rt, mail, inputs, gate, worker, number, stop) },
         )
         .ok()
@@ -191,7 +182,7 @@ fn start_readers<'s, E, M: Mail, R: Threads + Wait + Sync>(
     room: Vec<PromisedHandle<Option<Served<M>>, ReadingDone<M>>>,
 ) -> Option<Vec<PromisedHandle<Option<Served<M>>, ReadingDone<M>>>>
     requires room { vec_len room ≡ 0 }
-    requires taken { All (λ reader. AreTaken reader.workers reader.whole (inboxes_by M.receiver reader.opened.value.items) (inboxes_by M.receiver reader.inboxes.items) reader.ends.items reader.journal) readers.items }
+    requires taken { All (λ reader. HasKept M.receiver reader) readers.items }
     ensures cut { IfSome result (λ _. vec_len readers ≤ cut) }
     ensures started { IfSome result (λ all. (vec_len all ≡ vec_len readers) × ((number : ℕ) (d : _) (e : _) → number < length readers.items → (slice_index_or all.items number d).promise.reader.value ≡ slice_index_or readers.items number e)) }
 {
@@ -220,11 +211,11 @@ fn start_workers<'s, E, M: Mail, G: Gate, R: Threads + Wait + Sync>(
 ) -> Option<Vec<PromisedHandle<Option<Worked<M>>, WorkDone<M>>>>
     requires room { vec_len room ≡ 0 }
     requires few { length jobs.items ≤ 8 }
-    requires ready { All (λ job. AreForWork (length inputs.registry.now.parties) (length inputs.usage.now) (map M.sender job.senders.items) × IsFresh (length inputs.usage.now) (drawer_of job.drawer) × (MOST_CLAIMS ≤ job.claims.room) × (MOST_CLAIMS + 1 ≤ job.portions.room)) jobs.items }
+    requires ready { All (IsReady M.sender (length inputs.registry.now.parties) (length inputs.usage.now)) jobs.items }
     ensures cut { IfSome result (λ _. vec_len jobs ≤ cut) }
     ensures count { IfSome result (λ all. vec_len all ≡ vec_len jobs) }
     ensures inputs { IfSome result (λ all. (number : ℕ) (d : _) → number < length jobs.items → ((slice_index_or all.items number d).promise.tis.value ≡ inputs.entry.tis.now) × ((slice_index_or all.items number d).promise.registry.value ≡ inputs.entry.registry.now) × ((slice_index_or all.items number d).promise.usage.value ≡ inputs.entry.usage.now)) }
-    ensures workers { IfSome result (λ all. (number : ℕ) (d : _) (e : _) → number < length jobs.items → ((slice_index_or all.items number d).promise.drawer.value ≡ (slice_index_or jobs.items number e).drawer) × ((slice_index_or all.items number d).promise.senders.value ≡ (slice_index_or jobs.items number e).senders)) }
+    ensures workers { IfSome result (λ all. (number : ℕ) (d : _) (e : _) → number < length jobs.items → (slice_index_or all.items number d).promise.worker.value ≡ slice_index_or jobs.items number e) }
 {
     let mut started = room;
     let mut number = 0;
@@ -252,11 +243,11 @@ pub(crate) fn at_once<M: Mail, G: Gate, R: Threads + Wait + Sync>(
     cut: u64,
 ) -> Option<(Vec<Option<Worked<M>>>, Vec<Option<Served<M>>>)>
     requires few { length workers.items ≤ 8 }
-    requires ready { All (λ job. AreForWork (length inputs.registry.now.parties) (length inputs.usage.now) (map M.sender job.senders.items) × IsFresh (length inputs.usage.now) (drawer_of job.drawer) × (MOST_CLAIMS ≤ job.claims.room) × (MOST_CLAIMS + 1 ≤ job.portions.room)) workers.items }
-    requires taken { All (λ reader. (reader.workers ≡ length workers.items) × AreTaken reader.workers reader.whole (inboxes_by M.receiver reader.opened.value.items) (inboxes_by M.receiver reader.inboxes.items) reader.ends.items reader.journal) readers.items }
+    requires ready { All (IsReady M.sender (length inputs.registry.now.parties) (length inputs.usage.now)) workers.items }
+    requires taken { All (λ reader. (reader.workers ≡ length workers.items) × HasKept M.receiver reader) readers.items }
     ensures cut { IfSome result (λ _. length readers.items + length workers.items ≤ cut) }
-    ensures worked { IfSome result (λ r. (length r.0.items ≡ length workers.items) × ((number : ℕ) (d : _) (e : _) → number < length workers.items → IfSome (slice_index_or r.0.items number d) (λ worked. HasWorked (division_by inputs.entry.tis.now inputs.entry.registry.now) inputs.entry.usage.now (drawer_of (slice_index_or workers.items number e).drawer) (drawer_of worked.drawer) (map M.sender (slice_index_or workers.items number e).senders.items) (map M.sender worked.senders.items)))) }
-    ensures read { IfSome result (λ r. (length r.1.items ≡ length readers.items) × ((number : ℕ) (d : _) (e : _) → number < length readers.items → IfSome (slice_index_or r.1.items number d) (λ reader. AreServed (length workers.items) (inboxes_by M.receiver (slice_index_or readers.items number e).opened.value.items) (inboxes_by M.receiver reader.inboxes.items) reader.book))) }
+    ensures worked { IfSome result (λ r. (length r.0.items ≡ length workers.items) × ((number : ℕ) (d : _) (e : _) → number < length workers.items → IfSome (slice_index_or r.0.items number d) (HasWorked M.sender (division_by inputs.entry.tis.now inputs.entry.registry.now) inputs.entry.usage.now (slice_index_or workers.items number e)))) }
+    ensures read { IfSome result (λ r. (length r.1.items ≡ length readers.items) × ((number : ℕ) (d : _) (e : _) → number < length readers.items → IfSome (slice_index_or r.1.items number d) (HasServed M.receiver (slice_index_or readers.items number e)))) }
 {
     let working_room = Vec::with_capacity(alloc, workers.len()).ok()?;
     let reading_room = Vec::with_capacity(alloc, readers.len()).ok()?;
@@ -268,11 +259,11 @@ pub(crate) fn at_once<M: Mail, G: Gate, R: Threads + Wait + Sync>(
         move |scope| -> Option<(Vec<Option<Worked<M>>>, Vec<Option<Served<M>>>)>
             requires few { length workers.items ≤ 8 }
             requires rooms { (vec_len working_room ≡ 0) × (vec_len reading_room ≡ 0) }
-            requires ready { All (λ job. AreForWork (length inputs.registry.now.parties) (length inputs.usage.now) (map M.sender job.senders.items) × IsFresh (length inputs.usage.now) (drawer_of job.drawer) × (MOST_CLAIMS ≤ job.claims.room) × (MOST_CLAIMS + 1 ≤ job.portions.room)) workers.items }
-            requires taken { All (λ reader. (reader.workers ≡ length workers.items) × AreTaken reader.workers reader.whole (inboxes_by M.receiver reader.opened.value.items) (inboxes_by M.receiver reader.inboxes.items) reader.ends.items reader.journal) readers.items }
+            requires ready { All (IsReady M.sender (length inputs.registry.now.parties) (length inputs.usage.now)) workers.items }
+            requires taken { All (λ reader. (reader.workers ≡ length workers.items) × HasKept M.receiver reader) readers.items }
             ensures cut { IfSome result (λ _. length readers.items + length workers.items ≤ cut) }
-            ensures worked { IfSome result (λ r. (length r.0.items ≡ length workers.items) × ((number : ℕ) (d : _) (e : _) → number < length workers.items → IfSome (slice_index_or r.0.items number d) (λ worked. HasWorked (division_by inputs.entry.tis.now inputs.entry.registry.now) inputs.entry.usage.now (drawer_of (slice_index_or workers.items number e).drawer) (drawer_of worked.drawer) (map M.sender (slice_index_or workers.items number e).senders.items) (map M.sender worked.senders.items)))) }
-            ensures read { IfSome result (λ r. (length r.1.items ≡ length readers.items) × ((number : ℕ) (d : _) (e : _) → number < length readers.items → IfSome (slice_index_or r.1.items number d) (λ reader. AreServed (length workers.items) (inboxes_by M.receiver (slice_index_or readers.items number e).opened.value.items) (inboxes_by M.receiver reader.inboxes.items) reader.book))) }
+            ensures worked { IfSome result (λ r. (length r.0.items ≡ length workers.items) × ((number : ℕ) (d : _) (e : _) → number < length workers.items → IfSome (slice_index_or r.0.items number d) (HasWorked M.sender (division_by inputs.entry.tis.now inputs.entry.registry.now) inputs.entry.usage.now (slice_index_or workers.items number e)))) }
+            ensures read { IfSome result (λ r. (length r.1.items ≡ length readers.items) × ((number : ℕ) (d : _) (e : _) → number < length readers.items → IfSome (slice_index_or r.1.items number d) (HasServed M.receiver (slice_index_or readers.items number e)))) }
         {
             let count = readers.len() as u64;
             let Some(reading) = start_readers::<_, M, R>(

@@ -2,7 +2,7 @@ use Rattle.std.proofs.Common.{arith, ap, length, subst, sym, ◌≡◌, ◌+◌,
 use Rattle.std.specs.Prelude.{All, option_map}
 use Rattle.std.proofs.lemmas.List.{length-append, length-map}
 use Rattle.std.proofs.lemmas.List.Elements.{All-push}
-use Rattle.split_run.specs.Reading.{AreTaken, inboxes_by}
+use Rattle.split_run.specs.Reading.{HasKept, inboxes_by}
 use Rattle.split_run.specs.Running.{AreDealt}
 use Rattle.split_run.proofs.OpeningLemmas.{dealt_of_left, left_more, pushed_at, untouched_dealt}
 use Rattle.split_run.proofs.opening.readers_of.Goals as goal
@@ -35,6 +35,6 @@ loop-reader-preserved g c =
           subst (λ (n : ℕ). AreDealt c.args.readers n was (inboxes_by g.M.Mail.receiver new.opened.value.items)) (sym same)
           (subst (λ v. AreDealt c.args.readers reader was (inboxes_by g.M.Mail.receiver v.items)) (sym c.in_ok-new.ensures.opened.0)
           (dealt_of_left c.args.readers reader was left c.loop-reader.invariant.left own c.in_ok-own.ensures.own)));
-      taken = subst (All (λ r. (r.workers ≡ c.args.workers) × AreTaken c.args.workers r.whole (inboxes_by g.M.Mail.receiver r.opened.value.items) (inboxes_by g.M.Mail.receiver r.inboxes.items) r.ends.items r.journal)) (sym c.in_ok-push.ensures.items)
-          (All-push (λ r. (r.workers ≡ c.args.workers) × AreTaken c.args.workers r.whole (inboxes_by g.M.Mail.receiver r.opened.value.items) (inboxes_by g.M.Mail.receiver r.inboxes.items) r.ends.items r.journal) all new c.loop-reader.invariant.taken (c.in_ok-new.ensures.opened.1, c.in_ok-new.ensures.taken));
+      taken = subst (All (λ r. (r.workers ≡ c.args.workers) × HasKept g.M.Mail.receiver r)) (sym c.in_ok-push.ensures.items)
+          (All-push (λ r. (r.workers ≡ c.args.workers) × HasKept g.M.Mail.receiver r) all new c.loop-reader.invariant.taken (c.in_ok-new.ensures.opened.1, c.in_ok-new.ensures.taken));
     }

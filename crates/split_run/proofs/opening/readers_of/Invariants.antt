@@ -1,5 +1,5 @@
 use Rattle.std.specs.Prelude.{ℕ, ◌≡◌, ◌<◌, All, length, slice_index_or}
-use Rattle.split_run.specs.Reading.{AreTaken, inboxes_by}
+use Rattle.split_run.specs.Reading.{HasKept, inboxes_by}
 use Rattle.split_run.specs.Running.{AreDealt, AreLeft}
 use Rattle.split_run.proofs.opening.readers_of.Given as goal
 
@@ -9,5 +9,5 @@ invariant-loop-reader g l = record {
   left : AreLeft l.readers l.reader (inboxes_by g.M.Mail.receiver l.initial.inboxes.items) (inboxes_by g.M.Mail.receiver l.inboxes.items);
   count : length l.all.items ≡ l.reader;
   dealt : (reader : ℕ) (d : _) → reader < l.reader → AreDealt l.readers reader (inboxes_by g.M.Mail.receiver l.initial.inboxes.items) (inboxes_by g.M.Mail.receiver (slice_index_or l.all.items reader d).opened.value.items);
-  taken : All (λ r. (r.workers ≡ l.workers) × AreTaken l.workers r.whole (inboxes_by g.M.Mail.receiver r.opened.value.items) (inboxes_by g.M.Mail.receiver r.inboxes.items) r.ends.items r.journal) l.all.items;
+  taken : All (λ r. (r.workers ≡ l.workers) × HasKept g.M.Mail.receiver r) l.all.items;
 }

@@ -28,27 +28,26 @@ at_once-requires-clause-ready g c κs within =
     λ k d low.
     let lt : k < c.plan.inside.workers = omega (arith, low, count) in
     let e = (line_here c.in_ok-draw.drawers.items k (omega (arith, lt, c.in_ok-draw.ensures.count))).0 in
-    let is : drawer_of (get_or jobs k d).drawer ≡ opened_drawer (draw_of c.in_ok-draw.draw).draw _ k = ap drawer_of (c.in_ok-jobs.ensures.drawers k d e lt) ∙ c.in_ok-draw.ensures.drawers k lt e in (
-      subst (AreForWork (length c.args.registry.now.parties) (length c.args.usage.now)) (get_or-map (λ worker. map g.M.Mail.sender worker.senders.items) jobs k d [] low)
+    let is : drawer_of (get_or jobs k d).drawer ≡ opened_drawer (draw_of c.in_ok-draw.draw).draw _ k = ap drawer_of (c.in_ok-jobs.ensures.drawers k d e lt) ∙ c.in_ok-draw.ensures.drawers k lt e in
+    record {
+      senders = subst (AreForWork (length c.args.registry.now.parties) (length c.args.usage.now)) (get_or-map (λ worker. map g.M.Mail.sender worker.senders.items) jobs k d [] low)
           (subst (λ lines. AreForWork (length c.args.registry.now.parties) lines (get_or lists k [])) c.len-lines.ensures.lines
-          (for_work c.plan.inside.workers (length c.args.registry.now.parties) c.plan.inside.nodes c.len-lines.result lists (inboxes_by g.M.Mail.receiver c.in_ok-jobs.receivers.items) c.in_ok-jobs.ensures.opened k lt)),
-      (ap (λ v. v.blocks) is ∙ ap (λ (n : ℕ). blocks_of n) c.len.ensures.lines, ap (λ v. v.drawn) is),
-      (c.in_ok-jobs.ensures.room k d low).0,
-      (c.in_ok-jobs.ensures.room k d low).1,
-    )
+          (for_work c.plan.inside.workers (length c.args.registry.now.parties) c.plan.inside.nodes c.len-lines.result lists (inboxes_by g.M.Mail.receiver c.in_ok-jobs.receivers.items) c.in_ok-jobs.ensures.opened k lt));
+      drawer = (ap (λ v. v.blocks) is ∙ ap (λ (n : ℕ). blocks_of n) c.len.ensures.lines, ap (λ v. v.drawn) is);
+      room = c.in_ok-jobs.ensures.room k d low;
+    }
 
 pub merge_all-requires-clause-read : goal.merge_all-requires-clause-read
 merge_all-requires-clause-read g c κs within = λ number d lt.
     let readers = c.in_ok-readers.readers.items in
     let count : length readers ≡ c.plan.inside.readers = grind (arith, rules) in
-    let jobs : length c.in_ok-jobs.jobs.items ≡ c.plan.inside.workers = sym (length-map c.in_ok-jobs.jobs.items (λ worker. map g.M.Mail.sender worker.senders.items)) ∙ c.in_ok-jobs.ensures.opened.count in
     let inside : number < length readers = omega (arith, lt, count) in
     let first = (line_here readers number inside).0 in
     let dealt = c.in_ok-readers.ensures.dealt number first lt in
     IfSome_then (get_or c.in-Some.read.items number d) (c.in-Some.ensures.read.1 number d first inside) (λ reader served. (
       inboxes_by g.M.Mail.receiver (get_or readers number first).opened.value.items,
       subst (λ v. AreDealt c.plan.inside.readers number (inboxes_by g.M.Mail.receiver v.items) (inboxes_by g.M.Mail.receiver (get_or readers number first).opened.value.items)) (sym c.of-opened.ensures) dealt,
-      subst (λ n. AreServed n (inboxes_by g.M.Mail.receiver (get_or readers number first).opened.value.items) (inboxes_by g.M.Mail.receiver reader.inboxes.items) reader.book) jobs served,
+      subst (λ n. AreServed n (inboxes_by g.M.Mail.receiver (get_or readers number first).opened.value.items) (inboxes_by g.M.Mail.receiver reader.inboxes.items) reader.book) (c.in_ok-readers.ensures.taken number first inside).0 served,
     ))
 
 pub take_in_all-requires-clause-worked : goal.take_in_all-requires-clause-worked

@@ -17,7 +17,7 @@ loop-job-preserved g c =
           (λ d. let h = c.in_ok-handle.ensures.inputs in grind rules)
           k (grind (arith, rules)) d),
       (λ k d e below.
-          below_more (λ i. (d : _) (e : _) → ((get_or all i d).promise.drawer.value ≡ (get_or jobs i e).drawer) × ((get_or all i d).promise.senders.value ≡ (get_or jobs i e).senders)) done
+          below_more (λ i. (d : _) (e : _) → (get_or all i d).promise.worker.value ≡ get_or jobs i e) done
           (λ i low d e. let h = was.4 i d e low in grind rules)
           (λ d e. let h = was.2 0 e in let made = c.in_ok-handle.ensures.worker in grind rules)
           k (grind (arith, rules)) d e),

@@ -11,5 +11,5 @@ invariant-loop-job g l =
     × (l.number + into_iter_len rest ≡ length all)
     × ((k : ℕ) (d : _) → k < into_iter_len rest → slice_index_or (into_iter_items rest) k d ≡ slice_index_or all (l.number + k) d)
     × ((k : ℕ) (d : _) → k < l.number → ((slice_index_or (vec_items l.started) k d).promise.tis.value ≡ l.inputs.tis.now) × ((slice_index_or (vec_items l.started) k d).promise.registry.value ≡ l.inputs.registry.now) × ((slice_index_or (vec_items l.started) k d).promise.usage.value ≡ l.inputs.usage.now))
-    × ((k : ℕ) (d : _) (e : _) → k < l.number → ((slice_index_or (vec_items l.started) k d).promise.drawer.value ≡ (slice_index_or all k e).drawer) × ((slice_index_or (vec_items l.started) k d).promise.senders.value ≡ (slice_index_or all k e).senders))
+    × ((k : ℕ) (d : _) (e : _) → k < l.number → (slice_index_or (vec_items l.started) k d).promise.worker.value ≡ slice_index_or all k e)
     × (l.number ≤ l.cut)
