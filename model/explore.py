@@ -164,6 +164,8 @@ def received_in_order(ring, m):
             yield "in_order: what is received of a sender is not the first of what it sent"
         if END in all_sent[:-1]:
             yield "end_is_last"
+        if END in got and got != all_sent:
+            yield "all_with_end"
     for p, k in held_entries(m):
         if any(slot_at(ring, m, p, j) == slot_at(ring, m, p, k) for j in range(k + 1, len(items_of(m, p)))):
             yield "held_alone"
