@@ -3,7 +3,7 @@
 help:
 	@echo 'make demo     make the statements of the example in about a minute, with a build that is not proved'
 	@echo 'make build    prove and build the program, leave it as out/royalty_run'
-	@echo 'make test     the gate: prove every crate from nothing, refuse every wrong body, run every test, the program, and each call with its memory refused'
+	@echo 'make test     the gate: prove every crate from nothing, refuse wrong bodies, run every test, and the program and each call, also with memory and threads refused'
 	@echo 'make edits    refuse the wrong bodies that the gate leaves out, of every crate or of one: make edits CRATE=mail_box; an hour for all'
 	@echo 'make compare  run the program and a plain Rust one on small made-up inputs, good and bad, and compare'
 	@echo 'make fuzz     the same on 100000 damaged inputs; some ten minutes on four cores'
@@ -39,6 +39,7 @@ demo:
 test:
 	rt ci
 	tests/program.sh crates/royalty_run/out/royalty_run
+	tests/refuse.sh crates/royalty_run/out/royalty_run quick
 	tests/refuse_calls.sh crates/refusal_runs/out/refusal_runs
 
 edits:

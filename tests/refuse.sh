@@ -3,9 +3,11 @@
 # writes that are cut short or interrupted. It divides one amount, and runs on the examples with several plans and on 2,000 usage lines, whose rows
 # are written by four threads. Each run has to end within a minute: with the whole answer; where memory or a thread was refused, with status 3 and nothing
 # printed; where a read or a write was, with status 4, what the output took, and a message that says which. It takes a C compiler, and half a
-# minute. Usage: tests/refuse.sh PROGRAM
+# minute; `quick`, the division and a run on the examples with one plan, some seconds. Usage: tests/refuse.sh PROGRAM [quick]
 set -euo pipefail
 program=$(realpath "$1")
+plans=('1 1 1' '2 2 16' '3 1 2' '8 8 64')
+[[ ${2-} != quick ]] || plans=('2 2 16')
 examples=$(dirname "$(realpath "$0")")/../examples
 room=$(mktemp -d)
 trap 'rm -rf "$room"' EXIT
@@ -95,11 +97,13 @@ printf 'P,A,34\nP,B,33\nP,C,33\nM,,0\n' > "$whole"
 sweep_all 0
 
 whole=$examples/statements.csv
-for plan in '1 1 1' '2 2 16' '3 1 2' '8 8 64'; do
+for plan in "${plans[@]}"; do
     read -r workers readers nodes <<< "$plan"
     set_run "$examples/usage.csv" "$workers" "$readers" "$nodes"
     sweep_all "$((workers + readers))"
 done
+
+[[ ${2-} != quick ]] || exit 0
 
 # The statements of many lines are those of a run in which nothing is refused.
 head -n 1 "$examples/usage.csv" > "$room/usage.csv"

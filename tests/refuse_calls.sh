@@ -69,18 +69,16 @@ calls=$(wc -l < "$room/all") seen=$(sort -u "$room/refused" | wc -l)
 ((calls == seen)) || fail "only $seen of $calls calls were refused memory"
 sweep calls REFUSE_THREAD is_answered
 
-for kind in links lanes; do
-    answers "$kind" REFUSE 0
+for word in links lanes 'linked sequence'; do
+    answers "$word" REFUSE 0
     cp "$room/out" "$room/all"
-    from=0
-    until grep -q opened "$room/out" && ((from > 0)); do
+    from=1
+    until answers "$word" REFUSE_FROM "$from" && grep -q opened "$room/out"; do
         from=$((from + 1))
-        ((from < 1000)) || fail "open $kind: never opened"
-        answers "open $kind" REFUSE_FROM "$from"
+        ((from < 1000)) || fail "$word: never opened"
     done
-    answers "$kind" REFUSE_FROM "$from"
-    cmp -s "$room/out" "$room/all" || fail "$kind, all allocations from $from on"
-    echo "$kind: the same with all allocations refused from number $from on"
+    cmp -s "$room/out" "$room/all" || fail "$word, REFUSE_FROM=$from"
+    echo "$word: the same with all allocations refused from number $from on"
 done
 
 finished=0

@@ -1,5 +1,5 @@
 //! Each call that takes memory, on a small input.
-ghost use Rattle.std.specs.Prelude.{◌<◌, ◌≡◌};
+ghost use Rattle.std.specs.Prelude.{◌<◌, ◌≡◌, All, true};
 
 use block_draw::Draw;
 use cwr_share::{CwrFault, Registry};
@@ -9,7 +9,7 @@ use pair_split::{PairFault, split_words};
 use payee_book::{Book, Journal};
 use queue_core::Core;
 use settle_run::{Fault, settle};
-use small_run::{TERRITORIES, TWO_PARTIES, USES};
+use small_run::{STATEMENTS, TERRITORIES, TWO_PARTIES, USES};
 use split_run::{NoGate, Plan, RunFault, run, run_cut};
 use std::alloc::{AllocError, Global};
 use std::io::{self, Write};
@@ -147,18 +147,45 @@ fn records(alloc: Global) -> Answer {
     if first && second { Some(has) } else { None }
 }
 
-/// The text of a book in which nothing is posted.
+/// The text of the book of the small run.
 fn text<R: Threads + Sync>(rt: &R, alloc: Global) -> Answer {
     let usage = Usage::read(alloc, USES.as_bytes()).ok()?;
-    let book = Book::open(alloc, 2).ok()?;
+    let mut book = Book::open(alloc, 3).ok()?;
+    book.post(1, 0, 60).ok()?;
+    book.post(2, 0, 40).ok()?;
+    book.post(2, 1, 20).ok()?;
+    book.post(0, 1, 30).ok()?;
+    book.post(0, 2, 7).ok()?;
     let mut parties = Vec::new(alloc);
-    parties.push(Vec::new(alloc)).ok()?;
-    parties.push(Vec::from_slice(alloc, b"A").ok()?).ok()?;
-    let reasons = vec![in alloc; Reason::Open; usage.len()].ok()?;
+    for party in ["", "A", "B"] {
+        parties
+            .push(Vec::from_slice(alloc, party.as_bytes()).ok()?)
+            .ok()?;
+    }
+    let reasons = [Reason::Open, Reason::Open, Reason::Work];
+    if parties.len() != 3 || usage.len() != 3 || !is_of_lines(&book, 3) {
+        return Some(WRONG);
+    }
     let text = book
-        .text(rt, alloc, &usage, parties.as_slice(), reasons.as_slice())
+        .text(rt, alloc, &usage, parties.as_slice(), &reasons)
         .ok()?;
-    Some(text.len() as u64)
+    if text.as_slice() == STATEMENTS.as_bytes() {
+        Some(text.len() as u64)
+    } else {
+        Some(WRONG)
+    }
+}
+
+/// Whether the postings of a book are of the first so many lines.
+fn is_of_lines(book: &Book, lines: u64) -> bool
+    ensures { result ≡ true → All (All (λ posting. posting.0 < lines)) book.now }
+{
+    for account in 0..book.accounts() {
+        if !book.lines(account).iter().all(|posting| posting.0 < lines) {
+            return false;
+        }
+    }
+    true
 }
 
 fn draw(alloc: Global) -> Answer {

@@ -6,15 +6,7 @@ use std::alloc::Global;
 use std::io::{self, Write};
 use std::sync::Wait;
 
-/// Opens a mailbox of two senders, each with one node and five posts.
-pub fn open<M: Mail, W: Write>(alloc: Global, mail: &M, out: &mut W) -> io::Result<()> {
-    match mail.open(alloc, 2, 1, 5) {
-        Ok(_) => writeln!(out, "opened"),
-        Err(_) => writeln!(out, "no memory"),
-    }
-}
-
-/// Opens such a mailbox, and prints what each call on it answers until it is empty.
+/// Opens a mailbox of two senders, each with one node and five posts, and prints what each call on it answers until it is empty.
 pub fn exchange<M: Mail, R: Wait, W: Write>(
     rt: &R,
     alloc: Global,

@@ -1,17 +1,19 @@
 //! Makes calls on small inputs and prints what they answer, so that each of their allocations can be refused in turn.
 //!
-//! Each line of the input says what to do: `calls`, each call that takes memory, a line each; `open links` or `open lanes`, open a mailbox of
-//! that kind; `links` or `lanes`, the same and what its calls answer then; `counted`, a run whose gate and mailboxes count.
+//! Each line of the input says what to do: `calls`, each call that takes memory, a line each; `links` or `lanes`, open a mailbox of that kind
+//! and make its calls; `linked sequence`, one sequence of the calls of `LinkMail`; `counted`, a run whose gate and mailboxes count.
 #![tactic(auto)]
 
 mod calls;
 mod counted;
 mod mailboxes;
+mod sequence;
 
 use calls::make_calls;
 use counted::run_counted;
 use mail_box::{LaneMail, LinkMail};
-use mailboxes::{exchange, open};
+use mailboxes::exchange;
+use sequence::linked_sequence;
 use std::io;
 use std::process::ExitCode;
 
@@ -22,10 +24,9 @@ fn main(rt: HostRuntime) -> io::Result<ExitCode> {
         let line = line?;
         match line.as_str() {
             "calls" => make_calls(&rt, alloc, &mut out)?,
-            "open links" => open(alloc, &LinkMail, &mut out)?,
-            "open lanes" => open(alloc, &LaneMail, &mut out)?,
             "links" => exchange(&rt, alloc, &LinkMail, &mut out)?,
             "lanes" => exchange(&rt, alloc, &LaneMail, &mut out)?,
+            "linked sequence" => linked_sequence(alloc, &mut out)?,
             "counted" => run_counted(&rt, alloc, &mut out)?,
             _ => return Ok(ExitCode::FAILURE),
         }

@@ -10,11 +10,11 @@ use crate::run_threads_tests::{inputs, watch};
 use line_split::{MOST_CLAIMS, Portions};
 use mail_box::{Item, LaneMail, LaneReceiver, LaneSender, Mail, receive};
 use small_run::{NO_USES, USES};
-use split_run::{Draw, Drawer, Gate, NoGate, Plan, work};
+use split_run::{Draw, Drawer, Gate, Plan, work};
 use std::alloc::{AllocError, Global};
 use std::process::Abort;
 use std::sync::Wait;
-use std::sync::atomic::{AtomicBool, Ordering};
+use std::sync::atomic::{AtomicBool, AtomicU64, Ordering};
 use std::test::Fail;
 use std::thread;
 use std::thread::{Threads, join};
@@ -106,19 +106,36 @@ fn work_alone<G: Gate, R: Abort + Wait>(
     ))
 }
 
-/// Lets the only worker of the small run do its work, and asserts what it answers, how many posts its senders have left, and
-/// what the mailboxes of the residue and the two parties give.
+/// A gate that counts the lines that it is told.
+#[derive(Drop)]
+struct LineCount {
+    told: AtomicU64,
+}
+
+impl Gate for LineCount {
+    fn pass(&self, _worker: u64, _line: u64) {
+        self.told.fetch_add(1, Ordering::SeqCst);
+    }
+}
+
+/// Lets the only worker of the small run do its work, and asserts what it answers, how many lines its gate is told, how many posts
+/// its senders have left, and what the mailboxes of the residue and the two parties give.
 fn assert_work<R: Abort + Wait>(
     rt: &R,
     alloc: Global,
     is_stopped: bool,
+    told: u64,
     left: [u64; 3],
     items: [&[Item]; 3],
 ) -> Result<(), Fail> {
     let (mut senders, mut receivers) = open_three(alloc, 64)?;
     let stop = AtomicBool::new(is_stopped);
-    let is_done = work_alone(rt, alloc, &mut senders, USES, &NoGate, &stop)?;
+    let gate = LineCount {
+        told: AtomicU64::new(0),
+    };
+    let is_done = work_alone(rt, alloc, &mut senders, USES, &gate, &stop)?;
     assert_eq!(rt; is_done, !is_stopped);
+    assert_eq!(rt; gate.told.load(Ordering::SeqCst), told);
     for account in 0..3 {
         assert_eq!(rt; LaneMail::left(&senders[account]), left[account]);
         assert_gives(rt, &mut receivers[account], items[account]);
@@ -137,13 +154,13 @@ fn a_worker_sends_what_its_lines_come_to(rt: HostRuntime) -> Result<(), Fail> {
         to_first.as_slice(),
         to_second.as_slice(),
     ];
-    assert_work(&rt, rt.alloc(), false, [1, 2, 1], items)
+    assert_work(&rt, rt.alloc(), false, 3, [1, 2, 1], items)
 }
 
 #[test]
-fn a_worker_that_is_stopped_sends_nothing(rt: HostRuntime) -> Result<(), Fail> {
+fn a_worker_that_is_stopped_tells_and_sends_nothing(rt: HostRuntime) -> Result<(), Fail> {
     let none: &[Item] = &[];
-    assert_work(&rt, rt.alloc(), true, [3, 3, 3], [none; 3])
+    assert_work(&rt, rt.alloc(), true, 0, [3, 3, 3], [none; 3])
 }
 
 /// A gate that says when a worker has come to the second line.
