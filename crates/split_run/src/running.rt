@@ -1,19 +1,19 @@
 //! A run: workers divide the usage lines, readers keep the statements, and between them lies a mailbox for each account.
 
-ghost use Rattle.std.specs.Prelude.{◌≡◌, ◌+◌, ◌<◌, ◌≤◌, ℕ, IfOk, IfSome, None, OnOk, Some, length, map, replicate, slice_index_or, sum_by, true, vec_items};
+ghost use Rattle.std.specs.Prelude.{◌≡◌, ◌+◌, ◌<◌, ◌≤◌, ℕ, All, IfOk, IfSome, None, OnOk, Some, length, map, replicate, slice_index_or, sum_by, true, vec_items};
 ghost use Rattle.mail_box.specs.Mails.{Begins, ReceiverView, SenderView, with_sender};
 ghost use Rattle.payee_book.specs.Run.{IsBookOf};
 ghost use Rattle.payee_book.specs.Statement.{total_of};
 ghost use Rattle.split_run.specs.Divisions.{division_by};
-ghost use Rattle.split_run.specs.Reading.{inboxes_by};
+ghost use Rattle.split_run.specs.Reading.{HasKept, inboxes_by};
 ghost use Rattle.block_draw.specs.Drawn.{AreDrawnOnce};
-ghost use Rattle.block_draw.specs.Views.{draw_of, drawer_of, opened_draw, with_drawer};
+ghost use Rattle.block_draw.specs.Views.{draw_of, drawer_of, opened_draw, opened_drawer, with_drawer};
 ghost use Rattle.split_run.specs.Blocks.{blocks_of};
-ghost use Rattle.split_run.specs.Running.{AreMerged, AreTakenIn, IsGivenBack, IsWorkOf, MayBeTakenIn, or_else};
+ghost use Rattle.split_run.specs.Running.{AreDealt, AreMailboxes, AreMerged, AreTakenIn, IsGivenBack, IsReady, IsWorkOf, MayBeTakenIn, or_else};
 
 use crate::gate::Gate;
-use crate::opening::{open_mailboxes, readers_of};
-use crate::reading::Served;
+use crate::opening::{Worker, open_mailboxes, readers_of};
+use crate::reading::{Reader, Served};
 use crate::starting::{Worked, at_once};
 use crate::working::Inputs;
 use crate::{LINES_IN_BLOCK, Plan, RunFault};
@@ -64,28 +64,81 @@ pub fn run_cut<M: Mail, G: Gate, R: Threads + Wait + Sync>(
     ensures adds_up { IfOk result (λ book. sum_by total_of book ≡ sum_by (λ line. line.amount) usage.now) }
     ensures cut { IfOk result (λ _. plan.readers + plan.workers ≤ threads) }
 {
-    let accounts = registry.accounts();
-    let lines = usage.len() as u64;
-    let workers = plan.workers;
-    let blocks = (usage.len() + (LINES_IN_BLOCK - 1)) / LINES_IN_BLOCK;
-    let (mut draw, drawers) = Draw::open(alloc, blocks as u64, workers)?;
-    let (jobs, receivers) = open_mailboxes(
-        alloc, mail, registry, drawers, workers, plan.nodes, lines,
-    )?;
-    let opened = Snapshot::of(&receivers);
-    let readers = readers_of::<M>(alloc, accounts, workers, plan.readers, receivers)?;
     let inputs = Inputs {
         tis,
         registry,
         usage,
     };
+    let accounts = registry.accounts();
+    let workers = plan.workers;
+    let (mut draw, mailboxes, jobs, readers) = open_all(
+        alloc,
+        mail,
+        inputs,
+        workers,
+        plan.readers,
+        plan.nodes,
+    )?;
     let Some((worked, read)) = at_once(rt, alloc, mail, inputs, gate, jobs, readers, threads) else {
         return Err(RunFault::Room);
     };
-    let (mut inboxes, book) = merge_all::<M>(alloc, accounts, workers, plan.readers, opened, read)?;
+    let (mut inboxes, book) = merge_all::<M>(
+        alloc,
+        accounts,
+        workers,
+        plan.readers,
+        mailboxes,
+        read,
+    )?;
     prove!(book.accounts() == accounts, "each account has a statement");
     take_in_all::<M, R>(rt, inputs, &mut draw, inboxes.as_mut_slice(), worked)?;
     Ok(book)
+}
+
+/// Opens all that a run needs before it starts a thread: the draw of its blocks, a mailbox for each account, as it is kept here
+/// for the proofs, and its workers and readers, which have the ends of the mailboxes.
+fn open_all<M: Mail>(
+    alloc: Global,
+    mail: &M,
+    inputs: Inputs<'_>,
+    workers: u64,
+    readers: u64,
+    nodes: u64,
+) -> Result<
+    (
+        Draw,
+        Snapshot<Vec<Option<M::Receiver>>>,
+        Vec<Worker<M>>,
+        Vec<Reader<M>>,
+    ),
+    AllocError,
+>
+    requires workers { (0 < workers) × (workers ≤ 8) }
+    requires readers { 0 < readers }
+    requires nodes { (0 < nodes) × (nodes ≤ 64) }
+    ensures draw { IfOk result (λ r. draw_of r.0 ≡ opened_draw (draw_of r.0).draw (blocks_of (length inputs.entry.usage.now)) workers) }
+    ensures drawers { IfOk result (λ r. (number : ℕ) (d : _) → number < workers → drawer_of (slice_index_or r.2.items number d).drawer ≡ opened_drawer (draw_of r.0).draw (blocks_of (length inputs.entry.usage.now)) number) }
+    ensures mailboxes { IfOk result (λ r. AreMailboxes workers (length inputs.entry.registry.now.parties) nodes (length inputs.entry.usage.now) (map (λ worker. map M.sender worker.senders.items) r.2.items) (inboxes_by M.receiver r.1.value.items)) }
+    ensures ready { IfOk result (λ r. (length r.2.items ≡ workers) × All (IsReady M.sender (length inputs.entry.registry.now.parties) (length inputs.entry.usage.now)) r.2.items) }
+    ensures dealt { IfOk result (λ r. (reader : ℕ) (d : _) → reader < readers → AreDealt readers reader (inboxes_by M.receiver r.1.value.items) (inboxes_by M.receiver (slice_index_or r.3.items reader d).opened.value.items)) }
+    ensures taken { IfOk result (λ r. (length r.3.items ≡ readers) × All (λ reader. (reader.workers ≡ workers) × HasKept M.receiver reader) r.3.items) }
+{
+    let accounts = inputs.registry.accounts();
+    let lines = inputs.usage.len() as u64;
+    let blocks = (inputs.usage.len() + (LINES_IN_BLOCK - 1)) / LINES_IN_BLOCK;
+    let (draw, drawers) = Draw::open(alloc, blocks as u64, workers)?;
+    let (jobs, receivers) = open_mailboxes(
+        alloc,
+        mail,
+        inputs.registry,
+        drawers,
+        workers,
+        nodes,
+        lines,
+    )?;
+    let opened = Snapshot::of(&receivers);
+    let readers = readers_of::<M>(alloc, accounts, workers, readers, receivers)?;
+    Ok((draw, opened, jobs, readers))
 }
 
 /// Merges what the readers gave back: the mailbox of each account, and the book of all statements. `opened` are the
