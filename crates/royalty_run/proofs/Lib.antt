@@ -6,3 +6,4 @@ pub mod Walked
 pub mod RunLemmas
 pub mod RunWalked
 pub mod OverLemmas
+pub mod FileLemmas

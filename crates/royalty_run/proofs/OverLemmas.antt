@@ -3,6 +3,7 @@ use Rattle.std.proofs.Common.{◌≡◌, ◌≢◌, ◌∙◌, ◌⊎◌, ◌+�
 use Rattle.std.specs.Result.{IfErr, OnOk}
 use Rattle.std.proofs.lemmas.Grind.{get_or_after_one}
 use Rattle.std.specs.Prelude.{string_bytes}
+use Rattle.std.specs.declared.io.ErrorKind.{ErrorKind}
 use Rattle.pair_split.specs.Pair.{word_at}
 use Rattle.royalty_run.specs.Answered.{AreReadFrom}
 use Rattle.royalty_run.specs.Asked.{IsDivision, IsRun, path_given}
@@ -41,17 +42,17 @@ over_in_order holds words asked text run read over = at_paths holds text _ _ _ _
     (read.usage ∙ usage_in_order (drop 1 words) run.options ∙ word_on words 6) over
 
 -- a run fails for the files that its options name
-pub fails_given : (holds : List ℕ → List ℕ → Type 0) (words : List (List ℕ)) (asked : RunWords) → AreReadFrom words asked → (failure : Failure)
-    → IsOfPaths holds (string_bytes asked.tis) (string_bytes asked.cwr) (string_bytes asked.usage) failure → IsOfRun holds words failure
-fails_given holds words asked read failure is =
-    let given : IsOfPaths holds (path_given (codes "tis") words) (path_given (codes "cwr") words) (path_given (codes "usage") words) failure =
-    subst (λ (u : List ℕ). IsOfPaths holds (path_given (codes "tis") words) (path_given (codes "cwr") words) u failure) read.usage
-    (subst (λ (c : List ℕ). IsOfPaths holds (path_given (codes "tis") words) c (string_bytes asked.usage) failure) read.cwr
-    (subst (λ (t : List ℕ). IsOfPaths holds t (string_bytes asked.cwr) (string_bytes asked.usage) failure) read.tis is)) in
+pub fails_given : (holds : List ℕ → List ℕ → Type 0) (refuses : List ℕ → ErrorKind → Type 0) (words : List (List ℕ)) (asked : RunWords) → AreReadFrom words asked → (failure : Failure)
+    → IsOfPaths holds refuses (string_bytes asked.tis) (string_bytes asked.cwr) (string_bytes asked.usage) failure → IsOfRun holds refuses words failure
+fails_given holds refuses words asked read failure is =
+    let given : IsOfPaths holds refuses (path_given (codes "tis") words) (path_given (codes "cwr") words) (path_given (codes "usage") words) failure =
+    subst (λ (u : List ℕ). IsOfPaths holds refuses (path_given (codes "tis") words) (path_given (codes "cwr") words) u failure) read.usage
+    (subst (λ (c : List ℕ). IsOfPaths holds refuses (path_given (codes "tis") words) c (string_bytes asked.usage) failure) read.cwr
+    (subst (λ (t : List ℕ). IsOfPaths holds refuses t (string_bytes asked.cwr) (string_bytes asked.usage) failure) read.tis is)) in
     as_run failure given
   where
-    as_run : (failure : Failure) → IsOfPaths holds (path_given (codes "tis") words) (path_given (codes "cwr") words) (path_given (codes "usage") words) failure
-        → IsOfRun holds words failure
+    as_run : (failure : Failure) → IsOfPaths holds refuses (path_given (codes "tis") words) (path_given (codes "cwr") words) (path_given (codes "usage") words) failure
+        → IsOfRun holds refuses words failure
     as_run (Words error) none = absurd none
     as_run NotText none = none
     as_run (Pairs fault) none = none
@@ -61,13 +62,13 @@ fails_given holds words asked read failure is =
     as_run Output none = none
 
 -- how the program ends: an answer ends with 0, or with 4 where the output refuses it, and a failure with its status
-pub ends_with : {T : Type 0} (r : Result T Failure) (status : ℕ) (holds : List ℕ → List ℕ → Type 0) (words : List (List ℕ))
+pub ends_with : {T : Type 0} (r : Result T Failure) (status : ℕ) (holds : List ℕ → List ℕ → Type 0) (refuses : List ℕ → ErrorKind → Type 0) (words : List (List ℕ))
     → IfErr r (λ failure. status ≡ status_of failure) → OnOk r ((status ≡ 0) ⊎ (status ≡ 4)) → IfErr r IsRefusal → (IsDivision words → IfErr r (IsOfDivision words))
-    → (word_at words 1 ≡ codes "run" → IfErr r (IsOfRun holds (drop 1 words)))
-    → status ≢ 0 → (failure : Failure) × (status ≡ status_of failure) × ((failure ≡ Output) ⊎ FailFor holds words failure)
-ends_with (Ok printed) status holds words is answered refusal division run failed = elim answered [
+    → (word_at words 1 ≡ codes "run" → IfErr r (IsOfRun holds refuses (drop 1 words)))
+    → status ≢ 0 → (failure : Failure) × (status ≡ status_of failure) × ((failure ≡ Output) ⊎ FailFor holds refuses words failure)
+ends_with (Ok printed) status holds refuses words is answered refusal division run failed = elim answered [
   | inl none ↦ absurd (failed none)
   | inr refused ↦ (Output, refused, inl refl)
 ]
-ends_with (Err failure) status holds words is answered refusal division run failed =
+ends_with (Err failure) status holds refuses words is answered refusal division run failed =
     (failure, is, inr (record { refusal = refusal; division = division; run = run }))

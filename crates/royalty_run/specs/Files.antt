@@ -1,11 +1,16 @@
 -- What a run answers over files. `holds path bytes` says that the file of a path has these bytes.
-use Rattle.std.specs.Prelude.{ℕ, ◌≤◌, List, length}
+use Rattle.std.specs.Prelude.{ℕ, ◌≤◌, List, length, ⊤}
+use Rattle.std.specs.declared.io.ErrorKind.{ErrorKind}
 use Rattle.settle_run.specs.Settled.{AreStatementsOf, HaveNoFault, IsFaultOf}
 use Rattle.settle_run.specs.declared.fault.Fault.{Fault}
 
 -- What a file of the system has no contract can say, but that it is no larger than the most bytes.
 abbrev pub on_disk : List ℕ → List ℕ → Type 0
 on_disk path bytes = length bytes ≤ 268435456
+
+-- Nor why it is refused.
+abbrev pub for_any_error : List ℕ → ErrorKind → Type 0
+for_any_error path kind = ⊤
 
 -- the bytes of the three files of a run
 pub record AreInputs (holds : List ℕ → List ℕ → Type 0) (tis cwr usage : List ℕ) : Type 0 where

@@ -59,23 +59,40 @@ IsRefusal Room = ⊤
 IsRefusal (File path) = ⊤
 IsRefusal _ = ⊥
 
--- a file fails for lack of memory or by its own name
-abbrev pub IsOfFile : String Global → Failure → Type 0
-IsOfFile path Room = ⊤
-IsOfFile path (File name) = string_bytes name ≡ string_bytes path
-IsOfFile path _ = ⊥
+-- lack of memory is no failure of a file, which any other error leaves unread
+abbrev pub failure_of_file : io.ErrorKind → String Global → Failure
+failure_of_file io_kind.OutOfMemory path = Room
+failure_of_file _ path = File path
 
--- a run over the files of these paths fails for the first fault of the first of them that has one, for lack of memory, or for one that cannot be read
-abbrev pub IsOfPaths : (holds : List ℕ → List ℕ → Type 0) → (tis cwr usage : List ℕ) → Failure → Type 0
-IsOfPaths holds tis cwr usage (Input fault) = IsFaultOver holds tis cwr usage fault
-IsOfPaths holds tis cwr usage Room = ⊤
-IsOfPaths holds tis cwr usage (File name) = (string_bytes name ≡ tis) ⊎ ((string_bytes name ≡ cwr) ⊎ (string_bytes name ≡ usage))
-IsOfPaths holds tis cwr usage _ = ⊥
+-- A file fails as its error has it. `refuses path kind` says that a path is refused with an error of this kind.
+abbrev pub IsOfFile : (refuses : List ℕ → io.ErrorKind → Type 0) → String Global → Failure → Type 0
+IsOfFile refuses path failure = (kind : io.ErrorKind) × refuses (string_bytes path) kind × (failure ≡ failure_of_file kind path)
+
+-- the file of a path was read
+abbrev pub IsRead : (holds : List ℕ → List ℕ → Type 0) → List ℕ → Type 0
+IsRead holds path = (bytes : List ℕ) × holds path bytes
+
+-- it cannot be read, and that is no lack of memory
+abbrev pub IsUnread : (refuses : List ℕ → io.ErrorKind → Type 0) → List ℕ → Type 0
+IsUnread refuses path = (kind : io.ErrorKind) × refuses path kind × (kind ≢ io_kind.OutOfMemory)
+
+-- it is the first of three that cannot be read: those before it were
+pub record IsFirstUnread (holds : List ℕ → List ℕ → Type 0) (refuses : List ℕ → io.ErrorKind → Type 0) (tis cwr usage path : List ℕ) : Type 0 where
+  pub unread : IsUnread refuses path
+  pub first : (path ≡ tis) ⊎ (((path ≡ cwr) × IsRead holds tis) ⊎ ((path ≡ usage) × IsRead holds tis × IsRead holds cwr))
+
+-- a run over the files of these paths fails for the first fault of the first of them that has one, for lack of memory, or for the first that cannot be read
+abbrev pub IsOfPaths : (holds : List ℕ → List ℕ → Type 0) (refuses : List ℕ → io.ErrorKind → Type 0) (tis cwr usage : List ℕ) → Failure → Type 0
+IsOfPaths holds refuses tis cwr usage (Input fault) = IsFaultOver holds tis cwr usage fault
+IsOfPaths holds refuses tis cwr usage Room = ⊤
+IsOfPaths holds refuses tis cwr usage (File name) = IsFirstUnread holds refuses tis cwr usage (string_bytes name)
+IsOfPaths holds refuses tis cwr usage _ = ⊥
 
 -- and the words of a run fail for that, or for themselves where clap does not accept them
-abbrev pub IsOfRun : (holds : List ℕ → List ℕ → Type 0) → List (List ℕ) → Failure → Type 0
-IsOfRun holds words (Words error) = ¬ AreAccepted words
-IsOfRun holds words failure = IsOfPaths holds (path_given (codes "tis") words) (path_given (codes "cwr") words) (path_given (codes "usage") words) failure
+abbrev pub IsOfRun : (holds : List ℕ → List ℕ → Type 0) (refuses : List ℕ → io.ErrorKind → Type 0) → List (List ℕ) → Failure → Type 0
+IsOfRun holds refuses words (Words error) = ¬ AreAccepted words
+IsOfRun holds refuses words failure =
+    IsOfPaths holds refuses (path_given (codes "tis") words) (path_given (codes "cwr") words) (path_given (codes "usage") words) failure
 
 -- a division fails for its pairs, which then have that fault, for other words, or for lack of memory
 abbrev pub IsOfDivision : List (List ℕ) → Failure → Type 0
@@ -85,10 +102,10 @@ IsOfDivision words Room = ⊤
 IsOfDivision words _ = ⊥
 
 -- the words of a command line fail for this
-pub record FailFor (holds : List ℕ → List ℕ → Type 0) (words : List (List ℕ)) (failure : Failure) : Type 0 where
+pub record FailFor (holds : List ℕ → List ℕ → Type 0) (refuses : List ℕ → io.ErrorKind → Type 0) (words : List (List ℕ)) (failure : Failure) : Type 0 where
   pub refusal : IsRefusal failure
   pub division : IsDivision words → IsOfDivision words failure
-  pub run : word_at words 1 ≡ codes "run" → IsOfRun holds (drop 1 words) failure
+  pub run : word_at words 1 ≡ codes "run" → IsOfRun holds refuses (drop 1 words) failure
 
 -- lack of memory is no fault of the pairs
 abbrev pub failure_of_fault : PairFault → Failure

@@ -1,8 +1,8 @@
 //! The command `run`, over files that the tests make.
 
 use crate::program::program;
-use crate::test_outputs::{Answer, Narrow, run, words};
-use small_run::{SHORT, STATEMENTS, TERRITORIES, TWO_PARTIES, USES};
+use crate::test_outputs::{Answer, Measured, Narrow, run, words};
+use small_run::{NO_USES, SHORT, STATEMENTS, TERRITORIES, TWO_PARTIES, USES};
 use std::alloc::Global;
 use std::rt::{Env, Files};
 use std::sync::Wait;
@@ -129,6 +129,35 @@ fn answer_through<R: Files + Env + AllocGlobal + Threads + Wait + Sync>(
     let kept = String::from_utf8(out.kept).unwrap_or(String::new(alloc));
     let err = String::from_utf8(err).unwrap_or(String::new(alloc));
     Ok(format!(in alloc; "{status}\n{kept}{err}")?)
+}
+
+/// So many usage lines of a work that has no registration, and what a run prints of them.
+fn unregistered(alloc: Global, lines: usize) -> Result<(String, String), Fail> {
+    let mut uses = String::from_str(alloc, NO_USES)?;
+    let mut want = String::new(alloc);
+    for n in 0..lines {
+        uses.push_str(format!(in alloc; "{n:060},W9,276,P,1\n")?.as_str())?;
+        want.push_str(format!(in alloc; "M,WORK,{n:060},1\n")?.as_str())?;
+    }
+    want.push_str(format!(in alloc; "T,,{lines},{lines}\nR,,{lines},{lines}\n")?.as_str())?;
+    Ok((uses, want))
+}
+
+#[test]
+fn prints_a_long_residue_by_the_page(rt: HostRuntime) -> Result<(), Fail> {
+    let alloc = rt.alloc();
+    let (uses, want) = unregistered(alloc, 4000)?;
+    let made = Made::of(&rt, "page", [TERRITORIES, TWO_PARTIES, uses.as_str()])?;
+    let words = words(alloc, made.in_order(alloc)?.as_str())?;
+    let mut out = Measured::new(alloc);
+    let mut err = Vec::new(alloc);
+    let status = program(&rt, alloc, words.as_slice(), &mut out, &mut err);
+    made.remove(&rt)?;
+    assert_eq!(rt; status, 0);
+    assert!(rt; want.len() > 200_000);
+    assert!(rt; out.kept.as_slice() == want.as_bytes());
+    assert!(rt; out.longest < 140_000, "{}", out.longest);
+    Ok(())
 }
 
 #[test]

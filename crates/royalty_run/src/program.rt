@@ -4,12 +4,13 @@ ghost use Rattle.std.specs.Prelude.{◌≡◌, ◌≢◌, ◌≤◌, ◌⊎◌, 
 ghost use Rattle.std.specs.Io.KnownBytes.{Appends, Keeps};
 ghost use Rattle.royalty_run.specs.Asked.{AreRun, IsDivision};
 ghost use Rattle.royalty_run.specs.Answered.{IsAnswered};
-ghost use Rattle.royalty_run.specs.Files.{on_disk};
+ghost use Rattle.royalty_run.specs.Files.{for_any_error, on_disk};
 ghost use Rattle.royalty_run.specs.Status.{FailFor, IsOfDivision, IsOfRun, IsRefusal, failure_of_kind, status_of};
 ghost use Rattle.royalty_run.specs.declared.failure.Failure.{Failure};
 ghost use Rattle.royalty_run.specs.declared.failure.Failure.TheVariants.{Output, Room};
 ghost use Rattle.pair_split.specs.Pair.{word_at};
 ghost use Rattle.std.specs.IoError.{error_kind};
+ghost use Rattle.std.specs.Vec.Iter.{into_iter_items};
 
 use crate::commands::{Asked, read_words};
 use crate::failure::Failure;
@@ -26,6 +27,7 @@ use std::thread::Threads;
 /// The words of the command line in one list, the first of which is the program's own name, or why there are
 /// none.
 pub fn words_of(alloc: Global, words: io::Result<Args<Global>>) -> Result<Vec<String>, Failure>
+    ensures all { IfOk words (λ given. IfOk result (λ all. all.items ≡ into_iter_items given)) }
     ensures memory { OnOk words (IfErr result (λ failure. failure ≡ Room)) }
     ensures no_words { IfErr words (λ error. IfErr result (λ failure. failure ≡ failure_of_kind (error_kind error))) }
 {
@@ -61,7 +63,7 @@ pub fn program<R: Files + Threads + Wait + Sync, W: Write, E: Write>(
     ensures quiet { result ≡ 0 → err.new ≡ err.old }
     ensures silent { (result ≡ 1) ⊎ ((result ≡ 2) ⊎ (result ≡ 3)) → out.new ≡ out.old }
     ensures accepted { AreRun (map string_bytes words.now) → result ≢ 2 }
-    ensures failed { result ≢ 0 → (failure : Failure) × (result ≡ status_of failure) × ((failure ≡ Output) ⊎ FailFor on_disk (map string_bytes words.now) failure) }
+    ensures failed { result ≢ 0 → (failure : Failure) × (result ≡ status_of failure) × ((failure ≡ Output) ⊎ FailFor on_disk for_any_error (map string_bytes words.now) failure) }
 {
     let printed = answer(rt, alloc, &Disk { rt }, words, out);
     end(printed, out, err)
@@ -96,7 +98,7 @@ fn answer<R: Threads + Wait + Sync, S: Source, W: Write>(
     ensures answered { IfOk result (λ printed. OnOk printed ((text : List ℕ) × Appends (W.contents out.old) (W.contents out.new) text
         × IsAnswered (S.holds files.now) (map string_bytes words.now) text)) }
     ensures failure { IfErr result IsRefusal }
-    ensures run { word_at (map string_bytes words.now) 1 ≡ codes "run" → IfErr result (IsOfRun (S.holds files.now) (drop 1 (map string_bytes words.now))) }
+    ensures run { word_at (map string_bytes words.now) 1 ≡ codes "run" → IfErr result (IsOfRun (S.holds files.now) (S.refuses files.now) (drop 1 (map string_bytes words.now))) }
     ensures pairs { IsDivision (map string_bytes words.now) → IfErr result (IsOfDivision (map string_bytes words.now)) }
     ensures silent { IfErr result (λ _. out.new ≡ out.old) }
 {

@@ -1,5 +1,5 @@
 //! What the tests of the program share: the words of a command line, what a run answers, and outputs that
-//! refuse or hold back.
+//! refuse, measure or hold back.
 
 use crate::program::program;
 use std::alloc::Global;
@@ -80,6 +80,34 @@ impl Write for Narrow {
         self.kept.extend_from_slice(&buf[..taken])?;
         self.room -= taken;
         Ok(taken)
+    }
+
+    fn flush(&mut self) -> io::Result<()> {
+        Ok(())
+    }
+}
+
+/// An output that keeps its bytes, and how many came in one write at most.
+#[derive(Drop)]
+pub struct Measured {
+    pub longest: usize,
+    pub kept: Vec<u8>,
+}
+
+impl Measured {
+    pub fn new(alloc: Global) -> Self {
+        Measured {
+            longest: 0,
+            kept: Vec::new(alloc),
+        }
+    }
+}
+
+impl Write for Measured {
+    fn write(&mut self, buf: &[u8]) -> io::Result<usize> {
+        self.kept.extend_from_slice(buf)?;
+        self.longest = self.longest.max(buf.len());
+        Ok(buf.len())
     }
 
     fn flush(&mut self) -> io::Result<()> {

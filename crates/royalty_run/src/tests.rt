@@ -182,7 +182,14 @@ fn tells_what_the_words_are(rt: HostRuntime) -> Result<(), Fail> {
         ("r run --help", "divide usage lines: 1 to 8\n"),
         ("r run --help", "keep statements: 1 to 8\n"),
         ("r run --help", "to an account at most: 1 to 64\n"),
-        ("r run --help", "L,party,usage,amount"),
+        (
+            "r run --help",
+            "L,party,usage,amount for each portion of a party",
+        ),
+        ("r run --help", "then its sum\nS,party,count,total"),
+        ("r run --help", "of the residue M,reason,usage,amount"),
+        ("r run --help", "then T,,count,total"),
+        ("r run --help", "last R,,lines,amount"),
         (
             "r run --help",
             "run --tis territories.csv --cwr works.cwr --usage usage.csv",
@@ -200,6 +207,30 @@ fn tells_what_the_words_are(rt: HostRuntime) -> Result<(), Fail> {
             str::from_utf8(help.out.as_slice())?.contains(told),
             "{line}: {told}"
         );
+    }
+    Ok(())
+}
+
+#[test]
+fn passes_over_the_first_word(rt: HostRuntime) -> Result<(), Fail> {
+    let absent = "--tis absent --cwr a --usage a --workers 1 --readers 1 --nodes 1";
+    for name in ["split", "run", "--help", "--version", "--", ""] {
+        for (words, status, want) in [
+            ("split 3 A=5000", 0, "P,A,2\nM,,1\n"),
+            (
+                format!(in rt.alloc(); "run {absent}")?.as_str(),
+                4,
+                "royalty_run: cannot read absent\n",
+            ),
+            ("--version", 0, "royalty_run 0.1.0\n"),
+        ] {
+            let answer = run(&rt, format!(in rt.alloc(); "{name} {words}")?.as_str())?;
+            let out = str::from_utf8(answer.out.as_slice())?;
+            let err = str::from_utf8(answer.err.as_slice())?;
+            assert!(rt; out.starts_with(want) || err == want, "{name} {words}");
+            assert_eq!(rt; answer.status, status, "{name} {words}");
+        }
+        assert_eq!(rt; run(&rt, name)?.status, 2, "{name}");
     }
     Ok(())
 }

@@ -15,4 +15,4 @@ whole (Some all) from limit most before bytes is over none read few =
 
 pub returns-clause-whole : goal.returns-clause-whole
 returns-clause-whole g c = whole (g.S.Read.remaining c.args.from) (g.S.Read.remaining c.take.result.inner) c.take.result.limit 268435456 c.in_ok-bytes.bytes.items c.read_to_end.new.buf.items
-    (ap g.S.Read.remaining c.take.ensures.inner) c.take.ensures.limit c.in_ok-bytes.ensures.items c.in_ok-read_to_end.ensures.bytes (omega arith)
+    (ap g.S.Read.remaining c.take.ensures.inner) c.take.ensures.limit c.in_ok-bytes.ensures.items c.in_ok-read_to_end.ensures.bytes (grind arith)

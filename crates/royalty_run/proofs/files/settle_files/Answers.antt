@@ -1,18 +1,20 @@
-use Rattle.std.proofs.Common.{ℕ, List}
+use Rattle.std.proofs.Common.{ℕ, List, rules}
 use Rattle.std.proofs.lemmas.Result.{on_ok_weaker}
 use Rattle.std.specs.Prelude.{string_bytes}
+use Rattle.std.specs.declared.io.ErrorKind.{ErrorKind}
 use Rattle.settle_run.specs.declared.fault.Fault.{Fault}
 use Rattle.settle_run.specs.declared.fault.Fault.TheVariants.{Tis, Cwr, Usage, Room}
 use Rattle.royalty_run.specs.Files.{AreInputs, IsFaultOver}
 use Rattle.royalty_run.specs.Status.{IsOfPaths, failure_of_run}
+use Rattle.royalty_run.proofs.FileLemmas.{first_unread, second_unread, third_unread}
 use Rattle.royalty_run.proofs.files.settle_files.Goals as goal
 
 -- a fault of the files is why the run fails, where it is no lack of memory
-fails : (holds : List ℕ → List ℕ → Type 0) (tis cwr usage : List ℕ) (fault : Fault) → IsFaultOver holds tis cwr usage fault → IsOfPaths holds tis cwr usage (failure_of_run fault)
-fails holds tis cwr usage (Tis fault) is = is
-fails holds tis cwr usage (Cwr fault) is = is
-fails holds tis cwr usage (Usage fault) is = is
-fails holds tis cwr usage Room is = tt
+fails : (holds : List ℕ → List ℕ → Type 0) (refuses : List ℕ → ErrorKind → Type 0) (tis cwr usage : List ℕ) (fault : Fault) → IsFaultOver holds tis cwr usage fault → IsOfPaths holds refuses tis cwr usage (failure_of_run fault)
+fails holds refuses tis cwr usage (Tis fault) is = is
+fails holds refuses tis cwr usage (Cwr fault) is = is
+fails holds refuses tis cwr usage (Usage fault) is = is
+fails holds refuses tis cwr usage Room is = tt
 
 pub returns-in-Ok-clause-statements : goal.returns-in-Ok-clause-statements
 returns-in-Ok-clause-statements g c =
@@ -54,4 +56,13 @@ returns-in-Err-clause-files g c =
       };
       fault_of = c.in-Err.ensures.fault;
     } in
-    rw c.from.ensures (fails (g.S.Source.holds c.args.files.now) (string_bytes asked.tis) (string_bytes asked.cwr) (string_bytes asked.usage) c.in-Err.fault over)
+    rw c.from.ensures (fails (g.S.Source.holds c.args.files.now) (g.S.Source.refuses c.args.files.now) (string_bytes asked.tis) (string_bytes asked.cwr) (string_bytes asked.usage) c.in-Err.fault over)
+
+pub returns-in_err-tis-clause-files : goal.returns-in_err-tis-clause-files
+returns-in_err-tis-clause-files g c = search (rules, first_unread)
+
+pub returns-in_err-cwr-clause-files : goal.returns-in_err-cwr-clause-files
+returns-in_err-cwr-clause-files g c = search (rules, second_unread)
+
+pub returns-in_err-usage-clause-files : goal.returns-in_err-usage-clause-files
+returns-in_err-usage-clause-files g c = search (rules, third_unread)

@@ -83,7 +83,7 @@ returns-in-Ok-Run-clause-run g c command =
     let words = map string_bytes c.args.words.now in
     let asked = c.in-Ok-Run.asked in
     let read : AreReadFrom (drop 1 words) asked = rw (c.in-Ok-Run.is, c.in-Ok-Run.field-0-is) at (c.read_words.ensures.run command) in
-    IfErr-weaker c.settle_files.result _ _ (fails_given (g.S.Source.holds c.args.files.now) (drop 1 words) asked read) c.settle_files.ensures.files
+    IfErr-weaker c.settle_files.result _ _ (fails_given (g.S.Source.holds c.args.files.now) (g.S.Source.refuses c.args.files.now) (drop 1 words) asked read) c.settle_files.ensures.files
 
 pub returns-in-Ok-Run-clause-pairs : goal.returns-in-Ok-Run-clause-pairs
 returns-in-Ok-Run-clause-pairs g c division =
