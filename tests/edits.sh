@@ -20,7 +20,7 @@ for name in "${names[@]}"; do
 done
 cd "$copy"
 tried=$(find "${names[@]/#/crates/}" -path '*/must-fail/*.edit' | wc -l)
-rt must-fail "${names[@]}" 2>&1 | tee told | grep -E 'must-fail [a-z_]+/|^rt: .*(error|cannot)' || true
+rt must-fail "${names[@]}" 2>&1 | tee told | grep --line-buffered -E 'must-fail [a-z_]+/|^rt: .*(error|cannot)' || true
 refused=$(grep -cE 'must-fail [a-z_]+/[^:]*: refused, as it must be' told || true)
 echo "$refused refused, $((tried - refused)) not"
 ((refused == tried))
