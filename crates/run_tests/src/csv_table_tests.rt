@@ -1,10 +1,29 @@
 //! A text is walked over, and rows are written.
+//!
+//! A test gives rows of text, each a question and, after a colon, its answer (`rows`). In a question the fields
+//! of a row are divided by strokes, and the most that a field may have or be follows it after a comma.
 
+use crate::rows::{Ask, assert_rows};
 use csv_table::forms::{code, is_printable, number_up_to};
 use csv_table::{RowWriter, Rows};
 use std::alloc::Global;
-use std::str;
 use std::test::Fail;
+
+/// The text that bytes are.
+fn text_of(bytes: &[u8]) -> &str {
+    str::from_utf8(bytes).unwrap_or("?")
+}
+
+/// The fields of the row at hand, in brackets, and a stroke after them.
+fn told_row(alloc: Global, rows: &Rows<'_>) -> Result<String, Fail> {
+    let mut told = String::new(alloc);
+    for place in 0..rows.len() {
+        let field = text_of(rows.field(place));
+        told.push_str(format!(in alloc; "[{field}]")?.as_str())?;
+    }
+    told.push_str("/")?;
+    Ok(told)
+}
 
 /// The fields of each row of a text, in brackets, and a stroke after each row.
 fn told(alloc: Global, text: &[u8]) -> Result<String, Fail> {
@@ -14,14 +33,146 @@ fn told(alloc: Global, text: &[u8]) -> Result<String, Fail> {
         if !rows.next()? {
             break;
         }
-        for place in 0..rows.len() {
-            told.push_str("[")?;
-            told.push_str(str::from_utf8(rows.field(place))?)?;
-            told.push_str("]")?;
-        }
-        told.push_str("/")?;
+        told.push_str(told_row(alloc, &rows)?.as_str())?;
     }
     Ok(told)
+}
+
+/// Whether the fields of the row `a,b` are these, which strokes divide.
+fn is_row(alloc: Global, text: &str) -> Result<String, Fail> {
+    let mut fields = Vec::new(alloc);
+    for field in text.split('|') {
+        fields.push(field)?;
+    }
+    let mut rows = Rows::of(alloc, b"a,b");
+    if !rows.next()? {
+        return Err(Fail::new("there is no row"));
+    }
+    Ok(format!(in alloc; "{}", rows.is(fields.as_slice()))?)
+}
+
+/// The fields of the text `a` that are before its row, whether it has a row, the field after that of the row, and
+/// whether it has more rows, which is asked twice.
+fn walk_to_the_end(alloc: Global) -> Result<String, Fail> {
+    let mut rows = Rows::of(alloc, b"a");
+    let before = rows.len();
+    let is_first = rows.next()?;
+    let past = format!(in alloc; "{:?}", rows.field(1))?;
+    let is_second = rows.next()?;
+    let is_third = rows.next()?;
+    Ok(format!(in alloc; "{before} {is_first} {past} {is_second} {is_third}")?)
+}
+
+/// Adds a row, whose fields strokes divide.
+fn add_row(alloc: Global, out: &mut RowWriter, row: &str) -> Result<(), Fail> {
+    let mut fields = Vec::new(alloc);
+    for field in row.split('|') {
+        fields.push(field.as_bytes())?;
+    }
+    out.row(fields.as_slice())?;
+    Ok(())
+}
+
+/// The text of rows, which slashes divide, and strokes their fields.
+fn written(alloc: Global, rows: &str) -> Result<Vec<u8>, Fail> {
+    let mut out = RowWriter::new(alloc);
+    for row in rows.split('/') {
+        add_row(alloc, &mut out, row)?;
+    }
+    Ok(out.into_text()?)
+}
+
+/// What an output has after a row whose page is not full, and after that is passed on.
+fn pass_a_row(alloc: Global, rows: &mut RowWriter, out: &mut Vec<u8>) -> Result<String, Fail> {
+    add_row(alloc, rows, "a|b")?;
+    rows.write_full_page_to(out)?;
+    let early = format!(in alloc; "{}", text_of(out.as_slice()))?;
+    rows.write_to(out)?;
+    Ok(format!(in alloc; "{early}/{}", text_of(out.as_slice()))?)
+}
+
+/// How many bytes are passed on at a time of 5000 rows of 101 bytes.
+fn pass_pages(alloc: Global, rows: &mut RowWriter, out: &mut Vec<u8>) -> Result<Vec<usize>, Fail> {
+    let field = vec![in alloc; b'x'; 100]?;
+    let mut pages = Vec::new(alloc);
+    for _ in 0..5000 {
+        let had = out.len();
+        rows.row(&[field.as_slice()])?;
+        rows.write_full_page_to(out)?;
+        if out.len() > had {
+            pages.push(out.len() - had)?;
+        }
+    }
+    Ok(pages)
+}
+
+/// Whether each of these is the length of a page. The buffer of the crate `csv` holds back 8192 bytes at most, and
+/// a row has 101.
+fn are_pages(lengths: &[usize]) -> bool {
+    lengths
+        .iter()
+        .all(|bytes| *bytes >= 131_072 && *bytes <= 139_365)
+}
+
+/// How many bytes are passed on of a row of one field with so many bytes.
+fn passed(alloc: Global, length: usize) -> Result<usize, Fail> {
+    let field = vec![in alloc; b'x'; length]?;
+    let mut rows = RowWriter::new(alloc);
+    let mut out = Vec::new(alloc);
+    rows.row(&[field.as_slice()])?;
+    rows.write_full_page_to(&mut out)?;
+    Ok(out.len())
+}
+
+/// What is printable with a byte at a place of a field of 17 bytes: the field before, with room for 17 and for 16
+/// bytes, and then the field, its first 8 bytes and those from the tenth on.
+fn printable(byte: u8, place: usize) -> (bool, bool, bool, bool, bool) {
+    let mut field = *b"sixteen and one: ";
+    let (fits, is_over) = (is_printable(&field, 17), is_printable(&field, 16));
+    if let Some(old) = field.get_mut(place) {
+        *old = byte;
+    }
+    (
+        fits,
+        is_over,
+        is_printable(&field, 17),
+        is_printable(&field[..8], 8),
+        is_printable(&field[10..], 8),
+    )
+}
+
+/// What the rows of a test ask.
+enum Asked {
+    /// Whether the fields of the row `a,b` are these.
+    Row,
+    /// How many bytes are passed on of a row of one field with so many bytes.
+    Passed,
+    /// Whether a field is printable, and has no more bytes than this.
+    Printable,
+    /// The number that a field writes, where it is no more than this.
+    Number,
+    /// The code that a field writes.
+    Code,
+}
+
+impl Ask for Asked {
+    fn answer(&self, alloc: Global, question: &str) -> Result<String, Fail> {
+        let (field, most) = question.split_once(',').unwrap_or((question, ""));
+        let bytes = field.as_bytes();
+        Ok(match self {
+            Asked::Row => is_row(alloc, question)?,
+            Asked::Passed => {
+                format!(in alloc; "{}", passed(alloc, field.parse().unwrap_or(0))?)?
+            }
+            Asked::Printable => {
+                format!(in alloc; "{}", is_printable(bytes, most.parse().unwrap_or(0)))?
+            }
+            Asked::Number => {
+                format!(in alloc; "{:?}", number_up_to(bytes, most.parse().unwrap_or(0)))?
+            }
+            Asked::Code => format!(in alloc; "{:?}", code(bytes))?,
+        })
+    }
 }
 
 #[test]
@@ -34,69 +185,34 @@ fn walks_over_rows(rt: HostRuntime) -> Result<(), Fail> {
 
 #[test]
 fn compares_a_row_with_fields(rt: HostRuntime) -> Result<(), Fail> {
-    let mut rows = Rows::of(rt.alloc(), b"a,b");
-    assert!(rt; rows.next()?);
-    let cases: [(&[&str], bool); 4] = [
-        (&["a", "b"], true),
-        (&["a"], false),
-        (&["a", "b", ""], false),
-        (&["a", "B"], false),
-    ];
-    for (fields, expected) in cases {
-        assert_eq!(rt; rows.is(fields), expected);
-    }
-    Ok(())
+    let rows = "a|b: true\na: false\na|b|: false\na|B: false\n";
+    assert_rows(&rt, rt.alloc(), &Asked::Row, rows)
 }
 
 #[test]
 fn has_no_field_before_the_first_row_or_past_the_last_field(rt: HostRuntime) -> Result<(), Fail> {
-    let mut rows = Rows::of(rt.alloc(), b"a");
-    assert_eq!(rt; rows.len(), 0);
-    assert!(rt; rows.next()?);
-    assert_eq!(rt; rows.field(1), b"".as_slice());
-    assert!(rt; !rows.next()?);
-    assert!(rt; !rows.next()?);
+    let found = walk_to_the_end(rt.alloc())?;
+    assert_eq!(rt; found.as_str(), "0 true [] false false");
     Ok(())
 }
 
 #[test]
 fn writes_rows_of_any_width(rt: HostRuntime) -> Result<(), Fail> {
-    let mut out = RowWriter::new(rt.alloc());
-    out.row(&[b"a,b", b"say \"c\""])?;
-    out.row(&[b""])?;
-    out.row(&[b"", b"1", b"two\nlines", b"4", b"5", b"6"])?;
-    let text = out.into_text()?;
+    let text = written(rt.alloc(), "a,b|say \"c\"//|1|two\nlines|4|5|6")?;
     let want = "\"a,b\",\"say \"\"c\"\"\"\n\"\"\n,1,\"two\nlines\",4,5,6\n";
-    assert_eq!(rt; text.as_slice(), want.as_bytes());
+    assert_eq!(rt; text_of(text.as_slice()), want);
     Ok(())
 }
 
 #[test]
 fn passes_rows_on_by_the_page(rt: HostRuntime) -> Result<(), Fail> {
-    let mut rows = RowWriter::with_room(rt.alloc(), 2)?;
-    let mut out = Vec::from_slice(rt.alloc(), b"before\n")?;
-    rows.row(&[b"a", b"b"])?;
-    rows.write_full_page_to(&mut out)?;
-    assert_eq!(rt; out.as_slice(), b"before\n".as_slice());
-    rows.write_to(&mut out)?;
-    assert_eq!(rt; out.as_slice(), b"before\na,b\n".as_slice());
-    let field = [b'x'; 100];
-    let mut pages = Vec::new(rt.alloc());
-    for _ in 0..5000 {
-        let had = out.len();
-        rows.row(&[&field])?;
-        rows.write_full_page_to(&mut out)?;
-        if out.len() > had {
-            pages.push(out.len() - had)?;
-        }
-    }
-    // The buffer of the crate `csv` holds back 8192 bytes at most, and a row has 101.
-    assert_eq!(rt; pages.len(), 3);
-    assert!(rt;
-        pages
-            .iter()
-            .all(|bytes| *bytes >= 131_072 && *bytes <= 139_365)
-    );
+    let alloc = rt.alloc();
+    let mut rows = RowWriter::with_room(alloc, 2)?;
+    let mut out = Vec::from_slice(alloc, b"before\n")?;
+    let first = pass_a_row(alloc, &mut rows, &mut out)?;
+    assert_eq!(rt; first.as_str(), "before\n/before\na,b\n");
+    let pages = pass_pages(alloc, &mut rows, &mut out)?;
+    assert!(rt; pages.len() == 3 && are_pages(pages.as_slice()));
     rows.write_to(&mut out)?;
     assert_eq!(rt; out.len(), 11 + 5000 * 101);
     Ok(())
@@ -105,15 +221,8 @@ fn passes_rows_on_by_the_page(rt: HostRuntime) -> Result<(), Fail> {
 #[test]
 fn knows_when_a_page_is_full(rt: HostRuntime) -> Result<(), Fail> {
     // A field as long as the buffer of the crate `csv` goes past it, and only the end of its row stays there.
-    for (ready, passed) in [(131_071, 0), (131_072, 131_073)] {
-        let field = vec![in rt.alloc(); b'x'; ready]?;
-        let mut rows = RowWriter::new(rt.alloc());
-        let mut out = Vec::new(rt.alloc());
-        rows.row(&[field.as_slice()])?;
-        rows.write_full_page_to(&mut out)?;
-        assert_eq!(rt; out.len(), passed);
-    }
-    Ok(())
+    let rows = "131071: 0\n131072: 131073\n";
+    assert_rows(&rt, rt.alloc(), &Asked::Passed, rows)
 }
 
 #[test]
@@ -132,12 +241,8 @@ fn takes_no_rows_after_a_refused_write(rt: HostRuntime) -> Result<(), Fail> {
 fn finds_a_byte_that_is_not_printable_wherever_it_is(rt: HostRuntime) -> Result<(), Fail> {
     for byte in [b'\0', 0x1f, 0x7f, 0x80, 0xff] {
         for place in 0..17 {
-            let mut field = *b"sixteen and one: ";
-            assert!(rt; is_printable(&field, 17) && !is_printable(&field, 16));
-            field[place] = byte;
-            assert!(rt; !is_printable(&field, 17));
-            assert!(rt; is_printable(&field[..8], 8) == (place >= 8));
-            assert!(rt; is_printable(&field[10..], 8) == (place < 10));
+            let want = (true, false, false, place >= 8, place < 10);
+            assert_eq!(rt; printable(byte, place), want, "{byte} at {place}");
         }
     }
     Ok(())
@@ -145,23 +250,34 @@ fn finds_a_byte_that_is_not_printable_wherever_it_is(rt: HostRuntime) -> Result<
 
 #[test]
 fn knows_the_forms_of_fields(rt: HostRuntime) -> Result<(), Fail> {
-    assert!(rt; is_printable(b" ~", 2) && !is_printable(b" ~", 1));
-    assert!(rt; !is_printable(b"", 1) && !is_printable(b"\x7f", 1) && !is_printable(b"\x1f", 1));
-    assert_eq!(rt; number_up_to(b"007", 7), Some(7));
-    assert_eq!(rt; number_up_to(b"8", 7), None);
-    assert_eq!(rt; number_up_to(b"", 7), None);
-    assert_eq!(rt; number_up_to(b"+7", 7), None);
-    assert_eq!(rt; number_up_to(b"7 ", 7), None);
-    assert_eq!(rt;
-        number_up_to(b"18446744073709551615", u64::MAX),
-        Some(u64::MAX)
-    );
-    assert_eq!(rt; number_up_to(b"18446744073709551616", u64::MAX), None);
-    assert_eq!(rt; code(b"9999"), Some(9999));
-    assert_eq!(rt; code(b"10000"), None);
-    assert_eq!(rt; code(b"0001"), Some(1));
-    assert_eq!(rt; code(b"00001"), None);
-    assert_eq!(rt; code(b"0"), None);
-    assert_eq!(rt; code(b"21 6"), None);
-    Ok(())
+    let alloc = rt.alloc();
+    let rows = " ~,2: true\n ~,1: false\n,1: false\n\x7f,1: false\n\x1f,1: false\n";
+    assert_rows(&rt, alloc, &Asked::Printable, rows)?;
+    assert_rows(
+        &rt,
+        alloc,
+        &Asked::Number,
+        "\
+007,7: Some(7)
+8,7: None
+,7: None
++7,7: None
+7 ,7: None
+18446744073709551615,18446744073709551615: Some(18446744073709551615)
+18446744073709551616,18446744073709551615: None
+",
+    )?;
+    assert_rows(
+        &rt,
+        alloc,
+        &Asked::Code,
+        "\
+9999: Some(9999)
+10000: None
+0001: Some(1)
+00001: None
+0: None
+21 6: None
+",
+    )
 }
