@@ -3,64 +3,72 @@
 //! A test gives rows of text, each a question and, after a colon, its answer (`rows`). In a question the fields
 //! of a row are divided by strokes, and the most that a field may have or be follows it after a comma.
 
-use crate::rows::{Ask, assert_rows};
+use crate::rows::{Ask, assert_rows, text_of};
 use csv_table::forms::{code, is_printable, number_up_to};
 use csv_table::{RowWriter, Rows};
 use std::alloc::Global;
 use std::test::Fail;
 
-/// The text that bytes are.
-fn text_of(bytes: &[u8]) -> &str {
-    str::from_utf8(bytes).unwrap_or("?")
+/// A field in brackets.
+fn in_brackets(alloc: Global, field: &[u8]) -> Result<String, Fail> {
+    Ok(format!(in alloc; "[{}]", text_of(field))?)
 }
 
 /// The fields of the row at hand, in brackets, and a stroke after them.
 fn told_row(alloc: Global, rows: &Rows<'_>) -> Result<String, Fail> {
     let mut told = String::new(alloc);
     for place in 0..rows.len() {
-        let field = text_of(rows.field(place));
-        told.push_str(format!(in alloc; "[{field}]")?.as_str())?;
+        told.push_str(in_brackets(alloc, rows.field(place))?.as_str())?;
     }
     told.push_str("/")?;
     Ok(told)
 }
 
-/// The fields of each row of a text, in brackets, and a stroke after each row.
-fn told(alloc: Global, text: &[u8]) -> Result<String, Fail> {
-    let mut rows = Rows::of(alloc, text);
+/// The fields of each row, in brackets, and a stroke after each row.
+fn told(alloc: Global, rows: &mut Rows<'_>) -> Result<String, Fail> {
     let mut told = String::new(alloc);
     for _ in 0..10 {
         if !rows.next()? {
             break;
         }
-        told.push_str(told_row(alloc, &rows)?.as_str())?;
+        told.push_str(told_row(alloc, rows)?.as_str())?;
     }
     Ok(told)
 }
 
-/// Whether the fields of the row `a,b` are these, which strokes divide.
-fn is_row(alloc: Global, text: &str) -> Result<String, Fail> {
+/// The same of the rows of a text.
+fn told_text(alloc: Global, text: &str) -> Result<String, Fail> {
+    told(alloc, &mut Rows::of(alloc, text.as_bytes()))
+}
+
+/// The fields of a text, which strokes divide.
+fn fields_of(alloc: Global, text: &str) -> Result<Vec<&str>, Fail> {
     let mut fields = Vec::new(alloc);
     for field in text.split('|') {
         fields.push(field)?;
     }
-    let mut rows = Rows::of(alloc, b"a,b");
-    if !rows.next()? {
-        return Err(Fail::new("there is no row"));
-    }
-    Ok(format!(in alloc; "{}", rows.is(fields.as_slice()))?)
+    Ok(fields)
 }
 
-/// The fields of the text `a` that are before its row, whether it has a row, the field after that of the row, and
-/// whether it has more rows, which is asked twice.
-fn walk_to_the_end(alloc: Global) -> Result<String, Fail> {
-    let mut rows = Rows::of(alloc, b"a");
+/// Whether there is a next row, and its fields are these.
+fn is_next(rows: &mut Rows<'_>, fields: &[&str]) -> Result<bool, Fail> {
+    Ok(rows.next()? && rows.is(fields))
+}
+
+/// Whether the row `a,b` has these fields, which strokes divide.
+fn is_row(alloc: Global, text: &str) -> Result<bool, Fail> {
+    let fields = fields_of(alloc, text)?;
+    is_next(&mut Rows::of(alloc, b"a,b"), fields.as_slice())
+}
+
+/// How many fields there are before the first row, whether there is a row, how long the field after its first is,
+/// and whether there are more rows, which is asked twice.
+fn walk_past_the_end(rows: &mut Rows<'_>) -> Result<(usize, bool, usize, bool, bool), Fail> {
     let before = rows.len();
     let is_first = rows.next()?;
-    let past = format!(in alloc; "{:?}", rows.field(1))?;
+    let past = rows.field(1).len();
     let is_second = rows.next()?;
-    let is_third = rows.next()?;
-    Ok(format!(in alloc; "{before} {is_first} {past} {is_second} {is_third}")?)
+    Ok((before, is_first, past, is_second, rows.next()?))
 }
 
 /// Adds a row, whose fields strokes divide.
@@ -73,13 +81,12 @@ fn add_row(alloc: Global, out: &mut RowWriter, row: &str) -> Result<(), Fail> {
     Ok(())
 }
 
-/// The text of rows, which slashes divide, and strokes their fields.
-fn written(alloc: Global, rows: &str) -> Result<Vec<u8>, Fail> {
-    let mut out = RowWriter::new(alloc);
+/// Adds rows, which slashes divide, and strokes their fields.
+fn add_rows(alloc: Global, out: &mut RowWriter, rows: &str) -> Result<(), Fail> {
     for row in rows.split('/') {
-        add_row(alloc, &mut out, row)?;
+        add_row(alloc, out, row)?;
     }
-    Ok(out.into_text()?)
+    Ok(())
 }
 
 /// What an output has after a row whose page is not full, and after that is passed on.
@@ -104,6 +111,16 @@ fn pass_pages(alloc: Global, rows: &mut RowWriter, out: &mut Vec<u8>) -> Result<
         }
     }
     Ok(pages)
+}
+
+/// What an output has after a row and after pages are passed on to it: its text at first, how many pages it got, whether
+/// they are as long as pages are, and its length at last.
+fn pass_all(alloc: Global, rows: &mut RowWriter, out: &mut Vec<u8>) -> Result<String, Fail> {
+    let first = pass_a_row(alloc, rows, out)?;
+    let pages = pass_pages(alloc, rows, out)?;
+    rows.write_to(out)?;
+    let (count, are_whole) = (pages.len(), are_pages(pages.as_slice()));
+    Ok(format!(in alloc; "{first}{count} {are_whole} {}", out.len())?)
 }
 
 /// Whether each of these is the length of a page. The buffer of the crate `csv` holds back 8192 bytes at most, and
@@ -160,7 +177,7 @@ impl Ask for Asked {
         let (field, most) = question.split_once(',').unwrap_or((question, ""));
         let bytes = field.as_bytes();
         Ok(match self {
-            Asked::Row => is_row(alloc, question)?,
+            Asked::Row => format!(in alloc; "{}", is_row(alloc, question)?)?,
             Asked::Passed => {
                 format!(in alloc; "{}", passed(alloc, field.parse().unwrap_or(0))?)?
             }
@@ -178,7 +195,7 @@ impl Ask for Asked {
 #[test]
 fn walks_over_rows(rt: HostRuntime) -> Result<(), Fail> {
     let text = "\u{feff}a,b\r\n\n\"x,\"\"y\",,z\nlast";
-    let rows = told(rt.alloc(), text.as_bytes())?;
+    let rows = told_text(rt.alloc(), text)?;
     assert_eq!(rt; rows.as_str(), "[a][b]/[x,\"y][][z]/[last]/");
     Ok(())
 }
@@ -191,14 +208,16 @@ fn compares_a_row_with_fields(rt: HostRuntime) -> Result<(), Fail> {
 
 #[test]
 fn has_no_field_before_the_first_row_or_past_the_last_field(rt: HostRuntime) -> Result<(), Fail> {
-    let found = walk_to_the_end(rt.alloc())?;
-    assert_eq!(rt; found.as_str(), "0 true [] false false");
+    let found = walk_past_the_end(&mut Rows::of(rt.alloc(), b"a"))?;
+    assert_eq!(rt; found, (0, true, 0, false, false));
     Ok(())
 }
 
 #[test]
 fn writes_rows_of_any_width(rt: HostRuntime) -> Result<(), Fail> {
-    let text = written(rt.alloc(), "a,b|say \"c\"//|1|two\nlines|4|5|6")?;
+    let mut out = RowWriter::new(rt.alloc());
+    add_rows(rt.alloc(), &mut out, "a,b|say \"c\"//|1|two\nlines|4|5|6")?;
+    let text = out.into_text()?;
     let want = "\"a,b\",\"say \"\"c\"\"\"\n\"\"\n,1,\"two\nlines\",4,5,6\n";
     assert_eq!(rt; text_of(text.as_slice()), want);
     Ok(())
@@ -207,14 +226,11 @@ fn writes_rows_of_any_width(rt: HostRuntime) -> Result<(), Fail> {
 #[test]
 fn passes_rows_on_by_the_page(rt: HostRuntime) -> Result<(), Fail> {
     let alloc = rt.alloc();
-    let mut rows = RowWriter::with_room(alloc, 2)?;
     let mut out = Vec::from_slice(alloc, b"before\n")?;
-    let first = pass_a_row(alloc, &mut rows, &mut out)?;
-    assert_eq!(rt; first.as_str(), "before\n/before\na,b\n");
-    let pages = pass_pages(alloc, &mut rows, &mut out)?;
-    assert!(rt; pages.len() == 3 && are_pages(pages.as_slice()));
-    rows.write_to(&mut out)?;
-    assert_eq!(rt; out.len(), 11 + 5000 * 101);
+    let mut rows = RowWriter::with_room(alloc, 2)?;
+    let passed = pass_all(alloc, &mut rows, &mut out)?;
+    // 11 bytes and 5000 rows of 101
+    assert_eq!(rt; passed.as_str(), "before\n/before\na,b\n3 true 505011");
     Ok(())
 }
 

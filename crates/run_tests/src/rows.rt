@@ -1,7 +1,9 @@
 //! Rows of text, each a question and, after a colon, its answer.
 //!
 //! A test gives such rows. Every question is asked again, and the rows have to come out as they stand. So a test
-//! is few calls, and is soon proved: the prover follows each call of a test, but not into what it calls.
+//! is few calls, and is soon proved: the prover follows each call of a test, but not into what it calls. For the same
+//! reason what has to be dropped, as a reader or a writer, is made in one function and lent to another that uses it:
+//! the prover follows its drop after each `?`.
 
 use std::alloc::Global;
 use std::process::Abort;
@@ -15,7 +17,7 @@ pub trait Ask {
 
 /// A row of text with the answer to the question in it.
 fn answered<A: Ask>(alloc: Global, asked: &A, row: &str) -> Result<String, Fail> {
-    let question = row.split(':').next().unwrap_or("");
+    let (question, _) = row.split_once(':').unwrap_or((row, ""));
     let answer = asked.answer(alloc, question)?;
     Ok(format!(in alloc; "{question}: {answer}\n")?)
 }
@@ -38,4 +40,18 @@ pub fn assert_rows<A: Ask>(
 ) -> Result<(), Fail> {
     assert_eq!(rt; all_answered(alloc, asked, rows)?.as_str(), rows);
     Ok(())
+}
+
+/// A text with line ends for its slashes.
+pub fn lines_of(alloc: Global, text: &str) -> Result<Vec<u8>, Fail> {
+    let mut lines = Vec::new(alloc);
+    for byte in text.as_bytes() {
+        lines.push(if *byte == b'/' { b'\n' } else { *byte })?;
+    }
+    Ok(lines)
+}
+
+/// The text that bytes are, or a question mark.
+pub fn text_of(bytes: &[u8]) -> &str {
+    str::from_utf8(bytes).unwrap_or("?")
 }
