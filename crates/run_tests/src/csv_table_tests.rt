@@ -3,16 +3,11 @@
 //! A test gives rows of text, each a question and, after a colon, its answer (`rows`). In a question the fields
 //! of a row are divided by strokes, and the most that a field may have or be follows it after a comma.
 
-use crate::rows::{Ask, assert_rows, text_of};
+use crate::rows::{Ask, assert_rows, in_brackets, text_of};
 use csv_table::forms::{code, is_printable, number_up_to};
 use csv_table::{RowWriter, Rows};
 use std::alloc::Global;
 use std::test::Fail;
-
-/// A field in brackets.
-fn in_brackets(alloc: Global, field: &[u8]) -> Result<String, Fail> {
-    Ok(format!(in alloc; "[{}]", text_of(field))?)
-}
 
 /// The fields of the row at hand, in brackets, and a stroke after them.
 fn told_row(alloc: Global, rows: &Rows<'_>) -> Result<String, Fail> {

@@ -2,7 +2,7 @@
 //!
 //! A test gives rows of text, each a question on a file and, after a colon, its answer (`rows`).
 
-use crate::rows::{Ask, assert_rows, text_of};
+use crate::rows::{Ask, assert_rows, in_brackets, text_of};
 use cwr_share::{CwrFault, Registry};
 use line_split::{Line, Right};
 use small_run::{TERRITORIES, TWO_PARTIES};
@@ -126,11 +126,6 @@ fn account_in(alloc: Global, file: &str, party: &str) -> Result<String, Fail> {
     account(alloc, &registry, party)
 }
 
-/// A party in brackets.
-fn in_brackets(alloc: Global, party: &[u8]) -> Result<String, Fail> {
-    Ok(format!(in alloc; "[{}]", text_of(party))?)
-}
-
 /// Parties, each in brackets.
 fn all_in_brackets(alloc: Global, parties: &[Vec<u8>]) -> Result<String, Fail> {
     let mut text = String::new(alloc);
@@ -138,6 +133,12 @@ fn all_in_brackets(alloc: Global, parties: &[Vec<u8>]) -> Result<String, Fail> {
         text.push_str(in_brackets(alloc, party.as_slice())?.as_str())?;
     }
     Ok(text)
+}
+
+/// The parties of a file by account, each in brackets.
+fn parties_in(alloc: Global, file: &str) -> Result<String, Fail> {
+    let registry = read(alloc, file)?;
+    all_in_brackets(alloc, registry.parties())
 }
 
 /// A file after an edit, `OLD>NEW`: the first OLD in it is replaced by NEW.
@@ -337,8 +338,7 @@ fn names_the_accounts(rt: HostRuntime) -> Result<(), Fail> {
 
 #[test]
 fn lists_the_parties(rt: HostRuntime) -> Result<(), Fail> {
-    let registry = read(rt.alloc(), FIVE_WORKS)?;
-    let found = all_in_brackets(rt.alloc(), registry.parties())?;
+    let found = parties_in(rt.alloc(), FIVE_WORKS)?;
     assert_eq!(rt; found.as_str(), "[][A][B][C]");
     Ok(())
 }

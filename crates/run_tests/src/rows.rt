@@ -55,3 +55,8 @@ pub fn lines_of(alloc: Global, text: &str) -> Result<Vec<u8>, Fail> {
 pub fn text_of(bytes: &[u8]) -> &str {
     str::from_utf8(bytes).unwrap_or("?")
 }
+
+/// The text that bytes are, in brackets.
+pub fn in_brackets(alloc: Global, bytes: &[u8]) -> Result<String, Fail> {
+    Ok(format!(in alloc; "[{}]", text_of(bytes))?)
+}
