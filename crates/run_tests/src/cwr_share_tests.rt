@@ -1,9 +1,8 @@
 //! CWR files, good and bad, and the claims that they give.
 //!
-//! A test gives rows of text, each a question and, after a colon, its answer. Every question is asked
-//! again, and the rows have to come out as they stand. So a test is few calls, and is proved in a
-//! second or two: the prover follows each call of a test, but not into the helpers.
+//! A test gives rows of text, each a question on a file and, after a colon, its answer (`rows`).
 
+use crate::rows::{Ask, assert_rows, in_brackets, text_of};
 use cwr_share::{CwrFault, Registry};
 use line_split::{Line, Right};
 use small_run::{TERRITORIES, TWO_PARTIES};
@@ -104,26 +103,42 @@ fn claims(alloc: Global, registry: &Registry, line: &Line<'_>) -> Result<String,
     Ok(format!(in alloc; "{against:?} {:?}", out.list())?)
 }
 
+/// What stands in a file against all claims on a usage line, and the claims.
+fn claims_in(alloc: Global, file: &str, line: &str) -> Result<String, Fail> {
+    let registry = read(alloc, file)?;
+    claims(alloc, &registry, &usage_line(line))
+}
+
 /// The account of a party, and the party of that account.
 fn account(alloc: Global, registry: &Registry, party: &str) -> Result<String, Fail> {
     match registry.account_of(party.as_bytes()) {
         Some(account) => {
-            let owner = str::from_utf8(registry.party(account)).unwrap_or("?");
+            let owner = text_of(registry.party(account));
             Ok(format!(in alloc; "{account} of {owner}")?)
         }
         None => Ok("none".to_string(alloc)?),
     }
 }
 
-/// The parties of a file by account, each in brackets.
-fn parties(alloc: Global, file: &str) -> Result<String, Fail> {
+/// The account of a party in a file, and the party of that account.
+fn account_in(alloc: Global, file: &str, party: &str) -> Result<String, Fail> {
     let registry = read(alloc, file)?;
+    account(alloc, &registry, party)
+}
+
+/// Parties, each in brackets.
+fn all_in_brackets(alloc: Global, parties: &[Vec<u8>]) -> Result<String, Fail> {
     let mut text = String::new(alloc);
-    for party in registry.parties() {
-        let name = str::from_utf8(party.as_slice()).unwrap_or("?");
-        text.push_str(format!(in alloc; "[{name}]")?.as_str())?;
+    for party in parties {
+        text.push_str(in_brackets(alloc, party.as_slice())?.as_str())?;
     }
     Ok(text)
+}
+
+/// The parties of a file by account, each in brackets.
+fn parties_in(alloc: Global, file: &str) -> Result<String, Fail> {
+    let registry = read(alloc, file)?;
+    all_in_brackets(alloc, registry.parties())
 }
 
 /// A file after an edit, `OLD>NEW`: the first OLD in it is replaced by NEW.
@@ -131,6 +146,11 @@ fn edited(alloc: Global, file: &str, edit: &str) -> Result<String, Fail> {
     let (old, new) = edit.split_once('>').unwrap_or(("", ""));
     let (before, after) = file.split_once(old).unwrap_or(("", ""));
     Ok(format!(in alloc; "{before}{new}{after}")?)
+}
+
+/// The outcome of a file after an edit.
+fn outcome_after(alloc: Global, file: &str, edit: &str) -> Result<String, Fail> {
+    outcome(alloc, edited(alloc, file, edit)?.as_bytes())
 }
 
 /// Two texts, one after the other.
@@ -203,40 +223,23 @@ fn outcomes_of_prefixes(alloc: Global, file: &[u8]) -> Result<String, Fail> {
 
 /// What the rows of a test ask of a file.
 #[derive(Clone, Copy)]
-enum Asked {
+enum Asked<'a> {
     /// The claims on a usage line: a work, a land and a right, divided by commas.
-    Claims,
+    Claims(&'a str),
     /// The account of a party.
-    Account,
+    Account(&'a str),
     /// The outcome of the file after an edit.
-    Outcome,
+    Outcome(&'a str),
 }
 
-/// The answer to a question on a file.
-fn answer(alloc: Global, file: &str, asked: Asked, question: &str) -> Result<String, Fail> {
-    match asked {
-        Asked::Claims => claims(alloc, &read(alloc, file)?, &usage_line(question)),
-        Asked::Account => account(alloc, &read(alloc, file)?, question),
-        Asked::Outcome => outcome(alloc, edited(alloc, file, question)?.as_bytes()),
+impl Ask for Asked<'_> {
+    fn answer(&self, alloc: Global, question: &str) -> Result<String, Fail> {
+        match self {
+            Asked::Claims(file) => claims_in(alloc, file, question),
+            Asked::Account(file) => account_in(alloc, file, question),
+            Asked::Outcome(file) => outcome_after(alloc, file, question),
+        }
     }
-}
-
-/// Asserts the answers in rows on a file.
-fn assert_rows(
-    rt: &impl Abort,
-    alloc: Global,
-    file: &str,
-    asked: Asked,
-    rows: &str,
-) -> Result<(), Fail> {
-    let mut found = String::new(alloc);
-    for row in rows.lines() {
-        let question = row.split(':').next().unwrap_or("");
-        let answer = answer(alloc, file, asked, question)?;
-        found.push_str(format!(in alloc; "{question}: {answer}\n")?.as_str())?;
-    }
-    assert_eq!(rt; found.as_str(), rows);
-    Ok(())
 }
 
 /// Asserts the outcome of a file.
@@ -275,8 +278,7 @@ fn claims_for_two_parties(rt: HostRuntime) -> Result<(), Fail> {
     assert_rows(
         &rt,
         rt.alloc(),
-        TWO_PARTIES,
-        Asked::Claims,
+        &Asked::Claims(TWO_PARTIES),
         "\
 W1,276,P: None [(1, 6000), (2, 4000)]
 W1,840,P: None [(2, 4000)]
@@ -301,8 +303,7 @@ SPT0000000000000005B              040000400004000I2136
     assert_rows(
         &rt,
         rt.alloc(),
-        file,
-        Asked::Claims,
+        &Asked::Claims(file),
         "W1,840,P: None [(1, 6000), (2, 4000)]\n",
     )
 }
@@ -312,8 +313,7 @@ fn claims_by_right_and_interest(rt: HostRuntime) -> Result<(), Fail> {
     assert_rows(
         &rt,
         rt.alloc(),
-        FIVE_WORKS,
-        Asked::Claims,
+        &Asked::Claims(FIVE_WORKS),
         "\
 W2,276,P: None [(1, 5000)]
 W3,276,P: None [(3, 5000)]
@@ -331,15 +331,14 @@ fn names_the_accounts(rt: HostRuntime) -> Result<(), Fail> {
     assert_rows(
         &rt,
         rt.alloc(),
-        TWO_PARTIES,
-        Asked::Account,
+        &Asked::Account(TWO_PARTIES),
         "A: 1 of A\nB: 2 of B\nC: none\n: none\n",
     )
 }
 
 #[test]
 fn lists_the_parties(rt: HostRuntime) -> Result<(), Fail> {
-    let found = parties(rt.alloc(), FIVE_WORKS)?;
+    let found = parties_in(rt.alloc(), FIVE_WORKS)?;
     assert_eq!(rt; found.as_str(), "[][A][B][C]");
     Ok(())
 }
@@ -352,8 +351,7 @@ fn reads_both_line_ends(rt: HostRuntime) -> Result<(), Fail> {
     assert_rows(
         &rt,
         alloc,
-        file.as_str(),
-        Asked::Claims,
+        &Asked::Claims(file.as_str()),
         "\
 W1,276,P: None [(1, 6000), (2, 4000)]
 W1,840,P: None [(2, 4000)]
@@ -371,8 +369,7 @@ fn a_revision_replaces(rt: HostRuntime) -> Result<(), Fail> {
     assert_rows(
         &rt,
         alloc,
-        file.as_str(),
-        Asked::Claims,
+        &Asked::Claims(file.as_str()),
         "W1,276,P: None []\n",
     )
 }
@@ -398,8 +395,7 @@ fn refuses_a_file_for_its_first_fault(rt: HostRuntime) -> Result<(), Fail> {
     assert_rows(
         &rt,
         rt.alloc(),
-        TWO_PARTIES,
-        Asked::Outcome,
+        &Asked::Outcome(TWO_PARTIES),
         "\
 W1>: Short(1)
 W1>W: accounts 3, works 1
@@ -428,8 +424,7 @@ fn refuses_a_short_share_line_of_a_writer(rt: HostRuntime) -> Result<(), Fail> {
     assert_rows(
         &rt,
         rt.alloc(),
-        FIVE_WORKS,
-        Asked::Outcome,
+        &Asked::Outcome(FIVE_WORKS),
         "\
 C        05000     02500I2136>C        05000     02500I213: Short(8)
 C        05000     02500I2136>C        05000     02500I2136: accounts 4, works 5
@@ -471,7 +466,7 @@ fn takes_the_most_parties(rt: HostRuntime) -> Result<(), Fail> {
     let file = two_registrations(alloc, 511)?;
     assert_outcome(&rt, alloc, file.as_bytes(), "accounts 512, works 2")?;
     let last = "000000511: 511 of 000000511\n";
-    assert_rows(&rt, alloc, file.as_str(), Asked::Account, last)
+    assert_rows(&rt, alloc, &Asked::Account(file.as_str()), last)
 }
 
 #[test]
@@ -482,8 +477,7 @@ fn takes_more_works_than_lines_of_one(rt: HostRuntime) -> Result<(), Fail> {
     assert_rows(
         &rt,
         alloc,
-        file.as_str(),
-        Asked::Claims,
+        &Asked::Claims(file.as_str()),
         "\
 W1,276,P: None [(1, 10)]
 W256,276,P: None [(1, 10)]
@@ -540,8 +534,7 @@ fn reads_each_field_from_end_to_end(rt: HostRuntime) -> Result<(), Fail> {
     assert_rows(
         &rt,
         alloc,
-        FILLED,
-        Asked::Claims,
+        &Asked::Claims(FILLED),
         "\
 ABCDEFGHIJKLMN,276,P: None [(1, 1001), (2, 4004)]
 ABCDEFGHIJKLMN,276,M: None [(1, 2002), (2, 5005)]
@@ -559,8 +552,7 @@ ABCDEFGHIJKLM,276,P: Some(Work) []
     assert_rows(
         &rt,
         alloc,
-        FILLED,
-        Asked::Account,
+        &Asked::Account(FILLED),
         "123456789: 1 of 123456789\n987654321: 2 of 987654321\n",
     )
 }
@@ -572,8 +564,7 @@ fn each_closing_record_ends_a_registration(rt: HostRuntime) -> Result<(), Fail> 
     assert_rows(
         &rt,
         alloc,
-        file.as_str(),
-        Asked::Outcome,
+        &Asked::Outcome(file.as_str()),
         "\
 GRT>GRT: accounts 3, works 1
 GRT>HDR: accounts 3, works 1

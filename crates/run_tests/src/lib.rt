@@ -14,6 +14,8 @@ mod pair_split_tests;
 #[cfg(test)]
 mod queue_core_tests;
 #[cfg(test)]
+mod rows;
+#[cfg(test)]
 mod tis_tree_tests;
 #[cfg(test)]
 mod usage_tests;

@@ -1,82 +1,163 @@
 //! The worked examples, and the division against its definition, computed slowly.
+//!
+//! A test gives rows of text, each a question and, after a colon, its answer (`rows`). A question has claims, each
+//! an account and its share, `ACCOUNT=SHARE`, divided by blanks. Where they divide an amount, it stands before them.
 
+ghost use Rattle.std.specs.Prelude.{◌<◌, ◌↔◌, All, IsTrue};
+
+use crate::rows::{Ask, assert_rows};
 use line_split::{
-    Account, ClaimFault, Claims, MOST_AMOUNT, MOST_CLAIMS, Portions, portion_by_rank, split,
+    Account, ClaimFault, Claims, MOST_AMOUNT, MOST_CLAIMED, MOST_CLAIMS, Portions, portion_by_rank,
+    split,
 };
 use std::alloc::Global;
-use std::process::Abort;
 use std::test::Fail;
 
-/// Divides an amount by the claims in a list, and asserts that each portion is the slow program's.
-fn divided(
-    rt: &impl Abort,
-    alloc: Global,
-    amount: u64,
-    list: &[(Account, u32)],
-) -> Result<Vec<(Account, u64)>, Fail> {
-    assert!(rt; amount <= MOST_AMOUNT);
-    assert!(rt; list.iter().all(|claim| claim.0 > 0));
-    let claims = Claims::of(alloc, list)?;
-    let mut portions = Portions::room(alloc, list.len() + 1)?;
-    assert!(rt; claims.list().len() == list.len());
-    split(amount, &claims, &mut portions);
-    assert_eq!(rt; portions.spare(), list.len() + 1);
-    for place in 0..claims.list().len() + 1 {
-        assert!(rt; place < portions.list().len());
-        assert_eq!(rt;
-            portions.list()[place].1,
-            portion_by_rank(amount, &claims, place),
-            "of {amount} at {place}"
-        );
+/// The claim in a text.
+fn claim(text: &str) -> (Account, u32) {
+    let (account, share) = text.split_once('=').unwrap_or((text, ""));
+    (account.parse().unwrap_or(0), share.parse().unwrap_or(0))
+}
+
+/// The claims in a text.
+fn claims_in(alloc: Global, text: &str) -> Result<Vec<(Account, u32)>, Fail> {
+    let mut list = Vec::new(alloc);
+    for word in text.split_whitespace() {
+        list.push(claim(word))?;
     }
-    Ok(portions.list().to_vec(alloc)?)
+    Ok(list)
+}
+
+/// Whether all accounts in a list are parties'.
+fn are_parties(list: &[(Account, u32)]) -> bool
+    ensures { IsTrue result ↔ All (λ claim. 0 < claim.0) list.now }
+{
+    list.iter().all(|claim| claim.0 > 0)
+}
+
+/// The claims of a list, or its fault.
+fn outcome(alloc: Global, list: &[(Account, u32)]) -> Result<String, Fail> {
+    if !are_parties(list) {
+        return Err(Fail::new("a claim of the residue's account"));
+    }
+    Ok(match Claims::of(alloc, list) {
+        Ok(claims) => format!(in alloc; "{:?}", claims.list())?,
+        Err(fault) => format!(in alloc; "{fault:?}")?,
+    })
+}
+
+/// The claims of a good list.
+fn claims_of(alloc: Global, list: &[(Account, u32)]) -> Result<Claims, Fail> {
+    if !are_parties(list) {
+        return Err(Fail::new("a claim of the residue's account"));
+    }
+    let claims = Claims::of(alloc, list)?;
+    if claims.list().len() != list.len() {
+        return Err(Fail::new("as many claims as in the list were wanted"));
+    }
+    Ok(claims)
+}
+
+/// The portions of an amount.
+fn portions(alloc: Global, amount: u64, claims: &Claims) -> Result<Portions, Fail> {
+    let room = claims.list().len() + 1;
+    let mut portions = Portions::room(alloc, room)?;
+    if amount > MOST_AMOUNT {
+        return Err(Fail::new("too large an amount"));
+    }
+    split(amount, claims, &mut portions);
+    if portions.spare() != room {
+        return Err(Fail::new("as much room as before was wanted"));
+    }
+    Ok(portions)
+}
+
+/// The first place whose portion is not the slow program's.
+fn first_other(amount: u64, claims: &Claims, portions: &[(Account, u64)]) -> Option<usize> {
+    if amount > MOST_AMOUNT {
+        return Some(0);
+    }
+    for place in 0..claims.list().len() + 1 {
+        let by_rank = portion_by_rank(amount, claims, place);
+        match portions.get(place) {
+            Some(portion) if portion.1 == by_rank => {}
+            _ => return Some(place),
+        }
+    }
+    None
+}
+
+/// The portions of an amount by the claims in a list, each of which has to be the slow program's.
+fn divided(alloc: Global, amount: u64, list: &[(Account, u32)]) -> Result<Portions, Fail> {
+    let claims = claims_of(alloc, list)?;
+    let portions = portions(alloc, amount, &claims)?;
+    match first_other(amount, &claims, portions.list()) {
+        Some(place) => Err(Fail::new(format!(in alloc; "of {amount} at {place}")?)),
+        None => Ok(portions),
+    }
+}
+
+/// Divides each amount by the claims in a list.
+fn divide_each(alloc: Global, amounts: &[u64], list: &[(Account, u32)]) -> Result<(), Fail> {
+    for amount in amounts {
+        divided(alloc, *amount, list)?;
+    }
+    Ok(())
+}
+
+/// What the rows of a test ask.
+enum Asked {
+    /// The portions of an amount.
+    Portions,
+    /// Claims in order, or their fault.
+    Claims,
+}
+
+impl Ask for Asked {
+    fn answer(&self, alloc: Global, question: &str) -> Result<String, Fail> {
+        match self {
+            Asked::Portions => {
+                let (amount, claims) = question.split_once(' ').unwrap_or((question, ""));
+                let list = claims_in(alloc, claims)?;
+                let portions = divided(alloc, amount.parse().unwrap_or(0), list.as_slice())?;
+                Ok(format!(in alloc; "{:?}", portions.list())?)
+            }
+            Asked::Claims => outcome(alloc, claims_in(alloc, question)?.as_slice()),
+        }
+    }
 }
 
 #[test]
 fn divides_the_worked_examples(rt: HostRuntime) -> Result<(), Fail> {
-    let alloc = rt.alloc();
-    let portions = divided(&rt, alloc, 100, &[(1, 3333), (2, 3333), (3, 3333)])?;
-    assert_eq!(rt;
-        portions.as_slice(),
-        [(1, 34), (2, 33), (3, 33), (0, 0)].as_slice()
-    );
-    let tie = divided(&rt, alloc, 1, &[(1, 5000), (2, 5000)])?;
-    assert_eq!(rt; tie.as_slice(), [(1, 1), (2, 0), (0, 0)].as_slice());
-    let residue_last = divided(&rt, alloc, 3, &[(1, 5000)])?;
-    assert_eq!(rt; residue_last.as_slice(), [(1, 2), (0, 1)].as_slice());
-    let scaled = divided(&rt, alloc, 10, &[(1, 5001), (2, 5002)])?;
-    assert_eq!(rt; scaled.as_slice(), [(1, 5), (2, 5), (0, 0)].as_slice());
-    let most_claimed = divided(&rt, alloc, 100, &[(1, 5003), (2, 5003)])?;
-    assert_eq!(rt;
-        most_claimed.as_slice(),
-        [(1, 50), (2, 50), (0, 0)].as_slice()
-    );
-    let over = divided(&rt, alloc, 100, &[(1, 5003), (2, 5004)])?;
-    assert_eq!(rt; over.as_slice(), [(1, 0), (2, 0), (0, 100)].as_slice());
-    let most = divided(&rt, alloc, MOST_AMOUNT, &[(1, 1)])?;
-    assert_eq!(rt;
-        most.as_slice(),
-        [(1, 100_000_000), (0, 999_900_000_000)].as_slice()
-    );
-    let nobody = divided(&rt, alloc, 7, &[])?;
-    assert_eq!(rt; nobody.as_slice(), [(0, 7)].as_slice());
-    Ok(())
+    assert_rows(
+        &rt,
+        rt.alloc(),
+        &Asked::Portions,
+        "\
+100 1=3333 2=3333 3=3333: [(1, 34), (2, 33), (3, 33), (0, 0)]
+1 1=5000 2=5000: [(1, 1), (2, 0), (0, 0)]
+3 1=5000: [(1, 2), (0, 1)]
+10 1=5001 2=5002: [(1, 5), (2, 5), (0, 0)]
+100 1=5003 2=5003: [(1, 50), (2, 50), (0, 0)]
+100 1=5003 2=5004: [(1, 0), (2, 0), (0, 100)]
+1000000000000 1=1: [(1, 100000000), (0, 999900000000)]
+7: [(0, 7)]
+",
+    )
 }
 
 #[test]
 fn agrees_with_the_slow_program(rt: HostRuntime) -> Result<(), Fail> {
     let alloc = rt.alloc();
-    let lists: [&[(Account, u32)]; 5] = [
-        &[(7, 10_000)],
-        &[(1, 3), (2, 5), (4, 7), (9, 11)],
-        &[(2, 2501), (3, 2499), (5, 2500), (8, 2506)],
-        &[(3, 0), (4, 9_999), (6, 1)],
-        &[(9, 1250), (1, 1250), (5, 1250), (2, 1250)],
-    ];
-    for list in lists {
-        for amount in [0, 1, 2, 3, 5, 8, 13, 99, 100, 101, 9_999, 10_007] {
-            divided(&rt, alloc, amount, list)?;
-        }
+    let amounts = [0, 1, 2, 3, 5, 8, 13, 99, 100, 101, 9_999, 10_007];
+    for claims in [
+        "7=10000",
+        "1=3 2=5 4=7 9=11",
+        "2=2501 3=2499 5=2500 8=2506",
+        "3=0 4=9999 6=1",
+        "9=1250 1=1250 5=1250 2=1250",
+    ] {
+        divide_each(alloc, &amounts, claims_in(alloc, claims)?.as_slice())?;
     }
     Ok(())
 }
@@ -87,43 +168,38 @@ fn divides_among_few_and_many(rt: HostRuntime) -> Result<(), Fail> {
     let mut list = Vec::new(alloc);
     for account in 1..25u16 {
         list.push((account, 390 + u32::from(account % 4)))?;
-        for amount in [1, 7, 50, 99, 9_999, 1_000_001] {
-            divided(&rt, alloc, amount, list.as_slice())?;
-        }
+        divide_each(alloc, &[1, 7, 50, 99, 9_999, 1_000_001], list.as_slice())?;
     }
-    let mut equal = Vec::new(alloc);
-    for account in 1..21u16 {
-        equal.push((account, 500))?;
-    }
-    let portions = divided(&rt, alloc, 33, equal.as_slice())?;
-    for place in 0..20 {
-        assert!(rt; place < portions.len());
-        let want = if place < 13 { 2 } else { 1 };
-        assert_eq!(rt; portions[place].1, want);
-    }
-    Ok(())
+    assert_rows(
+        &rt,
+        alloc,
+        &Asked::Portions,
+        "33 1=500 2=500 3=500 4=500 5=500 6=500 7=500 8=500 9=500 10=500 11=500 12=500 13=500 \
+        14=500 15=500 16=500 17=500 18=500 19=500 20=500: [(1, 2), (2, 2), (3, 2), (4, 2), (5, 2), \
+        (6, 2), (7, 2), (8, 2), (9, 2), (10, 2), (11, 2), (12, 2), (13, 2), (14, 1), (15, 1), \
+        (16, 1), (17, 1), (18, 1), (19, 1), (20, 1), (0, 0)]\n",
+    )
 }
 
 #[test]
 fn orders_claims_and_names_faults(rt: HostRuntime) -> Result<(), Fail> {
     let alloc = rt.alloc();
-    let claims = Claims::of(alloc, &[(2, 7), (1, 5)])?;
-    assert_eq!(rt; claims.list(), [(1, 5), (2, 7)].as_slice());
-    let over = Claims::of(alloc, &[(1, 100), (2, 10_001)]).err();
-    assert_eq!(rt; over, Some(ClaimFault::Share(2)));
-    let twice = Claims::of(alloc, &[(1, 1), (1, 2)]).err();
-    assert_eq!(rt; twice, Some(ClaimFault::Twice(2)));
-    let both = Claims::of(alloc, &[(1, 1), (1, 2), (2, 10_001)]).err();
-    assert_eq!(rt; both, Some(ClaimFault::Share(3)));
+    assert_rows(
+        &rt,
+        alloc,
+        &Asked::Claims,
+        "\
+2=7 1=5: [(1, 5), (2, 7)]
+1=100 2=10001: Share(2)
+1=1 1=2: Twice(2)
+1=1 1=2 2=10001: Share(3)
+",
+    )?;
     let mut many = Vec::new(alloc);
     for account in 1..258u16 {
         many.push((account, 10_001))?;
     }
-    assert!(rt; many.iter().all(|claim| claim.0 > 0));
-    assert_eq!(rt;
-        Claims::of(alloc, many.as_slice()).err(),
-        Some(ClaimFault::Many)
-    );
+    assert_eq!(rt; outcome(alloc, many.as_slice())?.as_str(), "Many");
     Ok(())
 }
 
@@ -133,58 +209,96 @@ fn takes_lists_of_every_length(rt: HostRuntime) -> Result<(), Fail> {
     let mut list = Vec::new(alloc);
     for account in 1..257u16 {
         list.push((account, 39))?;
-        assert!(rt; list.iter().all(|claim| claim.0 > 0));
-        let claims = Claims::of(alloc, list.as_slice())?;
+        let claims = claims_of(alloc, list.as_slice())?;
         assert_eq!(rt; claims.list(), list.as_slice());
     }
     Ok(())
 }
 
+/// Adds a claim last, where that is allowed.
+fn push(claims: &mut Claims, account: Account, claim: u32) -> Result<(), Fail> {
+    if account == 0 || claim > MOST_CLAIMED || claims.list().len() >= claims.spare() {
+        return Err(Fail::new("a claim that may not be added"));
+    }
+    if !claims.list().iter().all(|other| other.0 < account) {
+        return Err(Fail::new("a claim whose account is not the last"));
+    }
+    claims.push(account, claim);
+    Ok(())
+}
+
+/// The room that claims have, and the claims.
+fn room_and_list(alloc: Global, claims: &Claims) -> Result<String, Fail> {
+    Ok(format!(in alloc; "{} {:?}\n", claims.spare(), claims.list())?)
+}
+
+/// The room and the claims before two are added, then, and when all are taken out.
+fn fill_and_clear(alloc: Global, claims: &mut Claims) -> Result<String, Fail> {
+    let empty = room_and_list(alloc, claims)?;
+    push(claims, 1, 5_000)?;
+    push(claims, 4, 10_006)?;
+    let full = room_and_list(alloc, claims)?;
+    claims.clear();
+    Ok(format!(in alloc; "{empty}{full}{}", room_and_list(alloc, claims)?)?)
+}
+
+/// The same of claims with room for three.
+fn filled_and_cleared(alloc: Global) -> Result<String, Fail> {
+    let mut claims = Claims::room(alloc, 3)?;
+    fill_and_clear(alloc, &mut claims)
+}
+
+/// How much room the claims of a list have.
+fn room_of(alloc: Global, list: &[(Account, u32)]) -> Result<usize, Fail> {
+    Ok(claims_of(alloc, list)?.spare())
+}
+
+/// Adds claims of the accounts from 1 to 256. The answer is how many there are then.
+fn fill(claims: &mut Claims) -> Result<usize, Fail> {
+    for account in 1..257u16 {
+        push(claims, account, 39)?;
+    }
+    Ok(claims.list().len())
+}
+
+/// The same of claims with the most room.
+fn filled(alloc: Global) -> Result<usize, Fail> {
+    let mut most = Claims::room(alloc, MOST_CLAIMS)?;
+    fill(&mut most)
+}
+
 #[test]
 fn takes_claims_into_their_room(rt: HostRuntime) -> Result<(), Fail> {
     let alloc = rt.alloc();
-    let mut claims = Claims::room(alloc, 3)?;
-    assert_eq!(rt; claims.spare(), 3);
-    assert!(rt; claims.list().is_empty());
-    claims.push(1, 5_000);
-    claims.push(4, 10_006);
-    assert_eq!(rt; claims.list(), [(1, 5_000), (4, 10_006)].as_slice());
-    claims.clear();
-    assert!(rt; claims.list().is_empty());
-    assert_eq!(rt; claims.spare(), 3);
-    let given = Claims::of(alloc, &[(2, 7), (1, 5)])?;
-    assert_eq!(rt; given.spare(), 2);
-    let mut most = Claims::room(alloc, MOST_CLAIMS)?;
-    for account in 1..257u16 {
-        assert!(rt; most.list().len() < most.spare());
-        assert!(rt; most.list().iter().all(|claim| claim.0 < account));
-        most.push(account, 39);
-    }
-    assert_eq!(rt; most.list().len(), 256);
+    let want = "3 []\n3 [(1, 5000), (4, 10006)]\n3 []\n";
+    assert_eq!(rt; filled_and_cleared(alloc)?.as_str(), want);
+    assert_eq!(rt; room_of(alloc, &[(2, 7), (1, 5)])?, 2);
+    assert_eq!(rt; filled(alloc)?, 256);
     Ok(())
+}
+
+/// A fault's number, its place and its text.
+fn described(alloc: Global, fault: ClaimFault) -> Result<String, Fail> {
+    let (number, place) = (fault.number(), fault.place());
+    Ok(format!(in alloc; "{number} {place:?} {fault}")?)
 }
 
 #[test]
 fn says_what_is_wrong(rt: HostRuntime) -> Result<(), Fail> {
     let alloc = rt.alloc();
-    for (fault, number, place, want) in [
+    for (fault, want) in [
         (
             ClaimFault::Share(3),
-            1,
-            Some(3),
-            "claim 3 is over 100.00 per cent",
+            "1 Some(3) claim 3 is over 100.00 per cent",
         ),
         (
             ClaimFault::Twice(2),
-            2,
-            Some(2),
-            "the account of claim 2 has a claim already",
+            "2 Some(2) the account of claim 2 has a claim already",
         ),
-        (ClaimFault::Many, 3, None, "there are more than 256 claims"),
-        (ClaimFault::Memory, 4, None, "memory ran out"),
+        (ClaimFault::Many, "3 None there are more than 256 claims"),
+        (ClaimFault::Memory, "4 None memory ran out"),
     ] {
-        assert_eq!(rt; (fault.number(), fault.place()), (number, place));
-        assert_eq!(rt; format!(in alloc; "{fault}")?.as_str(), want);
+        assert_eq!(rt; described(alloc, fault)?.as_str(), want);
     }
     Ok(())
 }

@@ -1,5 +1,10 @@
 //! Tables of territories, good and bad.
+//!
+//! A test gives rows of text, each a question and, after a colon, its answer (`rows`). A question has a table or rows of
+//! one, with slashes for their line ends. The answer is what it is refused for: the number of the fault, and that of
+//! the row.
 
+use crate::rows::{Ask, assert_rows, lines_of};
 use std::alloc::Global;
 use std::test::Fail;
 use tis_tree::{Code, MOST_ROWS, TisFault, TisTable};
@@ -28,6 +33,25 @@ fn refusal_of_rows(alloc: Global, rows: &[u8]) -> Result<Option<(u8, Option<u64>
     let mut table = Vec::from_slice(alloc, b"code,groups\n")?;
     table.extend_from_slice(rows)?;
     Ok(refusal(alloc, table.as_slice()))
+}
+
+/// What the rows of a test ask: what these are refused for.
+enum Asked {
+    /// A table.
+    Table,
+    /// Rows below a header.
+    Rows,
+}
+
+impl Ask for Asked {
+    fn answer(&self, alloc: Global, question: &str) -> Result<String, Fail> {
+        let lines = lines_of(alloc, question)?;
+        let refusal = match self {
+            Asked::Table => refusal(alloc, lines.as_slice()),
+            Asked::Rows => refusal_of_rows(alloc, lines.as_slice())?,
+        };
+        Ok(format!(in alloc; "{refusal:?}")?)
+    }
 }
 
 /// Whether a number is a code, and reads back as it.
@@ -92,35 +116,36 @@ fn codes_are_1_to_9999(rt: HostRuntime) -> Result<(), Fail> {
 #[test]
 fn refuses_a_table_for_its_first_fault(rt: HostRuntime) -> Result<(), Fail> {
     let alloc = rt.alloc();
-    assert_eq!(rt; refusal(alloc, b""), Some((1, Some(0))));
-    assert_eq!(rt; refusal(alloc, b"code\n"), Some((1, Some(0))));
-    assert_eq!(rt; refusal(alloc, b"code,groups"), None);
-    let table: [(&[u8], Option<(u8, Option<u64>)>); 20] = [
-        (b"276,2136\n2136,\n", Some((4, Some(1)))),
-        (b"2136,\n2136,\n", Some((3, Some(2)))),
-        (b"0,\n", Some((2, Some(1)))),
-        (b"5\n", Some((1, Some(1)))),
-        (b"5,,\n", Some((1, Some(1)))),
-        (b"2136,\n00276,\n", Some((2, Some(2)))),
-        (b"+276,\n", Some((2, Some(1)))),
-        (b"2136,\n276,276\n", Some((4, Some(2)))),
-        (b"2136,\n276,2136,x\n", Some((1, Some(2)))),
-        (b"2136,\n276, 2136 2136\n", None),
-        (b"2136,\n9001,2136\n276,   9001  2136 \n", None),
-        (b"2136,\n276,   \n", None),
-        (b"1,\n2,1\n3,\n4,3\n5,\n6,1 2 3 4 5\n", None),
-        (b"2136,\n276,2136\t\n", Some((4, Some(2)))),
-        (b"2136,\n276,02136\n", Some((4, Some(2)))),
-        (b"2136,\n276,2136 0\n", Some((4, Some(2)))),
-        (b"2136,\n\xff,\n", Some((2, Some(2)))),
-        (b"2136,\n2136,9\n", Some((3, Some(2)))),
-        (b"9999,\n1,9999\n", None),
-        (b"10000,\n", Some((2, Some(1)))),
-    ];
-    for (rows, expected) in table {
-        assert_eq!(rt; refusal_of_rows(alloc, rows)?, expected);
-    }
-    Ok(())
+    let tables = ": Some((1, Some(0)))\ncode/: Some((1, Some(0)))\ncode,groups: None\n";
+    assert_rows(&rt, alloc, &Asked::Table, tables)?;
+    let no_text = refusal_of_rows(alloc, b"2136,\n\xff,\n")?;
+    assert_eq!(rt; no_text, Some((2, Some(2))));
+    assert_rows(
+        &rt,
+        alloc,
+        &Asked::Rows,
+        "\
+276,2136/2136,/: Some((4, Some(1)))
+2136,/2136,/: Some((3, Some(2)))
+0,/: Some((2, Some(1)))
+5/: Some((1, Some(1)))
+5,,/: Some((1, Some(1)))
+2136,/00276,/: Some((2, Some(2)))
++276,/: Some((2, Some(1)))
+2136,/276,276/: Some((4, Some(2)))
+2136,/276,2136,x/: Some((1, Some(2)))
+2136,/276, 2136 2136/: None
+2136,/9001,2136/276,   9001  2136 /: None
+2136,/276,   /: None
+1,/2,1/3,/4,3/5,/6,1 2 3 4 5/: None
+2136,/276,2136\t/: Some((4, Some(2)))
+2136,/276,02136/: Some((4, Some(2)))
+2136,/276,2136 0/: Some((4, Some(2)))
+2136,/2136,9/: Some((3, Some(2)))
+9999,/1,9999/: None
+10000,/: Some((2, Some(1)))
+",
+    )
 }
 
 /// A table of so many rows, each after the first in the group of the one before.

@@ -1,6 +1,11 @@
 //! Tables of usage lines, good and bad.
+//!
+//! A test gives rows of text, each a question and, after a colon, its answer (`rows`). A question has rows of a table,
+//! which stand below its header, and slashes for their line ends. The answer is what the table is refused for: the
+//! number of the fault, and that of the row.
 
-use line_split::{LineFault, MOST_AMOUNT, MOST_LINES, Right, Usage};
+use crate::rows::{Ask, assert_rows, lines_of, text_of};
+use line_split::{Line, LineFault, MOST_LINES, Usage};
 use std::alloc::Global;
 use std::test::Fail;
 
@@ -13,10 +18,42 @@ fn refusal(alloc: Global, table: &[u8]) -> Option<(u8, Option<u64>)> {
 }
 
 /// What the rows below a header are refused for.
-fn refusal_of_rows(alloc: Global, rows: &str) -> Result<Option<(u8, Option<u64>)>, Fail> {
+fn refusal_of_rows(alloc: Global, rows: &[u8]) -> Result<Option<(u8, Option<u64>)>, Fail> {
     let mut table = Vec::from_slice(alloc, b"usage,work,territory,right,amount\n")?;
-    table.extend_from_slice(rows.as_bytes())?;
+    table.extend_from_slice(rows)?;
     Ok(refusal(alloc, table.as_slice()))
+}
+
+/// What the rows of a test ask: what the rows below a header are refused for.
+struct RefusedFor;
+
+impl Ask for RefusedFor {
+    fn answer(&self, alloc: Global, question: &str) -> Result<String, Fail> {
+        let rows = lines_of(alloc, question)?;
+        Ok(format!(in alloc; "{:?}", refusal_of_rows(alloc, rows.as_slice())?)?)
+    }
+}
+
+/// The fields of a line, with strokes between them.
+fn told_line(alloc: Global, line: &Line<'_>) -> Result<String, Fail> {
+    let (usage, work) = (text_of(line.usage), text_of(line.work));
+    let (territory, right, amount) = (line.territory, line.right, line.amount);
+    Ok(format!(in alloc; "{usage}|{work}|{territory}|{right:?}|{amount}\n")?)
+}
+
+/// How many lines there are, and what they are.
+fn told(alloc: Global, usage: &Usage) -> Result<String, Fail> {
+    let mut told = format!(in alloc; "{} lines\n", usage.len())?;
+    for place in 0..usage.len() {
+        told.push_str(told_line(alloc, &usage.line(place))?.as_str())?;
+    }
+    Ok(told)
+}
+
+/// The lines of a table.
+fn told_table(alloc: Global, table: &str) -> Result<String, Fail> {
+    let usage = Usage::read(alloc, table.as_bytes())?;
+    told(alloc, &usage)
 }
 
 #[test]
@@ -25,104 +62,76 @@ fn reads_a_table(rt: HostRuntime) -> Result<(), Fail> {
         u1,W1,276,P,100\n\
         u 2,\"W,2\",0276,M,000000000000001\r\n\
         u1,\"say \"\"W\"\"\",9999,S,1000000000000";
-    let usage = Usage::read(rt.alloc(), table.as_bytes())?;
-    assert_eq!(rt; usage.len(), 3);
-    if usage.len() == 3 {
-        let first = usage.line(0);
-        assert_eq!(rt; first.usage, b"u1".as_slice());
-        assert_eq!(rt; first.work, b"W1".as_slice());
-        assert_eq!(rt; first.territory, 276);
-        assert_eq!(rt; first.right, Right::P);
-        assert_eq!(rt; first.amount, 100);
-        let second = usage.line(1);
-        assert_eq!(rt; second.usage, b"u 2".as_slice());
-        assert_eq!(rt; second.work, b"W,2".as_slice());
-        assert_eq!(rt; second.territory, 276);
-        assert_eq!(rt; second.right, Right::M);
-        assert_eq!(rt; second.amount, 1);
-        let third = usage.line(2);
-        assert_eq!(rt; third.work, b"say \"W\"".as_slice());
-        assert_eq!(rt; third.territory, 9999);
-        assert_eq!(rt; third.right, Right::S);
-        assert_eq!(rt; third.amount, MOST_AMOUNT);
-    }
-    let none = Usage::read(rt.alloc(), b"usage,work,territory,right,amount")?;
-    assert_eq!(rt; none.len(), 0);
+    let want = "3 lines\nu1|W1|276|P|100\nu 2|W,2|276|M|1\nu1|say \"W\"|9999|S|1000000000000\n";
+    assert_eq!(rt; told_table(rt.alloc(), table)?.as_str(), want);
+    let none = told_table(rt.alloc(), "usage,work,territory,right,amount")?;
+    assert_eq!(rt; none.as_str(), "0 lines\n");
     Ok(())
 }
 
 #[test]
 fn refuses_what_is_no_table(rt: HostRuntime) -> Result<(), Fail> {
-    let alloc = rt.alloc();
-    let no_header = Some((1, Some(0)));
-    assert_eq!(rt; refusal(alloc, b""), no_header);
-    assert_eq!(rt; refusal(alloc, b"\n\r\n"), no_header);
-    assert_eq!(rt; refusal(alloc, b"u1,W1,276,P,100\n"), no_header);
-    assert_eq!(rt; refusal(alloc, b"usage,work,territory,right\n"), no_header);
-    assert_eq!(rt;
-        refusal(alloc, b"usage,work,territory,right,amount,\n"),
-        no_header
-    );
-    assert_eq!(rt;
-        refusal(alloc, b"usage,work,territory,right,Amount\n"),
-        no_header
-    );
-    assert_eq!(rt; refusal(alloc, b"\x00\xff\x80\x89PNG\r\n\x1a\n"), no_header);
-    Ok(())
-}
-
-#[test]
-fn refuses_a_row_for_its_first_fault(rt: HostRuntime) -> Result<(), Fail> {
-    let alloc = rt.alloc();
-    let long = "u1234567890123456789012345678901234567890123456789012345678901234,W,276,P,1";
-    let long_work = "u,w1234567890123456789012345678901234567890123456789012345678901234,276,P,1";
-    let longest_work = "u,1234567890123456789012345678901234567890123456789012345678901234,276,P,1";
-    let table: [(&str, Option<(u8, Option<u64>)>); 31] = [
-        ("u,W,276,P", Some((1, Some(1)))),
-        ("u,W,276,P,1,", Some((1, Some(1)))),
-        ("u,W,276,P,1\nx", Some((1, Some(2)))),
-        (",W,276,P,1", Some((2, Some(1)))),
-        ("u,,276,P,1", Some((2, Some(1)))),
-        ("u,W\x7f,276,P,1", Some((2, Some(1)))),
-        ("u\t,W,276,P,1", Some((2, Some(1)))),
-        ("u,\u{e9},276,P,1", Some((2, Some(1)))),
-        ("u,\"W\nW\",276,P,1", Some((2, Some(1)))),
-        (long, Some((2, Some(1)))),
-        (&long[1..], None),
-        (long_work, Some((2, Some(1)))),
-        (longest_work, None),
-        ("u,W,0,P,1", Some((3, Some(1)))),
-        ("u,W,0000,P,1", Some((3, Some(1)))),
-        ("u,W,,P,1", Some((3, Some(1)))),
-        ("u,W,10000,P,1", Some((3, Some(1)))),
-        ("u,W,00276,P,1", Some((3, Some(1)))),
-        ("u,W,+276,P,1", Some((3, Some(1)))),
-        ("u,W,27 6,P,1", Some((3, Some(1)))),
-        ("u,W,276,X,1", Some((4, Some(1)))),
-        ("u,W,276,p,1", Some((4, Some(1)))),
-        ("u,W,276,PP,1", Some((4, Some(1)))),
-        ("u,W,276,,1", Some((4, Some(1)))),
-        ("u,W,276,P,", Some((5, Some(1)))),
-        ("u,W,276,P,+5", Some((5, Some(1)))),
-        ("u,W,276,P,-5", Some((5, Some(1)))),
-        ("u,W,276,P,1000000000001", Some((5, Some(1)))),
-        (
-            "u,W,276,P,999999999999999999999999999999",
-            Some((5, Some(1))),
-        ),
-        (",W,0,X,x", Some((2, Some(1)))),
-        ("u,W,276,X,1\nu", Some((4, Some(1)))),
+    let tables: [&[u8]; 7] = [
+        b"",
+        b"\n\r\n",
+        b"u1,W1,276,P,100\n",
+        b"usage,work,territory,right\n",
+        b"usage,work,territory,right,amount,\n",
+        b"usage,work,territory,right,Amount\n",
+        b"\x00\xff\x80\x89PNG\r\n\x1a\n",
     ];
-    for (rows, expected) in table {
-        assert_eq!(rt; refusal_of_rows(alloc, rows)?, expected, "{rows}");
+    for table in tables {
+        assert_eq!(rt; refusal(rt.alloc(), table), Some((1, Some(0))));
     }
     Ok(())
 }
 
 #[test]
+fn refuses_a_row_for_its_first_fault(rt: HostRuntime) -> Result<(), Fail> {
+    assert_rows(
+        &rt,
+        rt.alloc(),
+        &RefusedFor,
+        "\
+u,W,276,P: Some((1, Some(1)))
+u,W,276,P,1,: Some((1, Some(1)))
+u,W,276,P,1/x: Some((1, Some(2)))
+,W,276,P,1: Some((2, Some(1)))
+u,,276,P,1: Some((2, Some(1)))
+u,W\x7f,276,P,1: Some((2, Some(1)))
+u\t,W,276,P,1: Some((2, Some(1)))
+u,\u{e9},276,P,1: Some((2, Some(1)))
+u,\"W/W\",276,P,1: Some((2, Some(1)))
+u1234567890123456789012345678901234567890123456789012345678901234,W,276,P,1: Some((2, Some(1)))
+1234567890123456789012345678901234567890123456789012345678901234,W,276,P,1: None
+u,w1234567890123456789012345678901234567890123456789012345678901234,276,P,1: Some((2, Some(1)))
+u,1234567890123456789012345678901234567890123456789012345678901234,276,P,1: None
+u,W,0,P,1: Some((3, Some(1)))
+u,W,0000,P,1: Some((3, Some(1)))
+u,W,,P,1: Some((3, Some(1)))
+u,W,10000,P,1: Some((3, Some(1)))
+u,W,00276,P,1: Some((3, Some(1)))
+u,W,+276,P,1: Some((3, Some(1)))
+u,W,27 6,P,1: Some((3, Some(1)))
+u,W,276,X,1: Some((4, Some(1)))
+u,W,276,p,1: Some((4, Some(1)))
+u,W,276,PP,1: Some((4, Some(1)))
+u,W,276,,1: Some((4, Some(1)))
+u,W,276,P,: Some((5, Some(1)))
+u,W,276,P,+5: Some((5, Some(1)))
+u,W,276,P,-5: Some((5, Some(1)))
+u,W,276,P,1000000000001: Some((5, Some(1)))
+u,W,276,P,999999999999999999999999999999: Some((5, Some(1)))
+,W,0,X,x: Some((2, Some(1)))
+u,W,276,X,1/u: Some((4, Some(1)))
+",
+    )
+}
+
+#[test]
 fn counts_rows_and_not_lines_of_text(rt: HostRuntime) -> Result<(), Fail> {
     let alloc = rt.alloc();
-    let blank_lines = refusal_of_rows(alloc, "\n\r\nu,W,276,P,1\n\n\nu,W,276,X,1\n")?;
+    let blank_lines = refusal_of_rows(alloc, b"\n\r\nu,W,276,P,1\n\n\nu,W,276,X,1\n")?;
     assert_eq!(rt; blank_lines, Some((4, Some(2))));
     Ok(())
 }
