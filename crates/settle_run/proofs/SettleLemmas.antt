@@ -1,24 +1,13 @@
 -- The reasons of the residue of a run.
-use Rattle.std.proofs.Common.{◌≡◌, ◌∙◌, ◌+◌, ◌*◌, ◌<◌, ◌++◌, ◌∷◌, ◌⊎◌, [], ℕ, zero, suc, Bool, true, false, List, length, map, set, drop, get_or, All, ap, sym, refl, inl, inr, arith, filter, codes}
-use Rattle.std.specs.Prelude.{◌==◌, flat_map, if◌then◌else◌, nat_lt, sum_by, zip}
-use Rattle.std.specs.List.{enumerate_from}
-use Rattle.std.proofs.lemmas.Bool.{cases_eq, eq-eqb, ne_eqb}
+use Rattle.std.proofs.Common.{◌≡◌, ◌∙◌, ◌+◌, ◌<◌, ◌++◌, ◌∷◌, ◌⊎◌, [], ℕ, List, length, map, set, drop, get_or, All, ap, sym, refl, inl, inr, arith, codes}
+use Rattle.std.specs.Prelude.{flat_map, zip}
+use Rattle.std.proofs.lemmas.Bool.{cases_eq}
 use Rattle.std.proofs.lemmas.List.{get_or-map, get_or-set_other, get_or-set_same, length-set}
 use Rattle.std.proofs.lemmas.List.Elements.{All-push, All-tail}
-use Rattle.std.proofs.lemmas.List.Sums.{sum_by-cons}
 use Rattle.line_split.specs.UsageLine.{UsageLine}
 use Rattle.line_split.specs.declared.reason.Reason.{Reason}
 use Rattle.line_split.specs.declared.reason.Reason.TheVariants.{Open}
-use Rattle.line_split.proofs.Fair.{portions_are_fair}
-use Rattle.line_split.proofs.PortionAccounts.{portions_below}
-use Rattle.line_split.proofs.SumBelow.{same_sums, sum_below, sum_below-add, sum_below-constant, sum_by-places}
-use Rattle.cwr_share.specs.ClaimsOn.{claims_on}
-use Rattle.cwr_share.specs.Registered.{IsRegistered, Registered}
-use Rattle.payee_book.specs.Run.{IsBookOf, portion_of}
-use Rattle.payee_book.specs.Statement as statement
 use Rattle.payee_book.specs.Text.{payee_rows, posting_row, reason_at, reason_text, residue_rows, rows_of_book, run_row, total_row}
-use Rattle.split_run.specs.Divisions.{division_by}
-use Rattle.split_run.proofs.DivisionLemmas.{claims_below, some_accounts}
 
 -- the reasons of the lines of those postings that are done; at any place there is the line's own reason, or none is set
 pub record AreReasons (owns : List Reason) (done : List (ℕ × ℕ)) (reasons : List Reason) : Type 0 where
