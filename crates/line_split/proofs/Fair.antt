@@ -7,7 +7,7 @@ use Rattle.std.proofs.lemmas.List.{get_or-map, length-map, same_lists, length_pu
 use Rattle.std.proofs.lemmas.List.Sums.{sum_by_push}
 use Rattle.line_split.specs.Claims.{total_of, counted_claims, base_of, participants_of}
 use Rattle.line_split.specs.LargestRemainder.{quota_of, portions_among, portions_of}
-use Rattle.line_split.specs.FairSplit.{value_at, StaysWithinQuota, GivesByRemainder, IsFairSplit}
+use Rattle.line_split.specs.FairSplit.{value_at, StaysWithinQuota, GivesByRemainder, IsFairSplitOfSize}
 use Rattle.line_split.proofs.SumBelow.{sum_below, bit, same_sums, sum_below-add}
 use Rattle.line_split.proofs.Ranks.{before, before_means, before_from, rank, rank_rises, first_k, count_below}
 use Rattle.line_split.proofs.Quotas.{quotas, left, remainders, portion, portions_add_up, within_quota}
@@ -78,7 +78,7 @@ module _ (amount base : ℕ) (participants : List (ℕ × ℕ)) (some : 0 < base
       ]
 
 -- The portions by the claims are fair.
-pub portions_are_fair : (amount : ℕ) (claims : List (ℕ × ℕ)) → IsFairSplit amount claims (portions_of amount claims)
+pub portions_are_fair : (amount : ℕ) (claims : List (ℕ × ℕ)) → IsFairSplitOfSize amount claims (portions_of amount claims)
 portions_are_fair amount claims = record {
   same_accounts = accounts-portions amount (base_of claims) (participants_of claims) (base_positive claims) (shares_are_base claims);
   adds_up = portions-sum amount (base_of claims) (participants_of claims) (base_positive claims) (shares_are_base claims) (some_place claims);
@@ -152,7 +152,7 @@ module _ (amount base : ℕ) (participants portions : List (ℕ × ℕ)) where
           lt-ltb _ _ (by_remainder j k jn kn (before_means (remainders amount base (value_at participants)) j k first) (ltb-true _ _ has_k))
 
 -- No other portions are fair.
-pub only_fair : (amount : ℕ) (claims portions : List (ℕ × ℕ)) → IsFairSplit amount claims portions → portions ≡ portions_of amount claims
+pub only_fair : (amount : ℕ) (claims portions : List (ℕ × ℕ)) → IsFairSplitOfSize amount claims portions → portions ≡ portions_of amount claims
 only_fair amount claims portions fair =
     same_lists portions (portions_of amount claims)
     (len ∙ sym (length-portions amount (base_of claims) (participants_of claims)))

@@ -13,3 +13,6 @@ mod UsageRows
 pub mod OneTable
 mod KeptLemmas
 pub mod PortionAccounts
+pub mod Signs
+pub mod IntSums
+mod FairSigns

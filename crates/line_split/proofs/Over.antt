@@ -12,7 +12,7 @@ use Rattle.line_split.proofs.SumBelow.{bit}
 use Rattle.line_split.proofs.ClaimLemmas.{total-nothing}
 
 -- the claims, each as nothing
-abbrev nothing : List (ℕ × ℕ) → List (ℕ × ℕ)
+abbrev pub nothing : List (ℕ × ℕ) → List (ℕ × ℕ)
 nothing claims = map (λ claim. (claim.0, 0)) claims
 
 participants-over : (claims : List (ℕ × ℕ)) → MOST_CLAIMED < total_of claims → participants_of claims ≡ nothing claims ++ (RESIDUE, FULL_SHARE) ∷ []

@@ -1,9 +1,13 @@
 -- How the rows of a usage table are read one by one.
-use Rattle.std.proofs.Common.{◌≡◌, ◌≤◌, ◌+◌, ℕ, List, [], ◌∷◌, ◌++◌, length, map, All, ap, sym, refl, ◌∙◌, append_assoc, inr, arith}
+use Rattle.std.proofs.Common.{pos, neg_ℤ, unsigned_abs, Bool, true, false, ◌≡◌, ◌≤◌, ◌+◌, ℕ, List, [], ◌∷◌, ◌++◌, length, map, All, ap, sym, refl, ◌∙◌, append_assoc, inr, arith}
 use Rattle.std.proofs.lemmas.List.{append-nil, length-map, length_push, map-append}
 use Rattle.std.proofs.lemmas.List.Elements.{All-map, All-nil, All-push}
+use Rattle.std.specs.Prelude.{if◌then◌else◌}
+use Rattle.std.proofs.lemmas.Int.{ints}
+use Rattle.csv_table.specs.Forms.{IsSignedNumber, has_minus, number_of, signed_number_of, without_minus}
 use Rattle.csv_table.proofs.Codes.{code_small}
-use Rattle.line_split.specs.UsageLine.{UsageLine, line_of}
+use Rattle.line_split.specs.declared.TheConstants.{MOST_AMOUNT}
+use Rattle.line_split.specs.UsageLine.{UsageLine, amount_of, line_of}
 use Rattle.line_split.specs.UsageLines.{AreUsageLines, IsUsageLine}
 use Rattle.line_split.specs.UsageTable.{IsFaultOf, IsFaultOfRow, IsFirstFault, IsLine, IsTableOf, header}
 use Rattle.line_split.specs.declared.line_fault.LineFault.{LineFault}
@@ -31,12 +35,20 @@ walked_more rows left row number lines line walked sound is = record {
   count = rw (length_push walked.below row, walked.count) refl;
 }
 
+-- a signed number is no larger than its digits are
+signed_small : (most : ℕ) (field : List ℕ) → IsSignedNumber most field → unsigned_abs (signed_number_of field) ≤ most
+signed_small most field is = by_minus (has_minus field) (number_of (without_minus field)) is.small
+  where
+    by_minus : (minus : Bool) (size : ℕ) → size ≤ most → unsigned_abs (if minus then neg_ℤ (pos size) else pos size) ≤ most
+    by_minus true size small = omega (arith, ints)
+    by_minus false size small = small
+
 pub line_in_limits : (row : List (List ℕ)) → IsLine row → IsUsageLine (line_of row)
 line_in_limits row line = record {
   usage = line.texts.0;
   work = line.texts.1;
   land = (line.territory.some, (code_small _ line.territory).small);
-  amount = line.amount.small;
+  amount = signed_small MOST_AMOUNT (amount_of row) line.amount;
 }
 
 pub walked_lines : (rows left : List (List (List ℕ))) (number : ℕ) (lines : List UsageLine) → Walked rows left number lines → number ≤ MOST_LINES + 1 → AreUsageLines lines

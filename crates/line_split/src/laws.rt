@@ -1,22 +1,22 @@
 //! What the portions are in the terms of apportionment, what a table of usage lines keeps to, and the
 //! limits. A law has no body: its contract is the law.
 
-ghost use Rattle.std.specs.Prelude.{◌≡◌, ◌<◌, ℕ, List, [], ◌∷◌, ◌++◌, map, sum_by};
+ghost use Rattle.std.specs.Prelude.{◌≡◌, ◌<◌, ℕ, ℤ, pos, neg_ℤ, List, [], ◌∷◌, ◌++◌, map, sum_by};
 ghost use Rattle.line_split.specs.declared.TheConstants.{FULL_SHARE, MOST_AMOUNT, MOST_CLAIMED, MOST_CLAIMS, RESIDUE};
 ghost use Rattle.line_split.specs.declared.line_fault.LineFault.{LineFault};
 ghost use Rattle.line_split.specs.declared.line_fault.LineFault.TheVariants.{Memory};
 ghost use Rattle.line_split.specs.declared.usage.TheConstants.{MOST_LINES, MOST_TEXT_BYTES};
 ghost use Rattle.line_split.specs.Claims.{base_of, participants_of, total_of};
-ghost use Rattle.line_split.specs.LargestRemainder.{portions_of};
 ghost use Rattle.line_split.specs.FairSplit.{IsFairSplit};
+ghost use Rattle.line_split.specs.Signs.{signed_portions_of};
 ghost use Rattle.line_split.specs.UsageLine.{UsageLine};
 ghost use Rattle.line_split.specs.UsageTable.{IsFaultOf, IsTableOf};
 
-/// The portions add up to the amount; each is its exact share rounded down or up; and a unit left
-/// over goes to a greater remainder before a smaller one, among equal ones to the earlier place
-/// in the list, which is the lower account, and to the residue last.
+/// The portions add up to the amount; each is its exact share rounded towards zero or away from it, and none
+/// has the other sign than the amount; and a unit left over goes to a greater remainder before a smaller one,
+/// among equal ones to the earlier place in the list, which is the lower account, and to the residue last.
 pub fn law_portions_are_fair()
-    ensures { (amount : ℕ) (claims : List (ℕ × ℕ)) → IsFairSplit amount claims (portions_of amount claims) }
+    ensures { (amount : ℤ) (claims : List (ℕ × ℕ)) → IsFairSplit amount claims (signed_portions_of amount claims) }
 {}
 
 /// The shares of all participants are the whole base, so that nothing of an amount is left unclaimed.
@@ -26,13 +26,18 @@ pub fn law_shares_are_the_base()
 
 /// Claims that come to more than 100.06 per cent get nothing, and the residue has the whole amount.
 pub fn law_over_goes_to_the_residue()
-    ensures { (amount : ℕ) (claims : List (ℕ × ℕ)) → MOST_CLAIMED < total_of claims
-        → portions_of amount claims ≡ map (λ claim. (claim.0, 0)) claims ++ (RESIDUE, amount) ∷ [] }
+    ensures { (amount : ℤ) (claims : List (ℕ × ℕ)) → MOST_CLAIMED < total_of claims
+        → signed_portions_of amount claims ≡ map (λ claim. (claim.0, pos 0)) claims ++ (RESIDUE, amount) ∷ [] }
 {}
 
 /// No other portions are fair.
 pub fn law_fair_portions_are_these()
-    ensures { (amount : ℕ) (claims portions : List (ℕ × ℕ)) → IsFairSplit amount claims portions → portions ≡ portions_of amount claims }
+    ensures { (amount : ℤ) (claims : List (ℕ × ℕ)) (portions : List (ℕ × ℤ)) → IsFairSplit amount claims portions → portions ≡ signed_portions_of amount claims }
+{}
+
+/// An amount that is taken back is divided as it was, each portion with the other sign.
+pub fn law_a_reversal_undoes_a_division()
+    ensures { (amount : ℤ) (claims : List (ℕ × ℕ)) → signed_portions_of (neg_ℤ amount) claims ≡ map (λ portion. (portion.0, neg_ℤ portion.1)) (signed_portions_of amount claims) }
 {}
 
 /// The rows of a table are one list of usage lines.
@@ -45,7 +50,7 @@ pub fn law_a_table_of_lines_has_no_fault()
     ensures { (rows : List (List (List ℕ))) (lines : List UsageLine) (fault : LineFault) → IsTableOf rows lines → IsFaultOf rows fault → fault ≡ Memory }
 {}
 
-/// The residue's account and the limits, as numbers: claims in hundredths of a per cent, amounts in
+/// The residue's account and the limits, as numbers: claims in hundredths of a per cent, the sizes of amounts in
 /// minor units.
 pub fn law_the_limits()
     ensures residue { RESIDUE ≡ 0 }

@@ -1,7 +1,7 @@
 //! The statements as CSV, where several threads write the payees' rows at once.
 
 ghost use Rattle.std.specs.Io.KnownBytes.{Appends};
-ghost use Rattle.std.specs.Prelude.{◌≡◌, ◌+◌, ◌≤◌, ◌<◌, ◌++◌, ℕ, List, All, IfOk, OnOk, length, map, true, vec_len};
+ghost use Rattle.std.specs.Prelude.{ℤ, unsigned_abs, ◌≡◌, ◌+◌, ◌≤◌, ◌<◌, ◌++◌, ℕ, List, All, IfOk, OnOk, length, map, true, vec_len};
 ghost use Rattle.csv_table.specs.Written.{empty_page, text_of};
 ghost use Rattle.line_split.specs.declared.TheConstants.{MOST_AMOUNT};
 ghost use Rattle.line_split.specs.UsageLine.{UsageLine};
@@ -155,7 +155,7 @@ fn payees_row_count(book: &Book) -> u128
 }
 
 /// How many rows the statement of a payee has.
-fn row_count(statement: &[(u64, u64)]) -> u128
+fn row_count(statement: &[(u64, i64)]) -> u128
     ensures count { (usage : List UsageLine) (party : List ℕ) → result ≡ length (payee_rows usage party statement.now) }
     ensures bound { result ≤ length statement.now + 1 }
 {
@@ -242,13 +242,13 @@ fn write_part(
     rows: &mut RowWriter,
     usage: &Usage,
     party: &[u8],
-    statement: &[(u64, u64)],
+    statement: &[(u64, i64)],
     first: usize,
     last: usize,
 ) -> Result<(), AllocError>
     requires within { last ≤ length (payee_rows usage.now party.now statement.now) }
     requires lines { All (λ posting. posting.0 < length usage.now) statement.now }
-    requires small { All (λ posting. posting.1 ≤ MOST_AMOUNT) statement.now }
+    requires small { All (λ posting. unsigned_abs posting.1 ≤ MOST_AMOUNT) statement.now }
     ensures { OnOk result (rows.new.text ≡ rows.old.text ++ text_of (between first last (payee_rows usage.now party.now statement.now))) }
 {
     let end = statement.len().min(last);

@@ -1,5 +1,5 @@
 -- What a reader has taken from its mailboxes, and what it keeps of it.
-use Rattle.std.specs.Prelude.{ℕ, ◌≡◌, ◌<◌, ◌≤◌, ◌+◌, ◌∷◌, [], Bool, List, None, Option, Some, length, map, option_map, slice_index_or, true}
+use Rattle.std.specs.Prelude.{ℤ, ℕ, ◌≡◌, ◌<◌, ◌≤◌, ◌+◌, ◌∷◌, [], Bool, List, None, Option, Some, length, map, option_map, slice_index_or, true}
 use Rattle.queue_core.specs.declared.item.Item.{Item}
 use Rattle.queue_core.specs.declared.item.Item.TheVariants.{End, Post}
 use Rattle.mail_box.specs.Mails.{ReceiverView}
@@ -20,7 +20,7 @@ module _ {Name : Type 0} where
   with_got r got = record { mailbox = r.mailbox; senders = r.senders; got = got; known = r.known }
 
   -- A mailbox, where there is one, and what was taken from it since it was as before: at least so many end marks; and, if every posting was kept, the statement of its account. Where there is none, so it stays, and the statement is empty.
-  abbrev pub IsServed : ℕ → Bool → Option (ReceiverView Name) → Option (ReceiverView Name) → ℕ → List (ℕ × ℕ) → Type 0
+  abbrev pub IsServed : ℕ → Bool → Option (ReceiverView Name) → Option (ReceiverView Name) → ℕ → List (ℕ × ℤ) → Type 0
   IsServed workers whole None now ends statement = (now ≡ None) × (statement ≡ [])
   IsServed workers whole (Some was) now ends statement =
       (was.senders ≡ workers) × (got : ℕ → List Item) × (now ≡ Some (with_got was got)) × (ends ≤ sum_below workers (λ worker. ends_among (got worker))) × (whole ≡ true → HasTaken workers got statement)
@@ -30,14 +30,14 @@ module _ {Name : Type 0} where
   IsUntouched workers inbox = (r : ReceiverView Name) → inbox ≡ Some r → (r.senders ≡ workers) × (r.got ≡ (λ sender. []))
 
   -- so of the mailbox of each account
-  pub record AreTaken (workers : ℕ) (whole : Bool) (was now : List (Option (ReceiverView Name))) (ends : List ℕ) (book : List (List (ℕ × ℕ))) : Type 0 where
+  pub record AreTaken (workers : ℕ) (whole : Bool) (was now : List (Option (ReceiverView Name))) (ends : List ℕ) (book : List (List (ℕ × ℤ))) : Type 0 where
     pub count : length now ≡ length was
     pub counted : length ends ≡ length was
     pub accounts : length book ≡ length was
     pub each : (account : ℕ) → account < length was → IsServed workers whole (slice_index_or was account None) (slice_index_or now account None) (slice_index_or ends account 0) (slice_index_or book account [])
 
   -- Of each account: where a reader serves it, the mailbox has given an end mark for each worker, and the statement is what was taken.
-  pub record AreServed (workers : ℕ) (was now : List (Option (ReceiverView Name))) (book : List (List (ℕ × ℕ))) : Type 0 where
+  pub record AreServed (workers : ℕ) (was now : List (Option (ReceiverView Name))) (book : List (List (ℕ × ℤ))) : Type 0 where
     pub count : length now ≡ length was
     pub accounts : length book ≡ length was
     pub each : (account : ℕ) → account < length was → IsServed workers true (slice_index_or was account None) (slice_index_or now account None) workers (slice_index_or book account [])

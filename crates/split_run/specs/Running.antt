@@ -1,5 +1,5 @@
 -- What a run opens, and what its threads give back.
-use Rattle.std.specs.Prelude.{ℕ, ◌≡◌, ◌+◌, ◌<◌, ◌≤◌, ◌%◌, ◌==◌, ◌++◌, ◌∷◌, [], List, None, Option, Some, cond, length, map, nat_lt, slice_index_or, true}
+use Rattle.std.specs.Prelude.{ℕ, ℤ, ◌≡◌, ◌+◌, ◌<◌, ◌≤◌, ◌%◌, ◌==◌, ◌++◌, ◌∷◌, [], List, None, Option, Some, cond, length, map, nat_lt, slice_index_or, true}
 use Rattle.line_split.specs.UsageLine.{UsageLine}
 use Rattle.line_split.specs.declared.TheConstants.{MOST_CLAIMS}
 use Rattle.block_draw.specs.Views.{DrawView, DrawerView, drawer_of}
@@ -40,7 +40,7 @@ module _ {M Sender Receiver Held Name : Type 0} where
     pub room : (MOST_CLAIMS ≤ worker.claims.room) × (MOST_CLAIMS + 1 ≤ worker.portions.room)
 
   -- A worker is done: its drawer has found that no block is left, and its senders have sent what the blocks come to that it drew, and have ended.
-  pub record HasWorked (sender : Sender → SenderView Name) (division : UsageLine → List (ℕ × ℕ)) (usage : List UsageLine) (worker : Worker M Sender Receiver Held) (worked : Worked M Sender Receiver Held) : Type 0 where
+  pub record HasWorked (sender : Sender → SenderView Name) (division : UsageLine → List (ℕ × ℤ)) (usage : List UsageLine) (worker : Worker M Sender Receiver Held) (worked : Worked M Sender Receiver Held) : Type 0 where
     pub sent : HaveEnded (map sender worker.senders.items) (map sender worked.senders.items) (λ account. postings_of division usage account (drawer_of worked.drawer).drawn)
     pub same : ((drawer_of worked.drawer).draw ≡ (drawer_of worker.drawer).draw) × ((drawer_of worked.drawer).number ≡ (drawer_of worker.drawer).number)
     pub done : (drawer_of worked.drawer).is_done ≡ true
@@ -62,25 +62,25 @@ or_else (Some x) other = Some x
 
 module _ {Name : Type 0} where
   -- What the first so many readers gave back, put together: of the accounts that were dealt to them, the mailboxes and the statements.
-  pub record AreMerged (workers readers done : ℕ) (opened now : List (Option (ReceiverView Name))) (book : List (List (ℕ × ℕ))) : Type 0 where
+  pub record AreMerged (workers readers done : ℕ) (opened now : List (Option (ReceiverView Name))) (book : List (List (ℕ × ℤ))) : Type 0 where
     pub count : length now ≡ length opened
     pub accounts : length book ≡ length opened
     pub each : (account : ℕ) → account < length opened
         → IsServed workers true (cond (nat_lt (account % readers) done) (slice_index_or opened account None) None) (slice_index_or now account None) workers (slice_index_or book account [])
 
   -- what a reader gave back, of those that were dealt to it
-  abbrev pub IsGivenBack : (workers readers reader : ℕ) → (opened now : List (Option (ReceiverView Name))) → List (List (ℕ × ℕ)) → Type 0
+  abbrev pub IsGivenBack : (workers readers reader : ℕ) → (opened now : List (Option (ReceiverView Name))) → List (List (ℕ × ℤ)) → Type 0
   IsGivenBack workers readers reader opened now book = (dealt : List (Option (ReceiverView Name))) × AreDealt readers reader opened dealt × AreServed workers dealt now book
 
   -- There is a mailbox for each account, and the senders that a worker gave back belong to these; each has sent the worker's list for its account.
-  pub record AreGivenBack (division : UsageLine → List (ℕ × ℕ)) (usage : List UsageLine) (worker : ℕ) (drawn : List ℕ) (inboxes : List (Option (ReceiverView Name))) (senders : List (SenderView Name)) : Type 0 where
+  pub record AreGivenBack (division : UsageLine → List (ℕ × ℤ)) (usage : List UsageLine) (worker : ℕ) (drawn : List ℕ) (inboxes : List (Option (ReceiverView Name))) (senders : List (SenderView Name)) : Type 0 where
     pub count : length senders ≡ length inboxes
     pub each : (account : ℕ) (s : SenderView Name) → account < length inboxes → (r : ReceiverView Name) × (slice_index_or inboxes account None ≡ Some r)
         × ((slice_index_or senders account s).mailbox ≡ r.mailbox) × ((slice_index_or senders account s).number ≡ worker) × ((slice_index_or senders account s).is_ended ≡ true)
         × ((slice_index_or senders account s).sent ≡ list_of division usage account drawn)
 
   -- What a worker gave back: those senders, and the drawer of its number of this draw, which has found that no block is left.
-  pub record IsWorkOf (division : UsageLine → List (ℕ × ℕ)) (usage : List UsageLine) (draw : DrawView) (worker : ℕ) (drawer : DrawerView) (inboxes : List (Option (ReceiverView Name))) (senders : List (SenderView Name)) : Type 0 where
+  pub record IsWorkOf (division : UsageLine → List (ℕ × ℤ)) (usage : List UsageLine) (draw : DrawView) (worker : ℕ) (drawer : DrawerView) (inboxes : List (Option (ReceiverView Name))) (senders : List (SenderView Name)) : Type 0 where
     pub sent : AreGivenBack division usage worker drawer.drawn inboxes senders
     pub same : (drawer.draw ≡ draw.draw) × (drawer.number ≡ worker)
     pub done : drawer.is_done ≡ true
@@ -94,7 +94,7 @@ module _ {Name : Type 0} where
     pub done : drawer.is_done ≡ true
 
   -- Each mailbox has taken in its sender of the first so many workers, which have drawn these blocks, and has received what it had.
-  pub record AreTakenIn (division : UsageLine → List (ℕ × ℕ)) (usage : List UsageLine) (drawn : ℕ → List ℕ) (done : ℕ) (before after : List (Option (ReceiverView Name))) : Type 0 where
+  pub record AreTakenIn (division : UsageLine → List (ℕ × ℤ)) (usage : List UsageLine) (drawn : ℕ → List ℕ) (done : ℕ) (before after : List (Option (ReceiverView Name))) : Type 0 where
     pub count : length after ≡ length before
     pub each : (account : ℕ) (r : ReceiverView Name) → account < length before → slice_index_or before account None ≡ Some r
         → (now : ReceiverView Name) × (slice_index_or after account None ≡ Some now) × (now.mailbox ≡ r.mailbox) × (now.got ≡ r.got)

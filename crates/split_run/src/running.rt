@@ -1,6 +1,6 @@
 //! A run: workers divide the usage lines, readers keep the statements, and between them lies a mailbox for each account.
 
-ghost use Rattle.std.specs.Prelude.{◌≡◌, ◌+◌, ◌<◌, ◌≤◌, ℕ, All, IfOk, IfSome, None, OnOk, Some, length, map, replicate, slice_index_or, sum_by, true, vec_items};
+ghost use Rattle.std.specs.Prelude.{◌≡◌, ◌+◌, ◌<◌, ◌≤◌, ℕ, All, IfOk, IfSome, None, OnOk, Some, length, map, replicate, slice_index_or, true, vec_items};
 ghost use Rattle.mail_box.specs.Mails.{Begins, ReceiverView, SenderView, with_sender};
 ghost use Rattle.payee_book.specs.Run.{IsBookOf};
 ghost use Rattle.payee_book.specs.Statement.{total_of};
@@ -41,7 +41,7 @@ pub fn run<M: Mail, G: Gate, R: Threads + Wait + Sync>(
     gate: &G,
 ) -> Result<Book, RunFault>
     ensures book { IfOk result (IsBookOf (division_by tis.now registry.now) usage.now (length registry.now.parties)) }
-    ensures adds_up { IfOk result (λ book. sum_by total_of book ≡ sum_by (λ line. line.amount) usage.now) }
+    ensures adds_up { IfOk result (λ book. int_sum_by total_of book ≡ int_sum_by (λ line. line.amount) usage.now) }
 {
     let threads = plan.readers + plan.workers;
     run_cut(rt, alloc, mail, tis, registry, usage, plan, gate, threads)
@@ -61,7 +61,7 @@ pub fn run_cut<M: Mail, G: Gate, R: Threads + Wait + Sync>(
     threads: u64,
 ) -> Result<Book, RunFault>
     ensures book { IfOk result (IsBookOf (division_by tis.now registry.now) usage.now (length registry.now.parties)) }
-    ensures adds_up { IfOk result (λ book. sum_by total_of book ≡ sum_by (λ line. line.amount) usage.now) }
+    ensures adds_up { IfOk result (λ book. int_sum_by total_of book ≡ int_sum_by (λ line. line.amount) usage.now) }
     ensures cut { IfOk result (λ _. plan.readers + plan.workers ≤ threads) }
 {
     let inputs = Inputs {
