@@ -2,6 +2,7 @@
 
 ghost use Rattle.std.specs.Prelude.{◌≡◌, ◌≤◌, ◌<◌, ◌+◌, ℕ, length, map, All, IfOk, IfErr, IfSome, IfNone, IsTrue, ◌↔◌, ◌++◌, OnOk, string_bytes};
 ghost use Rattle.line_split.specs.declared.TheConstants.{MOST_AMOUNT};
+ghost use Rattle.line_split.specs.FairSplit.{sizes_of};
 ghost use Rattle.line_split.specs.FirstPlace.{IsFirstPlace};
 ghost use Rattle.pair_split.specs.Pair.{IsPair, claims_of as claims_made};
 ghost use Rattle.pair_split.specs.PairFault.{AreSound, IsFaultOf, IsMalformed, IsNamedBefore};
@@ -36,7 +37,7 @@ pub fn split_words(alloc: Global, amount: u64, words: &[String]) -> Result<Vec<u
     let Ok(mut portions) = Portions::room(alloc, words.len() + 1) else {
         return Err(PairFault::Memory);
     };
-    split(amount, &claims, &mut portions);
+    split(amount as i64, &claims, &mut portions);
     rows(alloc, words, portions.list())
 }
 
@@ -114,19 +115,19 @@ fn list_claims(alloc: Global, words: &[String]) -> Result<Vec<(Account, u32)>, A
     Ok(list)
 }
 
-/// The rows of the portions, the last of them the residue's.
-fn rows(alloc: Global, words: &[String], portions: &[(Account, u64)]) -> Result<Vec<u8>, PairFault>
+/// The rows of the portions, the last of them the residue's. None is negative, so its size is what is written.
+fn rows(alloc: Global, words: &[String], portions: &[(Account, i64)]) -> Result<Vec<u8>, PairFault>
     requires pairs { All IsPair (map string_bytes words.now) }
     requires each { length portions.now ≡ length words.now + 1 }
-    ensures text { IfOk result (λ text. text.items ≡ text_of (labels_of (map string_bytes words.now)) portions.now) }
+    ensures text { IfOk result (λ text. text.items ≡ text_of (labels_of (map string_bytes words.now)) (sizes_of portions.now)) }
     ensures memory { IfErr result (λ fault. fault ≡ PairFault.Memory) }
 {
     let mut out = RowWriter::new(alloc);
     for place in 0..words.len() {
         let party = party_of(word(words, place));
-        write_row(&mut out, "P", party, portions[place].1)?;
+        write_row(&mut out, "P", party, portions[place].1.unsigned_abs())?;
     }
-    write_row(&mut out, "M", "", portions[words.len()].1)?;
+    write_row(&mut out, "M", "", portions[words.len()].1.unsigned_abs())?;
     match out.into_text() {
         Ok(text) => Ok(text),
         Err(_) => Err(PairFault::Memory),
