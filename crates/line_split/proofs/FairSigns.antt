@@ -13,7 +13,7 @@ use Rattle.line_split.proofs.Over.{nothing, portions-over}
 use Rattle.line_split.proofs.Signs.{no_sign, own_sign, portions_add_up, portions_within, signed_list, size_of_signed}
 
 -- the sizes of what was given a sign
-sizes_signed : (amount : ℤ) (xs : List (ℕ × ℕ)) → sizes_of (signed_list amount xs) ≡ xs
+pub sizes_signed : (amount : ℤ) (xs : List (ℕ × ℕ)) → sizes_of (signed_list amount xs) ≡ xs
 sizes_signed amount [] = refl
 sizes_signed amount (x ∷ xs) = (λ i. (x.0, size_of_signed amount x.1 i) ∷ sizes_signed amount xs i)
 

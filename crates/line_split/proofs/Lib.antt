@@ -15,4 +15,4 @@ mod KeptLemmas
 pub mod PortionAccounts
 pub mod Signs
 pub mod IntSums
-mod FairSigns
+pub mod FairSigns

@@ -1,5 +1,5 @@
 use mir.Val.{SFits}
-use Rattle.std.proofs.Common.{◌≡◌, ℕ, ℤ, pos, unsigned_abs, w64, ◌+◌, ◌<◌, List, [], ◌++◌, length, map, take, get_or, codes, ap, sym, ◌∙◌, arith}
+use Rattle.std.proofs.Common.{rules, ◌≡◌, ℕ, ℤ, pos, unsigned_abs, w64, ◌+◌, ◌<◌, List, [], ◌++◌, length, map, take, get_or, codes, ap, sym, ◌∙◌, arith}
 use Rattle.std.proofs.lemmas.Int.{to_z-of_z}
 use Rattle.std.proofs.lemmas.List.{get_or-map, length-map}
 use Rattle.std.specs.Prelude.{flat_map, zip, string_bytes}
