@@ -188,7 +188,8 @@ def line_word(item):
 
 
 def amount_word(item):
-    return 0 if item == END else item[2]
+    """twice the size of the amount, and 1 more where it is negative"""
+    return 0 if item == END else 2 * abs(item[2]) + (item[2] < 0)
 
 
 def first_node(l, p):
@@ -238,8 +239,9 @@ def takes(l):
 
 
 def post(p, k):
+    """every second post takes an amount back, the first one of every second sender"""
     place = p * (100 if LONG else 10) + k
-    return ("Post", place + 1, 100 + place)
+    return ("Post", place + 1, (100 + place) * (-1) ** (p + k))
 
 
 def steps(l, m, posts):

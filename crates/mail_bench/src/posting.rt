@@ -13,7 +13,7 @@ const MOST_TURNS: u64 = 10_000_000_000;
 #[derive(Clone, Copy, Drop)]
 pub struct Came {
     pub posts: u64,
-    pub total: u64,
+    pub total: i64,
 }
 
 /// Sends a post, once there is a node for it. False: none came, or the sender may not post.
@@ -23,7 +23,7 @@ fn send(sender: &mut LinkSender, line: u64) -> bool {
         if LinkMail::ended(sender) || LinkMail::left(sender) == 0 || line > 999_999 {
             return false;
         }
-        if LinkMail::try_send(sender, line, line + 1) == Posted::Sent {
+        if LinkMail::try_send(sender, line, line as i64 + 1) == Posted::Sent {
             return true;
         }
         turn.snooze();

@@ -2,21 +2,21 @@
 
 use queue_core::Step;
 
-/// The numbers in a text, divided by commas; 0 where there are fewer.
-fn numbers(text: &str) -> [u64; 3] {
-    let mut found = [0; 3];
-    for (place, word) in text.split(',').enumerate() {
-        if place < 3 {
-            found[place] = word.parse().unwrap_or(0);
-        }
-    }
-    found
+/// The three numbers in a text, divided by commas, of which the last may be negative; 0 where there are fewer.
+fn numbers(text: &str) -> (u64, u64, i64) {
+    let (first, rest) = text.split_once(',').unwrap_or((text, ""));
+    let (line, amount) = rest.split_once(',').unwrap_or((rest, ""));
+    (
+        first.parse().unwrap_or(0),
+        line.parse().unwrap_or(0),
+        amount.parse().unwrap_or(0),
+    )
 }
 
-/// The step of a text like `LoadTurn(0,5,10)` or `LoadNext`.
+/// The step of a text like `LoadTurn(0,5,-10)` or `LoadNext`.
 pub fn step(text: &str) -> Option<Step> {
     let (name, rest) = text.split_once('(').unwrap_or((text, ""));
-    let [first, line, amount] = numbers(rest.strip_suffix(')').unwrap_or(rest));
+    let (first, line, amount) = numbers(rest.strip_suffix(')').unwrap_or(rest));
     match name {
         "LoadTurn" => Some(Step::LoadTurn(first, line, amount)),
         "StoreLine" => Some(Step::StoreLine(first)),
