@@ -34,7 +34,7 @@ sum_at (suc n) (suc a) v lt =
     (λ i. first i +ℤ rest i) ∙ none_plus v
 
 -- the first portion of a division, and the others
-portion_first : (account : ℕ) (p : ℕ × ℤ) (division : List (ℕ × ℤ)) → portion_of account (p ∷ division) ≡ (if p.0 == account then p.1 else pos 0) +ℤ portion_of account division
+pub portion_first : (account : ℕ) (p : ℕ × ℤ) (division : List (ℕ × ℤ)) → portion_of account (p ∷ division) ≡ (if p.0 == account then p.1 else pos 0) +ℤ portion_of account division
 portion_first account p division = by (p.0 == account)
   where
     by : (b : Bool) → int_sum_by (λ (e : ℕ × ℤ). e.1) (if b then p ∷ filter (λ e. e.0 == account) division else filter (λ e. e.0 == account) division)
@@ -59,7 +59,7 @@ no_size : (z : ℤ) → nat_lt 0 (unsigned_abs z) ≡ false → z ≡ pos 0
 no_size z is = let none : unsigned_abs z ≡ 0 = grind (arith, nat_tests) in omega (arith, ints, none)
 
 -- the postings of nothing left out
-total_from : (f : UsageLine → ℤ) (n : ℕ) (usage : List UsageLine)
+pub total_from : (f : UsageLine → ℤ) (n : ℕ) (usage : List UsageLine)
     → int_sum_by (λ (posting : ℕ × ℤ). posting.1) (filter (λ posting. nat_lt 0 (unsigned_abs posting.1)) (map (λ e. (e.0, f e.1)) (enumerate_from n usage))) ≡ int_sum_by f usage
 total_from f n [] = refl
 total_from f n (line ∷ usage) =

@@ -9,3 +9,4 @@ pub mod ReadingLemmas
 pub mod OpeningLemmas
 pub mod RunningLemmas
 pub mod AddsUp
+mod Reversals

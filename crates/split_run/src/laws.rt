@@ -1,6 +1,11 @@
-//! The limits of a plan. A law has an empty body: its contract is the law.
+//! The limits of a plan, and what a run comes to. A law has an empty body: its contract is the law.
 
-ghost use Rattle.std.specs.Prelude.{◌≡◌};
+ghost use Rattle.std.specs.Prelude.{◌≡◌, ◌++◌, ◌∷◌, ◌+ℤ◌, ℕ, pos, List};
+ghost use Rattle.cwr_share.specs.Registered.{Registered};
+ghost use Rattle.line_split.specs.UsageLine.{UsageLine};
+ghost use Rattle.payee_book.specs.Run.{portion_of, statement_of};
+ghost use Rattle.payee_book.specs.Statement.{total_of};
+ghost use Rattle.split_run.specs.Divisions.{IsReversalOf, division_by};
 ghost use Rattle.split_run.specs.declared.TheConstants.{MOST_NODES, MOST_THREADS};
 ghost use Rattle.split_run.specs.Taken.{TakingKeepsUp, WhatWasSentIsTheStatement};
 
@@ -20,4 +25,14 @@ pub fn law_what_was_sent_is_the_statement()
 /// comes.
 pub fn law_taking_keeps_up()
     ensures { TakingKeepsUp }
+{}
+
+/// A line that takes another back undoes it: the portions of the two come to nothing for every account, the residue's included.
+/// Wherever the two stand among the lines, each account's total is as if there were neither.
+pub fn law_a_reversal_undoes_a_line()
+    ensures portions { (table : List (ℕ × List ℕ)) (registered : Registered) (line reversal : UsageLine) (account : ℕ) → IsReversalOf line reversal
+        → portion_of account (division_by table registered line) +ℤ portion_of account (division_by table registered reversal) ≡ pos 0 }
+    ensures totals { (table : List (ℕ × List ℕ)) (registered : Registered) (line reversal : UsageLine) (before between after : List UsageLine) (account : ℕ) → IsReversalOf line reversal
+        → total_of (statement_of (division_by table registered) (before ++ line ∷ (between ++ reversal ∷ after)) account)
+            ≡ total_of (statement_of (division_by table registered) (before ++ (between ++ after)) account) }
 {}
