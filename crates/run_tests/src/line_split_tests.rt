@@ -59,10 +59,10 @@ fn claims_of(alloc: Global, list: &[(Account, u32)]) -> Result<Claims, Fail> {
 }
 
 /// The portions of an amount.
-fn portions(alloc: Global, amount: u64, claims: &Claims) -> Result<Portions, Fail> {
+fn portions(alloc: Global, amount: i64, claims: &Claims) -> Result<Portions, Fail> {
     let room = claims.list().len() + 1;
     let mut portions = Portions::room(alloc, room)?;
-    if amount > MOST_AMOUNT {
+    if amount.unsigned_abs() > MOST_AMOUNT {
         return Err(Fail::new("too large an amount"));
     }
     split(amount, claims, &mut portions);
@@ -72,15 +72,20 @@ fn portions(alloc: Global, amount: u64, claims: &Claims) -> Result<Portions, Fai
     Ok(portions)
 }
 
-/// The first place whose portion is not the slow program's.
-fn first_other(amount: u64, claims: &Claims, portions: &[(Account, u64)]) -> Option<usize> {
-    if amount > MOST_AMOUNT {
+/// Whether a portion has this size and, where it is not 0, the amount's sign.
+fn is_signed(portion: i64, size: u64, amount: i64) -> bool {
+    portion.unsigned_abs() == size && (portion == 0 || (portion < 0) == (amount < 0))
+}
+
+/// The first place whose portion is not the slow program's, with the amount's sign.
+fn first_other(amount: i64, claims: &Claims, portions: &[(Account, i64)]) -> Option<usize> {
+    if amount.unsigned_abs() > MOST_AMOUNT {
         return Some(0);
     }
     for place in 0..claims.list().len() + 1 {
-        let by_rank = portion_by_rank(amount, claims, place);
+        let size = portion_by_rank(amount.unsigned_abs(), claims, place);
         match portions.get(place) {
-            Some(portion) if portion.1 == by_rank => {}
+            Some(portion) if is_signed(portion.1, size, amount) => {}
             _ => return Some(place),
         }
     }
@@ -88,7 +93,7 @@ fn first_other(amount: u64, claims: &Claims, portions: &[(Account, u64)]) -> Opt
 }
 
 /// The portions of an amount by the claims in a list, each of which has to be the slow program's.
-fn divided(alloc: Global, amount: u64, list: &[(Account, u32)]) -> Result<Portions, Fail> {
+fn divided(alloc: Global, amount: i64, list: &[(Account, u32)]) -> Result<Portions, Fail> {
     let claims = claims_of(alloc, list)?;
     let portions = portions(alloc, amount, &claims)?;
     match first_other(amount, &claims, portions.list()) {
@@ -98,7 +103,7 @@ fn divided(alloc: Global, amount: u64, list: &[(Account, u32)]) -> Result<Portio
 }
 
 /// Divides each amount by the claims in a list.
-fn divide_each(alloc: Global, amounts: &[u64], list: &[(Account, u32)]) -> Result<(), Fail> {
+fn divide_each(alloc: Global, amounts: &[i64], list: &[(Account, u32)]) -> Result<(), Fail> {
     for amount in amounts {
         divided(alloc, *amount, list)?;
     }
@@ -142,6 +147,10 @@ fn divides_the_worked_examples(rt: HostRuntime) -> Result<(), Fail> {
 100 1=5003 2=5004: [(1, 0), (2, 0), (0, 100)]
 1000000000000 1=1: [(1, 100000000), (0, 999900000000)]
 7: [(0, 7)]
+-100 1=3333 2=3333 3=3333: [(1, -34), (2, -33), (3, -33), (0, 0)]
+-3 1=5000: [(1, -2), (0, -1)]
+-100 1=5003 2=5004: [(1, 0), (2, 0), (0, -100)]
+-1000000000000 1=1: [(1, -100000000), (0, -999900000000)]
 ",
     )
 }
@@ -149,7 +158,7 @@ fn divides_the_worked_examples(rt: HostRuntime) -> Result<(), Fail> {
 #[test]
 fn agrees_with_the_slow_program(rt: HostRuntime) -> Result<(), Fail> {
     let alloc = rt.alloc();
-    let amounts = [0, 1, 2, 3, 5, 8, 13, 99, 100, 101, 9_999, 10_007];
+    let amounts = [0, 1, 2, 3, -5, 8, -13, 99, 100, -101, 9_999, -10_007];
     for claims in [
         "7=10000",
         "1=3 2=5 4=7 9=11",
@@ -168,7 +177,7 @@ fn divides_among_few_and_many(rt: HostRuntime) -> Result<(), Fail> {
     let mut list = Vec::new(alloc);
     for account in 1..25u16 {
         list.push((account, 390 + u32::from(account % 4)))?;
-        divide_each(alloc, &[1, 7, 50, 99, 9_999, 1_000_001], list.as_slice())?;
+        divide_each(alloc, &[1, -7, 50, 99, -9_999, 1_000_001], list.as_slice())?;
     }
     assert_rows(
         &rt,

@@ -6,7 +6,7 @@ use std::process::Abort;
 use std::test::Fail;
 
 /// All six steps of a post.
-fn post(p: u64, line: u64, amount: u64) -> [Step; 6] {
+fn post(p: u64, line: u64, amount: i64) -> [Step; 6] {
     [
         Step::LoadTurn(p, line, amount),
         Step::StoreLine(p),
@@ -105,8 +105,15 @@ fn a_node_is_used_again_when_it_is_given_back(rt: HostRuntime) -> Result<(), Fai
     assert_eq!(rt; core.last_call(0), Some(Posted::Full));
     let back = [Step::LoadLine(0), Step::LoadAmount(0), Step::GiveBack(0)];
     assert_take(&rt, &mut core, &back, Some(Took::Held(0)));
-    assert_take(&rt, &mut core, &post(0, 7, 20), Some(Took::Held(0)));
+    assert_take(&rt, &mut core, &post(0, 7, -20), Some(Took::Held(0)));
     assert_eq!(rt; core.last_call(0), Some(Posted::Sent));
+    assert_eq!(rt; core.step(Step::LoadTurn(0, 7, 0)), Stepped::NotNow);
+    assert_take(&rt, &mut core, &TAKE, Some(Took::Held(0)));
+    let taken_back = Item::Post {
+        line: 7,
+        amount: -20,
+    };
+    assert_item(&rt, &core, 0, (0, taken_back));
     Ok(())
 }
 
@@ -133,9 +140,9 @@ fn an_end_mark_and_its_words(rt: HostRuntime) -> Result<(), Fail> {
     Ok(())
 }
 
-/// A link is a node plus 1, a line word the line plus 1, and a turn says how often the node was given back.
-/// Node 0 was given back once, holds the line 7 and leads to node 2, with the line 11; that leads to node 3,
-/// with the end mark, which the head is. The stub leads to node 0, and the reader holds that.
+/// A link is a node plus 1, a line word the line plus 1, an amount word twice the size, and 1 more below 0, and a turn says
+/// how often the node was given back. Node 0 was given back once, holds the line 7 and 20, and leads to node 2, with the line
+/// 11 and -30; that leads to node 3, with the end mark, which the head is. The stub leads to node 0, and the reader holds that.
 #[test]
 fn the_words_of_a_mailbox_in_use(rt: HostRuntime) -> Result<(), Fail> {
     let alloc = rt.alloc();
@@ -144,7 +151,7 @@ fn the_words_of_a_mailbox_in_use(rt: HostRuntime) -> Result<(), Fail> {
     assert_take(&rt, &mut core, &TAKE, Some(Took::Held(0)));
     assert_eq!(rt; core.step(Step::GiveBack(0)), Stepped::Moved);
     assert_take(&rt, &mut core, &post(0, 7, 20), Some(Took::Held(0)));
-    assert_take(&rt, &mut core, &post(1, 11, 30), Some(Took::Held(0)));
+    assert_take(&rt, &mut core, &post(1, 11, -30), Some(Took::Held(0)));
     let last = [
         Step::EndLine(1),
         Step::StoreAmount(1),
@@ -158,7 +165,7 @@ fn the_words_of_a_mailbox_in_use(rt: HostRuntime) -> Result<(), Fail> {
     let words = format!(in alloc; "{core}")?;
     assert_eq!(rt;
         words.as_str(),
-        "head 4\nnode 0 3 1 8 20 held\nnode 1 0 0 0 0\nnode 2 4 0 12 30\nnode 3 0 0 0 0\nnode 4 1 0 0 0\n"
+        "head 4\nnode 0 3 1 8 40 held\nnode 1 0 0 0 0\nnode 2 4 0 12 61\nnode 3 0 0 0 0\nnode 4 1 0 0 0\n"
     );
     Ok(())
 }

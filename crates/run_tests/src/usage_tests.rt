@@ -61,8 +61,18 @@ fn reads_a_table(rt: HostRuntime) -> Result<(), Fail> {
     let table = "usage,work,territory,right,amount\n\
         u1,W1,276,P,100\n\
         u 2,\"W,2\",0276,M,000000000000001\r\n\
-        u1,\"say \"\"W\"\"\",9999,S,1000000000000";
-    let want = "3 lines\nu1|W1|276|P|100\nu 2|W,2|276|M|1\nu1|say \"W\"|9999|S|1000000000000\n";
+        u1,\"say \"\"W\"\"\",9999,S,1000000000000
+u3,W,1,P,-0
+u3,W,1,P,-07
+u3,W,1,P,-1000000000000";
+    let want = "6 lines
+u1|W1|276|P|100
+u 2|W,2|276|M|1
+u1|say \"W\"|9999|S|1000000000000
+u3|W|1|P|0
+u3|W|1|P|-7
+u3|W|1|P|-1000000000000
+";
     assert_eq!(rt; told_table(rt.alloc(), table)?.as_str(), want);
     let none = told_table(rt.alloc(), "usage,work,territory,right,amount")?;
     assert_eq!(rt; none.as_str(), "0 lines\n");
@@ -119,7 +129,17 @@ u,W,276,PP,1: Some((4, Some(1)))
 u,W,276,,1: Some((4, Some(1)))
 u,W,276,P,: Some((5, Some(1)))
 u,W,276,P,+5: Some((5, Some(1)))
-u,W,276,P,-5: Some((5, Some(1)))
+u,W,276,P,-5: None
+u,W,276,P,-0: None
+u,W,276,P,-1000000000000: None
+u,W,276,P,-1000000000001: Some((5, Some(1)))
+u,W,276,P,-: Some((5, Some(1)))
+u,W,276,P,--5: Some((5, Some(1)))
+u,W,276,P,-+5: Some((5, Some(1)))
+u,W,276,P,- 5: Some((5, Some(1)))
+u,W,276,P, -5: Some((5, Some(1)))
+u,W,276,P,5-: Some((5, Some(1)))
+u,W,276,P,\u{2212}5: Some((5, Some(1)))
 u,W,276,P,1000000000001: Some((5, Some(1)))
 u,W,276,P,999999999999999999999999999999: Some((5, Some(1)))
 ,W,0,X,x: Some((2, Some(1)))
@@ -169,7 +189,7 @@ fn says_what_is_wrong_with_a_table(rt: HostRuntime) -> Result<(), Fail> {
         (LineFault::Right(3), "the right of row 3 is not P, M or S"),
         (
             LineFault::Amount(3),
-            "the amount of row 3 is not a number from 0 to 1000000000000",
+            "the amount of row 3 is not a number from -1000000000000 to 1000000000000",
         ),
         (LineFault::Lines, "there are more than 1000000 lines"),
         (LineFault::Memory, "memory ran out"),
