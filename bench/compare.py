@@ -62,8 +62,14 @@ def usage(rng):
     for n in range(rng.randint(0, 12)):
         name = rng.choice([f"u{n}", '"a ""b"", c"', "x y", "u" * 64])
         amount = rng.choice([0, 1, 2, 3, 99, 100, 1001, 98765, 10**12, rng.randrange(10**6)])
+        sign = rng.choice(["", "", "-"])
+        if n and rng.random() < 0.1:
+            # the line before is taken back
+            row = rows[-1].rsplit(",", 1)
+            rows.append(f"{row[0]},{row[1][1:] if row[1].startswith('-') else '-' + row[1]}")
+            continue
         rows.append(f"{name},{rng.choice(WORKS + ['W9'])},{rng.choice(CODES + [1])},"
-                    f"{rng.choice('PMS')},{amount}")
+                    f"{rng.choice('PMS')},{sign}{amount}")
     return "\n".join(rows) + rng.choice(["\n", ""])
 
 
@@ -74,11 +80,11 @@ def damaged(rng, data):
         place = rng.randint(0, len(data))
         accident = rng.randrange(6)
         if accident == 0:
-            data[place:place] = bytes([rng.choice(b' ,"\r\n09AIEX\x00\x7f\x80\xff')])
+            data[place:place] = bytes([rng.choice(b' ,"\r\n09-AIEX\x00\x7f\x80\xff')])
         elif accident == 1:
             del data[place:place + 1]
         elif accident == 2 and place < len(data):
-            data[place] = rng.choice(b' ,"\r\n09AIEX\x00\x7f\x80\xff')
+            data[place] = rng.choice(b' ,"\r\n09-AIEX\x00\x7f\x80\xff')
         elif accident == 3:
             del data[place:]
         elif accident == 4:

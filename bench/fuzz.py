@@ -28,7 +28,8 @@ NAMES = ("tis", "cwr", "usage")
 BYTES = b' ,"\r\n0159AIEXPMS+-.\x00\x7f\x80\xff'
 
 # fields at and beyond the limits, and some that look like numbers
-FIELDS = [b"", b"0", b"00", b"0000", b"1", b"0001", b"9999", b"10000", b"2136", b"276", b"0276", b"+5", b"-1", b" 7", b"7 ",
+FIELDS = [b"", b"0", b"00", b"0000", b"1", b"0001", b"9999", b"10000", b"2136", b"276", b"0276", b"+5", b"-1", b" 7", b"7 ", b"-", b"--5", b"-+5", b"- 5", b" -5",
+          b"-5 ", b"-0", b"-0007", b"\xe2\x88\x925", b"\xe2\x80\x935", b"-1000000000000", b"-1000000000001",
           b"1000000000000", b"1000000000001", b"000000000000001", b"9" * 30, b"18446744073709551616", b"P", b"p", b"PM", b"u" * 64,
           b"u" * 65, b"W1", b"2136 276", b'"a,b"', b'"', b'""', b"\x7f", b"\xc3\xa9", b"\xef\xbb\xbf"]
 
@@ -149,7 +150,7 @@ def example():
 
 def generated(rng, folder):
     """Small files of a realistic shape."""
-    large.generate(folder, rng.randint(1, 60), rng.randint(1, 15), rng.randint(2, 9), rng.randrange(1 << 30))
+    large.generate(folder, rng.randint(1, 60), rng.randint(1, 15), rng.randint(2, 9), rng.randrange(1 << 30), taken_back=1 / 3)
     files = []
     for name in ("tis.csv", "works.cwr", "usage.csv"):
         with open(os.path.join(folder, name), "rb") as f:

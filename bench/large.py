@@ -125,7 +125,7 @@ def registration(kind, number, work, interests, rng):
     return out
 
 
-def generate(outdir, lines, works, parties, seed):
+def generate(outdir, lines, works, parties, seed, taken_back=0.0):
     assert 1 <= lines <= 1_000_000 and 1 <= works <= 20_000 and 2 <= parties <= 500
     rng = random.Random(seed)
     os.makedirs(outdir, exist_ok=True)
@@ -169,6 +169,8 @@ def generate(outdir, lines, works, parties, seed):
         out = []
         for i, (w, t, r) in enumerate(zip(works_drawn, places_drawn, rights_drawn)):
             amount = min(int(rng.lognormvariate(6, 2)), 10**12)
+            if taken_back and rng.random() < taken_back:
+                amount = -amount
             usage = f"2024Q3-{i:07d}"
             if i % 997 == 996:
                 usage = f'"Radio ""{i % 90}"", evening {i}"'
@@ -186,8 +188,9 @@ def main():
     parser.add_argument("--works", type=int, default=20_000)
     parser.add_argument("--parties", type=int, default=400)
     parser.add_argument("--seed", type=int, default=1)
+    parser.add_argument("--taken-back", type=float, default=0.0, help="which part of the amounts is negative")
     a = parser.parse_args()
-    generate(a.outdir, a.lines, a.works, a.parties, a.seed)
+    generate(a.outdir, a.lines, a.works, a.parties, a.seed, a.taken_back)
 
 
 if __name__ == "__main__":

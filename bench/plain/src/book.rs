@@ -11,7 +11,7 @@ use std::thread;
 #[derive(Clone, Copy)]
 pub struct Posting {
     pub line: u32,
-    pub amount: u64,
+    pub amount: i64,
 }
 
 pub type Book = Vec<Vec<Posting>>;

@@ -65,15 +65,15 @@ pub struct Sender<'a> {
 
 impl Sender<'_> {
     #[inline]
-    fn push(&self, node: usize, line: u64, amount: u64) {
+    fn push(&self, node: usize, line: u64, amount: i64) {
         self.nodes[node].line.store(line, SeqCst);
-        self.nodes[node].amount.store(amount, SeqCst);
+        self.nodes[node].amount.store(amount as u64, SeqCst);
         link(self.head, self.nodes, node);
     }
 
     /// False where the node has not been given back.
     #[inline]
-    pub fn try_send(&mut self, line: u64, amount: u64) -> bool {
+    pub fn try_send(&mut self, line: u64, amount: i64) -> bool {
         let node = self.first + self.slot;
         if self.nodes[node].turn.load(SeqCst) != self.turn {
             return false;
@@ -155,9 +155,9 @@ impl Receiver<'_> {
 
     /// The line and the amount of a held node; none is an end mark.
     #[inline]
-    pub fn read(&self, node: usize) -> Option<(u64, u64)> {
+    pub fn read(&self, node: usize) -> Option<(u64, i64)> {
         let line = self.nodes[node].line.load(SeqCst).checked_sub(1)?;
-        Some((line, self.nodes[node].amount.load(SeqCst)))
+        Some((line, self.nodes[node].amount.load(SeqCst) as i64))
     }
 
     #[inline]

@@ -11,14 +11,14 @@ use std::thread;
 fn send_all(mut sender: Sender, posts: u64) {
     for line in 0..posts {
         let mut turn = Backoff::new();
-        while !sender.try_send(line, line + 1) {
+        while !sender.try_send(line, line as i64 + 1) {
             turn.wait();
         }
     }
     sender.end();
 }
 
-fn take_all(mut receiver: Receiver, senders: usize) -> (u64, u64) {
+fn take_all(mut receiver: Receiver, senders: usize) -> (u64, i64) {
     let (mut posts, mut total, mut ended) = (0, 0, 0);
     let mut turn = Backoff::new();
     while ended < senders {

@@ -47,7 +47,7 @@ impl Scratch {
         Scratch { list: Vec::with_capacity(257), order: Vec::with_capacity(257) }
     }
 
-    /// The method of largest remainder; the residue's entry is last already.
+    /// The method of largest remainder over the size of an amount; the residue's entry is last already.
     #[inline]
     fn split(&mut self, amount: u64, base: u64) {
         let mut left = amount;
@@ -105,7 +105,7 @@ impl Input<'_> {
         b: usize,
         reasons: &[AtomicU8],
         s: &mut Scratch,
-        mut put: impl FnMut(u16, u32, u64),
+        mut put: impl FnMut(u16, u32, i64),
     ) {
         let start = b * BLOCK;
         let end = self.usage.lines.len().min(start + BLOCK);
@@ -134,7 +134,7 @@ impl Input<'_> {
         i: usize,
         shares: Option<&[Share]>,
         s: &mut Scratch,
-        mut put: impl FnMut(u16, u64),
+        mut put: impl FnMut(u16, i64),
     ) -> u8 {
         let line = &self.usage.lines[i];
         s.list.clear();
@@ -179,10 +179,11 @@ impl Input<'_> {
         }
         let base = sum.max(10_000);
         s.list.push(Entry { account: 0, claim: base - sum, ..Entry::default() });
-        s.split(line.amount, base as u64);
+        s.split(line.amount.unsigned_abs(), base as u64);
+        let sign = line.amount.signum();
         for e in &s.list {
             if e.portion != 0 {
-                put(e.account, e.portion);
+                put(e.account, sign * e.portion as i64);
             }
         }
         reason

@@ -56,6 +56,14 @@ impl Out {
     }
 
     #[inline]
+    fn amount(&mut self, n: i64) {
+        if n < 0 {
+            self.byte(b'-');
+        }
+        self.number(n.unsigned_abs());
+    }
+
+    #[inline]
     fn number(&mut self, mut n: u64) {
         let mut t = [0u8; 40];
         let mut i = 20;
@@ -125,7 +133,7 @@ impl Out {
             self.fixed(usage, len);
         }
         self.byte(b',');
-        self.number(p.amount);
+        self.amount(p.amount);
         self.byte(b'\n');
         Ok(())
     }
@@ -150,7 +158,7 @@ pub fn text(
     file: File,
 ) -> io::Result<Duration> {
     let mut out = Out { buf: vec![0; CHUNK + SPARE], at: 0, file, write: Duration::ZERO };
-    let total = |list: &[Posting]| list.iter().map(|p| p.amount).sum::<u64>();
+    let total = |list: &[Posting]| list.iter().map(|p| p.amount).sum::<i64>();
     for (list, party) in book.iter().zip(&input.registry.parties).skip(1) {
         if list.is_empty() {
             continue;
@@ -178,7 +186,7 @@ pub fn text(
         out.put(&prefix);
         out.number(list.len() as u64);
         out.byte(b',');
-        out.number(total(list));
+        out.amount(total(list));
         out.byte(b'\n');
     }
     let prefixes = REASONS.map(|r| Prefix::new(&[b"M,", r, b","].concat()));
@@ -190,11 +198,11 @@ pub fn text(
     out.put(b"T,,");
     out.number(book[0].len() as u64);
     out.byte(b',');
-    out.number(total(&book[0]));
+    out.amount(total(&book[0]));
     out.put(b"\nR,,");
     out.number(input.usage.lines.len() as u64);
     out.byte(b',');
-    out.number(input.usage.lines.iter().map(|l| l.amount).sum());
+    out.amount(input.usage.lines.iter().map(|l| l.amount).sum());
     out.byte(b'\n');
     out.flush()?;
     Ok(out.write)

@@ -4,7 +4,8 @@ use crate::rows::{Fault, Field, MOST, Rows, code};
 
 #[derive(Clone, Copy)]
 pub struct Line {
-    pub amount: u64,
+    /// Below 0 where money is taken back.
+    pub amount: i64,
     usage_at: u32,
     work_at: u32,
     pub territory: u16,
@@ -43,18 +44,26 @@ fn kinds(t: &[u8]) -> (u8, u8) {
 }
 
 #[inline]
-fn amount(digits: &[u8]) -> Option<u64> {
+fn amount(field: &[u8]) -> Option<i64> {
+    match field.strip_prefix(b"-") {
+        Some(digits) => size(digits).map(|n| -n),
+        None => size(field),
+    }
+}
+
+#[inline]
+fn size(digits: &[u8]) -> Option<i64> {
     if digits.is_empty() {
         return None;
     }
-    let mut n = 0u64;
+    let mut n = 0i64;
     for &b in digits {
         let d = b.wrapping_sub(b'0');
         if d > 9 {
             return None;
         }
         // Held below 10^14, so that long texts do not run over.
-        n = (n * 10 + d as u64).min(10_000_000_000_000);
+        n = (n * 10 + d as i64).min(10_000_000_000_000);
     }
     (n <= 1_000_000_000_000).then_some(n)
 }
