@@ -123,12 +123,12 @@ fn postings(alloc: Global) -> Answer {
     let mut book = Book::open(alloc, 2).ok()?;
     let first = book.post(1, 7, 5).is_ok();
     let had = u64::from(first) * 5;
-    if book.total(1) != u128::from(had) {
+    if book.total(1) != i128::from(had) {
         return Some(WRONG);
     }
     let second = book.post(1, 2, 3).is_ok();
     let has = had + u64::from(second) * 3;
-    if book.total(1) != u128::from(has)
+    if book.total(1) != i128::from(has)
         || book.lines(1).len() != usize::from(first) + usize::from(second)
     {
         return Some(WRONG);
@@ -141,7 +141,7 @@ fn records(alloc: Global) -> Answer {
     let first = journal.record(1, 7, 5).is_ok();
     let second = journal.record(1, 2, 3).is_ok();
     let has = u64::from(first) * 5 + u64::from(second) * 3;
-    if journal.into_book().total(1) != u128::from(has) {
+    if journal.into_book().total(1) != i128::from(has) {
         return Some(WRONG);
     }
     if first && second { Some(has) } else { None }

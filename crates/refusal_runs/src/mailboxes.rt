@@ -1,5 +1,5 @@
 //! What the calls of a mailbox answer, of any kind.
-ghost use Rattle.std.specs.Prelude.{◌≡◌, ◌≤◌, ◌<◌, false, true};
+ghost use Rattle.std.specs.Prelude.{unsigned_abs, ◌≡◌, ◌≤◌, ◌<◌, false, true};
 
 use mail_box::{Item, Mail, Posted, Took, receive};
 use std::alloc::Global;
@@ -20,9 +20,9 @@ pub fn exchange<M: Mail, R: Wait, W: Write>(
     let mut other = senders.swap_remove(1);
     let mut sender = senders.swap_remove(0);
     post::<M, R, W>(rt, &mut sender, 3, 10, out)?;
-    post::<M, R, W>(rt, &mut sender, 4, 20, out)?;
+    post::<M, R, W>(rt, &mut sender, 4, -20, out)?;
     read_twice::<M, R, W>(rt, &mut receiver, out)?;
-    post::<M, R, W>(rt, &mut sender, 4, 20, out)?;
+    post::<M, R, W>(rt, &mut sender, 4, -20, out)?;
     post::<M, R, W>(rt, &mut sender, 5, 30, out)?;
     take::<M, R, W>(rt, &mut receiver, out)?;
     end::<M, R, W>(rt, &mut sender, out)?;
@@ -43,12 +43,12 @@ fn post<M: Mail, R: Wait, W: Write>(
     rt: &R,
     sender: &mut M::Sender,
     line: u64,
-    amount: u64,
+    amount: i64,
     out: &mut W,
 ) -> io::Result<()>
     requires open { (M.sender sender.old).is_ended ≡ false }
     requires line { line ≤ 999999 }
-    requires amount { (0 < amount) × (amount ≤ 1000000000000) }
+    requires amount { (0 < unsigned_abs amount) × (unsigned_abs amount ≤ 1000000000000) }
     ensures open { (M.sender sender.new).is_ended ≡ false }
     ensures mailbox { (M.sender sender.new).mailbox ≡ (M.sender sender.old).mailbox }
 {

@@ -1,5 +1,5 @@
 //! One sequence of calls on a mailbox of linked nodes, made by its own functions.
-ghost use Rattle.std.specs.Prelude.{◌≡◌, ◌+◌, ◌≤◌, ◌<◌, false, true, IfOk};
+ghost use Rattle.std.specs.Prelude.{unsigned_abs, ◌≡◌, ◌+◌, ◌≤◌, ◌<◌, false, true, IfOk};
 ghost use Rattle.mail_box.specs.LinkViews.{held_of, receiver_of, sender_of};
 ghost use Rattle.mail_box.specs.Mails.{opened_sender};
 
@@ -76,13 +76,13 @@ fn take_all<W: Write>(
 fn try_send<W: Write>(
     sender: &mut LinkSender,
     line: u64,
-    amount: u64,
+    amount: i64,
     out: &mut W,
 ) -> io::Result<()>
     requires open { (sender_of sender.old).is_ended ≡ false }
     requires left { 0 < (sender_of sender.old).left }
     requires line { line ≤ 999999 }
-    requires amount { (0 < amount) × (amount ≤ 1000000000000) }
+    requires amount { (0 < unsigned_abs amount) × (unsigned_abs amount ≤ 1000000000000) }
     ensures open { (sender_of sender.new).is_ended ≡ false }
     ensures left { (sender_of sender.old).left ≤ (sender_of sender.new).left + 1 }
     ensures mailbox { (sender_of sender.new).mailbox ≡ (sender_of sender.old).mailbox }

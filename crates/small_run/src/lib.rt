@@ -17,6 +17,16 @@ u2,W1,840,P,50
 u3,W9,276,P,7
 ";
 
+/// Four usage lines: the second takes money back, the third takes back the first, and the last is of a work that has no
+/// registration.
+pub const USES_TAKEN_BACK: &str = "\
+usage,work,territory,right,amount
+u1,W1,276,P,100
+u2,W1,840,P,-50
+u3,W1,276,P,-100
+u4,W9,276,P,-7
+";
+
 /// A work of two parties: A all over the world but in 840, and B.
 pub const TWO_PARTIES: &str = "\
 NWR0000000000000000SONG                                                          W1
@@ -48,6 +58,21 @@ M,OPEN,u2,30
 M,WORK,u3,7
 T,,2,37
 R,,3,157
+";
+
+/// What a run prints whose lines take money back.
+pub const STATEMENTS_TAKEN_BACK: &str = "\
+L,A,u1,60
+L,A,u3,-60
+S,A,2,0
+L,B,u1,40
+L,B,u2,-20
+L,B,u3,-40
+S,B,3,-20
+M,OPEN,u2,-30
+M,WORK,u4,-7
+T,,2,-37
+R,,4,-57
 ";
 
 /// A table of so many usage lines of 100 each, of the work of two parties.
