@@ -13,7 +13,7 @@ use Rattle.royalty_program.specs.Status.{IsOfDivision, failure_of_fault}
 use Rattle.royalty_program.proofs.OverLemmas.{fails_given, over_given, over_in_order}
 use Rattle.royalty_program.proofs.RunLemmas.{accepted_is_memory, no_help_given}
 use Rattle.royalty_program.proofs.RunWalked.{no_help}
-use Rattle.royalty_program.proofs.program.answer.Goals as goal
+use Rattle.royalty_program.proofs.answering.answer.Goals as goal
 
 fault_stands : (words : List (List ℕ)) (f : PairFault) → IsFaultOf (pairs_of words) f → IsOfDivision words (failure_of_fault f)
 fault_stands words (Pair place) stands = stands

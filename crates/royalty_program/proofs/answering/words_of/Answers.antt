@@ -3,7 +3,7 @@ use Rattle.std.proofs.lemmas.Iterator.{items_from_collect}
 use Rattle.std.proofs.lemmas.Iterator.Adapters.{YieldsList-from_vec}
 use Rattle.std.specs.Prelude.{IfOk}
 use Rattle.std.specs.Result.{IsErrAnd, MatchResult}
-use Rattle.royalty_program.proofs.program.words_of.Goals as goal
+use Rattle.royalty_program.proofs.answering.words_of.Goals as goal
 
 -- what holds of an answer holds of it with another error
 mapped : {T E F : Type 0} (r : Result T E) (s : Result T F) (P : T → Type 0) (Q : E → F → Type 0)
