@@ -1,20 +1,7 @@
 //! The distribution run's command line.
 #![tactic(auto)]
 
-mod commands;
-mod failure;
-#[cfg(test)]
-mod file_tests;
-mod files;
-mod program;
-mod run_command;
-mod split_command;
-#[cfg(test)]
-mod test_outputs;
-#[cfg(test)]
-mod tests;
-
-use program::{program, words_of};
+use royalty_program::{program, words_of};
 use std::env;
 use std::process::ExitCode;
 

@@ -1,0 +1,321 @@
+//! The command `run`, over files that the tests make.
+//!
+//! A test gives rows of text, each a question and, after an arrow, its answer (`rows`, `asks`). In a question `@tis`,
+//! `@cwr` and `@usage` stand for the paths of its three files.
+
+use crate::asks::{Begun, Ran, Refusing, on_one_line, status_of};
+use crate::outputs::Measured;
+use crate::rows::{Ask, all_answered, assert_rows};
+use small_run::{NO_USES, SHORT, TERRITORIES, TWO_PARTIES, USES};
+use std::alloc::Global;
+use std::process::Abort;
+use std::rt::{Env, Files};
+use std::sync::Wait;
+use std::test::Fail;
+use std::thread::Threads;
+use std::{env, fs};
+
+/// The beginning of the paths of the files of a test.
+fn stem_of<R: Env + AllocGlobal>(rt: &R, test: &str) -> Result<String, Fail> {
+    let folder = env::temp_dir(rt)?;
+    Ok(format!(in rt.alloc(); "{}/royalty_run-{test}-", folder.display())?)
+}
+
+/// A line with the paths of the files in it.
+fn with_paths(alloc: Global, stem: &str, line: &str) -> Result<String, Fail> {
+    let mut whole = String::new(alloc);
+    for letter in line.chars() {
+        match letter {
+            '@' => whole.push_str(stem)?,
+            _ => whole.push(letter)?,
+        }
+    }
+    Ok(whole)
+}
+
+fn write_one<R: Files>(
+    rt: &R,
+    alloc: Global,
+    stem: &str,
+    name: &str,
+    text: &str,
+) -> Result<(), Fail> {
+    let path = format!(in alloc; "{stem}{name}")?;
+    Ok(fs::write(rt, path.as_str(), text)?)
+}
+
+/// Makes the three files.
+fn write_all<R: Files>(rt: &R, alloc: Global, stem: &str, inputs: [&str; 3]) -> Result<(), Fail> {
+    let [tis, cwr, usage] = inputs;
+    write_one(rt, alloc, stem, "tis", tis)?;
+    write_one(rt, alloc, stem, "cwr", cwr)?;
+    write_one(rt, alloc, stem, "usage", usage)
+}
+
+fn remove_one<R: Files>(rt: &R, alloc: Global, stem: &str, name: &str) -> Result<(), Fail> {
+    let path = format!(in alloc; "{stem}{name}")?;
+    Ok(fs::remove_file(rt, path.as_str())?)
+}
+
+/// Removes the three files.
+fn remove_all<R: Files>(rt: &R, alloc: Global, stem: &str) -> Result<(), Fail> {
+    remove_one(rt, alloc, stem, "tis")?;
+    remove_one(rt, alloc, stem, "cwr")?;
+    remove_one(rt, alloc, stem, "usage")
+}
+
+/// What the rows of a test ask, of which a question has names of files.
+#[derive(Clone, Copy)]
+struct Over<'a, A> {
+    stem: &'a str,
+    asked: &'a A,
+}
+
+impl<'a, A: Ask> Ask for Over<'a, A> {
+    fn answer(&self, alloc: Global, question: &str) -> Result<String, Fail> {
+        let line = with_paths(alloc, self.stem, question)?;
+        self.asked.answer(alloc, line.as_str())
+    }
+}
+
+/// Rows of text with the answers in them, over files with these texts.
+fn answered_over<R: Files, A: Ask>(
+    rt: &R,
+    alloc: Global,
+    stem: &str,
+    inputs: [&str; 3],
+    asked: &A,
+    rows: &str,
+) -> Result<String, Fail> {
+    write_all(rt, alloc, stem, inputs)?;
+    let found = all_answered(alloc, &Over { stem, asked }, rows)?;
+    remove_all(rt, alloc, stem)?;
+    Ok(found)
+}
+
+/// Asserts the answers in rows of text, over files with these texts, whose paths have the test's name in them.
+fn assert_rows_over<R: Files + Env + AllocGlobal + Abort, A: Ask>(
+    rt: &R,
+    test: &str,
+    inputs: [&str; 3],
+    asked: &A,
+    rows: &str,
+) -> Result<(), Fail> {
+    let alloc = rt.alloc();
+    let stem = stem_of(rt, test)?;
+    assert_eq!(rt;
+        answered_over(rt, alloc, stem.as_str(), inputs, asked, rows)?.as_str(),
+        rows
+    );
+    Ok(())
+}
+
+#[test]
+fn prints_the_statements(rt: HostRuntime) -> Result<(), Fail> {
+    assert_rows_over(
+        &rt,
+        "good",
+        [TERRITORIES, TWO_PARTIES, USES],
+        &Ran {
+            rt: &rt,
+            between: ' ',
+        },
+        "\
+r run --tis @tis --cwr @cwr --usage @usage --workers 2 --readers 1 --nodes 64 -> 0 [L,A,u1,60|S,A,1,60|L,B,u1,40|L,B,u2,20|S,B,2,60|M,OPEN,u2,30|M,WORK,u3,7|T,,2,37|R,,3,157|] []
+",
+    )
+}
+
+#[test]
+fn prints_the_statements_however_the_options_are_spelt(rt: HostRuntime) -> Result<(), Fail> {
+    assert_rows_over(
+        &rt,
+        "spelt",
+        [TERRITORIES, TWO_PARTIES, USES],
+        &Ran {
+            rt: &rt,
+            between: ' ',
+        },
+        "\
+r run --nodes 64 --readers 1 --workers 2 --usage @usage --cwr @cwr --tis @tis -> 0 [L,A,u1,60|S,A,1,60|L,B,u1,40|L,B,u2,20|S,B,2,60|M,OPEN,u2,30|M,WORK,u3,7|T,,2,37|R,,3,157|] []
+r run --usage=@usage --nodes=64 --tis=@tis --workers 2 --cwr @cwr --readers=1 -> 0 [L,A,u1,60|S,A,1,60|L,B,u1,40|L,B,u2,20|S,B,2,60|M,OPEN,u2,30|M,WORK,u3,7|T,,2,37|R,,3,157|] []
+",
+    )
+}
+
+#[test]
+fn an_output_that_refuses_has_the_beginning(rt: HostRuntime) -> Result<(), Fail> {
+    assert_rows_over(
+        &rt,
+        "narrow",
+        [TERRITORIES, TWO_PARTIES, USES],
+        &Refusing { rt: &rt },
+        "\
+0 99 r run --tis @tis --cwr @cwr --usage @usage --workers 2 --readers 1 --nodes 64 -> 4 [] [royalty_run: cannot write|]
+1 99 r run --tis @tis --cwr @cwr --usage @usage --workers 2 --readers 1 --nodes 64 -> 4 [L] [royalty_run: cannot write|]
+30 99 r run --tis @tis --cwr @cwr --usage @usage --workers 2 --readers 1 --nodes 64 -> 4 [L,A,u1,60|S,A,1,60|L,B,u1,40|L] [royalty_run: cannot write|]
+89 99 r run --tis @tis --cwr @cwr --usage @usage --workers 2 --readers 1 --nodes 64 -> 4 [L,A,u1,60|S,A,1,60|L,B,u1,40|L,B,u2,20|S,B,2,60|M,OPEN,u2,30|M,WORK,u3,7|T,,2,37|R,,3,157] [royalty_run: cannot write|]
+90 99 r run --tis @tis --cwr @cwr --usage @usage --workers 2 --readers 1 --nodes 64 -> 0 [L,A,u1,60|S,A,1,60|L,B,u1,40|L,B,u2,20|S,B,2,60|M,OPEN,u2,30|M,WORK,u3,7|T,,2,37|R,,3,157|] []
+",
+    )
+}
+
+#[test]
+fn names_the_fault_of_territories(rt: HostRuntime) -> Result<(), Fail> {
+    assert_rows_over(
+        &rt,
+        "tis",
+        ["code\n", TWO_PARTIES, USES],
+        &Ran {
+            rt: &rt,
+            between: ' ',
+        },
+        "\
+r run --tis @tis --cwr @cwr --usage @usage --workers 2 --readers 1 --nodes 64 -> 1 [] [royalty_run: tis fault 1 at row 0|]
+",
+    )
+}
+
+#[test]
+fn names_the_fault_of_registrations(rt: HostRuntime) -> Result<(), Fail> {
+    assert_rows_over(
+        &rt,
+        "cwr",
+        [TERRITORIES, SHORT, USES],
+        &Ran {
+            rt: &rt,
+            between: ' ',
+        },
+        "\
+r run --tis @tis --cwr @cwr --usage @usage --workers 2 --readers 1 --nodes 64 -> 1 [] [royalty_run: cwr fault 1 at line 3|]
+",
+    )
+}
+
+#[test]
+fn names_the_fault_of_usage_lines(rt: HostRuntime) -> Result<(), Fail> {
+    let uses = "usage,work,territory,right,amount\nu,W,276,X,1\n";
+    assert_rows_over(
+        &rt,
+        "usage",
+        [TERRITORIES, TWO_PARTIES, uses],
+        &Ran {
+            rt: &rt,
+            between: ' ',
+        },
+        "\
+r run --tis @tis --cwr @cwr --usage @usage --workers 2 --readers 1 --nodes 64 -> 1 [] [royalty_run: usage fault 4 at row 1|]
+",
+    )
+}
+
+#[test]
+fn takes_its_options_in_any_order(rt: HostRuntime) -> Result<(), Fail> {
+    assert_rows_over(
+        &rt,
+        "order",
+        ["", "", ""],
+        &Ran {
+            rt: &rt,
+            between: ' ',
+        },
+        "\
+r run --nodes=1 --readers 1 --workers=8 --usage absent --cwr=@cwr --tis @tis -> 4 [] [royalty_run: cannot read absent|]
+",
+    )
+}
+
+/// All are read before a fault is found, and registrations before usage lines.
+#[test]
+fn reads_all_files_first_and_in_order(rt: HostRuntime) -> Result<(), Fail> {
+    assert_rows_over(
+        &rt,
+        "first",
+        ["code\n", "code\n", ""],
+        &Ran {
+            rt: &rt,
+            between: ' ',
+        },
+        "\
+r run --tis @tis --cwr @cwr --usage absent --workers 1 --readers 1 --nodes 1 -> 4 [] [royalty_run: cannot read absent|]
+r run --tis @tis --usage absent --cwr missing --workers 1 --readers 1 --nodes 1 -> 4 [] [royalty_run: cannot read missing|]
+",
+    )
+}
+
+#[test]
+fn refuses_numbers_out_of_range(rt: HostRuntime) -> Result<(), Fail> {
+    assert_rows(
+        &rt,
+        rt.alloc(),
+        &Begun {
+            rt: &rt,
+            over: 5,
+            shown: 5,
+        },
+        "\
+r run --tis a --cwr a --usage a --workers 0 --readers 1 --nodes 1 -> 2 [] [error..]
+r run --tis a --cwr a --usage a --workers 9 --readers 1 --nodes 1 -> 2 [] [error..]
+r run --tis a --cwr a --usage a --workers 1 --readers 9 --nodes 1 -> 2 [] [error..]
+r run --tis a --cwr a --usage a --workers 1 --readers 1 --nodes 65 -> 2 [] [error..]
+r run --tis a --cwr a --usage a --workers 1 --readers 1 -> 2 [] [error..]
+",
+    )
+}
+
+/// So many usage lines of a work that has no registration.
+fn unregistered(alloc: Global, lines: usize) -> Result<String, Fail> {
+    let mut uses = String::from_str(alloc, NO_USES)?;
+    for n in 0..lines {
+        uses.push_str(format!(in alloc; "{n:060},W9,276,P,1\n")?.as_str())?;
+    }
+    Ok(uses)
+}
+
+/// What a run prints of them.
+fn residue(alloc: Global, lines: usize) -> Result<String, Fail> {
+    let mut rows = String::new(alloc);
+    for n in 0..lines {
+        rows.push_str(format!(in alloc; "M,WORK,{n:060},1\n")?.as_str())?;
+    }
+    Ok(format!(in alloc; "{rows}T,,{lines},{lines}\nR,,{lines},{lines}\n")?)
+}
+
+/// The status of a run over files that were made.
+fn status_over<R: Files + Threads + Wait + Sync>(
+    rt: &R,
+    alloc: Global,
+    stem: &str,
+    out: &mut Measured,
+) -> Result<u8, Fail> {
+    let line = "r run --tis @tis --cwr @cwr --usage @usage --workers 2 --readers 1 --nodes 64";
+    let line = with_paths(alloc, stem, line)?;
+    status_of(rt, alloc, line.as_str(), out, &mut Vec::new(alloc))
+}
+
+/// The status of a run over so many usage lines of that work.
+fn status_unregistered<R: Files + Threads + Wait + Sync>(
+    rt: &R,
+    alloc: Global,
+    stem: &str,
+    lines: usize,
+    out: &mut Measured,
+) -> Result<u8, Fail> {
+    let uses = unregistered(alloc, lines)?;
+    write_all(rt, alloc, stem, [TERRITORIES, TWO_PARTIES, uses.as_str()])?;
+    status_over(rt, alloc, stem, out)
+}
+
+#[test]
+fn prints_a_long_residue_by_the_page(rt: HostRuntime) -> Result<(), Fail> {
+    let alloc = rt.alloc();
+    let stem = stem_of(&rt, "page")?;
+    let mut out = Measured::new(alloc);
+    let status = status_unregistered(&rt, alloc, stem.as_str(), 4000, &mut out)?;
+    remove_all(&rt, alloc, stem.as_str())?;
+    assert_eq!(rt; status, 0);
+    assert!(rt; out.kept.len() > 200_000);
+    assert!(rt; out.kept.as_slice() == residue(alloc, 4000)?.as_bytes());
+    assert!(rt; out.longest < 140_000, "{}", out.longest);
+    Ok(())
+}

@@ -1,0 +1,389 @@
+//! The worked examples, as words of a command line, and what an output that refuses a write does.
+//!
+//! A test gives rows of text, each a question and, after an arrow, its answer (`rows`, `asks`).
+
+use crate::asks::{
+    Answer, Begun, BroughtThrough, NotBroughtThrough, Ran, Refusing, Tells, UnderAnyName,
+    on_one_line, words,
+};
+use crate::rows::{Ask, assert_rows};
+use cwr_share::CwrFault;
+use line_split::LineFault;
+use pair_split::PairFault;
+use royalty_program::{Failure, words_of};
+use settle_run::Fault;
+use std::alloc::Global;
+use std::io;
+use std::rt::Files;
+use std::sync::Wait;
+use std::test::Fail;
+use std::thread::Threads;
+use tis_tree::TisFault;
+
+#[test]
+fn brings_its_text_through(rt: HostRuntime) -> Result<(), Fail> {
+    assert_rows(
+        &rt,
+        rt.alloc(),
+        &BroughtThrough { rt: &rt },
+        "\
+r split 3 A=5000 -> 0 [P,A,2|M,,1|] []
+r split 5 A=1 A=2 -> 2 [] [royalty_run: pair fault 2 at 2|]
+",
+    )
+}
+
+#[test]
+fn divides_as_in_the_examples(rt: HostRuntime) -> Result<(), Fail> {
+    assert_rows(
+        &rt,
+        rt.alloc(),
+        &Ran {
+            rt: &rt,
+            between: ' ',
+        },
+        "\
+r split 100 A=3333 B=3333 C=3333 -> 0 [P,A,34|P,B,33|P,C,33|M,,0|] []
+r split 1 A=5000 B=5000 -> 0 [P,A,1|P,B,0|M,,0|] []
+r split 3 A=5000 -> 0 [P,A,2|M,,1|] []
+r split 0 A=10000 -> 0 [P,A,0|M,,0|] []
+r split 100 A=5003 B=5003 -> 0 [P,A,50|P,B,50|M,,0|] []
+r split 100 A=5003 B=5004 -> 0 [P,A,0|P,B,0|M,,100|] []
+r split 10 A=5001 B=5002 -> 0 [P,A,5|P,B,5|M,,0|] []
+r split 1000000000000 A=1 -> 0 [P,A,100000000|M,,999900000000|] []
+r split -- 4 a,\"b=5000 -> 0 [P,\"a,\"\"b\",2|M,,2|] []
+r split 1000000000000 A=10000 -> 0 [P,A,1000000000000|M,,0|] []
+r split +4 A=10000 -> 0 [P,A,4|M,,0|] []
+",
+    )
+}
+
+#[test]
+fn refuses_pairs_by_number_and_place(rt: HostRuntime) -> Result<(), Fail> {
+    assert_rows(
+        &rt,
+        rt.alloc(),
+        &Ran {
+            rt: &rt,
+            between: ' ',
+        },
+        "\
+r split 5 A=1 A=2 -> 2 [] [royalty_run: pair fault 2 at 2|]
+r split 5 A=10001 -> 2 [] [royalty_run: pair fault 3 at 1|]
+r split 5 A=1 B -> 2 [] [royalty_run: pair fault 1 at 2|]
+r split 5 A=1 A=2 =3 -> 2 [] [royalty_run: pair fault 1 at 3|]
+r split 5 TENLETTERS=1 -> 2 [] [royalty_run: pair fault 1 at 1|]
+r split 5 NINE_BYTE=1 B -> 2 [] [royalty_run: pair fault 1 at 2|]
+r split 5 A=+1 -> 2 [] [royalty_run: pair fault 1 at 1|]
+r split 5 A=000001 -> 2 [] [royalty_run: pair fault 1 at 1|]
+r split 5 A=1=2 -> 2 [] [royalty_run: pair fault 1 at 1|]
+",
+    )
+}
+
+#[test]
+fn refuses_words(rt: HostRuntime) -> Result<(), Fail> {
+    assert_rows(
+        &rt,
+        rt.alloc(),
+        &Begun {
+            rt: &rt,
+            over: 5,
+            shown: 5,
+        },
+        "\
+r -> 2 [] [Divid..]
+r splti -> 2 [] [error..]
+r split -> 2 [] [error..]
+r split 5 -> 2 [] [error..]
+r split x A=1 -> 2 [] [error..]
+r split 1000000000001 A=1 -> 2 [] [error..]
+r split -1 A=1 -> 2 [] [error..]
+r SPLIT 1 A=1 -> 2 [] [error..]
+",
+    )
+}
+
+/// What is said is of the word that is wrong, wherever it stands.
+#[test]
+fn names_the_word_that_is_wrong(rt: HostRuntime) -> Result<(), Fail> {
+    assert_rows(
+        &rt,
+        rt.alloc(),
+        &Tells { rt: &rt },
+        "\
+r splti 5 A=1 ['splti'] -> 2 err
+r split five A=1 ['five'] -> 2 err
+r help split x ['x'] -> 2 err
+r split 5 A=1 --tis x ['--tis'] -> 2 err
+r run --tis a --cwr b --usage c --workers 1 --readers 1 --nodes 65 ['65'] -> 2 err
+r run --tis a --cwr b --usage c --workers 1 --readers 1 --nods 6 ['--nods'] -> 2 err
+",
+    )
+}
+
+#[test]
+fn shows_help(rt: HostRuntime) -> Result<(), Fail> {
+    assert_rows(
+        &rt,
+        rt.alloc(),
+        &Begun {
+            rt: &rt,
+            over: 100,
+            shown: 6,
+        },
+        "\
+r --help -> 0 [Divide..] []
+r help split -> 0 [Divide..] []
+r split --help -> 0 [Divide..] []
+",
+    )
+}
+
+#[test]
+fn tells_what_the_words_are(rt: HostRuntime) -> Result<(), Fail> {
+    assert_rows(
+        &rt,
+        rt.alloc(),
+        &Tells { rt: &rt },
+        "\
+r --help [  1  an input file is refused for what is in it|] -> 0 out
+r --help [  2  the words are refused|] -> 0 out
+r --help [  3  memory was refused|] -> 0 out
+r --help [table of faults in docs/FORMATS.md] -> 0 out
+r --version [royalty_run 0.1.0|logic ] -> 0 out
+r help split [Usage: royalty_run split] -> 0 out
+r help run [Usage: royalty_run run] -> 0 out
+r --help [  4  a file cannot be read, or the output refused a write|] -> 0 out
+r run --help [at most 268435456 bytes] -> 0 out
+r run --help [code,groups: a TIS numeric code] -> 0 out
+r run --help [usage,work,territory,right,amount: a name] -> 0 out
+r run --help [CWR 2.2] -> 0 out
+r run --help [Records of other types are skipped] -> 0 out
+r run --help [A row M,WORK is a usage line] -> 0 out
+r run --help [table of faults in docs/FORMATS.md] -> 0 out
+r run --help [P (performing), M (mechanical) or S (synchronisation)] -> 0 out
+r run --help [--tis <F>      The table of territories|] -> 0 out
+r run --help [--cwr <F>      The registrations of works|] -> 0 out
+r run --help [--usage <F>    The usage lines|] -> 0 out
+r run --help [divide usage lines: 1 to 8|] -> 0 out
+r run --help [keep statements: 1 to 8|] -> 0 out
+r run --help [to an account at most: 1 to 64|] -> 0 out
+r run --help [L,party,usage,amount for each portion of a party] -> 0 out
+r run --help [then its sum|S,party,count,total] -> 0 out
+r run --help [of the residue M,reason,usage,amount] -> 0 out
+r run --help [then T,,count,total] -> 0 out
+r run --help [last R,,lines,amount] -> 0 out
+r run --help [run --tis territories.csv --cwr works.cwr --usage usage.csv] -> 0 out
+r split --help [minor units] -> 0 out
+r split --help [from 0 to 1000000000000] -> 0 out
+r split --help [hundredths of a per cent] -> 0 out
+r split --help [0 to 10000, at most 256 of them] -> 0 out
+r split --help [more than 10006] -> 0 out
+r split --help [split 100 A=3333 B=3333 C=3333] -> 0 out
+r split --help [  P,A,34|  P,B,33|  P,C,33|  M,,0|] -> 0 out
+",
+    )
+}
+
+#[test]
+fn passes_over_the_first_word(rt: HostRuntime) -> Result<(), Fail> {
+    assert_rows(
+        &rt,
+        rt.alloc(),
+        &UnderAnyName {
+            asked: &Ran {
+                rt: &rt,
+                between: ' ',
+            },
+        },
+        "\
+split 3 A=5000 -> 0 [P,A,2|M,,1|] []
+run --tis absent --cwr a --usage a --workers 1 --readers 1 --nodes 1 -> 4 [] [royalty_run: cannot read absent|]
+",
+    )
+}
+
+#[test]
+fn tells_its_version_under_any_name(rt: HostRuntime) -> Result<(), Fail> {
+    assert_rows(
+        &rt,
+        rt.alloc(),
+        &UnderAnyName {
+            asked: &Begun {
+                rt: &rt,
+                over: 18,
+                shown: 18,
+            },
+        },
+        "--version -> 0 [royalty_run 0.1.0|..] []\n",
+    )
+}
+
+#[test]
+fn takes_no_name_for_a_command(rt: HostRuntime) -> Result<(), Fail> {
+    assert_rows(
+        &rt,
+        rt.alloc(),
+        &Begun {
+            rt: &rt,
+            over: 5,
+            shown: 5,
+        },
+        "\
+split -> 2 [] [Divid..]
+run -> 2 [] [Divid..]
+--help -> 2 [] [Divid..]
+--version -> 2 [] [Divid..]
+-- -> 2 [] [Divid..]
+ -> 2 [] [Divid..]
+",
+    )
+}
+
+/// The words of a division of as many units as there are parties, which have equal shares.
+fn many_words(alloc: Global, parties: u32) -> Result<Vec<String>, Fail> {
+    let mut words = words(alloc, "r split 256", ' ')?;
+    for n in 1..=parties {
+        words.push(format!(in alloc; "{n}=39")?)?;
+    }
+    Ok(words)
+}
+
+/// The answer to them.
+fn answer_to_many<R: Files + Threads + Wait + Sync>(
+    rt: &R,
+    alloc: Global,
+    parties: u32,
+) -> Result<String, Fail> {
+    let words = many_words(alloc, parties)?;
+    Answer::to(rt, alloc, words.as_slice()).told(alloc)
+}
+
+/// A unit for each of so many parties.
+fn a_unit_each(alloc: Global, parties: u32) -> Result<String, Fail> {
+    let mut rows = String::new(alloc);
+    for n in 1..=parties {
+        rows.push_str(format!(in alloc; "P,{n},1|")?.as_str())?;
+    }
+    Ok(format!(in alloc; "0 [{rows}M,,0|] []")?)
+}
+
+#[test]
+fn divides_among_the_most_parties(rt: HostRuntime) -> Result<(), Fail> {
+    let alloc = rt.alloc();
+    assert_eq!(rt;
+        answer_to_many(&rt, alloc, 256)?.as_str(),
+        a_unit_each(alloc, 256)?.as_str()
+    );
+    assert_eq!(rt;
+        answer_to_many(&rt, alloc, 257)?.as_str(),
+        "2 [] [royalty_run: pair fault 4|]"
+    );
+    Ok(())
+}
+
+#[test]
+fn keeps_spaces_in_a_party(rt: HostRuntime) -> Result<(), Fail> {
+    assert_rows(
+        &rt,
+        rt.alloc(),
+        &Ran {
+            rt: &rt,
+            between: '/',
+        },
+        "r/split/4/ A =5000/A=5000 -> 0 [P, A ,2|P,A,2|M,,0|] []\n",
+    )
+}
+
+/// What the rows of a test ask: the text of a failure, by the name of what failed.
+struct Failed;
+
+/// Why there are no words, by the kind of the error.
+fn failure_of_words(alloc: Global, kind: io::ErrorKind) -> Result<Failure, Fail> {
+    match words_of(alloc, Err(io::Error::from(kind))) {
+        Ok(_) => Err(Fail::new("an error is taken for words")),
+        Err(failure) => Ok(failure),
+    }
+}
+
+/// The text of a failure, with a stroke for each line end.
+fn told_failure(alloc: Global, failure: &Failure) -> Result<String, Fail> {
+    let text = format!(in alloc; "{failure}")?;
+    on_one_line(alloc, text.as_str())
+}
+
+fn failure_named(alloc: Global, name: &str) -> Result<Failure, Fail> {
+    match name {
+        "the share of pair 7" => Ok(Failure::from(PairFault::Share(7))),
+        "too many pairs" => Ok(Failure::from(PairFault::Many)),
+        "memory of pairs" => Ok(Failure::from(PairFault::Memory)),
+        "words that are no text" => failure_of_words(alloc, io::ErrorKind::InvalidData),
+        "other words" => failure_of_words(alloc, io::ErrorKind::Other),
+        "too many territories" => Ok(Failure::from(Fault::Tis(TisFault::Rows))),
+        "too many parties" => Ok(Failure::from(Fault::Cwr(CwrFault::Accounts))),
+        "too many lines" => Ok(Failure::from(Fault::Usage(LineFault::Lines))),
+        "memory of a run" => Ok(Failure::from(Fault::Room)),
+        _ => Err(Fail::new("no such failure")),
+    }
+}
+
+impl Ask for Failed {
+    fn answer(&self, alloc: Global, question: &str) -> Result<String, Fail> {
+        told_failure(alloc, &failure_named(alloc, question)?)
+    }
+}
+
+#[test]
+fn says_what_failed(rt: HostRuntime) -> Result<(), Fail> {
+    assert_rows(
+        &rt,
+        rt.alloc(),
+        &Failed,
+        "\
+the share of pair 7 -> royalty_run: pair fault 3 at 7|
+too many pairs -> royalty_run: pair fault 4|
+memory of pairs -> royalty_run: out of room|
+words that are no text -> royalty_run: an argument is not UTF-8|
+other words -> royalty_run: out of room|
+too many territories -> royalty_run: tis fault 5|
+too many parties -> royalty_run: cwr fault 8|
+too many lines -> royalty_run: usage fault 6|
+memory of a run -> royalty_run: out of room|
+",
+    )
+}
+
+#[test]
+fn an_output_that_refuses_is_status_4(rt: HostRuntime) -> Result<(), Fail> {
+    assert_rows(
+        &rt,
+        rt.alloc(),
+        &Refusing { rt: &rt },
+        "\
+0 99 r split 100 A=3333 B=3333 C=3333 -> 4 [] [royalty_run: cannot write|]
+1 99 r split 100 A=3333 B=3333 C=3333 -> 4 [P] [royalty_run: cannot write|]
+25 99 r split 100 A=3333 B=3333 C=3333 -> 4 [P,A,34|P,B,33|P,C,33|M,,0] [royalty_run: cannot write|]
+26 99 r split 100 A=3333 B=3333 C=3333 -> 0 [P,A,34|P,B,33|P,C,33|M,,0|] []
+",
+    )?;
+    assert_rows(
+        &rt,
+        rt.alloc(),
+        &NotBroughtThrough { rt: &rt },
+        "r split 100 A=3333 B=3333 C=3333 -> 4 [] [royalty_run: cannot write|]\n",
+    )
+}
+
+#[test]
+fn an_error_output_that_refuses_changes_no_status(rt: HostRuntime) -> Result<(), Fail> {
+    assert_rows(
+        &rt,
+        rt.alloc(),
+        &Refusing { rt: &rt },
+        "\
+100 0 r split 5 A -> 2 [] []
+0 0 r split 100 A=3333 B=3333 C=3333 -> 4 [] []
+",
+    )
+}

@@ -1,0 +1,91 @@
+use Rattle.std.proofs.Common.{◌≡◌, ◌≢◌, ℕ, List, drop, map, codes, false, true, rules}
+use Rattle.std.proofs.lemmas.Result.{IfErr-weaker, IfOk-weaker, on_ok_weaker}
+use Rattle.std.specs.Prelude.{string_bytes}
+use Rattle.clap.specs.Words.{kind_of}
+use Rattle.clap.specs.declared.error.kind.ErrorKind.TheVariants as kinds
+use Rattle.pair_split.specs.Pair.{word_at}
+use Rattle.pair_split.specs.PairFault.{IsFaultOf}
+use Rattle.pair_split.specs.declared.pair_fault.PairFault.{PairFault}
+use Rattle.pair_split.specs.declared.pair_fault.PairFault.TheVariants.{Pair, Name, Share, Many, Memory}
+use Rattle.royalty_program.specs.Answered.{AreReadFrom, IsAnswerTo, IsAnswered}
+use Rattle.royalty_program.specs.Asked.{AskForHelp, IsDivision, pairs_of}
+use Rattle.royalty_program.specs.Status.{IsOfDivision, failure_of_fault}
+use Rattle.royalty_program.proofs.OverLemmas.{fails_given, over_given, over_in_order}
+use Rattle.royalty_program.proofs.RunLemmas.{accepted_is_memory, no_help_given}
+use Rattle.royalty_program.proofs.RunWalked.{no_help}
+use Rattle.royalty_program.proofs.answering.answer.Goals as goal
+
+fault_stands : (words : List (List ℕ)) (f : PairFault) → IsFaultOf (pairs_of words) f → IsOfDivision words (failure_of_fault f)
+fault_stands words (Pair place) stands = stands
+fault_stands words (Name place) stands = stands
+fault_stands words (Share place) stands = stands
+fault_stands words Many stands = stands
+fault_stands words Memory stands = tt
+
+pub returns-in-Ok-Division-clause-pairs : goal.returns-in-Ok-Division-clause-pairs
+returns-in-Ok-Division-clause-pairs g c asked =
+    let stands : IsFaultOf (map string_bytes c.as_slice.result.now) c.in-Err-split_words.fault = c.in-Err-split_words.ensures.fault in
+    let of_list : IsFaultOf (map string_bytes c.in-Ok-Division.asked.pairs.items) c.in-Err-split_words.fault = rw c.as_slice.ensures.value at stands in
+    let pairs : map string_bytes c.in-Ok-Division.asked.pairs.items ≡ pairs_of (map string_bytes c.args.words.now) = search rules in
+    let of_words : IsFaultOf (pairs_of (map string_bytes c.args.words.now)) c.in-Err-split_words.fault = rw pairs at of_list in
+    rw c.from.ensures (fault_stands (map string_bytes c.args.words.now) c.in-Err-split_words.fault of_words)
+
+-- words that ask for a division or a run ask for no other
+no_run : {holds : List ℕ → List ℕ → Type 0} (words : List (List ℕ)) (text : List ℕ) → ¬ (word_at words 1 ≡ codes "run") → (IsDivision words → IsAnswerTo words text) → IsAnswered holds words text
+no_run words text other division = record { division = division; run = λ asked. absurd (other asked.command); in_order = λ asked. absurd (other asked.command) }
+
+pub returns-in-Ok-clause-answered : goal.returns-in-Ok-clause-answered
+returns-in-Ok-clause-answered g c =
+    let words = map string_bytes c.args.words.now in
+    let text = c.as_slice-in-Ok.result.now in
+    let no_run_asked : ¬ (word_at words 1 ≡ codes "run") = λ command. rw (c.in-Ok-Division.is, c.in-Ok-Division.field-0-is) at (c.read_words.ensures.run command) in
+    let rows : IsDivision words → IsAnswerTo words text = search rules in
+    on_ok_weaker c.write_all.result (λ wrote. (text, wrote, no_run words text no_run_asked rows)) c.write_all.ensures.bytes
+
+pub returns-in-Ok-Run-clause-answered : goal.returns-in-Ok-Run-clause-answered
+returns-in-Ok-Run-clause-answered g c =
+    let words = map string_bytes c.args.words.now in
+    let holds = g.S.Source.holds c.args.files.now in
+    let asked = c.in-Ok-Run.asked in
+    let no_division : ¬ IsDivision words = λ division. rw (c.in-Ok-Run.is, c.in-Ok-Run.field-0-is) at (c.read_words.ensures.division division) in
+    let read : word_at words 1 ≡ codes "run" → AreReadFrom (drop 1 words) asked = λ command. rw (c.in-Ok-Run.is, c.in-Ok-Run.field-0-is) at (c.read_words.ensures.run command) in
+    IfOk-weaker c.settle_files.result _ _
+    (λ printed statements. on_ok_weaker printed (λ wrote. (
+      wrote.0,
+      wrote.1,
+      record {
+        division = λ division. absurd (no_division division);
+        run = λ run. over_given holds (drop 1 words) asked wrote.0 (read run.command) wrote.2;
+        in_order = λ run. over_in_order holds words asked wrote.0 run (read run.command) wrote.2;
+      },
+    )) statements) c.settle_files.ensures.statements
+
+pub returns-in-Ok-format-clause-answered : goal.returns-in-Ok-format-clause-answered
+returns-in-Ok-format-clause-answered g c =
+    let words = map string_bytes c.args.words.now in
+    let no_help_asked : word_at words 1 ≡ codes "run" → ¬ AskForHelp (drop 1 words) → ⊥ = λ command none.
+    let bad : false ≡ true = c.if-use_stderr.ensures.1 (no_help_given (drop 1 words) c.in-Err.error (c.in-Err.ensures.error command) none) in cc in
+    let answered : IsAnswered (g.S.Source.holds c.args.files.now) words c.as_bytes.result.now = record {
+      division = λ asked. let bad : false ≡ true = c.if-use_stderr.ensures.1 (c.in-Err.ensures.no_help asked) in cc;
+      run = λ asked. absurd (no_help_asked asked.command asked.no_help);
+      in_order = λ asked. absurd (no_help_asked asked.command (no_help (drop 1 words) asked.options));
+    } in
+    on_ok_weaker c.write_all-in-Ok-format.result (λ wrote. (c.as_bytes.result.now, wrote, answered)) c.write_all-in-Ok-format.ensures.bytes
+
+pub returns-in-Err-2-clause-run : goal.returns-in-Err-2-clause-run
+returns-in-Err-2-clause-run g c command accepted =
+    let words = map string_bytes c.args.words.now in
+    let not_memory : kind_of c.in-Err-2.error ≢ kinds.OutOfMemory = search rules in
+    not_memory (accepted_is_memory (drop 1 words) c.in-Err-2.error (c.in-Err-2.ensures.error command) accepted)
+
+pub returns-in-Ok-Run-clause-run : goal.returns-in-Ok-Run-clause-run
+returns-in-Ok-Run-clause-run g c command =
+    let words = map string_bytes c.args.words.now in
+    let asked = c.in-Ok-Run.asked in
+    let read : AreReadFrom (drop 1 words) asked = rw (c.in-Ok-Run.is, c.in-Ok-Run.field-0-is) at (c.read_words.ensures.run command) in
+    IfErr-weaker c.settle_files.result _ _ (fails_given (g.S.Source.holds c.args.files.now) (g.S.Source.refuses c.args.files.now) (drop 1 words) asked read) c.settle_files.ensures.files
+
+pub returns-in-Ok-Run-clause-pairs : goal.returns-in-Ok-Run-clause-pairs
+returns-in-Ok-Run-clause-pairs g c division =
+    let none : ⊥ = rw (c.in-Ok-Run.is, c.in-Ok-Run.field-0-is) at (c.read_words.ensures.division division) in
+    absurd none

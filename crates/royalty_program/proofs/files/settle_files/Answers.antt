@@ -1,0 +1,68 @@
+use Rattle.std.proofs.Common.{ℕ, List, rules}
+use Rattle.std.proofs.lemmas.Result.{on_ok_weaker}
+use Rattle.std.specs.Prelude.{string_bytes}
+use Rattle.std.specs.declared.io.ErrorKind.{ErrorKind}
+use Rattle.settle_run.specs.declared.fault.Fault.{Fault}
+use Rattle.settle_run.specs.declared.fault.Fault.TheVariants.{Tis, Cwr, Usage, Room}
+use Rattle.royalty_program.specs.Files.{AreInputs, IsFaultOver}
+use Rattle.royalty_program.specs.Status.{IsOfPaths, failure_of_run}
+use Rattle.royalty_program.proofs.FileLemmas.{first_unread, second_unread, third_unread}
+use Rattle.royalty_program.proofs.files.settle_files.Goals as goal
+
+-- a fault of the files is why the run fails, where it is no lack of memory
+fails : (holds : List ℕ → List ℕ → Type 0) (refuses : List ℕ → ErrorKind → Type 0) (tis cwr usage : List ℕ) (fault : Fault) → IsFaultOver holds tis cwr usage fault → IsOfPaths holds refuses tis cwr usage (failure_of_run fault)
+fails holds refuses tis cwr usage (Tis fault) is = is
+fails holds refuses tis cwr usage (Cwr fault) is = is
+fails holds refuses tis cwr usage (Usage fault) is = is
+fails holds refuses tis cwr usage Room is = tt
+
+pub returns-in-Ok-clause-statements : goal.returns-in-Ok-clause-statements
+returns-in-Ok-clause-statements g c =
+    let asked = c.args.asked in
+    let inputs : AreInputs (g.S.Source.holds c.args.files.now) (string_bytes asked.tis) (string_bytes asked.cwr) (string_bytes asked.usage) = record {
+      territories_file = c.in_ok-tis.tis.items;
+      registrations_file = c.in_ok-cwr.cwr.items;
+      usage_file = c.in_ok-usage.usage.items;
+      territories = c.in_ok-tis.ensures.bytes;
+      registrations = c.in_ok-cwr.ensures.bytes;
+      uses = c.in_ok-usage.ensures.bytes;
+    } in
+    on_ok_weaker c.in-Ok.printed (λ wrote. (wrote.0, wrote.1, record { inputs = inputs; statements = wrote.2 })) c.in-Ok.ensures.statements
+
+pub returns-in-Ok-clause-read : goal.returns-in-Ok-clause-read
+returns-in-Ok-clause-read g c = record {
+  inputs = record {
+    territories_file = c.in_ok-tis.tis.items;
+    registrations_file = c.in_ok-cwr.cwr.items;
+    usage_file = c.in_ok-usage.usage.items;
+    territories = c.in_ok-tis.ensures.bytes;
+    registrations = c.in_ok-cwr.ensures.bytes;
+    uses = c.in_ok-usage.ensures.bytes;
+  };
+  sound = c.in-Ok.ensures.read;
+}
+
+pub returns-in-Err-clause-files : goal.returns-in-Err-clause-files
+returns-in-Err-clause-files g c =
+    let asked = c.args.asked in
+    let over : IsFaultOver (g.S.Source.holds c.args.files.now) (string_bytes asked.tis) (string_bytes asked.cwr) (string_bytes asked.usage) c.in-Err.fault = record {
+      inputs = record {
+        territories_file = c.in_ok-tis.tis.items;
+        registrations_file = c.in_ok-cwr.cwr.items;
+        usage_file = c.in_ok-usage.usage.items;
+        territories = c.in_ok-tis.ensures.bytes;
+        registrations = c.in_ok-cwr.ensures.bytes;
+        uses = c.in_ok-usage.ensures.bytes;
+      };
+      fault_of = c.in-Err.ensures.fault;
+    } in
+    rw c.from.ensures (fails (g.S.Source.holds c.args.files.now) (g.S.Source.refuses c.args.files.now) (string_bytes asked.tis) (string_bytes asked.cwr) (string_bytes asked.usage) c.in-Err.fault over)
+
+pub returns-in_err-tis-clause-files : goal.returns-in_err-tis-clause-files
+returns-in_err-tis-clause-files g c = search (rules, first_unread)
+
+pub returns-in_err-cwr-clause-files : goal.returns-in_err-cwr-clause-files
+returns-in_err-cwr-clause-files g c = search (rules, second_unread)
+
+pub returns-in_err-usage-clause-files : goal.returns-in_err-usage-clause-files
+returns-in_err-usage-clause-files g c = search (rules, third_unread)

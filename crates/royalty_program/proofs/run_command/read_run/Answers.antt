@@ -1,0 +1,83 @@
+use Rattle.std.proofs.Common.{◌∙◌, codes, map}
+use Rattle.std.specs.Prelude.{string_bytes}
+use Rattle.clap.proofs.TakesLemmas.{passed_up}
+use Rattle.clap.proofs.CallerLemmas.{some_of_text}
+use Rattle.royalty_program.specs.Asked.{IsErrorOf}
+use Rattle.royalty_program.proofs.RunLemmas.{error_is, has_cwr, has_tis, has_usage, memory_is, nodes_are, nodes_read, path_is, readers_are, readers_read, rows_are, same_plan, some_by, workers_are, workers_read}
+use Rattle.royalty_program.proofs.run_command.read_run.Goals as goal
+
+pub returns-in_err-matches-clause-error : goal.returns-in_err-matches-clause-error
+returns-in_err-matches-clause-error c =
+    let words = map string_bytes c.args.words.now in
+    let is = error_is c.in_ok-run_command.field-0 words c.in_err-matches.field-0.0 c.in_ok-run_command.ensures c.in_err-matches.ensures.kinds in
+    passed_up c.from_residual-in_err-matches.result c.in_err-matches.field-0.0 (IsErrorOf words) c.from_residual-in_err-matches.ensures.1 is
+
+pub unwrap-requires : goal.unwrap-requires
+unwrap-requires c = some_of_text _ c.get_str.result _ c.get_str.ensures
+    (has_tis c.in_ok-run_command.field-0 c.in_ok-matches.matches c.in_ok-run_command.ensures c.in_ok-matches.ensures.parsed)
+
+pub unwrap-requires-2 : goal.unwrap-requires-2
+unwrap-requires-2 c = some_of_text _ c.get_str-2.result _ c.get_str-2.ensures
+    (has_cwr c.in_ok-run_command.field-0 c.in_ok-matches.matches c.in_ok-run_command.ensures c.in_ok-matches.ensures.parsed)
+
+pub unwrap-requires-3 : goal.unwrap-requires-3
+unwrap-requires-3 c = some_of_text _ c.get_str-3.result _ c.get_str-3.ensures
+    (has_usage c.in_ok-run_command.field-0 c.in_ok-matches.matches c.in_ok-run_command.ensures c.in_ok-matches.ensures.parsed)
+
+pub returns-in_err-run_command-clause-error : goal.returns-in_err-run_command-clause-error
+returns-in_err-run_command-clause-error c = memory_is (map string_bytes c.args.words.now) c.from_residual.result c.from_residual.ensures.1
+
+pub returns-in_err-tis-clause-error : goal.returns-in_err-tis-clause-error
+returns-in_err-tis-clause-error c = memory_is (map string_bytes c.args.words.now) c.from_residual-in_err-tis.result c.from_residual-in_err-tis.ensures.1
+
+pub returns-in_err-cwr-clause-error : goal.returns-in_err-cwr-clause-error
+returns-in_err-cwr-clause-error c = memory_is (map string_bytes c.args.words.now) c.from_residual-in_err-cwr.result c.from_residual-in_err-cwr.ensures.1
+
+pub returns-in_err-usage-clause-error : goal.returns-in_err-usage-clause-error
+returns-in_err-usage-clause-error c = memory_is (map string_bytes c.args.words.now) c.from_residual-in_err-usage.result c.from_residual-in_err-usage.ensures.1
+
+pub unwrap-workers-requires : goal.unwrap-workers-requires
+unwrap-workers-requires c = (workers_read c.in_ok-run_command.field-0 c.in_ok-matches.matches c.get_one.result
+    c.in_ok-run_command.ensures c.in_ok-matches.ensures.parsed c.get_one.ensures.value).0
+
+pub unwrap-readers-requires : goal.unwrap-readers-requires
+unwrap-readers-requires c = (readers_read c.in_ok-run_command.field-0 c.in_ok-matches.matches c.get_one-2.result
+    c.in_ok-run_command.ensures c.in_ok-matches.ensures.parsed c.get_one-2.ensures.value).0
+
+pub unwrap-nodes-requires : goal.unwrap-nodes-requires
+unwrap-nodes-requires c = (nodes_read c.in_ok-run_command.field-0 c.in_ok-matches.matches c.get_one-3.result
+    c.in_ok-run_command.ensures c.in_ok-matches.ensures.parsed c.get_one-3.ensures.value).0
+
+pub unwrap-plan-requires : goal.unwrap-plan-requires
+unwrap-plan-requires c =
+    let command = c.in_ok-run_command.field-0 in
+    let m = c.in_ok-matches.matches in
+    let s = c.in_ok-run_command.ensures in
+    let p = c.in_ok-matches.ensures.parsed in
+    let workers = workers_read command m c.get_one.result s p c.get_one.ensures.value in
+    let readers = readers_read command m c.get_one-2.result s p c.get_one-2.ensures.value in
+    let nodes = nodes_read command m c.get_one-3.result s p c.get_one-3.ensures.value in
+    some_by c.new.result c.new.ensures.none (record {
+      workers = (rw c.unwrap-workers.ensures at workers.1, rw c.unwrap-workers.ensures at workers.2);
+      readers = (rw c.unwrap-readers.ensures at readers.1, rw c.unwrap-readers.ensures at readers.2);
+      nodes = (rw c.unwrap-nodes.ensures at nodes.1, rw c.unwrap-nodes.ensures at nodes.2);
+    })
+
+pub returns-clause-read : goal.returns-clause-read
+returns-clause-read c =
+    let command = c.in_ok-run_command.field-0 in
+    let m = c.in_ok-matches.matches in
+    let words = map string_bytes c.args.words.now in
+    let s = c.in_ok-run_command.ensures in
+    let p = c.in_ok-matches.ensures.parsed in
+    let rows = rows_are command m words s c.in_ok-matches.ensures.matches in
+    let workers = workers_are command m words c.get_one.result c.unwrap-workers.result s p rows c.get_one.ensures.value c.unwrap-workers.ensures in
+    let readers = readers_are command m words c.get_one-2.result c.unwrap-readers.result s p rows c.get_one-2.ensures.value c.unwrap-readers.ensures in
+    let nodes = nodes_are command m words c.get_one-3.result c.unwrap-nodes.result s p rows c.get_one-3.ensures.value c.unwrap-nodes.ensures in
+    let plan = (rw c.unwrap-plan.ensures at c.new.ensures.some).0 in
+    record {
+      tis = c.in_ok-tis.ensures.ok ∙ path_is m words (codes "tis") c.get_str.result c.unwrap.result rows c.get_str.ensures c.unwrap.ensures;
+      cwr = c.in_ok-cwr.ensures.ok ∙ path_is m words (codes "cwr") c.get_str-2.result c.unwrap-2.result rows c.get_str-2.ensures c.unwrap-2.ensures;
+      usage = c.in_ok-usage.ensures.ok ∙ path_is m words (codes "usage") c.get_str-3.result c.unwrap-3.result rows c.get_str-3.ensures c.unwrap-3.ensures;
+      plan = same_plan c.unwrap-plan.result _ _ _ _ _ _ plan workers readers nodes;
+    }

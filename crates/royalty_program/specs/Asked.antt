@@ -1,0 +1,75 @@
+-- What a command line asks for: a division in its plain form, with no options; or a run, its options in any order and form that clap takes.
+use Rattle.std.specs.Prelude.{ℕ, ◌≡◌, ◌≢◌, ◌⊎◌, ◌∷◌, List, [], All, drop, codes, slice_index, unwrap_or}
+use Rattle.std.specs.Str.Parse.{digits_value, without_leading_plus}
+use Rattle.clap.specs.Words.{HasKind, IsAmong, fault_of, first_of, matches_of, one_of}
+use Rattle.clap.specs.declared.error.Error.{Error}
+use Rattle.clap.specs.declared.error.kind.ErrorKind.TheVariants as kinds
+use Rattle.pair_split.specs.Pair.{word_at}
+use Rattle.royalty_program.specs.RunCommand.{run_app}
+
+-- a value, and no option: the word does not begin with `-`
+abbrev pub IsValue : List ℕ → Type 0
+IsValue word = slice_index word 0 ≢ 45
+
+-- the number that a word writes; a `+` may stand before it
+abbrev pub number_in : List ℕ → ℕ
+number_in word = digits_value 10 (without_leading_plus word)
+
+-- the program's own name, `split`, and then values alone
+pub record IsDivision (words : List (List ℕ)) : Type 0 where
+  pub command : word_at words 1 ≡ codes "split"
+  pub values : All IsValue (drop 2 words)
+
+-- the amount of a division, and its words PARTY=SHARE
+abbrev pub amount_of : List (List ℕ) → ℕ
+amount_of words = number_in (word_at words 2)
+
+abbrev pub pairs_of : List (List ℕ) → List (List ℕ)
+pairs_of words = drop 3 words
+
+-- What follows is of the words of a run from `run` on, as clap reads them by the command's grammar. An option may stand anywhere among them, and its value after a blank or a `=`: this is the path, and the number, that the option of a name is given.
+unfoldable pub path_given : (name : List ℕ) → List (List ℕ) → List ℕ
+path_given name words = unwrap_or (first_of name (matches_of run_app words)) []
+
+unfoldable pub number_given : (name : List ℕ) → List (List ℕ) → ℕ
+number_given name words = number_in (unwrap_or (one_of name (matches_of run_app words)) [])
+
+-- clap comes upon a word that asks for help, or for the version
+unfoldable pub AskForHelp : List (List ℕ) → Type 0
+AskForHelp words = IsAmong kinds.DisplayHelp (fault_of run_app words) ⊎ IsAmong kinds.DisplayVersion (fault_of run_app words)
+
+-- clap finds nothing to refuse, and nothing that asks for help
+unfoldable pub AreAccepted : List (List ℕ) → Type 0
+AreAccepted words = fault_of run_app words ≡ []
+
+-- the error is one that clap has for the words, or memory was refused
+unfoldable pub IsErrorOf : List (List ℕ) → Error → Type 0
+IsErrorOf words error = HasKind (fault_of run_app words) error
+
+-- The words of a command line ask for a run, and for no help.
+pub record AskForRun (words : List (List ℕ)) : Type 0 where
+  pub command : word_at words 1 ≡ codes "run"
+  pub no_help : ¬ AskForHelp (drop 1 words)
+
+-- They are a run that clap accepts.
+pub record AreRun (words : List (List ℕ)) : Type 0 where
+  pub command : word_at words 1 ≡ codes "run"
+  pub accepted : AreAccepted (drop 1 words)
+
+-- The plain form of a run: the word `run`, and then its six options in this order, each with a value.
+pub record AreRunWords (words : List (List ℕ)) : Type 0 where
+  pub name : List ℕ
+  pub tis : List ℕ
+  pub cwr : List ℕ
+  pub usage : List ℕ
+  pub workers : List ℕ
+  pub readers : List ℕ
+  pub nodes : List ℕ
+  pub form : words ≡ name ∷ codes "--tis" ∷ tis ∷ codes "--cwr" ∷ cwr ∷ codes "--usage" ∷ usage
+      ∷ codes "--workers" ∷ workers ∷ codes "--readers" ∷ readers ∷ codes "--nodes" ∷ nodes ∷ []
+  pub values : All IsValue (tis ∷ cwr ∷ usage ∷ workers ∷ readers ∷ nodes ∷ [])
+
+-- the program's own name, and the words of a run in their plain form
+pub record IsRun (words : List (List ℕ)) : Type 0 where
+  pub command : word_at words 1 ≡ codes "run"
+  pub options : AreRunWords (drop 1 words)

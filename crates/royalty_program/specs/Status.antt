@@ -1,0 +1,123 @@
+-- What a failure stands for, and the status that the program answers.
+use Rattle.std.specs.Prelude.{ℕ, ◌≡◌, ◌≢◌, ◌⊎◌, ◌++◌, [], ⊤, List, Option, Some, None, String, codes, decimal, drop, string_bytes}
+use Rattle.std.specs.declared.alloc.Global.{Global}
+use Rattle.clap.specs.Words.{kind_of}
+use Rattle.clap.specs.declared.error.kind.ErrorKind.TheVariants as kinds
+use Rattle.std.specs.declared.io.ErrorKind as io
+use Rattle.std.specs.declared.io.ErrorKind.TheVariants as io_kind
+use Rattle.pair_split.specs.Pair.{word_at}
+use Rattle.royalty_program.specs.Asked.{AreAccepted, IsDivision, pairs_of, path_given}
+use Rattle.pair_split.specs.PairFault.{IsFaultOf}
+use Rattle.pair_split.specs.PairFault as pair
+use Rattle.tis_tree.specs.TisRows as tis
+use Rattle.cwr_share.specs.CwrFile as cwr
+use Rattle.line_split.specs.UsageTable as usage
+use Rattle.royalty_program.specs.Files.{IsFaultOver}
+use Rattle.royalty_program.specs.declared.failure.Failure.{Failure}
+use Rattle.royalty_program.specs.declared.failure.Failure.TheVariants.{Words, NotText, Pairs, Input, Room, File, Output}
+use Rattle.settle_run.specs.declared.fault.Fault.{Fault}
+use Rattle.settle_run.specs.declared.fault.Fault.TheVariants as input
+use Rattle.pair_split.specs.declared.pair_fault.PairFault.{PairFault}
+use Rattle.pair_split.specs.declared.pair_fault.PairFault.TheVariants as fault
+
+-- 1 for an input that is refused, 2 for words that are, 3 for lack of memory, 4 for a file that cannot be read and for an output that cannot be written
+abbrev pub status_of : Failure → ℕ
+status_of (Words error) = 2
+status_of NotText = 2
+status_of (Pairs fault) = 2
+status_of (Input fault) = 1
+status_of Room = 3
+status_of (File path) = 4
+status_of Output = 4
+
+-- a fault of a number, and of a place where it has one, as a line of text
+abbrev pub fault_text : (what : List ℕ) → ℕ → (where_is : List ℕ) → Option ℕ → List ℕ
+fault_text what number where_is (Some place) =
+    codes "royalty_run: " ++ what ++ codes " fault " ++ decimal number ++ codes " at " ++ where_is ++ decimal place ++ codes "\n"
+fault_text what number where_is None = codes "royalty_run: " ++ what ++ codes " fault " ++ decimal number ++ codes "\n"
+
+-- the text of a failure: that of refused words is clap's
+abbrev pub text_of : Failure → Option (List ℕ)
+text_of (Words error) = None
+text_of NotText = Some (codes "royalty_run: an argument is not UTF-8\n")
+text_of (Pairs f) = Some (fault_text (codes "pair") (pair.number_of f) [] (pair.place_of f))
+text_of (Input (input.Tis f)) = Some (fault_text (codes "tis") (tis.number_of_fault f) (codes "row ") (tis.place_of_fault f))
+text_of (Input (input.Cwr f)) = Some (fault_text (codes "cwr") (cwr.number_of_fault f) (codes "line ") (cwr.place_of_fault f))
+text_of (Input (input.Usage f)) = Some (fault_text (codes "usage") (usage.number_of f) (codes "row ") (usage.place_of f))
+text_of (Input input.Room) = Some (codes "royalty_run: out of room\n")
+text_of Room = Some (codes "royalty_run: out of room\n")
+text_of (File path) = Some (codes "royalty_run: cannot read " ++ string_bytes path ++ codes "\n")
+text_of Output = Some (codes "royalty_run: cannot write\n")
+
+-- words and inputs are refused for what is wrong with them: lack of memory is a failure of its own, and help is none
+abbrev pub IsRefusal : Failure → Type 0
+IsRefusal (Words error) =
+    (kind_of error ≢ kinds.OutOfMemory) × (kind_of error ≢ kinds.DisplayHelp) × (kind_of error ≢ kinds.DisplayVersion)
+IsRefusal (Pairs f) = f ≢ fault.Memory
+IsRefusal (Input f) = f ≢ input.Room
+IsRefusal Room = ⊤
+IsRefusal (File path) = ⊤
+IsRefusal _ = ⊥
+
+-- lack of memory is no failure of a file, which any other error leaves unread
+abbrev pub failure_of_file : io.ErrorKind → String Global → Failure
+failure_of_file io_kind.OutOfMemory path = Room
+failure_of_file _ path = File path
+
+-- A file fails as its error has it. `refuses path kind` says that a path is refused with an error of this kind.
+abbrev pub IsOfFile : (refuses : List ℕ → io.ErrorKind → Type 0) → String Global → Failure → Type 0
+IsOfFile refuses path failure = (kind : io.ErrorKind) × refuses (string_bytes path) kind × (failure ≡ failure_of_file kind path)
+
+-- the file of a path was read
+abbrev pub IsRead : (holds : List ℕ → List ℕ → Type 0) → List ℕ → Type 0
+IsRead holds path = (bytes : List ℕ) × holds path bytes
+
+-- it cannot be read, and that is no lack of memory
+abbrev pub IsUnread : (refuses : List ℕ → io.ErrorKind → Type 0) → List ℕ → Type 0
+IsUnread refuses path = (kind : io.ErrorKind) × refuses path kind × (kind ≢ io_kind.OutOfMemory)
+
+-- it is the first of three that cannot be read: those before it were
+pub record IsFirstUnread (holds : List ℕ → List ℕ → Type 0) (refuses : List ℕ → io.ErrorKind → Type 0) (tis cwr usage path : List ℕ) : Type 0 where
+  pub unread : IsUnread refuses path
+  pub first : (path ≡ tis) ⊎ (((path ≡ cwr) × IsRead holds tis) ⊎ ((path ≡ usage) × IsRead holds tis × IsRead holds cwr))
+
+-- a run over the files of these paths fails for the first fault of the first of them that has one, for lack of memory, or for the first that cannot be read
+abbrev pub IsOfPaths : (holds : List ℕ → List ℕ → Type 0) (refuses : List ℕ → io.ErrorKind → Type 0) (tis cwr usage : List ℕ) → Failure → Type 0
+IsOfPaths holds refuses tis cwr usage (Input fault) = IsFaultOver holds tis cwr usage fault
+IsOfPaths holds refuses tis cwr usage Room = ⊤
+IsOfPaths holds refuses tis cwr usage (File name) = IsFirstUnread holds refuses tis cwr usage (string_bytes name)
+IsOfPaths holds refuses tis cwr usage _ = ⊥
+
+-- and the words of a run fail for that, or for themselves where clap does not accept them
+abbrev pub IsOfRun : (holds : List ℕ → List ℕ → Type 0) (refuses : List ℕ → io.ErrorKind → Type 0) → List (List ℕ) → Failure → Type 0
+IsOfRun holds refuses words (Words error) = ¬ AreAccepted words
+IsOfRun holds refuses words failure =
+    IsOfPaths holds refuses (path_given (codes "tis") words) (path_given (codes "cwr") words) (path_given (codes "usage") words) failure
+
+-- a division fails for its pairs, which then have that fault, for other words, or for lack of memory
+abbrev pub IsOfDivision : List (List ℕ) → Failure → Type 0
+IsOfDivision words (Pairs fault) = IsFaultOf (pairs_of words) fault
+IsOfDivision words (Words error) = ⊤
+IsOfDivision words Room = ⊤
+IsOfDivision words _ = ⊥
+
+-- the words of a command line fail for this
+pub record FailFor (holds : List ℕ → List ℕ → Type 0) (refuses : List ℕ → io.ErrorKind → Type 0) (words : List (List ℕ)) (failure : Failure) : Type 0 where
+  pub refusal : IsRefusal failure
+  pub division : IsDivision words → IsOfDivision words failure
+  pub run : word_at words 1 ≡ codes "run" → IsOfRun holds refuses (drop 1 words) failure
+
+-- lack of memory is no fault of the pairs
+abbrev pub failure_of_fault : PairFault → Failure
+failure_of_fault fault.Memory = Room
+failure_of_fault f = Pairs f
+
+-- lack of memory is no fault of an input
+abbrev pub failure_of_run : Fault → Failure
+failure_of_run input.Room = Room
+failure_of_run f = Input f
+
+-- an argument that is not UTF-8 is a wrong word, and else memory was refused
+abbrev pub failure_of_kind : io.ErrorKind → Failure
+failure_of_kind io_kind.InvalidData = NotText
+failure_of_kind _ = Room

@@ -1,0 +1,129 @@
+//! What the program does with its words, and the status that it answers.
+
+ghost use Rattle.std.specs.Prelude.{◌≡◌, ◌≢◌, ◌≤◌, ◌⊎◌, ℕ, List, IfOk, IfErr, IsOk, OnErr, OnOk, codes, drop, map, string_bytes};
+ghost use Rattle.std.specs.Io.KnownBytes.{Appends, Keeps};
+ghost use Rattle.royalty_program.specs.Asked.{AreRun, IsDivision};
+ghost use Rattle.royalty_program.specs.Answered.{IsAnswered};
+ghost use Rattle.royalty_program.specs.Files.{for_any_error, on_disk};
+ghost use Rattle.royalty_program.specs.Status.{FailFor, IsOfDivision, IsOfRun, IsRefusal, failure_of_kind, status_of};
+ghost use Rattle.royalty_program.specs.declared.failure.Failure.{Failure};
+ghost use Rattle.royalty_program.specs.declared.failure.Failure.TheVariants.{Output, Room};
+ghost use Rattle.pair_split.specs.Pair.{word_at};
+ghost use Rattle.std.specs.IoError.{error_kind};
+ghost use Rattle.std.specs.Vec.Iter.{into_iter_items};
+
+use crate::commands::{Asked, read_words};
+use crate::failure::Failure;
+use crate::files::{Disk, Source, settle_files};
+use clap::error::ErrorKind;
+use pair_split::split_words;
+use std::alloc::Global;
+use std::env::Args;
+use std::io::{self, Write};
+use std::rt::Files;
+use std::sync::Wait;
+use std::thread::Threads;
+
+/// The words of the command line in one list, the first of which is the program's own name, or why there are
+/// none.
+pub fn words_of(alloc: Global, words: io::Result<Args<Global>>) -> Result<Vec<String>, Failure>
+    ensures all { IfOk words (λ given. IfOk result (λ all. all.items ≡ into_iter_items given)) }
+    ensures memory { OnOk words (IfErr result (λ failure. failure ≡ Room)) }
+    ensures no_words { IfErr words (λ error. IfErr result (λ failure. failure ≡ failure_of_kind (error_kind error))) }
+{
+    match words {
+        Ok(words) => words.collect(alloc).map_err(|_| Failure::Room),
+        Err(error) => Err(no_words(error.kind())),
+    }
+}
+
+/// Why the words cannot be had, by the kind of the error.
+fn no_words(kind: io::ErrorKind) -> Failure
+    ensures { result ≡ failure_of_kind kind }
+{
+    match kind {
+        io::ErrorKind::InvalidData => Failure::NotText,
+        _ => Failure::Room,
+    }
+}
+
+/// Does what the words ask for, of which the first is the program's own name. The answer goes to
+/// `out`, and what went wrong to `err`. The status is 0 where the answer was printed or help was
+/// asked for, 1 where an input file is refused for what is in it, 2 where the words are refused, 3 for
+/// lack of memory, and 4 where a file cannot be read or `out` refused a write.
+pub fn program<R: Files + Threads + Wait + Sync, W: Write, E: Write>(
+    rt: &R,
+    alloc: Global,
+    words: &[String],
+    out: &mut W,
+    err: &mut E,
+) -> u8
+    ensures known { result ≤ 4 }
+    ensures printed { result ≡ 0 → (text : List ℕ) × Appends (W.contents out.old) (W.contents out.new) text × IsAnswered on_disk (map string_bytes words.now) text }
+    ensures quiet { result ≡ 0 → err.new ≡ err.old }
+    ensures silent { (result ≡ 1) ⊎ ((result ≡ 2) ⊎ (result ≡ 3)) → out.new ≡ out.old }
+    ensures accepted { AreRun (map string_bytes words.now) → result ≢ 2 }
+    ensures failed { result ≢ 0 → (failure : Failure) × (result ≡ status_of failure) × ((failure ≡ Output) ⊎ FailFor on_disk for_any_error (map string_bytes words.now) failure) }
+{
+    let printed = answer(rt, alloc, &Disk { rt }, words, out);
+    end(printed, out, err)
+}
+
+/// Sees an answer through to the output, or says what failed, and answers the status.
+fn end<W: Write, E: Write>(answer: Result<io::Result<()>, Failure>, out: &mut W, err: &mut E) -> u8
+    ensures failed { IfErr answer (λ failure. result ≡ status_of failure) }
+    ensures silent { OnErr answer (out.new ≡ out.old) }
+    ensures answered { OnOk answer ((result ≡ 0) ⊎ (result ≡ 4)) }
+    ensures printed { result ≡ 0 → IfOk answer IsOk }
+    ensures kept { result ≡ 0 → Keeps (W.contents out.old) (W.contents out.new) }
+    ensures quiet { result ≡ 0 → err.new ≡ err.old }
+{
+    match answer {
+        Ok(printed) => match flush_after(printed, out) {
+            Ok(()) => 0,
+            Err(_) => Failure::Output.report(err),
+        },
+        Err(failure) => failure.report(err),
+    }
+}
+
+/// Prints the rows of a division, the statements of a run over these files, or help.
+fn answer<R: Threads + Wait + Sync, S: Source, W: Write>(
+    rt: &R,
+    alloc: Global,
+    files: &S,
+    words: &[String],
+    out: &mut W,
+) -> Result<io::Result<()>, Failure>
+    ensures answered { IfOk result (λ printed. OnOk printed ((text : List ℕ) × Appends (W.contents out.old) (W.contents out.new) text
+        × IsAnswered (S.holds files.now) (map string_bytes words.now) text)) }
+    ensures failure { IfErr result IsRefusal }
+    ensures run { word_at (map string_bytes words.now) 1 ≡ codes "run" → IfErr result (IsOfRun (S.holds files.now) (S.refuses files.now) (drop 1 (map string_bytes words.now))) }
+    ensures pairs { IsDivision (map string_bytes words.now) → IfErr result (IsOfDivision (map string_bytes words.now)) }
+    ensures silent { IfErr result (λ _. out.new ≡ out.old) }
+{
+    match read_words(alloc, words) {
+        Ok(Asked::Division(asked)) => {
+            match split_words(alloc, asked.amount, asked.pairs.as_slice()) {
+                Ok(text) => Ok(out.write_all(text.as_slice())),
+                Err(fault) => Err(Failure::from(fault)),
+            }
+        }
+        Ok(Asked::Run(asked)) => settle_files(rt, alloc, files, asked, out),
+        Err(error) if error.kind() == ErrorKind::OutOfMemory => Err(Failure::Room),
+        Err(error) if error.use_stderr() => Err(Failure::Words(error)),
+        Err(help) => match format!(in alloc; "{help}") {
+            Ok(text) => Ok(out.write_all(text.as_bytes())),
+            Err(_) => Err(Failure::Room),
+        },
+    }
+}
+
+/// Sees what was printed through to the output, where nothing was refused.
+fn flush_after<W: Write>(printed: io::Result<()>, out: &mut W) -> io::Result<()>
+    ensures printed { IsOk result → IsOk printed }
+    ensures kept { Keeps (W.contents out.old) (W.contents out.new) }
+{
+    printed?;
+    out.flush()
+}

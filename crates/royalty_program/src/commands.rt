@@ -1,0 +1,78 @@
+//! The whole command line, and what its words ask for.
+
+ghost use Rattle.std.specs.Prelude.{◌≡◌, ◌≢◌, IfOk, IfErr, codes, drop, map, string_bytes};
+ghost use Rattle.clap.specs.Words.{kind_of};
+ghost use Rattle.clap.specs.declared.error.kind.ErrorKind.TheVariants as kinds;
+ghost use Rattle.royalty_program.specs.Asked.{IsDivision, IsErrorOf, IsRun};
+ghost use Rattle.royalty_program.specs.Answered.{IsDivisionOf, IsInRange, IsNamedBy, IsRunInOrder, IsRunOf};
+ghost use Rattle.pair_split.specs.Pair.{word_at};
+
+use crate::run_command::{RunWords, read_run, run_command};
+use crate::split_command::{SplitWords, read_split, split_command};
+use clap::error::ErrorKind;
+use clap::{Command, Error};
+use pair_split::word;
+use std::alloc::{AllocError, Global};
+
+/// What `--version` says below the name: the version, and the checker and libraries that the program is proved with, by their checksum.
+const VERSION: &str = "0.1.0\nlogic dac8208d650f15bf";
+
+/// What stands below the help of the whole program.
+const HELP: &str = "\
+`royalty_run run --help` says what the files of a distribution run have in them, and
+`royalty_run split --help` how an amount is divided.
+
+A refusal has a number and a place: the table of faults in docs/FORMATS.md says what to mend.
+
+Exit status:
+  0  the answer was printed, or help, or the version
+  1  an input file is refused for what is in it
+  2  the words are refused
+  3  memory was refused
+  4  a file cannot be read, or the output refused a write";
+
+/// What the words of the command line ask for.
+#[derive(Debug, Drop)]
+pub enum Asked {
+    /// The division of one amount.
+    Division(SplitWords),
+    /// A distribution run.
+    Run(RunWords),
+}
+
+/// Reads the words of the command line, the first of which is the program's own name.
+pub fn read_words(alloc: Global, words: &[String]) -> Result<Asked, Error>
+    ensures named { IfOk result (IsNamedBy (word_at (map string_bytes words.now) 1)) }
+    ensures in_range { IfOk result IsInRange }
+    ensures division { IsDivision (map string_bytes words.now) → IfOk result (IsDivisionOf (map string_bytes words.now)) }
+    ensures run { word_at (map string_bytes words.now) 1 ≡ codes "run" → IfOk result (IsRunOf (map string_bytes words.now)) }
+    ensures in_order { IsRun (map string_bytes words.now) → IfOk result (IsRunInOrder (map string_bytes words.now)) }
+    ensures error { word_at (map string_bytes words.now) 1 ≡ codes "run" → IfErr result (IsErrorOf (drop 1 (map string_bytes words.now))) }
+    ensures no_help { IsDivision (map string_bytes words.now) → IfErr result (λ error. (kind_of error ≢ kinds.DisplayHelp) × (kind_of error ≢ kinds.DisplayVersion)) }
+{
+    if words.len() < 2 {
+        return Err(refusal(alloc, words)?);
+    }
+    match word(words, 1) {
+        "split" => Ok(Asked::Division(read_split(alloc, &words[1..])?)),
+        "run" => Ok(Asked::Run(read_run(alloc, &words[1..])?)),
+        _ => Err(refusal(alloc, words)?),
+    }
+}
+
+/// What is wrong with words that name no command, or the help that they ask for.
+fn refusal(alloc: Global, words: &[String]) -> Result<Error, AllocError> {
+    let mut whole = Command::new(alloc, "royalty_run")
+        .bin_name("royalty_run")?
+        .version(VERSION)
+        .about("Divide the money of music usage among those who are due it")
+        .after_help(HELP)
+        .subcommand_required(true)
+        .arg_required_else_help(true)
+        .subcommand(run_command(alloc)?)?
+        .subcommand(split_command(alloc)?)?;
+    match whole.try_get_matches_from_mut(words) {
+        Err(error) => Ok(error),
+        Ok(_) => whole.error(ErrorKind::MissingSubcommand, "the command comes first"),
+    }
+}

@@ -1,0 +1,140 @@
+//! Why the program has no answer.
+
+ghost use Rattle.std.specs.Io.KnownBytes.{Appends};
+ghost use Rattle.std.specs.Prelude.{◌≡◌, IfSome, OnOk};
+ghost use Rattle.std.specs.Fmt.{WritesOnOk};
+ghost use Rattle.royalty_program.specs.Status.{fault_text};
+
+use pair_split::PairFault;
+use settle_run::Fault;
+use std::fmt;
+use std::io::{self, Write};
+
+/// Why there is no answer. Its text is what the program writes to standard error, with its end of
+/// line.
+#[derive(Debug, Drop)]
+pub enum Failure {
+    /// The words of the command line are refused. The text is clap's.
+    Words(clap::Error),
+    /// An argument is not UTF-8.
+    NotText,
+    /// The pairs of a division are refused.
+    Pairs(PairFault),
+    /// An input of a run is refused.
+    Input(Fault),
+    /// Memory was refused.
+    Room,
+    /// The file of this path cannot be read, or is too large.
+    File(String),
+    /// The output refused a write.
+    Output,
+}
+
+impl fmt::Display for Failure {
+    ghost use Rattle.royalty_program.specs.Status.{text_of};
+
+    ghost output = { text_of };
+
+    fn fmt<W: fmt::Write>(&self, f: &mut fmt::Formatter<W>) -> fmt::Result {
+        match self {
+            Failure::Words(error) => write!(f, "{error}"),
+            Failure::NotText => f.write_str("royalty_run: an argument is not UTF-8\n"),
+            Failure::Pairs(fault) => write_fault(f, "pair", fault.number(), "", fault.place()),
+            Failure::Input(Fault::Tis(fault)) => {
+                write_fault(f, "tis", fault.number(), "row ", fault.place())
+            }
+            Failure::Input(Fault::Cwr(fault)) => {
+                write_fault(f, "cwr", fault.number(), "line ", fault.place())
+            }
+            Failure::Input(Fault::Usage(fault)) => {
+                write_fault(f, "usage", fault.number(), "row ", fault.place())
+            }
+            Failure::Input(Fault::Room) | Failure::Room => {
+                f.write_str("royalty_run: out of room\n")
+            }
+            Failure::File(path) => write!(f, "royalty_run: cannot read {path}\n"),
+            Failure::Output => f.write_str("royalty_run: cannot write\n"),
+        }
+    }
+}
+
+/// Says which fault of what there is, and at what place, if it has one.
+fn write_fault<W: fmt::Write>(
+    f: &mut fmt::Formatter<W>,
+    what: &str,
+    number: u8,
+    at: &str,
+    place: Option<u64>,
+) -> fmt::Result
+    ensures { WritesOnOk W.write_str_gives f.old result (fault_text what.now number at.now place) f.new }
+{
+    match place {
+        Some(place) => write!(f, "royalty_run: {what} fault {number} at {at}{place}\n"),
+        None => write!(f, "royalty_run: {what} fault {number}\n"),
+    }
+}
+
+impl From<PairFault> for Failure {
+    ghost use Rattle.std.specs.Prelude.{◌≡◌};
+    ghost use Rattle.royalty_program.specs.Status.{failure_of_fault};
+
+    ghost from_gives = { λ fault given. given ≡ failure_of_fault fault };
+
+    /// Lack of memory is no fault of the pairs.
+    fn from(fault: PairFault) -> Failure {
+        match fault {
+            PairFault::Memory => Failure::Room,
+            PairFault::Pair(_) | PairFault::Name(_) | PairFault::Share(_) | PairFault::Many => {
+                Failure::Pairs(fault)
+            }
+        }
+    }
+}
+
+impl From<Fault> for Failure {
+    ghost use Rattle.std.specs.Prelude.{◌≡◌};
+    ghost use Rattle.royalty_program.specs.Status.{failure_of_run};
+
+    ghost from_gives = { λ fault given. given ≡ failure_of_run fault };
+
+    /// Lack of memory is no fault of an input.
+    fn from(fault: Fault) -> Failure {
+        match fault {
+            Fault::Room => Failure::Room,
+            Fault::Tis(_) | Fault::Cwr(_) | Fault::Usage(_) => Failure::Input(fault),
+        }
+    }
+}
+
+impl Failure {
+    ghost use Rattle.royalty_program.specs.Status.{status_of, text_of};
+
+    /// The status that the program answers.
+    pub fn status(&self) -> u8
+        ensures { result ≡ status_of self.now }
+    {
+        match self {
+            Failure::Input(_) => 1,
+            Failure::Words(_) | Failure::NotText | Failure::Pairs(_) => 2,
+            Failure::Room => 3,
+            Failure::File(_) | Failure::Output => 4,
+        }
+    }
+
+    /// Says on `err` what failed, and answers the status. An `err` that refuses a write changes
+    /// nothing.
+    pub fn report<E: Write>(&self, err: &mut E) -> u8
+        ensures { result ≡ status_of self.now }
+    {
+        let _ = self.tell(err);
+        self.status()
+    }
+
+    /// Writes the text of the failure, and sees it through.
+    fn tell<E: Write>(&self, err: &mut E) -> io::Result<()>
+        ensures { OnOk result (IfSome (text_of self.now) (Appends (E.contents err.old) (E.contents err.new))) }
+    {
+        write!(err, "{self}")?;
+        err.flush()
+    }
+}

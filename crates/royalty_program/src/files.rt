@@ -1,0 +1,129 @@
+//! A distribution run over files.
+
+ghost use Rattle.std.specs.Io.KnownBytes.{Appends};
+ghost use Rattle.std.specs.IoError.{error_kind};
+ghost use Rattle.std.specs.Prelude.{◌≡◌, ◌<◌, ◌≤◌, ◌↔◌, ℕ, List, IfOk, IfErr, IfSome, IsTrue, OnOk, length, string_bytes};
+ghost use Rattle.std.specs.declared.io.ErrorKind.{ErrorKind};
+ghost use Rattle.royalty_program.specs.Files.{AreStatementsOver, HaveNoFaultOver, for_any_error, on_disk};
+ghost use Rattle.royalty_program.specs.Status.{IsOfFile, IsOfPaths, IsRefusal, failure_of_file};
+
+use crate::failure::Failure;
+use crate::run_command::RunWords;
+use settle_run::settle_to;
+use std::alloc::Global;
+use std::fs::{self, OpenFile};
+use std::io::{self, ErrorKind, Read, Write};
+use std::rt::Files;
+use std::sync::Wait;
+use std::thread::Threads;
+
+/// The most bytes that a file of a run has.
+pub const MOST_BYTES: u64 = 268_435_456;
+
+/// Where the files of a run are read from.
+pub trait Source {
+    // The file of a path has these bytes.
+    ghost holds: { Self → List ℕ → List ℕ → Type 0 };
+    // It refuses a path with an error of this kind.
+    ghost refuses: { Self → List ℕ → ErrorKind → Type 0 };
+
+    /// The bytes of the file of a path. A file of more than the most bytes cannot be read.
+    fn read(&self, alloc: Global, path: &str) -> io::Result<Vec<u8>>
+        ensures bytes { IfOk result (λ bytes. holds self.now path.now bytes.items) }
+        ensures few { IfOk result (λ bytes. length bytes.items ≤ 268435456) }
+        ensures error { IfErr result (λ error. refuses self.now path.now (error_kind error)) };
+}
+
+/// The files of the system.
+#[derive(Drop)]
+pub struct Disk<'a, R> {
+    pub rt: &'a R,
+}
+
+impl<'a, R: Files> Source for Disk<'a, R> {
+    ghost holds = { λ _. on_disk };
+
+    ghost refuses = { λ _. for_any_error };
+
+    fn read(&self, alloc: Global, path: &str) -> io::Result<Vec<u8>> {
+        let file = fs::open(self.rt, path)?;
+        let size = file.metadata()?.len();
+        if is_too_large(size) {
+            return Err(io::Error::from(ErrorKind::FileTooLarge));
+        }
+        read_whole(alloc, file, size as usize + 1)
+    }
+}
+
+/// Whether a run reads no file of so many bytes.
+fn is_too_large(size: u64) -> bool
+    ensures { IsTrue result ↔ (268435456 < size) }
+{
+    size > MOST_BYTES
+}
+
+/// All that a reader has to give, where that is no more than the most bytes. A pipe does not say its size, and a
+/// file may grow meanwhile, so a byte more is asked for, which tells that nothing was cut off.
+pub fn read_whole<S: Read + Drop>(alloc: Global, from: S, room: usize) -> io::Result<Vec<u8>>
+    ensures whole { IfOk result (λ bytes. IfSome (S.remaining from) (λ all. bytes.items ≡ all)) }
+    ensures few { IfOk result (λ bytes. length bytes.items ≤ 268435456) }
+{
+    let mut bytes = Vec::with_capacity(alloc, room)?;
+    from.take(MOST_BYTES + 1).read_to_end(&mut bytes)?;
+    if is_too_large(bytes.len() as u64) {
+        return Err(io::Error::from(ErrorKind::FileTooLarge));
+    }
+    Ok(bytes)
+}
+
+/// Prints the statements of a run over three files. All are read, in the order of the fields, before any
+/// is parsed.
+pub fn settle_files<R: Threads + Wait + Sync, S: Source, W: Write>(
+    rt: &R,
+    alloc: Global,
+    files: &S,
+    asked: RunWords,
+    out: &mut W,
+) -> Result<io::Result<()>, Failure>
+    ensures statements { IfOk result (λ printed. OnOk printed ((text : List ℕ) × Appends (W.contents out.old) (W.contents out.new) text
+        × AreStatementsOver (S.holds files.now) (string_bytes asked.tis) (string_bytes asked.cwr) (string_bytes asked.usage) text)) }
+    ensures read { IfOk result (λ _. HaveNoFaultOver (S.holds files.now) (string_bytes asked.tis) (string_bytes asked.cwr) (string_bytes asked.usage)) }
+    ensures failure { IfErr result IsRefusal }
+    ensures files { IfErr result (IsOfPaths (S.holds files.now) (S.refuses files.now) (string_bytes asked.tis) (string_bytes asked.cwr) (string_bytes asked.usage)) }
+    ensures silent { IfErr result (λ _. out.new ≡ out.old) }
+{
+    let RunWords {
+        tis,
+        cwr,
+        usage,
+        plan,
+    } = asked;
+    let tis = read_file(files, alloc, tis)?;
+    let cwr = read_file(files, alloc, cwr)?;
+    let usage = read_file(files, alloc, usage)?;
+    match settle_to(rt, alloc, tis, cwr, usage, plan, out) {
+        Ok(printed) => Ok(printed),
+        Err(fault) => Err(Failure::from(fault)),
+    }
+}
+
+/// The bytes of the file of a path.
+fn read_file<S: Source>(files: &S, alloc: Global, path: String) -> Result<Vec<u8>, Failure>
+    ensures bytes { IfOk result (λ bytes. S.holds files.now (string_bytes path) bytes.items) }
+    ensures failure { IfErr result (IsOfFile (S.refuses files.now) path) }
+{
+    match files.read(alloc, path.as_str()) {
+        Ok(bytes) => Ok(bytes),
+        Err(error) => Err(unread(error.kind(), path)),
+    }
+}
+
+/// Why there is no file of a path, by the kind of the error.
+fn unread(kind: ErrorKind, path: String) -> Failure
+    ensures { result ≡ failure_of_file kind path }
+{
+    match kind {
+        ErrorKind::OutOfMemory => Failure::Room,
+        _ => Failure::File(path),
+    }
+}

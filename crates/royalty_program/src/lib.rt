@@ -1,0 +1,12 @@
+//! What the program `royalty_run` does with its words and files, and the status that it answers.
+#![tactic(auto)]
+
+mod answering;
+mod commands;
+mod failure;
+mod files;
+mod run_command;
+mod split_command;
+
+pub use answering::{program, words_of};
+pub use failure::Failure;

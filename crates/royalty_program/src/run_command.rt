@@ -1,0 +1,129 @@
+//! The grammar of the command `run`, and what its words ask for.
+
+ghost use Rattle.std.specs.Prelude.{◌≡◌, IfOk, IfErr, Some, codes, map, string_bytes};
+ghost use Rattle.clap.specs.declared.builder.value_parser.ValueParser.TheVariants as vp;
+ghost use Rattle.royalty_program.specs.Asked.{IsErrorOf};
+ghost use Rattle.royalty_program.specs.Answered.{AreReadFrom};
+ghost use Rattle.clap.specs.Words.{rule_of};
+ghost use Rattle.royalty_program.specs.RequiredArg.{IsRequiredArg};
+ghost use Rattle.royalty_program.specs.RunCommand.{IsRunCommand, file_rule};
+
+use clap::builder::ValueParser;
+use clap::{Arg, ArgAction, Command, Error, value_parser};
+use split_run::Plan;
+use std::alloc::{AllocError, Global};
+
+/// What stands below the help of `run`.
+const RUN_HELP: &str = "\
+A file has at most 268435456 bytes. The tables are CSV with a header:
+  territories  code,groups: a TIS numeric code, and the codes of its groups with spaces between
+               them, each of an earlier row; 2136 is the world
+  usage lines  usage,work,territory,right,amount: a name, the submitter work number, a TIS numeric
+               code, P (performing), M (mechanical) or S (synchronisation), and minor units, as cents
+The registrations are a CWR 2.2 file: of NWR and REV records the submitter work number is read, of
+SPT and SWT records the party, the three collection shares, the mark I or E and the territory.
+Records of other types are skipped, and nothing checks that the file is CWR, or all of it.
+
+The answer is CSV too. A row L,party,usage,amount for each portion of a party, then its sum
+S,party,count,total; for each portion of the residue M,reason,usage,amount with the reason WORK,
+LAND, OVER or OPEN, then T,,count,total; last R,,lines,amount.
+The numbers of workers, readers and nodes have no bearing on it. A row M,WORK is a usage line whose
+work has no registration: many of them say that the wrong file, or half of one, went in.
+
+A refusal has a number and a place: the table of faults in docs/FORMATS.md says what to mend.
+
+Example:
+  royalty_run run --tis territories.csv --cwr works.cwr --usage usage.csv \\
+    --workers 4 --readers 2 --nodes 16";
+
+/// The words of a run: the paths of its three files, and its plan.
+#[derive(Debug, Drop)]
+pub struct RunWords {
+    /// The table of territories.
+    pub tis: String,
+    /// The registrations.
+    pub cwr: String,
+    /// The table of usage lines.
+    pub usage: String,
+    pub plan: Plan,
+}
+
+/// Reads the words of a run, the first of which is `run`. They are a command of their own, as those of a
+/// division are.
+pub fn read_run(alloc: Global, words: &[String]) -> Result<RunWords, Error>
+    ensures read { IfOk result (AreReadFrom (map string_bytes words.now)) }
+    ensures error { IfErr result (IsErrorOf (map string_bytes words.now)) }
+{
+    let matches = run_command(alloc)?.try_get_matches_from(words)?;
+    let tis = String::from_str(alloc, matches.get_str("tis").unwrap())?;
+    let cwr = String::from_str(alloc, matches.get_str("cwr").unwrap())?;
+    let usage = String::from_str(alloc, matches.get_str("usage").unwrap())?;
+    let workers = matches.get_one::<u64>("workers").unwrap();
+    let readers = matches.get_one::<u64>("readers").unwrap();
+    let nodes = matches.get_one::<u64>("nodes").unwrap();
+    let plan = Plan::new(workers, readers, nodes).unwrap();
+    Ok(RunWords {
+        tis,
+        cwr,
+        usage,
+        plan,
+    })
+}
+
+pub fn run_command<'a>(alloc: Global) -> Result<Command<'a>, AllocError>
+    ensures { IfOk result IsRunCommand }
+{
+    Command::new(alloc, "run")
+        .bin_name("royalty_run run")?
+        .about("Make the statements of all parties from three files")
+        .after_help(RUN_HELP)
+        .arg(file_arg(alloc, "tis", "The table of territories"))?
+        .arg(file_arg(alloc, "cwr", "The registrations of works"))?
+        .arg(file_arg(alloc, "usage", "The usage lines"))?
+        .arg(number_arg(
+            alloc,
+            "workers",
+            value_parser!(u64).range(1..=8),
+            "How many threads divide usage lines: 1 to 8",
+        ))?
+        .arg(number_arg(
+            alloc,
+            "readers",
+            value_parser!(u64).range(1..=8),
+            "How many threads keep statements: 1 to 8",
+        ))?
+        .arg(number_arg(
+            alloc,
+            "nodes",
+            value_parser!(u64).range(1..=64),
+            "How many postings a worker has under way to an account at most: 1 to 64",
+        ))
+}
+
+/// A required option whose value is the path of a file.
+fn file_arg<'a>(alloc: Global, name: &'a str, help: &'a str) -> Arg<'a>
+    ensures needed { IsRequiredArg name.entry.now result }
+    ensures rule { rule_of result ≡ file_rule name.entry.now }
+{
+    Arg::new(alloc, name)
+        .long(name)
+        .value_name("F")
+        .help(help)
+        .required(true)
+        .action(ArgAction::Set)
+}
+
+/// A required option whose value is a number, of which clap checks that the parser takes it.
+fn number_arg<'a>(alloc: Global, name: &'a str, parser: ValueParser<'a>, help: &'a str) -> Arg<'a>
+    ensures needed { IsRequiredArg name.entry.now result }
+    ensures in_range { result.value_parser ≡ Some parser.entry }
+    ensures rule { rule_of result ≡ record (file_rule name.entry.now) { parser = Some parser.entry } }
+{
+    Arg::new(alloc, name)
+        .long(name)
+        .value_name("n")
+        .help(help)
+        .required(true)
+        .action(ArgAction::Set)
+        .value_parser(parser)
+}
