@@ -19,7 +19,8 @@ A file has at most 268435456 bytes. The tables are CSV with a header:
   territories  code,groups: a TIS numeric code, and the codes of its groups with spaces between
                them, each of an earlier row; 2136 is the world
   usage lines  usage,work,territory,right,amount: a name, the submitter work number, a TIS numeric
-               code, P (performing), M (mechanical) or S (synchronisation), and minor units, as cents
+               code, P (performing), M (mechanical) or S (synchronisation), and minor units, as cents,
+               with a - before them where money is taken back
 The registrations are a CWR 2.2 file: of NWR and REV records the submitter work number is read, of
 SPT and SWT records the party, the three collection shares, the mark I or E and the territory.
 Records of other types are skipped, and nothing checks that the file is CWR, or all of it.
