@@ -12,6 +12,8 @@ mod link_threads_tests;
 #[cfg(test)]
 mod mail_box_tests;
 #[cfg(test)]
+mod mail_rows;
+#[cfg(test)]
 mod payee_book_tests;
 #[cfg(test)]
 mod run_threads_tests;

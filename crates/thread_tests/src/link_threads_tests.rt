@@ -2,8 +2,9 @@
 
 ghost use Rattle.std.specs.Prelude.{◌<◌, ◌≤◌};
 
-use mail_box::{Item, LinkMail, LinkReceiver, LinkSender, Mail, Posted, Took};
-use std::alloc::Global;
+use crate::mail_rows::open_two;
+use mail_box::{Item, LinkMail, LinkReceiver, LinkSender, Posted, Took};
+use std::alloc::{AllocError, Global};
 use std::process::Abort;
 use std::test::Fail;
 use std::thread;
@@ -86,12 +87,10 @@ fn take_all(rt: &impl Abort, mut receiver: LinkReceiver, senders: u64) {
 }
 
 /// Two senders and a receiver, each in a thread of its own.
-fn post_of_two<R: Abort + Threads + Sync>(rt: &R, alloc: Global, nodes: u64) -> Result<(), Fail> {
-    assert!(rt; 0 < nodes && nodes <= 64);
-    let (mut senders, receiver) = LinkMail.open(alloc, 2, nodes, POSTS)?;
-    let (Some(second), Some(first)) = (senders.pop(), senders.pop()) else {
-        return Err(Fail::new("two senders were opened"));
-    };
+fn post_of_two<R: Abort + Threads + Sync>(rt: &R, alloc: Global, nodes: u64) -> Result<(), Fail>
+    requires { (0 < nodes) × (nodes ≤ 64) }
+{
+    let (first, second, receiver) = open_two(alloc, &LinkMail, nodes, POSTS)?;
     join(
         rt,
         move || send_all(rt, first),
@@ -104,14 +103,25 @@ fn post_of_two<R: Abort + Threads + Sync>(rt: &R, alloc: Global, nodes: u64) -> 
     Ok(())
 }
 
+/// A mailbox of three senders.
+fn open_three(
+    alloc: Global,
+    nodes: u64,
+) -> Result<(LinkSender, LinkSender, LinkSender, LinkReceiver), AllocError>
+    requires { (0 < nodes) × (nodes ≤ 64) }
+{
+    let (mut senders, receiver) = LinkMail::open(alloc, 3, nodes, POSTS)?;
+    let third = senders.swap_remove(2);
+    let second = senders.swap_remove(1);
+    let first = senders.swap_remove(0);
+    Ok((first, second, third, receiver))
+}
+
 /// Three senders and a receiver, each in a thread of its own.
-fn post_of_three<R: Abort + Threads + Sync>(rt: &R, alloc: Global, nodes: u64) -> Result<(), Fail> {
-    assert!(rt; 0 < nodes && nodes <= 64);
-    let (mut senders, receiver) = LinkMail.open(alloc, 3, nodes, POSTS)?;
-    let (Some(third), Some(second), Some(first)) = (senders.pop(), senders.pop(), senders.pop())
-    else {
-        return Err(Fail::new("three senders were opened"));
-    };
+fn post_of_three<R: Abort + Threads + Sync>(rt: &R, alloc: Global, nodes: u64) -> Result<(), Fail>
+    requires { (0 < nodes) × (nodes ≤ 64) }
+{
+    let (first, second, third, receiver) = open_three(alloc, nodes)?;
     join(
         rt,
         || join(

@@ -64,23 +64,44 @@ fn assert_statement(
     assert_eq!(rt; book.total(account), total);
 }
 
+/// The parties of these names.
+fn parties_of(alloc: Global, names: &[&str]) -> Result<Vec<Vec<u8>>, Fail> {
+    let mut parties = Vec::new(alloc);
+    for name in names {
+        parties.push(Vec::from_slice(alloc, name.as_bytes())?)?;
+    }
+    Ok(parties)
+}
+
 /// The text of a book over usage lines, with these parties and reasons.
 fn text_of<R: Threads + Sync + Abort>(
     rt: &R,
     alloc: Global,
     book: &Book,
-    usage: &[u8],
-    names: &[&str],
+    usage: &Usage,
+    parties: &[Vec<u8>],
     reasons: &[Reason],
 ) -> Result<Vec<u8>, Fail> {
-    let usage = Usage::read(alloc, usage)?;
-    let mut parties = Vec::new(alloc);
-    for name in names {
-        parties.push(Vec::from_slice(alloc, name.as_bytes())?)?;
-    }
     assert_lines(rt, book, usage.len());
     assert!(rt; parties.len() == book.accounts() as usize && reasons.len() == usage.len());
-    Ok(book.text(rt, alloc, &usage, parties.as_slice(), reasons)?)
+    Ok(book.text(rt, alloc, usage, parties, reasons)?)
+}
+
+/// Asserts the text of a book over usage lines, with parties of these names and these reasons.
+fn assert_text<R: Threads + Sync + Abort>(
+    rt: &R,
+    alloc: Global,
+    book: &Book,
+    usage: &str,
+    names: &[&str],
+    reasons: &[Reason],
+    want: &str,
+) -> Result<(), Fail> {
+    let usage = Usage::read(alloc, usage.as_bytes())?;
+    let parties = parties_of(alloc, names)?;
+    let text = text_of(rt, alloc, book, &usage, parties.as_slice(), reasons)?;
+    assert_eq!(rt; text.as_slice(), want.as_bytes());
+    Ok(())
 }
 
 #[test]
@@ -108,17 +129,10 @@ fn keeps_postings_of_one_line_by_amount(rt: HostRuntime) -> Result<(), Fail> {
 
 #[test]
 fn writes_the_statements(rt: HostRuntime) -> Result<(), Fail> {
-    let alloc = rt.alloc();
     let postings = [(1, 0, 60), (2, 0, 40), (2, 1, 20), (0, 1, 30), (0, 2, 7)];
-    let book = book_with(&rt, alloc, 3, &postings)?;
-    let text = text_of(
-        &rt,
-        alloc,
-        &book,
-        USES.as_bytes(),
-        &["", "A,B", "say \"B\""],
-        &[Reason::Open, Reason::Open, Reason::Work],
-    )?;
+    let book = book_with(&rt, rt.alloc(), 3, &postings)?;
+    let names = ["", "A,B", "say \"B\""];
+    let reasons = [Reason::Open, Reason::Open, Reason::Work];
     let want = "L,\"A,B\",u1,60\n\
                 S,\"A,B\",1,60\n\
                 L,\"say \"\"B\"\"\",u1,40\n\
@@ -128,8 +142,7 @@ fn writes_the_statements(rt: HostRuntime) -> Result<(), Fail> {
                 M,WORK,u3,7\n\
                 T,,2,37\n\
                 R,,3,157\n";
-    assert_eq!(rt; text.as_slice(), want.as_bytes());
-    Ok(())
+    assert_text(&rt, rt.alloc(), &book, USES, &names, &reasons, want)
 }
 
 #[test]
@@ -140,53 +153,94 @@ fn takes_the_most_accounts(rt: HostRuntime) -> Result<(), Fail> {
     Ok(())
 }
 
-#[test]
-fn writes_many_lines(rt: HostRuntime) -> Result<(), Fail> {
-    let alloc = rt.alloc();
-    let mut usage = Vec::from_slice(alloc, NO_USES.as_bytes())?;
-    let mut want = Vec::new(alloc);
-    let mut reasons = Vec::new(alloc);
+/// Texts before and after a row that stands so many times.
+fn repeated(
+    alloc: Global,
+    before: &str,
+    row: &str,
+    times: u64,
+    after: &str,
+) -> Result<String, Fail> {
+    let mut text = String::new(alloc);
+    text.push_str(before)?;
+    for _ in 0..times {
+        text.push_str(row)?;
+    }
+    text.push_str(after)?;
+    Ok(text)
+}
+
+/// Postings of 2 of the first so many lines to the residue.
+fn residue_of_lines(alloc: Global, lines: u64) -> Result<Vec<(Account, u64, u64)>, Fail> {
     let mut postings = Vec::new(alloc);
-    for line in 0..1200u64 {
-        usage.extend_from_slice(b"u,W,1,P,2\n")?;
-        want.extend_from_slice(b"M,OVER,u,2\n")?;
-        reasons.push(Reason::Over)?;
+    for line in 0..lines {
         postings.push((0, line, 2))?;
     }
-    want.extend_from_slice(b"T,,1200,2400\nR,,1200,2400\n")?;
-    let book = book_with(&rt, alloc, 1, postings.as_slice())?;
-    let text = text_of(
-        &rt,
+    Ok(postings)
+}
+
+/// Asserts the text of the book of these postings, where each is the residue of a line for these reasons.
+fn assert_many_lines<R: Threads + Sync + Abort>(
+    rt: &R,
+    alloc: Global,
+    postings: &[(Account, u64, u64)],
+    reasons: &[Reason],
+) -> Result<(), Fail> {
+    let book = book_with(rt, alloc, 1, postings)?;
+    let usage = repeated(alloc, NO_USES, "u,W,1,P,2\n", 1200, "")?;
+    let sums = "T,,1200,2400\nR,,1200,2400\n";
+    let want = repeated(alloc, "", "M,OVER,u,2\n", 1200, sums)?;
+    assert_text(
+        rt,
         alloc,
         &book,
-        usage.as_slice(),
+        usage.as_str(),
         &[""],
-        reasons.as_slice(),
-    )?;
-    assert_eq!(rt; text.as_slice(), want.as_slice());
-    Ok(())
+        reasons,
+        want.as_str(),
+    )
+}
+
+#[test]
+fn writes_many_lines(rt: HostRuntime) -> Result<(), Fail> {
+    let postings = residue_of_lines(rt.alloc(), 1200)?;
+    let reasons = vec![in rt.alloc(); Reason::Over; 1200]?;
+    assert_many_lines(&rt, rt.alloc(), postings.as_slice(), reasons.as_slice())
+}
+
+/// A book with what two books have.
+fn joined(rt: &impl Abort, one: Book, other: Book) -> Book {
+    assert!(rt; one.accounts() == other.accounts());
+    assert_apart(rt, &one, &other);
+    let mut both = one;
+    both.join(other);
+    both
 }
 
 #[test]
 fn joins_what_two_books_have(rt: HostRuntime) -> Result<(), Fail> {
-    let mut first = book_with(&rt, rt.alloc(), 2, &[(1, 7, 5), (1, 2, 3)])?;
+    let first = book_with(&rt, rt.alloc(), 2, &[(1, 7, 5), (1, 2, 3)])?;
     let second = book_with(&rt, rt.alloc(), 2, &[(0, 9, 4)])?;
-    assert!(rt; first.accounts() == second.accounts());
-    assert_apart(&rt, &first, &second);
-    first.join(second);
-    assert_statement(&rt, &first, 0, &[(9, 4)], 4);
-    assert_statement(&rt, &first, 1, &[(2, 3), (7, 5)], 8);
+    let both = joined(&rt, first, second);
+    assert_statement(&rt, &both, 0, &[(9, 4)], 4);
+    assert_statement(&rt, &both, 1, &[(2, 3), (7, 5)], 8);
     Ok(())
+}
+
+/// A journal of two accounts with these postings of the second, each a line and an amount.
+fn journal_with(rt: &impl Abort, alloc: Global, postings: &[(u64, u64)]) -> Result<Journal, Fail> {
+    let mut journal = Journal::open(alloc, 2)?;
+    for posting in postings {
+        assert!(rt; journal.accounts() == 2 && posting.1 <= MOST_AMOUNT);
+        journal.record(1, posting.0, posting.1)?;
+    }
+    Ok(journal)
 }
 
 #[test]
 fn a_journal_has_its_postings_in_order_once_it_is_a_book(rt: HostRuntime) -> Result<(), Fail> {
-    let mut journal = Journal::open(rt.alloc(), 2)?;
-    for (line, amount) in [(7, 5), (999_999, 1), (2, 3), (7, 3), (7, 5)] {
-        assert!(rt; journal.accounts() == 2);
-        journal.record(1, line, amount)?;
-    }
-    let book = journal.into_book();
+    let postings = [(7, 5), (999_999, 1), (2, 3), (7, 3), (7, 5)];
+    let book = journal_with(&rt, rt.alloc(), &postings)?.into_book();
     let sorted = [(2, 3), (7, 3), (7, 5), (7, 5), (999_999, 1)];
     assert_statement(&rt, &book, 1, &sorted, 17);
     assert_statement(&rt, &book, 0, &[], 0);

@@ -16,12 +16,62 @@ use std::thread;
 use std::thread::{Threads, join};
 use tis_tree::TisTable;
 
-/// The table, the registrations and the usage lines of a small run.
-pub fn inputs(alloc: Global, usage: &str) -> Result<(TisTable, Registry, Usage), Fail> {
-    let tis = TisTable::read(alloc, TERRITORIES.as_bytes())?;
-    let registry = Registry::read(alloc, TWO_PARTIES.as_bytes())?;
-    let usage = Usage::read(alloc, usage.as_bytes())?;
-    Ok((tis, registry, usage))
+/// The table, the registrations and the usage lines of a run.
+#[derive(Drop)]
+pub struct Inputs {
+    pub tis: TisTable,
+    pub registry: Registry,
+    pub usage: Usage,
+}
+
+impl Inputs {
+    /// Those of the small run, with these usage lines.
+    pub fn read(alloc: Global, usage: &str) -> Result<Inputs, Fail> {
+        let tis = TisTable::read(alloc, TERRITORIES.as_bytes())?;
+        let registry = Registry::read(alloc, TWO_PARTIES.as_bytes())?;
+        let usage = Usage::read(alloc, usage.as_bytes())?;
+        Ok(Inputs {
+            tis,
+            registry,
+            usage,
+        })
+    }
+
+    /// The book of a run over them.
+    fn book<M: Mail, G: Gate, R: Threads + Wait + Sync>(
+        &self,
+        rt: &R,
+        alloc: Global,
+        mail: &M,
+        plan: Plan,
+        gate: &G,
+    ) -> Result<Book, Fail> {
+        let (tis, registry, usage) = (&self.tis, &self.registry, &self.usage);
+        Ok(run(rt, alloc, mail, tis, registry, usage, plan, gate)?)
+    }
+
+    /// The book of a run over them, of which the thread with a number counts as refused. None: there is no book.
+    fn book_cut_at<R: Threads + Wait + Sync>(
+        &self,
+        rt: &R,
+        alloc: Global,
+        plan: Plan,
+        threads: u64,
+    ) -> Option<Book> {
+        let (tis, registry, usage) = (&self.tis, &self.registry, &self.usage);
+        run_cut(
+            rt, alloc, &LinkMail, tis, registry, usage, plan, &NoGate, threads,
+        )
+        .ok()
+    }
+}
+
+/// The plan of so many workers, readers and nodes.
+pub fn plan_of(threads: (u64, u64, u64)) -> Result<Plan, Fail> {
+    match Plan::new(threads.0, threads.1, threads.2) {
+        Some(plan) => Ok(plan),
+        None => Err(Fail::new("no plan")),
+    }
 }
 
 /// The book of a run over these usage lines, with so many workers, readers and nodes.
@@ -33,11 +83,8 @@ pub fn book_of<M: Mail, G: Gate, R: Threads + Wait + Sync>(
     threads: (u64, u64, u64),
     gate: &G,
 ) -> Result<Book, Fail> {
-    let (tis, registry, usage) = inputs(alloc, usage)?;
-    let Some(plan) = Plan::new(threads.0, threads.1, threads.2) else {
-        return Err(Fail::new("no plan"));
-    };
-    Ok(run(rt, alloc, mail, &tis, &registry, &usage, plan, gate)?)
+    let plan = plan_of(threads)?;
+    Inputs::read(alloc, usage)?.book(rt, alloc, mail, plan, gate)
 }
 
 /// The book of a run of two workers and two readers, of which the thread with a number counts as refused. None: there is no book.
@@ -47,14 +94,8 @@ fn book_cut_at<R: Threads + Wait + Sync>(
     usage: &str,
     threads: u64,
 ) -> Result<Option<Book>, Fail> {
-    let (tis, registry, usage) = inputs(alloc, usage)?;
-    let Some(plan) = Plan::new(2, 2, 1) else {
-        return Err(Fail::new("no plan"));
-    };
-    let book = run_cut(
-        rt, alloc, &LinkMail, &tis, &registry, &usage, plan, &NoGate, threads,
-    );
-    Ok(book.ok())
+    let plan = plan_of((2, 2, 1))?;
+    Ok(Inputs::read(alloc, usage)?.book_cut_at(rt, alloc, plan, threads))
 }
 
 /// The most turns that a watch waits.
@@ -104,6 +145,48 @@ pub fn assert_small_run(rt: &impl Abort, book: &Book) {
     assert_eq!(rt; book.lines(0), [(1, 30), (2, 7)].as_slice());
     assert_eq!(rt; book.lines(1), [(0, 60)].as_slice());
     assert_eq!(rt; book.lines(2), [(0, 40), (1, 20)].as_slice());
+}
+
+/// Asserts the statements of the small run with this kind of mailbox and so many workers, readers and nodes.
+fn assert_small_run_of<M: Mail, R: Abort + Threads + Wait + Sync>(
+    rt: &R,
+    alloc: Global,
+    mail: &M,
+    threads: (u64, u64, u64),
+) -> Result<(), Fail> {
+    let book = book_of(rt, alloc, mail, USES, threads, &NoGate)?;
+    assert_small_run(rt, &book);
+    Ok(())
+}
+
+/// Asserts the statements of the small run with this kind of mailbox, whatever the plan.
+pub fn assert_one_book<M: Mail, R: Abort + Threads + Wait + Sync>(
+    rt: &R,
+    alloc: Global,
+    mail: &M,
+) -> Result<(), Fail> {
+    for workers in [1, 2, 3, 8] {
+        for readers in [1, 2, 8] {
+            for nodes in [1, 2, 64] {
+                assert_small_run_of(rt, alloc, mail, (workers, readers, nodes))?;
+            }
+        }
+    }
+    Ok(())
+}
+
+/// Asserts what a run over these usage lines comes to with this kind of mailbox and so many workers, readers and nodes.
+pub fn assert_comes_to<M: Mail, R: Abort + Threads + Wait + Sync>(
+    rt: &R,
+    alloc: Global,
+    mail: &M,
+    usage: &str,
+    threads: (u64, u64, u64),
+    totals: (u128, u128, u128),
+) -> Result<(), Fail> {
+    let book = book_of(rt, alloc, mail, usage, threads, &NoGate)?;
+    assert_totals(rt, &book, totals);
+    Ok(())
 }
 
 /// Asserts how many items a run with so many workers takes from its mailboxes, which are of this kind.
@@ -199,27 +282,31 @@ fn assert_tells<R: Abort + Threads + Wait + Sync>(
     let uses = equal_uses(alloc, lines)?;
     let gate = RollCall::of(alloc, workers, lines)?;
     let _ = book_of(rt, alloc, &LinkMail, uses.as_str(), (workers, 2, 64), &gate)?;
+    assert_told(rt, &gate);
+    Ok(())
+}
+
+/// Asserts that each worker has come to a gate, and that it was told each line once and nothing else.
+fn assert_told(rt: &impl Abort, gate: &RollCall) {
     assert!(rt; gate.is_full(), "a worker has not come");
     assert_eq!(rt; gate.faults.load(Ordering::SeqCst), 0);
     for told in &gate.told {
         assert_eq!(rt; told.load(Ordering::SeqCst), 1);
     }
-    Ok(())
 }
 
-/// Asserts what a run of two workers comes to over so many equal lines and this kind of mailbox, where the gate
+/// Asserts what a run of two workers comes to over these usage lines and this kind of mailbox, where the gate
 /// holds the first worker at its first line until the other has come to some number of lines.
 fn assert_workers_meet<M: Mail, R: Abort + Threads + Wait + Sync>(
     rt: &R,
     alloc: Global,
     mail: &M,
-    lines: usize,
+    uses: &str,
     nodes: u64,
     gate: MeetingGate,
     totals: (u128, u128, u128),
 ) -> Result<(), Fail> {
-    let uses = equal_uses(alloc, lines)?;
-    let book = book_of(rt, alloc, mail, uses.as_str(), (2, 1, nodes), &gate)?;
+    let book = book_of(rt, alloc, mail, uses, (2, 1, nodes), &gate)?;
     assert!(rt;
         gate.has_met(),
         "the first worker was not let go by the other"
@@ -230,56 +317,48 @@ fn assert_workers_meet<M: Mail, R: Abort + Threads + Wait + Sync>(
 
 #[test]
 fn comes_to_one_book_whatever_the_plan(rt: HostRuntime) -> Result<(), Fail> {
-    let alloc = rt.alloc();
-    for workers in [1, 2, 3, 8] {
-        for readers in [1, 2, 8] {
-            for nodes in [1, 2, 64] {
-                let threads = (workers, readers, nodes);
-                let book = book_of(&rt, alloc, &LaneMail, USES, threads, &NoGate)?;
-                assert_small_run(&rt, &book);
-            }
-        }
-    }
-    Ok(())
+    assert_one_book(&rt, rt.alloc(), &LaneMail)
 }
 
 #[test]
 fn comes_to_a_book_of_no_lines(rt: HostRuntime) -> Result<(), Fail> {
-    let alloc = rt.alloc();
     for threads in [(1, 1, 1), (2, 2, 1), (8, 8, 64)] {
-        let book = book_of(&rt, alloc, &LaneMail, NO_USES, threads, &NoGate)?;
-        assert_totals(&rt, &book, (0, 0, 0));
+        assert_comes_to(&rt, rt.alloc(), &LaneMail, NO_USES, threads, (0, 0, 0))?;
     }
     Ok(())
+}
+
+/// The book of such a run whose threads were all started, after runs that stop at each of them.
+fn book_after_stops<R: Abort + Threads + Wait + Sync>(
+    rt: &R,
+    alloc: Global,
+    usage: &str,
+) -> Result<Book, Fail> {
+    for threads in 0..4 {
+        assert_stops(rt, alloc, usage, threads)?;
+    }
+    match book_cut_at(rt, alloc, usage, 4)? {
+        Some(book) => Ok(book),
+        None => Err(Fail::new("there are four threads, and all were started")),
+    }
 }
 
 /// The threads that were started before the one that is refused end: readers that nobody sends to, and a worker whose mailboxes are full.
 #[test]
 fn has_no_book_where_a_thread_is_refused(rt: HostRuntime) -> Result<(), Fail> {
-    let alloc = rt.alloc();
-    let uses = equal_uses(alloc, 128)?;
-    for threads in 0..4 {
-        assert_stops(&rt, alloc, USES, threads)?;
-        assert_stops(&rt, alloc, uses.as_str(), threads)?;
-    }
-    let (Some(few), Some(many)) = (
-        book_cut_at(&rt, alloc, USES, 4)?,
-        book_cut_at(&rt, alloc, uses.as_str(), 4)?,
-    ) else {
-        return Err(Fail::new("there are four threads, and all were started"));
-    };
-    assert_small_run(&rt, &few);
-    assert_totals(&rt, &many, (0, 7680, 5120));
+    let book = book_after_stops(&rt, rt.alloc(), USES)?;
+    assert_small_run(&rt, &book);
+    let uses = equal_uses(rt.alloc(), 128)?;
+    let book = book_after_stops(&rt, rt.alloc(), uses.as_str())?;
+    assert_totals(&rt, &book, (0, 7680, 5120));
     Ok(())
 }
 
 #[test]
 fn eight_workers_and_readers_share_one_node_each(rt: HostRuntime) -> Result<(), Fail> {
-    let alloc = rt.alloc();
-    let uses = equal_uses(alloc, 1000)?;
-    let book = book_of(&rt, alloc, &LaneMail, uses.as_str(), (8, 8, 1), &NoGate)?;
-    assert_totals(&rt, &book, (0, 60_000, 40_000));
-    Ok(())
+    let uses = equal_uses(rt.alloc(), 1000)?;
+    let totals = (0, 60_000, 40_000);
+    assert_comes_to(&rt, rt.alloc(), &LaneMail, uses.as_str(), (8, 8, 1), totals)
 }
 
 #[test]
@@ -303,35 +382,62 @@ fn tells_the_gate_each_line_once_and_whose_it_is(rt: HostRuntime) -> Result<(), 
     Ok(())
 }
 
+/// Asserts that two workers are at work at once over these usage lines and this kind of mailbox.
+fn assert_at_once<M: Mail, R: Abort + Threads + Wait + Sync>(
+    rt: &R,
+    alloc: Global,
+    mail: &M,
+    uses: &str,
+) -> Result<(), Fail> {
+    let gate = MeetingGate::after(1, 1_000_000);
+    assert_workers_meet(rt, alloc, mail, uses, 1, gate, (0, 7680, 5120))
+}
+
 #[test]
 fn two_workers_are_at_work_at_once(rt: HostRuntime) -> Result<(), Fail> {
-    let gate = || -> MeetingGate { MeetingGate::after(1, 1_000_000) };
-    let totals = (0, 7680, 5120);
-    assert_workers_meet(&rt, rt.alloc(), &LaneMail, 128, 1, gate(), totals)?;
-    assert_workers_meet(&rt, rt.alloc(), &LinkMail, 128, 1, gate(), totals)?;
-    let (lanes, links) = (ShyMail(LaneMail), ShyMail(LinkMail));
-    assert_workers_meet(&rt, rt.alloc(), &lanes, 128, 1, gate(), totals)?;
-    assert_workers_meet(&rt, rt.alloc(), &links, 128, 1, gate(), totals)
+    let alloc = rt.alloc();
+    let uses = equal_uses(alloc, 128)?;
+    assert_at_once(&rt, alloc, &LaneMail, uses.as_str())?;
+    assert_at_once(&rt, alloc, &LinkMail, uses.as_str())?;
+    assert_at_once(&rt, alloc, &ShyMail(LaneMail), uses.as_str())?;
+    assert_at_once(&rt, alloc, &ShyMail(LinkMail), uses.as_str())
+}
+
+/// Asserts that a worker draws while the other is held up, over these usage lines and this kind of mailbox.
+fn assert_draws_on<M: Mail, R: Abort + Threads + Wait + Sync>(
+    rt: &R,
+    alloc: Global,
+    mail: &M,
+    uses: &str,
+) -> Result<(), Fail> {
+    let gate = MeetingGate::after(129, 10_000_000);
+    assert_workers_meet(rt, alloc, mail, uses, 64, gate, (0, 15_360, 10_240))
 }
 
 /// If the blocks were dealt out before the workers start, the other worker would have 128 lines.
 #[test]
 fn a_worker_draws_while_the_other_is_held_up(rt: HostRuntime) -> Result<(), Fail> {
-    let gate = || -> MeetingGate { MeetingGate::after(129, 10_000_000) };
-    let totals = (0, 15_360, 10_240);
-    assert_workers_meet(&rt, rt.alloc(), &LaneMail, 256, 64, gate(), totals)?;
-    assert_workers_meet(&rt, rt.alloc(), &LinkMail, 256, 64, gate(), totals)
+    let uses = equal_uses(rt.alloc(), 256)?;
+    assert_draws_on(&rt, rt.alloc(), &LaneMail, uses.as_str())?;
+    assert_draws_on(&rt, rt.alloc(), &LinkMail, uses.as_str())
+}
+
+/// Asserts that the two readers of a run have met in its mailboxes, and what it comes to.
+fn assert_readers_meet<M: Mail + Drop, R: Abort + Threads + Wait + Sync>(
+    rt: &R,
+    alloc: Global,
+    mail: &MeetingMail<M>,
+) -> Result<(), Fail> {
+    assert_small_run_of(rt, alloc, mail, (1, 2, 1))?;
+    assert!(rt;
+        mail.has_met(),
+        "the first reader was not let go by the other"
+    );
+    Ok(())
 }
 
 #[test]
 fn two_readers_are_at_work_at_once(rt: HostRuntime) -> Result<(), Fail> {
-    let alloc = rt.alloc();
-    let mail = MeetingMail::new(alloc, LaneMail)?;
-    let book = book_of(&rt, alloc, &mail, USES, (1, 2, 1), &NoGate)?;
-    assert!(&rt;
-        mail.has_met(),
-        "the first reader was not let go by the other"
-    );
-    assert_small_run(&rt, &book);
-    Ok(())
+    let mail = MeetingMail::new(rt.alloc(), LaneMail)?;
+    assert_readers_meet(&rt, rt.alloc(), &mail)
 }

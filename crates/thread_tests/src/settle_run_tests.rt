@@ -1,6 +1,7 @@
 //! Runs over three small inputs. As texts go in and come out of helpers without contracts, the prover
 //! has little to follow in a test.
 
+use crate::run_threads_tests::plan_of;
 use settle_run::{Fault, settle, settle_to};
 use small_run::{NO_USES, SHORT, STATEMENTS, TERRITORIES, TWO_PARTIES, USES, equal_uses};
 use split_run::Plan;
@@ -11,7 +12,7 @@ use std::sync::Wait;
 use std::test::Fail;
 use std::thread::Threads;
 
-/// The statements of a run, or what it is refused for: as one text, and the same as it is printed.
+/// The outcome of a run that is lent its inputs: its statements, or what it is refused for.
 fn outcome<R: Threads + Wait + Sync>(
     rt: &R,
     alloc: Global,
@@ -20,21 +21,37 @@ fn outcome<R: Threads + Wait + Sync>(
 ) -> Result<String, Fail> {
     let [tis, cwr, usage] = inputs;
     let (tis, cwr, usage) = (tis.as_bytes(), cwr.as_bytes(), usage.as_bytes());
-    let lent = told(alloc, settle(rt, alloc, tis, cwr, usage, plan))?;
-    let tis = Vec::from_slice(alloc, tis)?;
-    let cwr = Vec::from_slice(alloc, cwr)?;
-    let usage = Vec::from_slice(alloc, usage)?;
+    told(alloc, settle(rt, alloc, tis, cwr, usage, plan))
+}
+
+/// What a run that is given its inputs, and prints its statements to this output, comes to.
+fn print_to<W: Write, R: Threads + Wait + Sync>(
+    rt: &R,
+    alloc: Global,
+    inputs: [&str; 3],
+    plan: Plan,
+    out: &mut W,
+) -> Result<Result<io::Result<()>, Fault>, Fail> {
+    let [tis, cwr, usage] = inputs;
+    let tis = Vec::from_slice(alloc, tis.as_bytes())?;
+    let cwr = Vec::from_slice(alloc, cwr.as_bytes())?;
+    let usage = Vec::from_slice(alloc, usage.as_bytes())?;
+    Ok(settle_to(rt, alloc, tis, cwr, usage, plan, out))
+}
+
+/// The outcome of such a run.
+fn printed_outcome<R: Threads + Wait + Sync>(
+    rt: &R,
+    alloc: Global,
+    inputs: [&str; 3],
+    plan: Plan,
+) -> Result<String, Fail> {
     let mut printed = Vec::new(alloc);
-    let given = match settle_to(rt, alloc, tis, cwr, usage, plan, &mut printed) {
-        Ok(Ok(())) => told(alloc, Ok(printed))?,
-        Ok(Err(_)) => return Err(Fail::new("memory refused a write")),
-        Err(fault) if printed.is_empty() => told(alloc, Err(fault))?,
-        Err(_) => return Err(Fail::new("a refused run has printed something")),
-    };
-    if lent.as_str() == given.as_str() {
-        Ok(lent)
-    } else {
-        Err(Fail::new("what is printed is another outcome"))
+    match print_to(rt, alloc, inputs, plan, &mut printed)? {
+        Ok(Ok(())) => told(alloc, Ok(printed)),
+        Ok(Err(_)) => Err(Fail::new("memory refused a write")),
+        Err(fault) if printed.is_empty() => told(alloc, Err(fault)),
+        Err(_) => Err(Fail::new("a refused run has printed something")),
     }
 }
 
@@ -49,47 +66,96 @@ fn told(alloc: Global, answer: Result<Vec<u8>, Fault>) -> Result<String, Fail> {
     }
 }
 
-/// Asserts the outcome of a run with three workers, one reader and one node.
+/// Asserts the outcome of a run with so many workers, readers and nodes, as one text and as it is printed.
+fn assert_outcome_of<R: Threads + Wait + Sync + Abort>(
+    rt: &R,
+    alloc: Global,
+    threads: (u64, u64, u64),
+    inputs: [&str; 3],
+    expected: &str,
+) -> Result<(), Fail> {
+    let plan = plan_of(threads)?;
+    assert_eq!(rt; outcome(rt, alloc, inputs, plan)?.as_str(), expected);
+    assert_eq!(rt;
+        printed_outcome(rt, alloc, inputs, plan)?.as_str(),
+        expected
+    );
+    Ok(())
+}
+
+/// The same with three workers, one reader and one node.
 fn assert_outcome<R: Threads + Wait + Sync + Abort>(
     rt: &R,
     alloc: Global,
     inputs: [&str; 3],
     expected: &str,
 ) -> Result<(), Fail> {
-    if let Some(plan) = Plan::new(3, 1, 1) {
-        assert_eq!(rt; outcome(rt, alloc, inputs, plan)?.as_str(), expected);
-        return Ok(());
-    }
-    Err(Fail::new("no plan"))
+    assert_outcome_of(rt, alloc, (3, 1, 1), inputs, expected)
 }
 
-/// The bytes of `row`, so many times.
-fn repeated(alloc: Global, row: &str, times: usize) -> Result<String, Fail> {
-    let mut text = String::new(alloc);
-    for _ in 0..times {
-        text.push_str(row)?;
+/// Adds the statement of a party that has so much of each of so many lines.
+fn add_statement(
+    alloc: Global,
+    rows: &mut String,
+    party: &str,
+    amount: usize,
+    lines: usize,
+) -> Result<(), Fail> {
+    let row = format!(in alloc; "L,{party},u,{amount}\n")?;
+    for _ in 0..lines {
+        rows.push_str(row.as_str())?;
     }
-    Ok(text)
+    let total = lines.wrapping_mul(amount);
+    rows.push_str(format!(in alloc; "S,{party},{lines},{total}\n")?.as_str())?;
+    Ok(())
 }
 
-/// So many lines of the first work, and the statements that they come to.
-fn many_uses(alloc: Global, count: usize) -> Result<(String, String), Fail> {
-    let uses = equal_uses(alloc, count)?;
-    let (first, second) = (
-        repeated(alloc, "L,A,u,60\n", count)?,
-        repeated(alloc, "L,B,u,40\n", count)?,
-    );
-    let (most, least) = (count.wrapping_mul(60), count.wrapping_mul(40));
-    let all = count.wrapping_mul(100);
-    let rows = format!(in alloc;
-        "{first}S,A,{count},{most}\n{second}S,B,{count},{least}\nT,,0,0\nR,,{count},{all}\n"
-    )?;
-    Ok((uses, rows))
+/// Adds the statements of so many lines of the first work.
+fn add_statements(alloc: Global, rows: &mut String, lines: usize) -> Result<(), Fail> {
+    add_statement(alloc, rows, "A", 60, lines)?;
+    add_statement(alloc, rows, "B", 40, lines)?;
+    let all = lines.wrapping_mul(100);
+    rows.push_str(format!(in alloc; "T,,0,0\nR,,{lines},{all}\n")?.as_str())?;
+    Ok(())
+}
+
+/// The statements of so many lines of the first work.
+fn many_rows(alloc: Global, lines: usize) -> Result<String, Fail> {
+    let mut rows = String::new(alloc);
+    add_statements(alloc, &mut rows, lines)?;
+    Ok(rows)
+}
+
+/// Asserts the outcome of runs over so many lines of the first work, with these workers, readers and nodes.
+fn assert_many_lines<R: Threads + Wait + Sync + Abort>(
+    rt: &R,
+    alloc: Global,
+    lines: usize,
+    plans: &[(u64, u64, u64)],
+) -> Result<(), Fail> {
+    let uses = equal_uses(alloc, lines)?;
+    let rows = many_rows(alloc, lines)?;
+    let inputs = [TERRITORIES, TWO_PARTIES, uses.as_str()];
+    assert_outcomes(rt, alloc, plans, inputs, rows.as_str())
+}
+
+/// Asserts the outcome of runs with these workers, readers and nodes.
+fn assert_outcomes<R: Threads + Wait + Sync + Abort>(
+    rt: &R,
+    alloc: Global,
+    plans: &[(u64, u64, u64)],
+    inputs: [&str; 3],
+    expected: &str,
+) -> Result<(), Fail> {
+    for threads in plans {
+        assert_outcome_of(rt, alloc, *threads, inputs, expected)?;
+    }
+    Ok(())
 }
 
 #[test]
 fn settles_whatever_the_plan(rt: HostRuntime) -> Result<(), Fail> {
-    for (workers, readers, nodes) in [
+    let plans = [
         (1, 1, 1),
         (1, 1, 64),
         (1, 8, 1),
@@ -102,14 +168,9 @@ fn settles_whatever_the_plan(rt: HostRuntime) -> Result<(), Fail> {
         (8, 1, 64),
         (8, 8, 1),
         (8, 8, 64),
-    ] {
-        let Some(plan) = Plan::new(workers, readers, nodes) else {
-            return Err(Fail::new("no plan"));
-        };
-        let text = outcome(&rt, rt.alloc(), [TERRITORIES, TWO_PARTIES, USES], plan)?;
-        assert_eq!(rt; text.as_str(), STATEMENTS);
-    }
-    Ok(())
+    ];
+    let inputs = [TERRITORIES, TWO_PARTIES, USES];
+    assert_outcomes(&rt, rt.alloc(), &plans, inputs, STATEMENTS)
 }
 
 #[test]
@@ -120,25 +181,19 @@ fn settles_no_lines(rt: HostRuntime) -> Result<(), Fail> {
 
 #[test]
 fn settles_many_lines(rt: HostRuntime) -> Result<(), Fail> {
-    let (uses, rows) = many_uses(rt.alloc(), 65)?;
-    let inputs = [TERRITORIES, TWO_PARTIES, uses.as_str()];
-    assert_outcome(&rt, rt.alloc(), inputs, rows.as_str())
+    assert_many_lines(&rt, rt.alloc(), 65, &[(3, 1, 1)])
 }
 
 /// Two payees with 10,001 rows each: a wave of four sheets has 20,002 rows in all, one of two has 16,384, and its second goes
 /// over both statements.
 #[test]
 fn prints_more_rows_than_a_wave_of_sheets_holds(rt: HostRuntime) -> Result<(), Fail> {
-    let (uses, rows) = many_uses(rt.alloc(), 10_000)?;
-    let inputs = [TERRITORIES, TWO_PARTIES, uses.as_str()];
-    for (workers, readers) in [(1, 1), (2, 2), (8, 8)] {
-        let Some(plan) = Plan::new(workers, readers, 64) else {
-            return Err(Fail::new("no plan"));
-        };
-        let text = outcome(&rt, rt.alloc(), inputs, plan)?;
-        assert!(&rt; text.as_str() == rows.as_str());
-    }
-    Ok(())
+    assert_many_lines(
+        &rt,
+        rt.alloc(),
+        10_000,
+        &[(1, 1, 64), (2, 2, 64), (8, 8, 64)],
+    )
 }
 
 #[test]
@@ -247,48 +302,59 @@ fn uses(alloc: Global, lines: u64) -> Result<String, Fail> {
     Ok(uses)
 }
 
+/// Asserts what an output of so many bytes has kept of this text, that it was written to by the sheet, and that only
+/// the whole text is printed with no error.
+fn assert_kept(rt: &impl Abort, out: &Narrow, room: usize, text: &str, is_printed: bool) {
+    assert_eq!(rt; is_printed, room == text.len());
+    assert_eq!(rt; out.kept.len(), room);
+    assert!(rt; text.as_bytes().starts_with(out.kept.as_slice()));
+    assert!(rt; out.longest < 200_000);
+    assert!(rt; !is_printed || out.writes == 5);
+}
+
 /// Asserts what a run prints to an output that takes so many bytes: the first of its text.
 fn assert_prints<R: Abort + Threads + Wait + Sync>(
     rt: &R,
     alloc: Global,
-    uses: &str,
+    inputs: [&str; 3],
     plan: Plan,
     text: &str,
     room: usize,
 ) -> Result<(), Fail> {
-    let tis = Vec::from_slice(alloc, TERRITORIES.as_bytes())?;
-    let cwr = Vec::from_slice(alloc, TWO_PARTIES.as_bytes())?;
-    let usage = Vec::from_slice(alloc, uses.as_bytes())?;
     let mut out = Narrow {
         room,
         kept: Vec::new(alloc),
         writes: 0,
         longest: 0,
     };
-    let Ok(printed) = settle_to(rt, alloc, tis, cwr, usage, plan, &mut out) else {
+    let Ok(printed) = print_to(rt, alloc, inputs, plan, &mut out)? else {
         return Err(Fail::new("a run is refused for its output"));
     };
-    assert_eq!(rt; printed.is_ok(), room == text.len());
-    assert_eq!(rt; out.kept.len(), room);
-    assert!(rt; text.as_bytes().starts_with(out.kept.as_slice()));
-    assert!(rt; out.longest < 200_000);
-    assert!(rt; printed.is_err() || out.writes == 5);
+    assert_kept(rt, &out, room, text, printed.is_ok());
+    Ok(())
+}
+
+/// Asserts what a run prints to outputs that take some of its text or all of it.
+fn assert_prints_to_any<R: Abort + Threads + Wait + Sync>(
+    rt: &R,
+    alloc: Global,
+    inputs: [&str; 3],
+    plan: Plan,
+    text: &str,
+) -> Result<(), Fail> {
+    assert!(rt; text.len() > 300_000);
+    for room in [0, 1, 131_072, text.len() - 1, text.len()] {
+        assert_prints(rt, alloc, inputs, plan, text, room)?;
+    }
     Ok(())
 }
 
 /// Of 24,002 rows of payees two sheets of 8,192 are written, two of the rest, and what is below them.
 #[test]
 fn prints_by_the_sheet(rt: HostRuntime) -> Result<(), Fail> {
-    let alloc = rt.alloc();
+    let (alloc, plan) = (rt.alloc(), plan_of((1, 1, 1))?);
     let uses = uses(alloc, 12_000)?;
-    let Some(plan) = Plan::new(1, 1, 1) else {
-        return Err(Fail::new("no plan"));
-    };
     let inputs = [TERRITORIES, TWO_PARTIES, uses.as_str()];
     let text = outcome(&rt, alloc, inputs, plan)?;
-    assert!(rt; text.len() > 300_000);
-    for room in [0, 1, 131_072, text.len() - 1, text.len()] {
-        assert_prints(&rt, alloc, uses.as_str(), plan, text.as_str(), room)?;
-    }
-    Ok(())
+    assert_prints_to_any(&rt, alloc, inputs, plan, text.as_str())
 }

@@ -6,7 +6,7 @@ ghost use Rattle.block_draw.specs.Views.{drawer_of};
 ghost use Rattle.split_run.specs.Running.{IsFresh};
 ghost use Rattle.split_run.specs.Sending.{AreFresh, AreReadyFor};
 
-use crate::run_threads_tests::{inputs, watch};
+use crate::run_threads_tests::{Inputs, watch};
 use line_split::{MOST_CLAIMS, Portions};
 use mail_box::{Item, LaneMail, LaneReceiver, LaneSender, Mail, receive};
 use small_run::{NO_USES, USES};
@@ -73,6 +73,31 @@ fn assert_gives<R: Abort + Wait>(rt: &R, receiver: &mut LaneReceiver, items: &[I
     assert_eq!(rt; receive::<LaneMail, R>(rt, receiver), None);
 }
 
+/// What the only worker of a run over these inputs, with three usage lines, answers over these senders and by this drawer.
+fn work_by<G: Gate, R: Abort + Wait>(
+    rt: &R,
+    alloc: Global,
+    senders: &mut [LaneSender],
+    inputs: &Inputs,
+    drawer: &mut Drawer,
+    gate: &G,
+    stop: &AtomicBool,
+) -> Result<bool, Fail>
+    requires fresh { AreFresh (map sender_of senders.old) }
+    requires ready { AreReadyFor (map sender_of senders.old) 3 }
+    requires drawer { IsFresh 3 (drawer_of drawer.old) }
+{
+    let (tis, registry, usage) = (&inputs.tis, &inputs.registry, &inputs.usage);
+    assert_eq!(rt; registry.accounts() as usize, senders.len());
+    assert_eq!(rt; usage.len(), 3);
+    let mut claims = registry.scratch(alloc)?;
+    let mut portions = Portions::room(alloc, MOST_CLAIMS + 1)?;
+    let (claims, portions) = (&mut claims, &mut portions);
+    Ok(work::<LaneMail, G, R>(
+        rt, senders, tis, registry, usage, drawer, 0, claims, portions, gate, stop,
+    ))
+}
+
 /// What the only worker of a run over three usage lines answers over these senders.
 fn work_alone<G: Gate, R: Abort + Wait>(
     rt: &R,
@@ -85,25 +110,9 @@ fn work_alone<G: Gate, R: Abort + Wait>(
     requires fresh { AreFresh (map sender_of senders.old) }
     requires ready { AreReadyFor (map sender_of senders.old) 3 }
 {
-    let (tis, registry, usage) = inputs(alloc, usage)?;
-    let mut claims = registry.scratch(alloc)?;
-    let mut portions = Portions::room(alloc, MOST_CLAIMS + 1)?;
+    let inputs = Inputs::read(alloc, usage)?;
     let mut drawer = only_drawer(alloc)?;
-    assert_eq!(rt; registry.accounts() as usize, senders.len());
-    assert_eq!(rt; usage.len(), 3);
-    Ok(work::<LaneMail, G, R>(
-        rt,
-        senders,
-        &tis,
-        &registry,
-        &usage,
-        &mut drawer,
-        0,
-        &mut claims,
-        &mut portions,
-        gate,
-        stop,
-    ))
+    work_by(rt, alloc, senders, &inputs, &mut drawer, gate, stop)
 }
 
 /// A gate that counts the lines that it is told.
@@ -134,8 +143,10 @@ fn assert_work<R: Abort + Wait>(
         told: AtomicU64::new(0),
     };
     let is_done = work_alone(rt, alloc, &mut senders, USES, &gate, &stop)?;
-    assert_eq!(rt; is_done, !is_stopped);
-    assert_eq!(rt; gate.told.load(Ordering::SeqCst), told);
+    assert_eq!(rt;
+        (is_done, gate.told.load(Ordering::SeqCst)),
+        (!is_stopped, told)
+    );
     for account in 0..3 {
         assert_eq!(rt; LaneMail::left(&senders[account]), left[account]);
         assert_gives(rt, &mut receivers[account], items[account]);
