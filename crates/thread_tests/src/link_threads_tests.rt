@@ -1,6 +1,6 @@
 //! A mailbox of linked nodes between threads: what each sender sends is received once and in order, however often its nodes are used again.
 
-ghost use Rattle.std.specs.Prelude.{◌<◌, ◌≤◌};
+ghost use Rattle.std.specs.Prelude.{◌<◌, ◌≤◌, unsigned_abs};
 
 use crate::mail_rows::open_two;
 use mail_box::{Item, LinkMail, LinkReceiver, LinkSender, Posted, Took};
@@ -17,10 +17,11 @@ const POSTS: u64 = 666_667;
 const MOST_TURNS: u64 = 1_000_000_000;
 
 /// The amount of a sender's post.
-fn amount_of(sender: u64, line: u64) -> u64
-    ensures { (0 < result) × (result ≤ 1000000000000) }
+fn amount_of(sender: u64, line: u64) -> i64
+    ensures { (0 < unsigned_abs result) × (unsigned_abs result ≤ 1000000000000) }
 {
-    sender % 8 * 1_000_000 + line % 1_000_000 + 1
+    let size = (sender % 8 * 1_000_000 + line % 1_000_000 + 1) as i64;
+    if line % 2 == 0 { size } else { -size }
 }
 
 /// Sends a post, once there is a node for it.

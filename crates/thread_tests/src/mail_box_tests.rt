@@ -82,14 +82,14 @@ fn has_room_for_its_nodes(rt: HostRuntime) -> Result<(), Fail> {
     let (mut sender, _, mut receiver) = open_two(rt.alloc(), &LaneMail, 3, 4)?;
     let rows = "\
 0 posts 0 1: Sent
-0 posts 999999 1000000000000: Sent
-0 posts 7 7: Sent
+0 posts 999999 -1000000000000: Sent
+0 posts 7 -7: Sent
 0 posts 8 8: Full
 takes: Held((0, Post { line: 0, amount: 1 }))
 0 posts 8 8: Sent
 0 is: 0 0 false
-takes: Held((0, Post { line: 999999, amount: 1000000000000 }))
-takes: Held((0, Post { line: 7, amount: 7 }))
+takes: Held((0, Post { line: 999999, amount: -1000000000000 }))
+takes: Held((0, Post { line: 7, amount: -7 }))
 takes: Held((0, Post { line: 8, amount: 8 }))
 takes: Empty
 ";

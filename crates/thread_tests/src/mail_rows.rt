@@ -20,14 +20,14 @@ fn post<M: Mail, R: Wait>(
     rt: &R,
     sender: &mut M::Sender,
     line: u64,
-    amount: u64,
+    amount: i64,
 ) -> Result<Posted, Fail>
     ensures { (M.sender sender.new).mailbox ≡ (M.sender sender.old).mailbox }
 {
     if M::ended(sender) || M::left(sender) == 0 {
         return Err(Fail::new("the sender has ended, or has no post left"));
     }
-    if line > 999_999 || amount == 0 || amount > 1_000_000_000_000 {
+    if line > 999_999 || amount == 0 || amount.unsigned_abs() > 1_000_000_000_000 {
         return Err(Fail::new("the line or the amount is out of range"));
     }
     Ok(M::try_send(rt, sender, line, amount))

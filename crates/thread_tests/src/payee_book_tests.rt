@@ -5,7 +5,7 @@ ghost use Rattle.payee_book.specs.Statement.{AreApart};
 
 use line_split::{Account, MOST_AMOUNT, Reason, Usage};
 use payee_book::{Book, Journal};
-use small_run::{NO_USES, USES};
+use small_run::{NO_USES, STATEMENTS_TAKEN_BACK, USES, USES_TAKEN_BACK};
 use std::alloc::Global;
 use std::process::Abort;
 use std::test::Fail;
@@ -39,13 +39,13 @@ fn book_with(
     rt: &impl Abort,
     alloc: Global,
     accounts: u16,
-    postings: &[(Account, u64, u64)],
+    postings: &[(Account, u64, i64)],
 ) -> Result<Book, Fail>
     requires { 0 < accounts }
 {
     let mut book = Book::open(alloc, accounts)?;
     for posting in postings {
-        assert!(rt; posting.0 < book.accounts() && posting.2 <= MOST_AMOUNT);
+        assert!(rt; posting.0 < book.accounts() && posting.2.unsigned_abs() <= MOST_AMOUNT);
         book.post(posting.0, posting.1, posting.2)?;
     }
     Ok(book)
@@ -56,8 +56,8 @@ fn assert_statement(
     rt: &impl Abort,
     book: &Book,
     account: Account,
-    postings: &[(u64, u64)],
-    total: u128,
+    postings: &[(u64, i64)],
+    total: i128,
 ) {
     assert!(rt; account < book.accounts());
     assert_eq!(rt; book.lines(account), postings);
@@ -116,14 +116,22 @@ fn keeps_postings_in_order(rt: HostRuntime) -> Result<(), Fail> {
 fn keeps_postings_of_one_line_by_amount(rt: HostRuntime) -> Result<(), Fail> {
     let postings = [
         (0, 7, 5),
-        (0, 999_999, 1_000_000_000_000),
-        (0, 7, 3),
+        (0, 999_999, -1_000_000_000_000),
+        (0, 7, -9),
         (0, 7, 5),
+        (0, 7, 0),
         (0, 0, 1),
     ];
     let book = book_with(&rt, rt.alloc(), 1, &postings)?;
-    let sorted = [(0, 1), (7, 3), (7, 5), (7, 5), (999_999, 1_000_000_000_000)];
-    assert_statement(&rt, &book, 0, &sorted, 1_000_000_000_014);
+    let sorted = [
+        (0, 1),
+        (7, -9),
+        (7, 0),
+        (7, 5),
+        (7, 5),
+        (999_999, -1_000_000_000_000),
+    ];
+    assert_statement(&rt, &book, 0, &sorted, -999_999_999_998);
     Ok(())
 }
 
@@ -143,6 +151,29 @@ fn writes_the_statements(rt: HostRuntime) -> Result<(), Fail> {
                 T,,2,37\n\
                 R,,3,157\n";
     assert_text(&rt, rt.alloc(), &book, USES, &names, &reasons, want)
+}
+
+#[test]
+fn writes_what_is_taken_back(rt: HostRuntime) -> Result<(), Fail> {
+    let postings = [
+        (1, 0, 60),
+        (1, 2, -60),
+        (2, 0, 40),
+        (2, 1, -20),
+        (2, 2, -40),
+        (0, 1, -30),
+        (0, 3, -7),
+    ];
+    let book = book_with(&rt, rt.alloc(), 3, &postings)?;
+    assert_text(
+        &rt,
+        rt.alloc(),
+        &book,
+        USES_TAKEN_BACK,
+        &["", "A", "B"],
+        &[Reason::Open, Reason::Open, Reason::Open, Reason::Work],
+        STATEMENTS_TAKEN_BACK,
+    )
 }
 
 #[test]
@@ -171,7 +202,7 @@ fn repeated(
 }
 
 /// Postings of 2 of the first so many lines to the residue.
-fn residue_of_lines(alloc: Global, lines: u64) -> Result<Vec<(Account, u64, u64)>, Fail> {
+fn residue_of_lines(alloc: Global, lines: u64) -> Result<Vec<(Account, u64, i64)>, Fail> {
     let mut postings = Vec::new(alloc);
     for line in 0..lines {
         postings.push((0, line, 2))?;
@@ -183,7 +214,7 @@ fn residue_of_lines(alloc: Global, lines: u64) -> Result<Vec<(Account, u64, u64)
 fn assert_many_lines<R: Threads + Sync + Abort>(
     rt: &R,
     alloc: Global,
-    postings: &[(Account, u64, u64)],
+    postings: &[(Account, u64, i64)],
     reasons: &[Reason],
 ) -> Result<(), Fail> {
     let book = book_with(rt, alloc, 1, postings)?;
@@ -228,10 +259,10 @@ fn joins_what_two_books_have(rt: HostRuntime) -> Result<(), Fail> {
 }
 
 /// A journal of two accounts with these postings of the second, each a line and an amount.
-fn journal_with(rt: &impl Abort, alloc: Global, postings: &[(u64, u64)]) -> Result<Journal, Fail> {
+fn journal_with(rt: &impl Abort, alloc: Global, postings: &[(u64, i64)]) -> Result<Journal, Fail> {
     let mut journal = Journal::open(alloc, 2)?;
     for posting in postings {
-        assert!(rt; journal.accounts() == 2 && posting.1 <= MOST_AMOUNT);
+        assert!(rt; journal.accounts() == 2 && posting.1.unsigned_abs() <= MOST_AMOUNT);
         journal.record(1, posting.0, posting.1)?;
     }
     Ok(journal)
@@ -239,10 +270,10 @@ fn journal_with(rt: &impl Abort, alloc: Global, postings: &[(u64, u64)]) -> Resu
 
 #[test]
 fn a_journal_has_its_postings_in_order_once_it_is_a_book(rt: HostRuntime) -> Result<(), Fail> {
-    let postings = [(7, 5), (999_999, 1), (2, 3), (7, 3), (7, 5)];
+    let postings = [(7, 5), (999_999, -1), (2, 3), (7, -3), (7, 5)];
     let book = journal_with(&rt, rt.alloc(), &postings)?.into_book();
-    let sorted = [(2, 3), (7, 3), (7, 5), (7, 5), (999_999, 1)];
-    assert_statement(&rt, &book, 1, &sorted, 17);
+    let sorted = [(2, 3), (7, -3), (7, 5), (7, 5), (999_999, -1)];
+    assert_statement(&rt, &book, 1, &sorted, 9);
     assert_statement(&rt, &book, 0, &[], 0);
     Ok(())
 }

@@ -134,7 +134,7 @@ fn assert_stops<R: Abort + Threads + Wait + Sync>(
 }
 
 /// Asserts the totals of the residue and the two parties.
-pub fn assert_totals(rt: &impl Abort, book: &Book, totals: (u128, u128, u128)) {
+pub fn assert_totals(rt: &impl Abort, book: &Book, totals: (i128, i128, i128)) {
     assert_eq!(rt; book.accounts(), 3);
     assert_eq!(rt; (book.total(0), book.total(1), book.total(2)), totals);
 }
@@ -182,7 +182,7 @@ pub fn assert_comes_to<M: Mail, R: Abort + Threads + Wait + Sync>(
     mail: &M,
     usage: &str,
     threads: (u64, u64, u64),
-    totals: (u128, u128, u128),
+    totals: (i128, i128, i128),
 ) -> Result<(), Fail> {
     let book = book_of(rt, alloc, mail, usage, threads, &NoGate)?;
     assert_totals(rt, &book, totals);
@@ -304,7 +304,7 @@ fn assert_workers_meet<M: Mail, R: Abort + Threads + Wait + Sync>(
     uses: &str,
     nodes: u64,
     gate: MeetingGate,
-    totals: (u128, u128, u128),
+    totals: (i128, i128, i128),
 ) -> Result<(), Fail> {
     let book = book_of(rt, alloc, mail, uses, (2, 1, nodes), &gate)?;
     assert!(rt;

@@ -3,7 +3,10 @@
 
 use crate::run_threads_tests::plan_of;
 use settle_run::{Fault, settle, settle_to};
-use small_run::{NO_USES, SHORT, STATEMENTS, TERRITORIES, TWO_PARTIES, USES, equal_uses};
+use small_run::{
+    NO_USES, SHORT, STATEMENTS, STATEMENTS_TAKEN_BACK, TERRITORIES, TWO_PARTIES, USES,
+    USES_TAKEN_BACK, equal_uses,
+};
 use split_run::Plan;
 use std::alloc::Global;
 use std::io::{self, Write};
@@ -151,6 +154,12 @@ fn assert_outcomes<R: Threads + Wait + Sync + Abort>(
         assert_outcome_of(rt, alloc, *threads, inputs, expected)?;
     }
     Ok(())
+}
+
+#[test]
+fn settles_what_is_taken_back(rt: HostRuntime) -> Result<(), Fail> {
+    let inputs = [TERRITORIES, TWO_PARTIES, USES_TAKEN_BACK];
+    assert_outcome(&rt, rt.alloc(), inputs, STATEMENTS_TAKEN_BACK)
 }
 
 #[test]

@@ -156,7 +156,7 @@ fn assert_work<R: Abort + Wait>(
 
 #[test]
 fn a_worker_sends_what_its_lines_come_to(rt: HostRuntime) -> Result<(), Fail> {
-    let post = |line: u64, amount: u64| -> Item { Item::Post { line, amount } };
+    let post = |line: u64, amount: i64| -> Item { Item::Post { line, amount } };
     let to_residue = [post(1, 30), post(2, 7), Item::End];
     let to_first = [post(0, 60), Item::End];
     let to_second = [post(0, 40), post(1, 20), Item::End];
