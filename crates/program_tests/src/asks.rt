@@ -1,18 +1,63 @@
-//! What the rows of a test ask (`rows`): a question is a line of words, which stand one blank apart, and its answer
+//! What the rows of a test ask (`rows`). A question is a line of words, which stand one blank apart, and its answer
 //! is what the program does with them.
 //!
 //! An answer has the status, and in brackets what went to standard output and to standard error, with a stroke `|` for
 //! each line end.
 
 use crate::outputs::{Held, Narrow, Stopped};
-use crate::rows::Ask;
-use royalty_program::program;
+use cwr_share::CwrFault;
+use line_split::LineFault;
+use pair_split::PairFault;
+use royalty_program::{Failure, program, words_of};
+use settle_run::Fault;
 use std::alloc::Global;
-use std::io::Write;
+use std::io::{self, Write};
 use std::rt::Files;
 use std::sync::Wait;
 use std::test::Fail;
 use std::thread::Threads;
+use tis_tree::TisFault;
+
+#[derive(Clone, Copy)]
+pub enum Ask {
+    /// The answer to a line of words.
+    Whole,
+    /// The answer to words with a `/` between them, which may have blanks in them.
+    WithBlanks,
+    /// How the answer begins: of a text of more than `over` bytes the first `shown`, and then two dots.
+    Beginning { over: usize, shown: usize },
+    /// Who tells of a text, which a question has in brackets after the words: the status, and which of the outputs has it.
+    Teller,
+    /// What comes through two outputs that hold their bytes back.
+    ThroughHeld,
+    /// The same where standard output cannot bring its bytes through.
+    ThroughStopped,
+    /// What two outputs have that take so many bytes each, refuse once, and then take all. A question has the two numbers before the words.
+    ThroughNarrow,
+    /// The text of a failure. A question has its name.
+    TextOfFailure,
+}
+
+/// The answer to a question.
+pub fn answer_of<R: Files + Threads + Wait + Sync>(
+    rt: &R,
+    alloc: Global,
+    ask: Ask,
+    question: &str,
+) -> Result<String, Fail> {
+    match ask {
+        Ask::Whole => Answer::to_line(rt, alloc, question, ' ')?.told(alloc),
+        Ask::WithBlanks => Answer::to_line(rt, alloc, question, '/')?.told(alloc),
+        Ask::Beginning { over, shown } => {
+            Answer::to_line(rt, alloc, question, ' ')?.beginning(alloc, over, shown)
+        }
+        Ask::Teller => teller_of(rt, alloc, question),
+        Ask::ThroughHeld => through_held(rt, alloc, question),
+        Ask::ThroughStopped => through_stopped(rt, alloc, question),
+        Ask::ThroughNarrow => through_narrow(rt, alloc, question),
+        Ask::TextOfFailure => text_of_failure(alloc, &failure_named(alloc, question)?),
+    }
+}
 
 /// The words of a line, which stand so far apart.
 pub fn words(alloc: Global, line: &str, between: char) -> Result<Vec<String>, Fail> {
@@ -36,7 +81,7 @@ pub fn status_of<R: Files + Threads + Wait + Sync, W: Write, E: Write>(
 }
 
 /// A text on one line, with a stroke for each line end.
-pub fn on_one_line(alloc: Global, text: &str) -> Result<String, Fail> {
+fn on_one_line(alloc: Global, text: &str) -> Result<String, Fail> {
     let mut line = String::new(alloc);
     for letter in text.chars() {
         line.push(if letter == '\n' { '|' } else { letter })?;
@@ -53,6 +98,20 @@ fn text_of(bytes: &[u8]) -> &str {
 fn told(alloc: Global, status: u8, out: &[u8], err: &[u8]) -> Result<String, Fail> {
     let text = format!(in alloc; "{status} [{}] [{}]", text_of(out), text_of(err))?;
     on_one_line(alloc, text.as_str())
+}
+
+/// How a text begins.
+fn beginning(alloc: Global, bytes: &[u8], over: usize, shown: usize) -> Result<String, Fail> {
+    if bytes.len() <= over {
+        return Ok(String::from_str(alloc, text_of(bytes))?);
+    }
+    let first = &bytes[..shown.min(bytes.len())];
+    Ok(format!(in alloc; "{}..", text_of(first))?)
+}
+
+/// Whether an output has the text in it, which has a stroke for each line end.
+fn has(alloc: Global, bytes: &[u8], text: &str) -> Result<bool, Fail> {
+    Ok(on_one_line(alloc, text_of(bytes))?.as_str().contains(text))
 }
 
 /// What a run of the program answers: its status, standard output and standard error.
@@ -86,182 +145,65 @@ impl Answer {
     pub fn told(&self, alloc: Global) -> Result<String, Fail> {
         told(alloc, self.status, self.out.as_slice(), self.err.as_slice())
     }
-}
 
-/// What the program answers to words that stand so far apart.
-#[derive(Clone, Copy)]
-pub struct Ran<'a, R> {
-    pub rt: &'a R,
-    pub between: char,
-}
+    fn beginning(&self, alloc: Global, over: usize, shown: usize) -> Result<String, Fail> {
+        let out = beginning(alloc, self.out.as_slice(), over, shown)?;
+        let err = beginning(alloc, self.err.as_slice(), over, shown)?;
+        told(alloc, self.status, out.as_bytes(), err.as_bytes())
+    }
 
-impl<'a, R: Files + Threads + Wait + Sync> Ask for Ran<'a, R> {
-    fn answer(&self, alloc: Global, question: &str) -> Result<String, Fail> {
-        Answer::to_line(self.rt, alloc, question, self.between)?.told(alloc)
+    /// Which of the outputs has the text in it, and no other.
+    fn teller(&self, alloc: Global, text: &str) -> Result<&'static str, Fail> {
+        let out = has(alloc, self.out.as_slice(), text)?;
+        let err = has(alloc, self.err.as_slice(), text)?;
+        Ok(match (out, err) {
+            (true, false) => "out",
+            (false, true) => "err",
+            (true, true) => "both",
+            (false, false) => "neither",
+        })
+    }
+
+    fn told_of(&self, alloc: Global, text: &str) -> Result<String, Fail> {
+        let teller = self.teller(alloc, text)?;
+        Ok(format!(in alloc; "{} {teller}", self.status)?)
     }
 }
 
-/// How the answer begins: of a text of more than `over` bytes the first `shown`, and then two dots.
-#[derive(Clone, Copy)]
-pub struct Begun<'a, R> {
-    pub rt: &'a R,
-    pub over: usize,
-    pub shown: usize,
+fn teller_of<R: Files + Threads + Wait + Sync>(
+    rt: &R,
+    alloc: Global,
+    question: &str,
+) -> Result<String, Fail> {
+    let (line, text) = question.split_once(" [").unwrap_or((question, ""));
+    let text = text.strip_suffix(']').unwrap_or("no brackets");
+    Answer::to_line(rt, alloc, line, ' ')?.told_of(alloc, text)
 }
 
-/// How a text begins.
-fn beginning(alloc: Global, bytes: &[u8], over: usize, shown: usize) -> Result<String, Fail> {
-    if bytes.len() <= over {
-        return Ok(String::from_str(alloc, text_of(bytes))?);
-    }
-    let first = &bytes[..shown.min(bytes.len())];
-    Ok(format!(in alloc; "{}..", text_of(first))?)
+fn through_held<R: Files + Threads + Wait + Sync>(
+    rt: &R,
+    alloc: Global,
+    line: &str,
+) -> Result<String, Fail> {
+    let mut out = Held::new(alloc);
+    let mut err = Held::new(alloc);
+    let status = status_of(rt, alloc, line, &mut out, &mut err)?;
+    told(
+        alloc,
+        status,
+        out.through.as_slice(),
+        err.through.as_slice(),
+    )
 }
 
-impl<'a, R> Begun<'a, R> {
-    fn told(&self, alloc: Global, answer: &Answer) -> Result<String, Fail> {
-        let out = beginning(alloc, answer.out.as_slice(), self.over, self.shown)?;
-        let err = beginning(alloc, answer.err.as_slice(), self.over, self.shown)?;
-        told(alloc, answer.status, out.as_bytes(), err.as_bytes())
-    }
-}
-
-impl<'a, R: Files + Threads + Wait + Sync> Ask for Begun<'a, R> {
-    fn answer(&self, alloc: Global, question: &str) -> Result<String, Fail> {
-        self.told(alloc, &Answer::to_line(self.rt, alloc, question, ' ')?)
-    }
-}
-
-/// Where the program tells of something. A question has it in brackets after the words, with a stroke for each line
-/// end; the answer has the status, and whether standard output or standard error tells of it.
-#[derive(Clone, Copy)]
-pub struct Tells<'a, R> {
-    pub rt: &'a R,
-}
-
-/// Whether an output has the text in it, which has a stroke for each line end.
-fn has(alloc: Global, bytes: &[u8], text: &str) -> Result<bool, Fail> {
-    Ok(on_one_line(alloc, text_of(bytes))?.as_str().contains(text))
-}
-
-/// Which of the outputs has the text in it, and no other.
-fn teller(alloc: Global, answer: &Answer, text: &str) -> Result<&'static str, Fail> {
-    let out = has(alloc, answer.out.as_slice(), text)?;
-    let err = has(alloc, answer.err.as_slice(), text)?;
-    Ok(match (out, err) {
-        (true, false) => "out",
-        (false, true) => "err",
-        (true, true) => "both",
-        (false, false) => "neither",
-    })
-}
-
-fn told_of(alloc: Global, answer: &Answer, text: &str) -> Result<String, Fail> {
-    let teller = teller(alloc, answer, text)?;
-    Ok(format!(in alloc; "{} {teller}", answer.status)?)
-}
-
-impl<'a, R: Files + Threads + Wait + Sync> Ask for Tells<'a, R> {
-    fn answer(&self, alloc: Global, question: &str) -> Result<String, Fail> {
-        let (line, text) = question.split_once(" [").unwrap_or((question, ""));
-        let text = text.strip_suffix(']').unwrap_or("no brackets");
-        told_of(alloc, &Answer::to_line(self.rt, alloc, line, ' ')?, text)
-    }
-}
-
-/// The program's own names that are words of its grammar, or nothing.
-const ODD_NAMES: [&str; 6] = ["split", "run", "--help", "--version", "--", ""];
-
-/// The answer that is the same whatever the program's own name, or the first that is another. A question has the words after the name.
-#[derive(Clone, Copy)]
-pub struct UnderAnyName<'a, A> {
-    pub asked: &'a A,
-}
-
-impl<'a, A: Ask> UnderAnyName<'a, A> {
-    /// The answer under a name.
-    fn under(&self, alloc: Global, name: &str, words: &str) -> Result<String, Fail> {
-        let line = format!(in alloc; "{name} {words}")?;
-        self.asked.answer(alloc, line.as_str())
-    }
-
-    /// The first name under which the answer is another.
-    fn odd_name(
-        &self,
-        alloc: Global,
-        words: &str,
-        answer: &str,
-    ) -> Result<Option<&'static str>, Fail> {
-        for name in ODD_NAMES {
-            if self.under(alloc, name, words)?.as_str() != answer {
-                return Ok(Some(name));
-            }
-        }
-        Ok(None)
-    }
-}
-
-impl<'a, A: Ask> Ask for UnderAnyName<'a, A> {
-    fn answer(&self, alloc: Global, question: &str) -> Result<String, Fail> {
-        let answer = self.under(alloc, "r", question)?;
-        match self.odd_name(alloc, question, answer.as_str())? {
-            Some(name) => self.under(alloc, name, question),
-            None => Ok(answer),
-        }
-    }
-}
-
-/// What comes through two outputs that hold their bytes back.
-#[derive(Clone, Copy)]
-pub struct BroughtThrough<'a, R> {
-    pub rt: &'a R,
-}
-
-impl<'a, R: Files + Threads + Wait + Sync> Ask for BroughtThrough<'a, R> {
-    fn answer(&self, alloc: Global, question: &str) -> Result<String, Fail> {
-        let mut out = Held::new(alloc);
-        let mut err = Held::new(alloc);
-        let status = status_of(self.rt, alloc, question, &mut out, &mut err)?;
-        told(
-            alloc,
-            status,
-            out.through.as_slice(),
-            err.through.as_slice(),
-        )
-    }
-}
-
-/// What the program answers where standard output cannot bring its bytes through.
-#[derive(Clone, Copy)]
-pub struct NotBroughtThrough<'a, R> {
-    pub rt: &'a R,
-}
-
-impl<'a, R: Files + Threads + Wait + Sync> Ask for NotBroughtThrough<'a, R> {
-    fn answer(&self, alloc: Global, question: &str) -> Result<String, Fail> {
-        let mut err = Vec::new(alloc);
-        let status = status_of(self.rt, alloc, question, &mut Stopped {}, &mut err)?;
-        told(alloc, status, &[], err.as_slice())
-    }
-}
-
-/// What two outputs have that take so many bytes, refuse once, and then take all. A question has the two numbers before the words.
-#[derive(Clone, Copy)]
-pub struct Refusing<'a, R> {
-    pub rt: &'a R,
-}
-
-impl<'a, R: Files + Threads + Wait + Sync> Refusing<'a, R> {
-    fn told(
-        &self,
-        alloc: Global,
-        line: &str,
-        out: &mut Narrow,
-        err: &mut Narrow,
-    ) -> Result<String, Fail> {
-        let status = status_of(self.rt, alloc, line, out, err)?;
-        told(alloc, status, out.kept.as_slice(), err.kept.as_slice())
-    }
+fn through_stopped<R: Files + Threads + Wait + Sync>(
+    rt: &R,
+    alloc: Global,
+    line: &str,
+) -> Result<String, Fail> {
+    let mut err = Vec::new(alloc);
+    let status = status_of(rt, alloc, line, &mut Stopped {}, &mut err)?;
+    told(alloc, status, &[], err.as_slice())
 }
 
 /// The number before the first blank, and what follows it.
@@ -270,12 +212,43 @@ fn number_first(text: &str) -> Result<(usize, &str), Fail> {
     Ok((number.parse::<usize>()?, rest))
 }
 
-impl<'a, R: Files + Threads + Wait + Sync> Ask for Refusing<'a, R> {
-    fn answer(&self, alloc: Global, question: &str) -> Result<String, Fail> {
-        let (out_room, rest) = number_first(question)?;
-        let (err_room, line) = number_first(rest)?;
-        let mut out = Narrow::with_room(alloc, out_room);
-        let mut err = Narrow::with_room(alloc, err_room);
-        self.told(alloc, line, &mut out, &mut err)
+fn through_narrow<R: Files + Threads + Wait + Sync>(
+    rt: &R,
+    alloc: Global,
+    question: &str,
+) -> Result<String, Fail> {
+    let (out_room, rest) = number_first(question)?;
+    let (err_room, line) = number_first(rest)?;
+    let mut out = Narrow::with_room(alloc, out_room);
+    let mut err = Narrow::with_room(alloc, err_room);
+    let status = status_of(rt, alloc, line, &mut out, &mut err)?;
+    told(alloc, status, out.kept.as_slice(), err.kept.as_slice())
+}
+
+/// Why there are no words, by the kind of the error.
+fn failure_of_words(alloc: Global, kind: io::ErrorKind) -> Result<Failure, Fail> {
+    match words_of(alloc, Err(io::Error::from(kind))) {
+        Ok(_) => Err(Fail::new("an error is taken for words")),
+        Err(failure) => Ok(failure),
     }
+}
+
+fn failure_named(alloc: Global, name: &str) -> Result<Failure, Fail> {
+    match name {
+        "the share of pair 7" => Ok(Failure::from(PairFault::Share(7))),
+        "too many pairs" => Ok(Failure::from(PairFault::Many)),
+        "memory of pairs" => Ok(Failure::from(PairFault::Memory)),
+        "words that are no text" => failure_of_words(alloc, io::ErrorKind::InvalidData),
+        "other words" => failure_of_words(alloc, io::ErrorKind::Other),
+        "too many territories" => Ok(Failure::from(Fault::Tis(TisFault::Rows))),
+        "too many parties" => Ok(Failure::from(Fault::Cwr(CwrFault::Accounts))),
+        "too many lines" => Ok(Failure::from(Fault::Usage(LineFault::Lines))),
+        "memory of a run" => Ok(Failure::from(Fault::Room)),
+        _ => Err(Fail::new("no such failure")),
+    }
+}
+
+fn text_of_failure(alloc: Global, failure: &Failure) -> Result<String, Fail> {
+    let text = format!(in alloc; "{failure}")?;
+    on_one_line(alloc, text.as_str())
 }

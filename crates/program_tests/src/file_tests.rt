@@ -3,9 +3,9 @@
 //! A test gives rows of text, each a question and, after an arrow, its answer (`rows`, `asks`). In a question `@tis`,
 //! `@cwr` and `@usage` stand for the paths of its three files.
 
-use crate::asks::{Begun, Ran, Refusing, on_one_line, status_of};
+use crate::asks::{Ask, status_of};
 use crate::outputs::Measured;
-use crate::rows::{Ask, all_answered, assert_rows};
+use crate::rows::{Asked, all_answered, assert_rows, plain};
 use small_run::{NO_USES, SHORT, TERRITORIES, TWO_PARTIES, USES};
 use std::alloc::Global;
 use std::process::Abort;
@@ -19,18 +19,6 @@ use std::{env, fs};
 fn stem_of<R: Env + AllocGlobal>(rt: &R, test: &str) -> Result<String, Fail> {
     let folder = env::temp_dir(rt)?;
     Ok(format!(in rt.alloc(); "{}/royalty_run-{test}-", folder.display())?)
-}
-
-/// A line with the paths of the files in it.
-fn with_paths(alloc: Global, stem: &str, line: &str) -> Result<String, Fail> {
-    let mut whole = String::new(alloc);
-    for letter in line.chars() {
-        match letter {
-            '@' => whole.push_str(stem)?,
-            _ => whole.push(letter)?,
-        }
-    }
-    Ok(whole)
 }
 
 fn write_one<R: Files>(
@@ -64,47 +52,35 @@ fn remove_all<R: Files>(rt: &R, alloc: Global, stem: &str) -> Result<(), Fail> {
     remove_one(rt, alloc, stem, "usage")
 }
 
-/// What the rows of a test ask, of which a question has names of files.
-#[derive(Clone, Copy)]
-struct Over<'a, A> {
-    stem: &'a str,
-    asked: &'a A,
-}
-
-impl<'a, A: Ask> Ask for Over<'a, A> {
-    fn answer(&self, alloc: Global, question: &str) -> Result<String, Fail> {
-        let line = with_paths(alloc, self.stem, question)?;
-        self.asked.answer(alloc, line.as_str())
-    }
-}
-
 /// Rows of text with the answers in them, over files with these texts.
-fn answered_over<R: Files, A: Ask>(
+fn answered_over<R: Files + Threads + Wait + Sync>(
     rt: &R,
     alloc: Global,
-    stem: &str,
+    asked: &Asked<'_>,
     inputs: [&str; 3],
-    asked: &A,
     rows: &str,
 ) -> Result<String, Fail> {
-    write_all(rt, alloc, stem, inputs)?;
-    let found = all_answered(alloc, &Over { stem, asked }, rows)?;
-    remove_all(rt, alloc, stem)?;
+    write_all(rt, alloc, asked.at, inputs)?;
+    let found = all_answered(rt, alloc, asked, rows)?;
+    remove_all(rt, alloc, asked.at)?;
     Ok(found)
 }
 
 /// Asserts the answers in rows of text, over files with these texts, whose paths have the test's name in them.
-fn assert_rows_over<R: Files + Env + AllocGlobal + Abort, A: Ask>(
+fn assert_rows_over<R: Files + Env + AllocGlobal + Threads + Wait + Sync + Abort>(
     rt: &R,
     test: &str,
     inputs: [&str; 3],
-    asked: &A,
+    ask: Ask,
     rows: &str,
 ) -> Result<(), Fail> {
-    let alloc = rt.alloc();
     let stem = stem_of(rt, test)?;
+    let asked = Asked {
+        at: stem.as_str(),
+        ..plain(ask)
+    };
     assert_eq!(rt;
-        answered_over(rt, alloc, stem.as_str(), inputs, asked, rows)?.as_str(),
+        answered_over(rt, rt.alloc(), &asked, inputs, rows)?.as_str(),
         rows
     );
     Ok(())
@@ -116,10 +92,7 @@ fn prints_the_statements(rt: HostRuntime) -> Result<(), Fail> {
         &rt,
         "good",
         [TERRITORIES, TWO_PARTIES, USES],
-        &Ran {
-            rt: &rt,
-            between: ' ',
-        },
+        Ask::Whole,
         "\
 r run --tis @tis --cwr @cwr --usage @usage --workers 2 --readers 1 --nodes 64 -> 0 [L,A,u1,60|S,A,1,60|L,B,u1,40|L,B,u2,20|S,B,2,60|M,OPEN,u2,30|M,WORK,u3,7|T,,2,37|R,,3,157|] []
 ",
@@ -132,10 +105,7 @@ fn prints_the_statements_however_the_options_are_spelt(rt: HostRuntime) -> Resul
         &rt,
         "spelt",
         [TERRITORIES, TWO_PARTIES, USES],
-        &Ran {
-            rt: &rt,
-            between: ' ',
-        },
+        Ask::Whole,
         "\
 r run --nodes 64 --readers 1 --workers 2 --usage @usage --cwr @cwr --tis @tis -> 0 [L,A,u1,60|S,A,1,60|L,B,u1,40|L,B,u2,20|S,B,2,60|M,OPEN,u2,30|M,WORK,u3,7|T,,2,37|R,,3,157|] []
 r run --usage=@usage --nodes=64 --tis=@tis --workers 2 --cwr @cwr --readers=1 -> 0 [L,A,u1,60|S,A,1,60|L,B,u1,40|L,B,u2,20|S,B,2,60|M,OPEN,u2,30|M,WORK,u3,7|T,,2,37|R,,3,157|] []
@@ -149,7 +119,7 @@ fn an_output_that_refuses_has_the_beginning(rt: HostRuntime) -> Result<(), Fail>
         &rt,
         "narrow",
         [TERRITORIES, TWO_PARTIES, USES],
-        &Refusing { rt: &rt },
+        Ask::ThroughNarrow,
         "\
 0 99 r run --tis @tis --cwr @cwr --usage @usage --workers 2 --readers 1 --nodes 64 -> 4 [] [royalty_run: cannot write|]
 1 99 r run --tis @tis --cwr @cwr --usage @usage --workers 2 --readers 1 --nodes 64 -> 4 [L] [royalty_run: cannot write|]
@@ -166,10 +136,7 @@ fn names_the_fault_of_territories(rt: HostRuntime) -> Result<(), Fail> {
         &rt,
         "tis",
         ["code\n", TWO_PARTIES, USES],
-        &Ran {
-            rt: &rt,
-            between: ' ',
-        },
+        Ask::Whole,
         "\
 r run --tis @tis --cwr @cwr --usage @usage --workers 2 --readers 1 --nodes 64 -> 1 [] [royalty_run: tis fault 1 at row 0|]
 ",
@@ -182,10 +149,7 @@ fn names_the_fault_of_registrations(rt: HostRuntime) -> Result<(), Fail> {
         &rt,
         "cwr",
         [TERRITORIES, SHORT, USES],
-        &Ran {
-            rt: &rt,
-            between: ' ',
-        },
+        Ask::Whole,
         "\
 r run --tis @tis --cwr @cwr --usage @usage --workers 2 --readers 1 --nodes 64 -> 1 [] [royalty_run: cwr fault 1 at line 3|]
 ",
@@ -199,10 +163,7 @@ fn names_the_fault_of_usage_lines(rt: HostRuntime) -> Result<(), Fail> {
         &rt,
         "usage",
         [TERRITORIES, TWO_PARTIES, uses],
-        &Ran {
-            rt: &rt,
-            between: ' ',
-        },
+        Ask::Whole,
         "\
 r run --tis @tis --cwr @cwr --usage @usage --workers 2 --readers 1 --nodes 64 -> 1 [] [royalty_run: usage fault 4 at row 1|]
 ",
@@ -215,10 +176,7 @@ fn takes_its_options_in_any_order(rt: HostRuntime) -> Result<(), Fail> {
         &rt,
         "order",
         ["", "", ""],
-        &Ran {
-            rt: &rt,
-            between: ' ',
-        },
+        Ask::Whole,
         "\
 r run --nodes=1 --readers 1 --workers=8 --usage absent --cwr=@cwr --tis @tis -> 4 [] [royalty_run: cannot read absent|]
 ",
@@ -232,10 +190,7 @@ fn reads_all_files_first_and_in_order(rt: HostRuntime) -> Result<(), Fail> {
         &rt,
         "first",
         ["code\n", "code\n", ""],
-        &Ran {
-            rt: &rt,
-            between: ' ',
-        },
+        Ask::Whole,
         "\
 r run --tis @tis --cwr @cwr --usage absent --workers 1 --readers 1 --nodes 1 -> 4 [] [royalty_run: cannot read absent|]
 r run --tis @tis --usage absent --cwr missing --workers 1 --readers 1 --nodes 1 -> 4 [] [royalty_run: cannot read missing|]
@@ -247,12 +202,7 @@ r run --tis @tis --usage absent --cwr missing --workers 1 --readers 1 --nodes 1 
 fn refuses_numbers_out_of_range(rt: HostRuntime) -> Result<(), Fail> {
     assert_rows(
         &rt,
-        rt.alloc(),
-        &Begun {
-            rt: &rt,
-            over: 5,
-            shown: 5,
-        },
+        &plain(Ask::Beginning { over: 5, shown: 5 }),
         "\
 r run --tis a --cwr a --usage a --workers 0 --readers 1 --nodes 1 -> 2 [] [error..]
 r run --tis a --cwr a --usage a --workers 9 --readers 1 --nodes 1 -> 2 [] [error..]
@@ -288,8 +238,9 @@ fn status_over<R: Files + Threads + Wait + Sync>(
     stem: &str,
     out: &mut Measured,
 ) -> Result<u8, Fail> {
-    let line = "r run --tis @tis --cwr @cwr --usage @usage --workers 2 --readers 1 --nodes 64";
-    let line = with_paths(alloc, stem, line)?;
+    let line = format!(in alloc;
+        "r run --tis {stem}tis --cwr {stem}cwr --usage {stem}usage --workers 2 --readers 1 --nodes 64"
+    )?;
     status_of(rt, alloc, line.as_str(), out, &mut Vec::new(alloc))
 }
 

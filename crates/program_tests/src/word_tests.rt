@@ -2,30 +2,19 @@
 //!
 //! A test gives rows of text, each a question and, after an arrow, its answer (`rows`, `asks`).
 
-use crate::asks::{
-    Answer, Begun, BroughtThrough, NotBroughtThrough, Ran, Refusing, Tells, UnderAnyName,
-    on_one_line, words,
-};
-use crate::rows::{Ask, assert_rows};
-use cwr_share::CwrFault;
-use line_split::LineFault;
-use pair_split::PairFault;
-use royalty_program::{Failure, words_of};
-use settle_run::Fault;
+use crate::asks::{Answer, Ask, words};
+use crate::rows::{Asked, assert_rows, plain};
 use std::alloc::Global;
-use std::io;
 use std::rt::Files;
 use std::sync::Wait;
 use std::test::Fail;
 use std::thread::Threads;
-use tis_tree::TisFault;
 
 #[test]
 fn brings_its_text_through(rt: HostRuntime) -> Result<(), Fail> {
     assert_rows(
         &rt,
-        rt.alloc(),
-        &BroughtThrough { rt: &rt },
+        &plain(Ask::ThroughHeld),
         "\
 r split 3 A=5000 -> 0 [P,A,2|M,,1|] []
 r split 5 A=1 A=2 -> 2 [] [royalty_run: pair fault 2 at 2|]
@@ -37,11 +26,7 @@ r split 5 A=1 A=2 -> 2 [] [royalty_run: pair fault 2 at 2|]
 fn divides_as_in_the_examples(rt: HostRuntime) -> Result<(), Fail> {
     assert_rows(
         &rt,
-        rt.alloc(),
-        &Ran {
-            rt: &rt,
-            between: ' ',
-        },
+        &plain(Ask::Whole),
         "\
 r split 100 A=3333 B=3333 C=3333 -> 0 [P,A,34|P,B,33|P,C,33|M,,0|] []
 r split 1 A=5000 B=5000 -> 0 [P,A,1|P,B,0|M,,0|] []
@@ -62,11 +47,7 @@ r split +4 A=10000 -> 0 [P,A,4|M,,0|] []
 fn refuses_pairs_by_number_and_place(rt: HostRuntime) -> Result<(), Fail> {
     assert_rows(
         &rt,
-        rt.alloc(),
-        &Ran {
-            rt: &rt,
-            between: ' ',
-        },
+        &plain(Ask::Whole),
         "\
 r split 5 A=1 A=2 -> 2 [] [royalty_run: pair fault 2 at 2|]
 r split 5 A=10001 -> 2 [] [royalty_run: pair fault 3 at 1|]
@@ -85,12 +66,7 @@ r split 5 A=1=2 -> 2 [] [royalty_run: pair fault 1 at 1|]
 fn refuses_words(rt: HostRuntime) -> Result<(), Fail> {
     assert_rows(
         &rt,
-        rt.alloc(),
-        &Begun {
-            rt: &rt,
-            over: 5,
-            shown: 5,
-        },
+        &plain(Ask::Beginning { over: 5, shown: 5 }),
         "\
 r -> 2 [] [Divid..]
 r splti -> 2 [] [error..]
@@ -109,8 +85,7 @@ r SPLIT 1 A=1 -> 2 [] [error..]
 fn names_the_word_that_is_wrong(rt: HostRuntime) -> Result<(), Fail> {
     assert_rows(
         &rt,
-        rt.alloc(),
-        &Tells { rt: &rt },
+        &plain(Ask::Teller),
         "\
 r splti 5 A=1 ['splti'] -> 2 err
 r split five A=1 ['five'] -> 2 err
@@ -126,12 +101,10 @@ r run --tis a --cwr b --usage c --workers 1 --readers 1 --nods 6 ['--nods'] -> 2
 fn shows_help(rt: HostRuntime) -> Result<(), Fail> {
     assert_rows(
         &rt,
-        rt.alloc(),
-        &Begun {
-            rt: &rt,
+        &plain(Ask::Beginning {
             over: 100,
             shown: 6,
-        },
+        }),
         "\
 r --help -> 0 [Divide..] []
 r help split -> 0 [Divide..] []
@@ -144,8 +117,7 @@ r split --help -> 0 [Divide..] []
 fn tells_what_the_words_are(rt: HostRuntime) -> Result<(), Fail> {
     assert_rows(
         &rt,
-        rt.alloc(),
-        &Tells { rt: &rt },
+        &plain(Ask::Teller),
         "\
 r --help [  1  an input file is refused for what is in it|] -> 0 out
 r --help [  2  the words are refused|] -> 0 out
@@ -186,50 +158,50 @@ r split --help [  P,A,34|  P,B,33|  P,C,33|  M,,0|] -> 0 out
     )
 }
 
+/// The program's own names that are words of its grammar, or nothing, each with a blank after it.
+const ODD_NAMES: [&str; 6] = ["split ", "run ", "--help ", "--version ", "-- ", " "];
+
 #[test]
 fn passes_over_the_first_word(rt: HostRuntime) -> Result<(), Fail> {
-    assert_rows(
-        &rt,
-        rt.alloc(),
-        &UnderAnyName {
-            asked: &Ran {
-                rt: &rt,
-                between: ' ',
+    for before in ODD_NAMES {
+        assert_rows(
+            &rt,
+            &Asked {
+                before,
+                ..plain(Ask::Whole)
             },
-        },
-        "\
+            "\
 split 3 A=5000 -> 0 [P,A,2|M,,1|] []
 run --tis absent --cwr a --usage a --workers 1 --readers 1 --nodes 1 -> 4 [] [royalty_run: cannot read absent|]
 ",
-    )
+        )?;
+    }
+    Ok(())
 }
 
 #[test]
 fn tells_its_version_under_any_name(rt: HostRuntime) -> Result<(), Fail> {
-    assert_rows(
-        &rt,
-        rt.alloc(),
-        &UnderAnyName {
-            asked: &Begun {
-                rt: &rt,
-                over: 18,
-                shown: 18,
+    for before in ODD_NAMES {
+        assert_rows(
+            &rt,
+            &Asked {
+                before,
+                ..plain(Ask::Beginning {
+                    over: 18,
+                    shown: 18,
+                })
             },
-        },
-        "--version -> 0 [royalty_run 0.1.0|..] []\n",
-    )
+            "--version -> 0 [royalty_run 0.1.0|..] []\n",
+        )?;
+    }
+    Ok(())
 }
 
 #[test]
 fn takes_no_name_for_a_command(rt: HostRuntime) -> Result<(), Fail> {
     assert_rows(
         &rt,
-        rt.alloc(),
-        &Begun {
-            rt: &rt,
-            over: 5,
-            shown: 5,
-        },
+        &plain(Ask::Beginning { over: 5, shown: 5 }),
         "\
 split -> 2 [] [Divid..]
 run -> 2 [] [Divid..]
@@ -287,59 +259,16 @@ fn divides_among_the_most_parties(rt: HostRuntime) -> Result<(), Fail> {
 fn keeps_spaces_in_a_party(rt: HostRuntime) -> Result<(), Fail> {
     assert_rows(
         &rt,
-        rt.alloc(),
-        &Ran {
-            rt: &rt,
-            between: '/',
-        },
+        &plain(Ask::WithBlanks),
         "r/split/4/ A =5000/A=5000 -> 0 [P, A ,2|P,A,2|M,,0|] []\n",
     )
-}
-
-/// What the rows of a test ask: the text of a failure, by the name of what failed.
-struct Failed;
-
-/// Why there are no words, by the kind of the error.
-fn failure_of_words(alloc: Global, kind: io::ErrorKind) -> Result<Failure, Fail> {
-    match words_of(alloc, Err(io::Error::from(kind))) {
-        Ok(_) => Err(Fail::new("an error is taken for words")),
-        Err(failure) => Ok(failure),
-    }
-}
-
-/// The text of a failure, with a stroke for each line end.
-fn told_failure(alloc: Global, failure: &Failure) -> Result<String, Fail> {
-    let text = format!(in alloc; "{failure}")?;
-    on_one_line(alloc, text.as_str())
-}
-
-fn failure_named(alloc: Global, name: &str) -> Result<Failure, Fail> {
-    match name {
-        "the share of pair 7" => Ok(Failure::from(PairFault::Share(7))),
-        "too many pairs" => Ok(Failure::from(PairFault::Many)),
-        "memory of pairs" => Ok(Failure::from(PairFault::Memory)),
-        "words that are no text" => failure_of_words(alloc, io::ErrorKind::InvalidData),
-        "other words" => failure_of_words(alloc, io::ErrorKind::Other),
-        "too many territories" => Ok(Failure::from(Fault::Tis(TisFault::Rows))),
-        "too many parties" => Ok(Failure::from(Fault::Cwr(CwrFault::Accounts))),
-        "too many lines" => Ok(Failure::from(Fault::Usage(LineFault::Lines))),
-        "memory of a run" => Ok(Failure::from(Fault::Room)),
-        _ => Err(Fail::new("no such failure")),
-    }
-}
-
-impl Ask for Failed {
-    fn answer(&self, alloc: Global, question: &str) -> Result<String, Fail> {
-        told_failure(alloc, &failure_named(alloc, question)?)
-    }
 }
 
 #[test]
 fn says_what_failed(rt: HostRuntime) -> Result<(), Fail> {
     assert_rows(
         &rt,
-        rt.alloc(),
-        &Failed,
+        &plain(Ask::TextOfFailure),
         "\
 the share of pair 7 -> royalty_run: pair fault 3 at 7|
 too many pairs -> royalty_run: pair fault 4|
@@ -358,8 +287,7 @@ memory of a run -> royalty_run: out of room|
 fn an_output_that_refuses_is_status_4(rt: HostRuntime) -> Result<(), Fail> {
     assert_rows(
         &rt,
-        rt.alloc(),
-        &Refusing { rt: &rt },
+        &plain(Ask::ThroughNarrow),
         "\
 0 99 r split 100 A=3333 B=3333 C=3333 -> 4 [] [royalty_run: cannot write|]
 1 99 r split 100 A=3333 B=3333 C=3333 -> 4 [P] [royalty_run: cannot write|]
@@ -369,8 +297,7 @@ fn an_output_that_refuses_is_status_4(rt: HostRuntime) -> Result<(), Fail> {
     )?;
     assert_rows(
         &rt,
-        rt.alloc(),
-        &NotBroughtThrough { rt: &rt },
+        &plain(Ask::ThroughStopped),
         "r split 100 A=3333 B=3333 C=3333 -> 4 [] [royalty_run: cannot write|]\n",
     )
 }
@@ -379,8 +306,7 @@ fn an_output_that_refuses_is_status_4(rt: HostRuntime) -> Result<(), Fail> {
 fn an_error_output_that_refuses_changes_no_status(rt: HostRuntime) -> Result<(), Fail> {
     assert_rows(
         &rt,
-        rt.alloc(),
-        &Refusing { rt: &rt },
+        &plain(Ask::ThroughNarrow),
         "\
 100 0 r split 5 A -> 2 [] []
 0 0 r split 100 A=3333 B=3333 C=3333 -> 4 [] []
