@@ -34,5 +34,5 @@ pub fn law_a_reversal_undoes_a_line()
         → portion_of account (division_by table registered line) +ℤ portion_of account (division_by table registered reversal) ≡ pos 0 }
     ensures totals { (table : List (ℕ × List ℕ)) (registered : Registered) (line reversal : UsageLine) (before between after : List UsageLine) (account : ℕ) → IsReversalOf line reversal
         → total_of (statement_of (division_by table registered) (before ++ line ∷ (between ++ reversal ∷ after)) account)
-            ≡ total_of (statement_of (division_by table registered) (before ++ (between ++ after)) account) }
+        ≡ total_of (statement_of (division_by table registered) (before ++ (between ++ after)) account) }
 {}
