@@ -37,6 +37,15 @@ check 'a division' 0 'P,A,2\nM,,1\n' '' "$program" split 3 A=5000
 check 'a run' 0 "$(sed 's/\\/\\\\/g' "$examples/statements.csv")\n" '' "$program" run "${files[@]}" "${plan[@]}"
 check 'a run with = and in another order' 0 "$(sed 's/\\/\\\\/g' "$examples/statements.csv")\n" '' \
     "$program" run --nodes=16 --usage=usage.csv --readers 1 --cwr works.cwr --workers=2 --tis=territories.csv
+# The second line is taken back at the end: its parties have two postings that come to nothing.
+{ cat usage.csv; echo 'RADIO-US-01,NT0001,840,P,-98701'; } >corrected.csv
+corrected=$(sed -e 's/^S,BIGSKY,.*/L,BIGSKY,RADIO-US-01,-29611\nS,BIGSKY,2,0/' \
+    -e 's/^S,LINDQVIST,.*/L,LINDQVIST,RADIO-US-01,-29610\nS,LINDQVIST,4,37834/' \
+    -e 's/^S,OKAFOR,.*/L,OKAFOR,RADIO-US-01,-19740\nS,OKAFOR,4,25334/' \
+    -e 's/^S,RIVER,.*/L,RIVER,RADIO-US-01,-19740\nS,RIVER,6,172284/' \
+    -e 's/^R,.*/R,,10,465261/' "$examples/statements.csv")
+check 'a line that is taken back' 0 "$corrected\n" '' \
+    "$program" run --tis territories.csv --cwr works.cwr --usage corrected.csv "${plan[@]}"
 check 'help' 0 '*' '' "$program" --help
 kit=$(rt version)
 check 'the version' 0 "royalty_run 0.1.0\nlogic ${kit##* logic }\n" '' "$program" --version

@@ -135,6 +135,7 @@ r run --help [Records of other types are skipped] -> 0 out
 r run --help [A row M,WORK is a usage line] -> 0 out
 r run --help [table of faults in docs/FORMATS.md] -> 0 out
 r run --help [P (performing), M (mechanical) or S (synchronisation)] -> 0 out
+r run --help [with a - before them where money is taken back] -> 0 out
 r run --help [--tis <F>      The table of territories|] -> 0 out
 r run --help [--cwr <F>      The registrations of works|] -> 0 out
 r run --help [--usage <F>    The usage lines|] -> 0 out
