@@ -8,7 +8,7 @@ use Rattle.line_split.specs.Signs.{int_sum_by, with_sign_of}
 abbrev pub value_at : List (ℕ × ℕ) → ℕ → ℕ
 value_at list i = slice_index (map (λ entry. entry.1) list) i
 
--- Each portion is less than a unit away from the exact share, so it is that share, rounded down or up.
+-- Of sizes: each portion is less than a unit away from the exact share.
 abbrev pub StaysWithinQuota : (amount base : ℕ) → (participants portions : List (ℕ × ℕ)) → Type 0
 StaysWithinQuota amount base participants portions = (i : ℕ) → i < length participants →
     (amount * value_at participants i < base * value_at portions i + base)

@@ -1,4 +1,4 @@
-//! The definition of a portion, computed as it stands: slow, and what the tests compare with.
+//! The definition of the size of a portion, computed as it stands: slow, and what the tests compare with.
 
 ghost use Rattle.std.specs.Prelude.{◌≡◌, ◌<◌, ◌≤◌, length};
 ghost use Rattle.line_split.specs.declared.TheConstants.{MOST_AMOUNT, MOST_CLAIMED};
@@ -9,7 +9,7 @@ ghost use Rattle.line_split.specs.LargestRemainder.{comes_before, contenders_of,
 use crate::portions::total;
 use crate::{Account, Claims, FULL_SHARE, MOST_CLAIMED};
 
-/// The portion of the participant at `place`, by counting who comes before it. The place after the
+/// The size of the portion of the participant at `place`, where an amount of this size is divided, by counting who comes before it. The place after the
 /// last claim's is the residue's.
 pub fn portion_by_rank(amount: u64, claims: &Claims, place: usize) -> u64
     requires in_range { amount ≤ MOST_AMOUNT }

@@ -1,7 +1,7 @@
 //! Usage lines, and how the amount of one is divided: claims in, portions out.
 //!
 //! The rule is the method of largest remainder (Hamilton). `split` applies it, `portion_by_rank`
-//! computes its definition slowly, and `laws` says what makes the division a fair one.
+//! computes the sizes slowly, and `laws` says what makes the division a fair one.
 #![tactic(auto)]
 
 mod by_rank;
@@ -39,5 +39,5 @@ pub const FULL_SHARE: u32 = 10_000;
 /// residue.
 pub const MOST_CLAIMED: u32 = 10_006;
 
-/// The most that a line may bring in, in minor units of its currency.
+/// The greatest size of a line's amount, in minor units of its currency.
 pub const MOST_AMOUNT: u64 = 1_000_000_000_000;

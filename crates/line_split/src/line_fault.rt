@@ -20,7 +20,7 @@ pub enum LineFault {
     /// The right of this row is not `P`, `M` or `S`.
     #[error("the right of row {0} is not P, M or S")]
     Right(u64),
-    /// The amount of this row is not digits, or is over 1000000000000.
+    /// The amount of this row is not digits after at most one `-`, or its size is over 1000000000000.
     #[error("the amount of row {0} is not a number from -1000000000000 to 1000000000000")]
     Amount(u64),
     /// There are more than 1000000 lines.

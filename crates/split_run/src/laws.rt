@@ -28,7 +28,8 @@ pub fn law_taking_keeps_up()
 {}
 
 /// A line that takes another back undoes it: the portions of the two come to nothing for every account, the residue's included.
-/// Wherever the two stand among the lines, each account's total is as if there were neither.
+/// Wherever the two stand among the lines, each account's total is as if there were neither; that the reversal may come first is the
+/// same law, since each of the two is the reversal of the other. Both stay in the rows.
 pub fn law_a_reversal_undoes_a_line()
     ensures portions { (table : List (ℕ × List ℕ)) (registered : Registered) (line reversal : UsageLine) (account : ℕ) → IsReversalOf line reversal
         → portion_of account (division_by table registered line) +ℤ portion_of account (division_by table registered reversal) ≡ pos 0 }

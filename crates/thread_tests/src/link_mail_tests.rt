@@ -85,12 +85,12 @@ fn takes_in_the_order_of_sending(rt: HostRuntime) -> Result<(), Fail> {
     let (mut first, mut second, mut receiver) = open_two(alloc, &LinkMail, 2, 9)?;
     let rows = "\
 0 posts 1 10: Sent
-1 posts 3 1000000000000: Sent
+1 posts 3 -1000000000000: Sent
 0 posts 999999 20: Sent
 1 ends: Sent
 0 ends: Sent
 takes: Held((0, Post { line: 1, amount: 10 }))
-takes: Held((1, Post { line: 3, amount: 1000000000000 }))
+takes: Held((1, Post { line: 3, amount: -1000000000000 }))
 takes: Held((0, Post { line: 999999, amount: 20 }))
 takes: Held((1, End))
 takes: Held((0, End))

@@ -5,4 +5,4 @@ pub store-requires : goal.store-requires
 store-requires c =
     let seat = c.args.seat.now in
     let at = c.requires.at in
-    (c.requires.seat, c.requires.words, stores_amount c.args.board.now.shared.key c.args.board.now.shared.table_id.slots seat.id seat.me at.0 c.args.node c.args.amount at.1 at.2)
+    (c.requires.seat, c.requires.words, stores_amount c.args.board.now.shared.key c.args.board.now.shared.table_id.slots seat.id seat.me at.0 c.args.node c.args.word at.1 at.2)
