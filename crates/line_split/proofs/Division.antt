@@ -1,5 +1,5 @@
 -- The steps of the division: contenders in a row, their order, and what the units are given to.
-use Rattle.std.proofs.Common.{◌≡◌, ℕ, ◌+◌, ◌<◌, ◌≤◌, inl, inr, Bool, true, false, cond, eqb, ltb, List, [], ◌∷◌, ◌++◌, All, length, map, get_or, take, drop, sum_by, count_by, refl, sym, ap, ◌∙◌, subst, arith, zero-add}
+use Rattle.std.proofs.Common.{◌≡◌, ℕ, ℤ, unsigned_abs, ◌+◌, ◌<◌, ◌≤◌, inl, inr, Bool, true, false, cond, eqb, ltb, List, [], ◌∷◌, ◌++◌, All, length, map, get_or, take, drop, sum_by, count_by, refl, sym, ap, ◌∙◌, subst, arith, zero-add}
 use Rattle.std.specs.List.{enumerate_from}
 use Rattle.std.specs.Ordering.{is_lt, nat_cmp}
 use Rattle.std.specs.List.Sorted.{IsPermutation, IsSortedBy}
@@ -17,6 +17,7 @@ use Rattle.line_split.specs.LargestRemainder.{quota_of, remainder_of, comes_befo
 use Rattle.line_split.specs.Claims.{base_of, participants_of}
 use Rattle.line_split.specs.Contenders.{place_and_remainder, place_of, with_unit}
 use Rattle.line_split.specs.FairSplit.{value_at}
+use Rattle.line_split.specs.Signs.{signed_entry, signed_portions_of}
 use Rattle.line_split.proofs.Enumerated.{enumerate_from_push}
 use Rattle.line_split.proofs.SumBelow.{sum_below, bit, same_sums, sum_below-part, sum_below-front, sum_below-only, sum_below-constant, sum_by-places, sum_by-map}
 use Rattle.line_split.proofs.Ranks.{rank}
@@ -181,41 +182,56 @@ small_portions amount base units claims ps quotas base_is ps_is quotas_are units
     ∙ ap (λ (p : ℕ × ℕ). p.1) (get_or-map (λ p. (p.0, quota_of amount base p.1)) ps k (0, 0) d in_list) in
     omega (arith, here, all, part, sum_by_number (quota_of amount base) ps, units_are)
 
--- What the steps of the division leave are the portions by the claims.
-pub portions_made : (amount base units : ℕ) (claims ps quotas contenders portions : List (ℕ × ℕ))
-    → base ≡ base_of claims → ps ≡ participants_of claims → quotas ≡ map (λ p. (p.0, quota_of amount base p.1)) ps
-    → contenders ≡ contenders_of amount base ps → units ≡ units_left amount base ps → length portions ≡ length quotas
-    → ((k : ℕ) (d : ℕ × ℕ) → k < length quotas
-    → get_or portions k d ≡ with_unit (ltb (rank_of contenders (get_or contenders k d)) units) (get_or quotas k d))
-    → portions ≡ portions_of amount claims
+-- What giving the units comes to at a place is the portion there.
+module _ (amount base units : ℕ) (ps quotas contenders : List (ℕ × ℕ)) (quotas_are : quotas ≡ map (λ p. (p.0, quota_of amount base p.1)) ps)
+    (contenders_are : contenders ≡ contenders_of amount base ps) (units_are : units ≡ units_left amount base ps) where
+  quota_at : (k : ℕ) (d : ℕ × ℕ) → k < length ps → get_or quotas k d ≡ ((get_or ps k (0, 0)).0, quota_of amount base (value_at ps k))
+  quota_at k d lt =
+      ap (λ (l : List (ℕ × ℕ)). get_or l k d) quotas_are
+      ∙ (get_or-map (λ p. (p.0, quota_of amount base p.1)) ps k (0, 0) d lt
+      ∙ ap (λ (share : ℕ). ((get_or ps k (0, 0)).0, quota_of amount base share)) (number_at_is ps k (0, 0) lt))
+
+  rank_at : (k : ℕ) (d : ℕ × ℕ) → k < length ps
+      → rank_of contenders (get_or contenders k d) ≡ rank (length ps) (remainders amount base (value_at ps)) k
+  rank_at k d lt =
+      ap (λ (l : List (ℕ × ℕ)). rank_of l (get_or l k d)) contenders_are
+      ∙ (ap (rank_of (contenders_of amount base ps)) (contender_at amount base ps k d lt) ∙ rank_is amount base ps k)
+
+  pub unit_given : (k : ℕ) (d : ℕ × ℕ) → k < length ps
+      → with_unit (ltb (rank_of contenders (get_or contenders k d)) units) (get_or quotas k d) ≡ get_or (portions_among amount base ps) k d
+  unit_given k d lt =
+      ap (λ (r : ℕ). with_unit (ltb r units) (get_or quotas k d)) (rank_at k d lt)
+      ∙ (ap (λ (u : ℕ). with_unit (ltb (rank (length ps) (remainders amount base (value_at ps)) k) u) (get_or quotas k d))
+      (units_are ∙ units_left_is amount base ps)
+      ∙ (ap (with_unit (ltb (rank (length ps) (remainders amount base (value_at ps)) k) (left (length ps) amount base (value_at ps)))) (quota_at k d lt)
+      ∙ sym (portion_at amount base ps k d lt)))
+
+-- What the steps of the division leave are the portions by the claims, with the amount's sign.
+pub portions_made : (amount : ℤ) (base units : ℕ) (claims ps quotas contenders : List (ℕ × ℕ)) (portions : List (ℕ × ℤ))
+    → base ≡ base_of claims → ps ≡ participants_of claims → quotas ≡ map (λ p. (p.0, quota_of (unsigned_abs amount) base p.1)) ps
+    → contenders ≡ contenders_of (unsigned_abs amount) base ps → units ≡ units_left (unsigned_abs amount) base ps → length portions ≡ length quotas
+    → ((k : ℕ) (d : ℕ × ℕ) (e : ℕ × ℤ) → k < length quotas
+    → get_or portions k e ≡ signed_entry amount (with_unit (ltb (rank_of contenders (get_or contenders k d)) units) (get_or quotas k d)))
+    → portions ≡ signed_portions_of amount claims
 portions_made amount base units claims ps quotas contenders portions base_is ps_is quotas_are contenders_are units_are len given =
-    same_lists portions (portions_among amount base ps) (all ∙ sym (length-portions amount base ps))
-    (λ k d lt. at_place k d (omega (arith, all)) (omega (arith, len)))
-    ∙ (ap (λ (b : ℕ). portions_among amount b ps) base_is ∙ ap (λ (l : List (ℕ × ℕ)). portions_among amount (base_of claims) l) ps_is)
+    same_lists portions (map (signed_entry amount) made) (all ∙ sym listed) (λ k e lt. at_place k e (omega (arith, all, lt)) (omega (arith, len, lt)))
+    ∙ (ap (λ (b : ℕ). map (signed_entry amount) (portions_among (unsigned_abs amount) b ps)) base_is
+    ∙ ap (λ (l : List (ℕ × ℕ)). map (signed_entry amount) (portions_among (unsigned_abs amount) (base_of claims) l)) ps_is)
   where
+    made : List (ℕ × ℕ)
+    made = portions_among (unsigned_abs amount) base ps
+
     all : length portions ≡ length ps
-    all = len ∙ (ap (λ (l : List (ℕ × ℕ)). length l) quotas_are ∙ length-map ps (λ p. (p.0, quota_of amount base p.1)))
+    all = len ∙ (ap (λ (l : List (ℕ × ℕ)). length l) quotas_are ∙ length-map ps (λ p. (p.0, quota_of (unsigned_abs amount) base p.1)))
 
-    quota_at : (k : ℕ) (d : ℕ × ℕ) → k < length ps → get_or quotas k d ≡ ((get_or ps k (0, 0)).0, quota_of amount base (value_at ps k))
-    quota_at k d lt =
-        ap (λ (l : List (ℕ × ℕ)). get_or l k d) quotas_are
-        ∙ (get_or-map (λ p. (p.0, quota_of amount base p.1)) ps k (0, 0) d lt
-        ∙ ap (λ (share : ℕ). ((get_or ps k (0, 0)).0, quota_of amount base share)) (number_at_is ps k (0, 0) lt))
+    listed : length (map (signed_entry amount) made) ≡ length ps
+    listed = length-map made (signed_entry amount) ∙ length-portions (unsigned_abs amount) base ps
 
-    rank_at : (k : ℕ) (d : ℕ × ℕ) → k < length ps
-        → rank_of contenders (get_or contenders k d) ≡ rank (length ps) (remainders amount base (value_at ps)) k
-    rank_at k d lt =
-        ap (λ (l : List (ℕ × ℕ)). rank_of l (get_or l k d)) contenders_are
-        ∙ (ap (rank_of (contenders_of amount base ps)) (contender_at amount base ps k d lt) ∙ rank_is amount base ps k)
-
-    at_place : (k : ℕ) (d : ℕ × ℕ) → k < length ps → k < length quotas → get_or portions k d ≡ get_or (portions_among amount base ps) k d
-    at_place k d lt lt' =
-        given k d lt'
-        ∙ (ap (λ (r : ℕ). with_unit (ltb r units) (get_or quotas k d)) (rank_at k d lt)
-        ∙ (ap (λ (u : ℕ). with_unit (ltb (rank (length ps) (remainders amount base (value_at ps)) k) u) (get_or quotas k d))
-        (units_are ∙ units_left_is amount base ps)
-        ∙ (ap (with_unit (ltb (rank (length ps) (remainders amount base (value_at ps)) k) (left (length ps) amount base (value_at ps)))) (quota_at k d lt)
-        ∙ sym (portion_at amount base ps k d lt))))
+    at_place : (k : ℕ) (e : ℕ × ℤ) → k < length ps → k < length quotas → get_or portions k e ≡ get_or (map (signed_entry amount) made) k e
+    at_place k e lt lt' =
+        given k (0, 0) e lt'
+        ∙ (ap (signed_entry amount) (unit_given (unsigned_abs amount) base units ps quotas contenders quotas_are contenders_are units_are k (0, 0) lt)
+        ∙ sym (get_or-map (signed_entry amount) made k (0, 0) e (rw (length-portions (unsigned_abs amount) base ps) lt)))
 
 -- the quotas of the places before one, and its own, fit the amount
 pub quota_fits_at : (amount base : ℕ) (claims : List (ℕ × ℕ)) (i : ℕ) → base ≡ base_of claims → i < length claims + 1
