@@ -3,9 +3,10 @@ ghost use Rattle.std.specs.Prelude.{◌≡◌};
 ghost use Rattle.mail_box.specs.LaneViews.{receiver_of, sender_of};
 
 use crate::mail_rows::{
-    assert_relays, assert_rows, assert_rows_of_two, assert_rows_while_held, open_two, take, take_in,
+    assert_relays, assert_rows, assert_rows_of_two, assert_rows_while_held, open_one, open_two,
+    take, take_in,
 };
-use mail_box::{Item, LaneMail, LaneReceiver, LaneSender, Mail, ShyMail, Took};
+use mail_box::{Item, LaneMail, LaneReceiver, LaneSender, ShyMail, Took};
 use mail_relay::relay;
 use split_run::CountingMail;
 use std::alloc::Global;
@@ -123,8 +124,7 @@ fn counts_what_is_taken(rt: HostRuntime) -> Result<(), Fail> {
 /// Of a mailbox whose sender is not taken in every odd take finds nothing.
 #[test]
 fn odd_takes_are_busy_until_the_sender_is_taken_in(rt: HostRuntime) -> Result<(), Fail> {
-    let (mut senders, mut receiver) = ShyMail(LaneMail).open(rt.alloc(), 1, 2, 1)?;
-    let mut sender = senders.swap_remove(0);
+    let (mut sender, mut receiver) = open_one(rt.alloc(), &ShyMail(LaneMail), 2, 1)?;
     let rows = "\
 0 posts 1 10: Sent
 0 ends: Sent

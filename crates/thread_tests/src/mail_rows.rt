@@ -132,7 +132,8 @@ fn rows_of<M: Mail, R: Wait>(
 {
     let mut found = String::new(alloc);
     for row in rows.lines() {
-        found.push_str(row_of::<M, R>(rt, alloc, sender, receiver, row)?.as_str())?;
+        let row = row_of::<M, R>(rt, alloc, sender, receiver, row)?;
+        found.push_str(row.as_str())?;
     }
     Ok(found)
 }
@@ -232,6 +233,20 @@ pub fn take_in<M: Mail, R: Abort + Wait>(rt: &R, receiver: &mut M::Receiver, sen
 {
     assert!(rt; M::ended(&sender));
     M::take_in(rt, receiver, sender);
+}
+
+/// A mailbox of one sender.
+pub fn open_one<M: Mail>(
+    alloc: Global,
+    mail: &M,
+    nodes: u64,
+    most: u64,
+) -> Result<(M::Sender, M::Receiver), AllocError>
+    requires { (0 < nodes) × (nodes ≤ 64) × (most ≤ 1000000) }
+    ensures { IfOk result (λ r. M.sender r.0 ≡ opened_sender (M.receiver r.1).mailbox 0 nodes most) }
+{
+    let (mut senders, receiver) = mail.open(alloc, 1, nodes, most)?;
+    Ok((senders.swap_remove(0), receiver))
 }
 
 /// A mailbox of two senders.

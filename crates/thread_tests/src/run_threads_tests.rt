@@ -346,8 +346,7 @@ fn book_after_stops<R: Abort + Threads + Wait + Sync>(
 /// The threads that were started before the one that is refused end: readers that nobody sends to, and a worker whose mailboxes are full.
 #[test]
 fn has_no_book_where_a_thread_is_refused(rt: HostRuntime) -> Result<(), Fail> {
-    let book = book_after_stops(&rt, rt.alloc(), USES)?;
-    assert_small_run(&rt, &book);
+    assert_small_run(&rt, &book_after_stops(&rt, rt.alloc(), USES)?);
     let uses = equal_uses(rt.alloc(), 128)?;
     let book = book_after_stops(&rt, rt.alloc(), uses.as_str())?;
     assert_totals(&rt, &book, (0, 7680, 5120));
@@ -393,14 +392,22 @@ fn assert_at_once<M: Mail, R: Abort + Threads + Wait + Sync>(
     assert_workers_meet(rt, alloc, mail, uses, 1, gate, (0, 7680, 5120))
 }
 
+/// The same over every kind of mailbox.
+fn assert_at_once_over_any<R: Abort + Threads + Wait + Sync>(
+    rt: &R,
+    alloc: Global,
+    uses: &str,
+) -> Result<(), Fail> {
+    assert_at_once(rt, alloc, &LaneMail, uses)?;
+    assert_at_once(rt, alloc, &LinkMail, uses)?;
+    assert_at_once(rt, alloc, &ShyMail(LaneMail), uses)?;
+    assert_at_once(rt, alloc, &ShyMail(LinkMail), uses)
+}
+
 #[test]
 fn two_workers_are_at_work_at_once(rt: HostRuntime) -> Result<(), Fail> {
-    let alloc = rt.alloc();
-    let uses = equal_uses(alloc, 128)?;
-    assert_at_once(&rt, alloc, &LaneMail, uses.as_str())?;
-    assert_at_once(&rt, alloc, &LinkMail, uses.as_str())?;
-    assert_at_once(&rt, alloc, &ShyMail(LaneMail), uses.as_str())?;
-    assert_at_once(&rt, alloc, &ShyMail(LinkMail), uses.as_str())
+    let uses = equal_uses(rt.alloc(), 128)?;
+    assert_at_once_over_any(&rt, rt.alloc(), uses.as_str())
 }
 
 /// Asserts that a worker draws while the other is held up, over these usage lines and this kind of mailbox.

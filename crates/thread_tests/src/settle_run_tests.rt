@@ -106,7 +106,8 @@ fn add_statement(
         rows.push_str(row.as_str())?;
     }
     let total = lines.wrapping_mul(amount);
-    rows.push_str(format!(in alloc; "S,{party},{lines},{total}\n")?.as_str())?;
+    let sum = format!(in alloc; "S,{party},{lines},{total}\n")?;
+    rows.push_str(sum.as_str())?;
     Ok(())
 }
 
@@ -115,7 +116,8 @@ fn add_statements(alloc: Global, rows: &mut String, lines: usize) -> Result<(), 
     add_statement(alloc, rows, "A", 60, lines)?;
     add_statement(alloc, rows, "B", 40, lines)?;
     let all = lines.wrapping_mul(100);
-    rows.push_str(format!(in alloc; "T,,0,0\nR,,{lines},{all}\n")?.as_str())?;
+    let sums = format!(in alloc; "T,,0,0\nR,,{lines},{all}\n")?;
+    rows.push_str(sums.as_str())?;
     Ok(())
 }
 
@@ -297,7 +299,8 @@ fn uses(alloc: Global, lines: u64) -> Result<String, Fail> {
     let mut uses = String::new(alloc);
     uses.push_str(NO_USES)?;
     for line in 0..lines {
-        uses.push_str(format!(in alloc; "use {line},W1,276,P,100\n")?.as_str())?;
+        let row = format!(in alloc; "use {line},W1,276,P,100\n")?;
+        uses.push_str(row.as_str())?;
     }
     Ok(uses)
 }

@@ -1,11 +1,11 @@
 //! Plans in range and out of it, and what a worker alone sends.
 ghost use Rattle.std.specs.Prelude.{◌≡◌, ◌<◌, ◌≤◌, IfOk, map};
-ghost use Rattle.mail_box.specs.LaneViews.{receiver_of, sender_of};
-ghost use Rattle.mail_box.specs.Mails.{opened_sender};
+ghost use Rattle.mail_box.specs.LaneViews.{sender_of};
 ghost use Rattle.block_draw.specs.Views.{drawer_of};
 ghost use Rattle.split_run.specs.Running.{IsFresh};
 ghost use Rattle.split_run.specs.Sending.{AreFresh, AreReadyFor};
 
+use crate::mail_rows::open_one;
 use crate::run_threads_tests::{Inputs, watch};
 use line_split::{MOST_CLAIMS, Portions};
 use mail_box::{Item, LaneMail, LaneReceiver, LaneSender, Mail, receive};
@@ -36,24 +36,15 @@ fn takes_plans_in_range(rt: HostRuntime) -> Result<(), Fail> {
     Ok(())
 }
 
-/// A mailbox of one sender with so many nodes, which may post three times.
-fn open_one(alloc: Global, nodes: u64) -> Result<(LaneSender, LaneReceiver), AllocError>
-    requires { (0 < nodes) × (nodes ≤ 64) }
-    ensures { IfOk result (λ r. sender_of r.0 ≡ opened_sender (receiver_of r.1).mailbox 0 nodes 3) }
-{
-    let (mut senders, receiver) = LaneMail.open(alloc, 1, nodes, 3)?;
-    Ok((senders.swap_remove(0), receiver))
-}
-
-/// Three such mailboxes.
+/// Three mailboxes, each of one sender with so many nodes, which may post three times.
 fn open_three(alloc: Global, nodes: u64) -> Result<([LaneSender; 3], [LaneReceiver; 3]), AllocError>
     requires { (0 < nodes) × (nodes ≤ 64) }
     ensures fresh { IfOk result (λ r. AreFresh (map sender_of r.0)) }
     ensures ready { IfOk result (λ r. AreReadyFor (map sender_of r.0) 3) }
 {
-    let (first, to_first) = open_one(alloc, nodes)?;
-    let (second, to_second) = open_one(alloc, nodes)?;
-    let (third, to_third) = open_one(alloc, nodes)?;
+    let (first, to_first) = open_one(alloc, &LaneMail, nodes, 3)?;
+    let (second, to_second) = open_one(alloc, &LaneMail, nodes, 3)?;
+    let (third, to_third) = open_one(alloc, &LaneMail, nodes, 3)?;
     Ok(([first, second, third], [to_first, to_second, to_third]))
 }
 
