@@ -3,7 +3,7 @@ use Rattle.std.proofs.Common.{◌≡◌, ℕ, ◌+◌, ◌-◌, ◌<◌, ◌≤�
 use Rattle.std.proofs.lemmas.List.{map-id, length-map, length_push, get_or_append_left, get_or_push, get_or-map}
 use Rattle.std.proofs.lemmas.List.Sums.{sum_by-cons, sum_by-le}
 use Rattle.std.proofs.lemmas.Bool.Decides.{nat_tests}
-use Rattle.line_split.specs.declared.TheConstants.{FULL_SHARE, MOST_CLAIMED}
+use Rattle.line_split.specs.declared.TheConstants.{FULL_SHARE, MOST_CLAIMED, RESIDUE}
 use Rattle.line_split.specs.FairSplit.{value_at}
 use Rattle.line_split.proofs.Places.{number_at_is}
 use Rattle.line_split.specs.Claims.{AreClaims, total_of, counted_claims, base_of, participants_of}
@@ -56,19 +56,28 @@ pub counted_by_limit : (claims : List (ℕ × ℕ)) (total : ℕ) → total ≡ 
     → total_of (counted_claims claims) ≡ cond (leb total MOST_CLAIMED) total 0
 counted_by_limit claims total is = total-counted claims ∙ ap (λ (t : ℕ). cond (leb t MOST_CLAIMED) t 0) (sym is)
 
--- the shares of the base, by place: a claim's while there is one, then what nobody claims
+-- the participants by place: a claim's account with what counts of its claim while there is one, then the residue with what nobody claims
+pub claim_at : (claims : List (ℕ × ℕ)) (i : ℕ) (d : ℕ × ℕ) → i < length claims
+    → get_or (participants_of claims) i d ≡ ((get_or claims i d).0, cond (leb (total_of claims) MOST_CLAIMED) (get_or claims i d).1 0)
+claim_at claims i d lt =
+    get_or_append_left (counted_claims claims) _ d i (omega (arith, length-counted claims))
+    ∙ go (leb (total_of claims) MOST_CLAIMED)
+  where
+    go : (b : Bool) → get_or (cond b claims (map (λ claim. (claim.0, 0)) claims)) i d ≡ ((get_or claims i d).0, cond b (get_or claims i d).1 0)
+    go true = refl
+    go false = get_or-map (λ claim. (claim.0, 0)) claims i d d lt
+
+pub residue_at : (claims : List (ℕ × ℕ)) (d : ℕ × ℕ) → get_or (participants_of claims) (length claims) d ≡ (RESIDUE, base_of claims - total_of (counted_claims claims))
+residue_at claims d = get_or_push (counted_claims claims) _ d (length claims) (length-counted claims)
+
+-- their shares of the base
 pub claim_share : (claims : List (ℕ × ℕ)) (i : ℕ) → i < length claims
     → value_at (participants_of claims) i ≡ cond (leb (total_of claims) MOST_CLAIMED) (get_or claims i (0, 0)).1 0
 claim_share claims i lt =
     sym (number_at_is (participants_of claims) i (0, 0) (omega (arith, length-participants claims)))
-    ∙ (ap (λ (e : ℕ × ℕ). e.1) (get_or_append_left (counted_claims claims) _ (0, 0) i (omega (arith, length-counted claims)))
-    ∙ go (leb (total_of claims) MOST_CLAIMED))
-  where
-    go : (b : Bool) → (get_or (cond b claims (map (λ claim. (claim.0, 0)) claims)) i (0, 0)).1 ≡ cond b (get_or claims i (0, 0)).1 0
-    go true = refl
-    go false = ap (λ (e : ℕ × ℕ). e.1) (get_or-map (λ claim. (claim.0, 0)) claims i (0, 0) (0, 0) lt)
+    ∙ ap (λ (e : ℕ × ℕ). e.1) (claim_at claims i (0, 0) lt)
 
 pub residue_share : (claims : List (ℕ × ℕ)) → value_at (participants_of claims) (length claims) ≡ base_of claims - total_of (counted_claims claims)
 residue_share claims =
     sym (number_at_is (participants_of claims) (length claims) (0, 0) (omega (arith, length-participants claims)))
-    ∙ ap (λ (e : ℕ × ℕ). e.1) (get_or_push (counted_claims claims) _ (0, 0) (length claims) (length-counted claims))
+    ∙ ap (λ (e : ℕ × ℕ). e.1) (residue_at claims (0, 0))

@@ -1,5 +1,5 @@
 -- The steps of the division: contenders in a row, their order, and what the units are given to.
-use Rattle.std.proofs.Common.{◌≡◌, ℕ, ℤ, unsigned_abs, ◌+◌, ◌<◌, ◌≤◌, inl, inr, Bool, true, false, cond, eqb, ltb, List, [], ◌∷◌, ◌++◌, All, length, map, get_or, take, drop, sum_by, count_by, refl, sym, ap, ◌∙◌, subst, arith, zero-add}
+use Rattle.std.proofs.Common.{◌≡◌, ℕ, ℤ, unsigned_abs, ◌+◌, ◌-◌, ◌<◌, ◌≤◌, inl, inr, Bool, true, false, cond, eqb, ltb, List, [], ◌∷◌, ◌++◌, All, length, map, get_or, take, sum_by, count_by, refl, sym, ap, ◌∙◌, subst, arith, zero-add}
 use Rattle.std.specs.List.{enumerate_from}
 use Rattle.std.specs.Ordering.{is_lt, nat_cmp}
 use Rattle.std.specs.List.Sorted.{IsPermutation, IsSortedBy}
@@ -9,15 +9,15 @@ use Rattle.std.proofs.lemmas.Bool.Decides.{nat_tests}
 use Rattle.std.proofs.lemmas.Cmp.{nat_cmp_total, nat_eq_equiv, on_total, back_total}
 use Rattle.std.proofs.lemmas.List.Sorted.{ranks_by, sorted_far, All-permutation, IsPermutation-map, sum_by-IsPermutation}
 use Rattle.std.proofs.lemmas.Map.Keys.{IsDistinct-from_apart, IsDistinct-IsPermutation, apart_from_distinct}
-use Rattle.std.proofs.lemmas.List.{length-map, map_more, length-take-le, drop_more, get_or_at, get_or_default, get_or-map, get_or-take, same_lists}
+use Rattle.std.proofs.lemmas.List.{length-map, map_more, length-take-le, get_or_default, get_or-map, get_or-take, same_lists, take_all}
 use Rattle.std.proofs.lemmas.List.FromFn.{length-enumerate_from}
-use Rattle.std.proofs.lemmas.List.Sums.{sum_by_more_le}
+use Rattle.std.proofs.lemmas.List.Sums.{sum_by_more, sum_by_more_le}
 use Rattle.line_split.specs.declared.contender.Contender.{Contender}
-use Rattle.line_split.specs.LargestRemainder.{quota_of, remainder_of, comes_before, contenders_of, units_left, rank_of, portions_among, portions_of}
+use Rattle.line_split.specs.LargestRemainder.{quota_of, remainder_of, comes_before, contenders_of, units_left, rank_of, portions_among}
 use Rattle.line_split.specs.Claims.{base_of, participants_of}
-use Rattle.line_split.specs.Contenders.{place_and_remainder, place_of, with_unit}
+use Rattle.line_split.specs.Contenders.{place_and_remainder, place_of, signed_quota, with_unit}
 use Rattle.line_split.specs.FairSplit.{value_at}
-use Rattle.line_split.specs.Signs.{signed_entry, signed_portions_of}
+use Rattle.line_split.specs.Signs.{signed_entry, signed_portions_of, with_sign_of}
 use Rattle.line_split.proofs.Enumerated.{enumerate_from_push}
 use Rattle.line_split.proofs.SumBelow.{sum_below, bit, same_sums, sum_below-part, sum_below-front, sum_below-only, sum_below-constant, sum_by-places, sum_by-map}
 use Rattle.line_split.proofs.Ranks.{rank}
@@ -25,6 +25,7 @@ use Rattle.line_split.proofs.Quotas.{left, remainders, quotas_fit, left_small}
 use Rattle.line_split.proofs.Places.{number_at_is, sum_by_number, units_left_is, contender_at, rank_is, length-portions, portion_at}
 use Rattle.line_split.proofs.ClaimLemmas.{length-participants}
 use Rattle.line_split.proofs.Fair.{base_positive, shares_are_base, some_place}
+use Rattle.line_split.proofs.Signs.{sign_adds, size_of_signed}
 
 -- one more contender
 pub contenders_more : (amount base : ℕ) (ps : List (ℕ × ℕ)) (i : ℕ) (d : ℕ × ℕ) → i < length ps
@@ -46,12 +47,56 @@ quota_fits amount base ps some whole i d lt =
     let part = sum_by_more_le (λ p. quota_of amount base p.1) ps i d lt in
     omega (arith, all, part, sum_by_number (quota_of amount base) ps)
 
--- where a loop has written over the elements before a place, that of the place stands as it was
-pub unwritten : {X : Type 0} (f : X → X) (xs ys : List X) (i : ℕ) (d : X) → i < length xs → ys ≡ map f (take i xs) ++ drop i xs
-    → get_or ys i d ≡ get_or xs i d
-unwritten {X} f xs ys i d lt is =
-    ap (λ (l : List X). get_or l i d) (is ∙ ap (λ (l : List X). map f (take i xs) ++ l) (drop_more xs i d lt))
-    ∙ get_or_at (map f (take i xs)) (get_or xs i d) (drop (i + 1) xs) d i (length-map (take i xs) f ∙ length-take-le i xs (omega arith))
+-- the first n participants are entered: each with its quota and as a contender, and the quotas taken from the amount's size
+pub record AreEntered (amount : ℤ) (base n : ℕ) (ps : List (ℕ × ℕ)) (list : List (ℕ × ℤ)) (contenders : List (ℕ × ℕ)) (left : ℕ) : Type 0 where
+  pub quotas : list ≡ map (signed_quota amount base) (take n ps)
+  pub contend : contenders ≡ contenders_of (unsigned_abs amount) base (take n ps)
+  pub rest : left + sum_by (λ p. quota_of (unsigned_abs amount) base p.1) (take n ps) ≡ unsigned_abs amount
+
+-- One more participant is entered: its quota fits what is left.
+module _ (amount : ℤ) (base n : ℕ) (ps : List (ℕ × ℕ)) (p : ℕ × ℕ) (list : List (ℕ × ℤ)) (contenders : List (ℕ × ℕ)) (units quota : ℕ)
+    (some : 0 < base) (whole : sum_by (λ p. p.1) ps ≡ base) (entered : AreEntered amount base n ps list contenders units)
+    (lt : n < length ps) (here : get_or ps n (0, 0) ≡ p) (quota_is : quota ≡ quota_of (unsigned_abs amount) base p.1) where
+  own : quota ≡ quota_of (unsigned_abs amount) base (get_or ps n (0, 0)).1
+  own = quota_is ∙ ap (λ (p : ℕ × ℕ). quota_of (unsigned_abs amount) base p.1) (sym here)
+
+  pub fits_left : quota ≤ units
+  fits_left = omega (arith, quota_fits (unsigned_abs amount) base ps some whole n (0, 0) lt, entered.rest, own)
+
+  pub one_more : (list_new : List (ℕ × ℤ)) (contenders_new : List (ℕ × ℕ)) → list_new ≡ list ++ signed_quota amount base p ∷ []
+      → contenders_new ≡ contenders ++ (length list, remainder_of (unsigned_abs amount) base p.1) ∷ []
+      → AreEntered amount base (n + 1) ps list_new contenders_new (units - quota)
+  one_more list_new contenders_new list_is contenders_is = record {
+    quotas = list_is
+        ∙ (ap (λ (l : List (ℕ × ℤ)). l ++ signed_quota amount base p ∷ []) entered.quotas
+        ∙ (ap (λ (q : ℕ × ℕ). map (signed_quota amount base) (take n ps) ++ signed_quota amount base q ∷ []) (sym here)
+        ∙ sym (map_more (signed_quota amount base) ps n (0, 0) lt)));
+    contend = contenders_is
+        ∙ (ap (λ (l : List (ℕ × ℕ)). l ++ (length list, remainder_of (unsigned_abs amount) base p.1) ∷ []) entered.contend
+        ∙ (ap (λ (q : ℕ × ℕ). contenders_of (unsigned_abs amount) base (take n ps) ++ (q.0, remainder_of (unsigned_abs amount) base q.1) ∷ []) place
+        ∙ sym (contenders_more (unsigned_abs amount) base ps n (0, 0) lt)));
+    rest = omega (arith, fits_left, sum_by_more (λ p. quota_of (unsigned_abs amount) base p.1) ps n (0, 0) lt, entered.rest, own);
+  }
+    where
+      many : length list ≡ n
+      many = ap (λ (l : List (ℕ × ℤ)). length l) entered.quotas ∙ (length-map (take n ps) (signed_quota amount base) ∙ length-take-le n ps (omega arith))
+
+      place : ◌≡◌ {A = ℕ × ℕ} (length list, p.1) (n, (get_or ps n (0, 0)).1)
+      place = ap (λ (k : ℕ). (k, p.1)) many ∙ ap (λ (q : ℕ × ℕ). (n, q.1)) (sym here)
+
+-- all participants are entered
+module _ (a amount : ℤ) (b base n : ℕ) (ps : List (ℕ × ℕ)) (list : List (ℕ × ℤ)) (contenders : List (ℕ × ℕ)) (left : ℕ)
+    (same : a ≡ amount) (base_is : b ≡ base) (all : length ps ≤ n) (entered : AreEntered a b n ps list contenders left) where
+  pub all_quotas : list ≡ map (signed_quota amount base) ps
+  all_quotas = entered.quotas ∙ (λ i. map (signed_quota (same i) (base_is i)) (take_all n ps all i))
+
+  pub all_contend : contenders ≡ contenders_of (unsigned_abs amount) base ps
+  all_contend = entered.contend ∙ (λ i. contenders_of (unsigned_abs (same i)) (base_is i) (take_all n ps all i))
+
+  pub all_taken : left ≡ units_left (unsigned_abs amount) base ps
+  all_taken =
+      let quotas : sum_by (λ p. quota_of (unsigned_abs a) b p.1) (take n ps) ≡ sum_by (λ p. quota_of (unsigned_abs amount) base p.1) ps = λ i. sum_by (λ p. quota_of (unsigned_abs (same i)) (base_is i) p.1) (take_all n ps all i) in
+      omega (arith, quotas, entered.rest, ap unsigned_abs same)
 
 -- the order that the sort goes by
 abbrev pub contender_lt : Contender → Contender → Bool
@@ -166,54 +211,60 @@ units_fit amount base left claims ps base_is ps_is left_is =
     (rw (units_left_is amount (base_of claims) (participants_of claims)) (left_small (length (participants_of claims)) amount (base_of claims) (value_at (participants_of claims)) (base_positive claims) (shares_are_base claims) (some_place claims)))))
 
 -- A quota and all units left come to no more than the amount.
-pub small_portions : (amount base units : ℕ) (claims ps quotas : List (ℕ × ℕ))
-    → base ≡ base_of claims → ps ≡ participants_of claims → quotas ≡ map (λ p. (p.0, quota_of amount base p.1)) ps
-    → units ≡ units_left amount base ps → All (λ portion. portion.1 + units ≤ amount) quotas
+pub small_portions : (amount : ℤ) (base units : ℕ) (claims ps : List (ℕ × ℕ)) (quotas : List (ℕ × ℤ))
+    → base ≡ base_of claims → ps ≡ participants_of claims → quotas ≡ map (signed_quota amount base) ps
+    → units ≡ units_left (unsigned_abs amount) base ps → All (λ portion. unsigned_abs portion.1 + units ≤ unsigned_abs amount) quotas
 small_portions amount base units claims ps quotas base_is ps_is quotas_are units_are k d lt =
     let many : length quotas ≡ length ps =
-    ap (λ (l : List (ℕ × ℕ)). length l) quotas_are ∙ length-map ps (λ p. (p.0, quota_of amount base p.1)) in
+    ap (λ (l : List (ℕ × ℤ)). length l) quotas_are ∙ length-map ps (signed_quota amount base) in
     let in_list : k < length ps = omega (arith, lt, many) in
     let whole : sum_below (length ps) (value_at ps) ≡ base =
     ap (λ (l : List (ℕ × ℕ)). sum_below (length l) (value_at l)) ps_is ∙ (shares_are_base claims ∙ sym base_is) in
-    let all = quotas_fit (length ps) amount base (value_at ps) (omega (arith, base_positive claims, base_is)) whole in
-    let part = sum_by_more_le (λ p. quota_of amount base p.1) ps k (0, 0) in_list in
-    let here : (get_or quotas k d).1 ≡ quota_of amount base (get_or ps k (0, 0)).1 =
-    ap (λ (l : List (ℕ × ℕ)). (get_or l k d).1) quotas_are
-    ∙ ap (λ (p : ℕ × ℕ). p.1) (get_or-map (λ p. (p.0, quota_of amount base p.1)) ps k (0, 0) d in_list) in
-    omega (arith, here, all, part, sum_by_number (quota_of amount base) ps, units_are)
+    let all = quotas_fit (length ps) (unsigned_abs amount) base (value_at ps) (omega (arith, base_positive claims, base_is)) whole in
+    let part = sum_by_more_le (λ p. quota_of (unsigned_abs amount) base p.1) ps k (0, 0) in_list in
+    let here : unsigned_abs (get_or quotas k d).1 ≡ quota_of (unsigned_abs amount) base (get_or ps k (0, 0)).1 =
+    ap (λ (l : List (ℕ × ℤ)). unsigned_abs (get_or l k d).1) quotas_are
+    ∙ (ap (λ (p : ℕ × ℤ). unsigned_abs p.1) (get_or-map (signed_quota amount base) ps k (0, 0) d in_list)
+    ∙ size_of_signed amount (quota_of (unsigned_abs amount) base (get_or ps k (0, 0)).1)) in
+    omega (arith, here, all, part, sum_by_number (quota_of (unsigned_abs amount) base) ps, units_are)
 
 -- What giving the units comes to at a place is the portion there.
-module _ (amount base units : ℕ) (ps quotas contenders : List (ℕ × ℕ)) (quotas_are : quotas ≡ map (λ p. (p.0, quota_of amount base p.1)) ps)
-    (contenders_are : contenders ≡ contenders_of amount base ps) (units_are : units ≡ units_left amount base ps) where
-  quota_at : (k : ℕ) (d : ℕ × ℕ) → k < length ps → get_or quotas k d ≡ ((get_or ps k (0, 0)).0, quota_of amount base (value_at ps k))
-  quota_at k d lt =
-      ap (λ (l : List (ℕ × ℕ)). get_or l k d) quotas_are
-      ∙ (get_or-map (λ p. (p.0, quota_of amount base p.1)) ps k (0, 0) d lt
-      ∙ ap (λ (share : ℕ). ((get_or ps k (0, 0)).0, quota_of amount base share)) (number_at_is ps k (0, 0) lt))
+module _ (amount : ℤ) (base units : ℕ) (ps contenders : List (ℕ × ℕ)) (quotas : List (ℕ × ℤ)) (quotas_are : quotas ≡ map (signed_quota amount base) ps)
+    (contenders_are : contenders ≡ contenders_of (unsigned_abs amount) base ps) (units_are : units ≡ units_left (unsigned_abs amount) base ps) where
+  abbrev size : ℕ
+  size = unsigned_abs amount
+
+  quota_at : (k : ℕ) (e : ℕ × ℤ) → k < length ps → get_or quotas k e ≡ ((get_or ps k (0, 0)).0, with_sign_of amount (quota_of size base (value_at ps k)))
+  quota_at k e lt =
+      ap (λ (l : List (ℕ × ℤ)). get_or l k e) quotas_are
+      ∙ (get_or-map (signed_quota amount base) ps k (0, 0) e lt
+      ∙ ap (λ (share : ℕ). ((get_or ps k (0, 0)).0, with_sign_of amount (quota_of size base share))) (number_at_is ps k (0, 0) lt))
 
   rank_at : (k : ℕ) (d : ℕ × ℕ) → k < length ps
-      → rank_of contenders (get_or contenders k d) ≡ rank (length ps) (remainders amount base (value_at ps)) k
+      → rank_of contenders (get_or contenders k d) ≡ rank (length ps) (remainders size base (value_at ps)) k
   rank_at k d lt =
       ap (λ (l : List (ℕ × ℕ)). rank_of l (get_or l k d)) contenders_are
-      ∙ (ap (rank_of (contenders_of amount base ps)) (contender_at amount base ps k d lt) ∙ rank_is amount base ps k)
+      ∙ (ap (rank_of (contenders_of size base ps)) (contender_at size base ps k d lt) ∙ rank_is size base ps k)
 
-  pub unit_given : (k : ℕ) (d : ℕ × ℕ) → k < length ps
-      → with_unit (ltb (rank_of contenders (get_or contenders k d)) units) (get_or quotas k d) ≡ get_or (portions_among amount base ps) k d
-  unit_given k d lt =
-      ap (λ (r : ℕ). with_unit (ltb r units) (get_or quotas k d)) (rank_at k d lt)
-      ∙ (ap (λ (u : ℕ). with_unit (ltb (rank (length ps) (remainders amount base (value_at ps)) k) u) (get_or quotas k d))
-      (units_are ∙ units_left_is amount base ps)
-      ∙ (ap (with_unit (ltb (rank (length ps) (remainders amount base (value_at ps)) k) (left (length ps) amount base (value_at ps)))) (quota_at k d lt)
-      ∙ sym (portion_at amount base ps k d lt)))
+  pub unit_given : (k : ℕ) (d : ℕ × ℕ) (e : ℕ × ℤ) → k < length ps
+      → with_unit amount (ltb (rank_of contenders (get_or contenders k d)) units) (get_or quotas k e) ≡ signed_entry amount (get_or (portions_among size base ps) k (0, 0))
+  unit_given k d e lt =
+      ap (λ (r : ℕ). with_unit amount (ltb r units) (get_or quotas k e)) (rank_at k d lt)
+      ∙ (ap (λ (u : ℕ). with_unit amount (ltb (rank (length ps) (remainders size base (value_at ps)) k) u) (get_or quotas k e))
+      (units_are ∙ units_left_is size base ps)
+      ∙ (ap (with_unit amount (ltb (rank (length ps) (remainders size base (value_at ps)) k) (left (length ps) size base (value_at ps)))) (quota_at k e lt)
+      ∙ (ap (λ (z : ℤ). ((get_or ps k (0, 0)).0, z))
+      (sign_adds amount (quota_of size base (value_at ps k)) (bit (ltb (rank (length ps) (remainders size base (value_at ps)) k) (left (length ps) size base (value_at ps)))))
+      ∙ ap (signed_entry amount) (sym (portion_at size base ps k (0, 0) lt)))))
 
--- What the steps of the division leave are the portions by the claims, with the amount's sign.
-pub portions_made : (amount : ℤ) (base units : ℕ) (claims ps quotas contenders : List (ℕ × ℕ)) (portions : List (ℕ × ℤ))
-    → base ≡ base_of claims → ps ≡ participants_of claims → quotas ≡ map (λ p. (p.0, quota_of (unsigned_abs amount) base p.1)) ps
+-- What the steps of the division leave are the portions by the claims.
+pub portions_made : (amount : ℤ) (base units : ℕ) (claims ps contenders : List (ℕ × ℕ)) (quotas portions : List (ℕ × ℤ))
+    → base ≡ base_of claims → ps ≡ participants_of claims → quotas ≡ map (signed_quota amount base) ps
     → contenders ≡ contenders_of (unsigned_abs amount) base ps → units ≡ units_left (unsigned_abs amount) base ps → length portions ≡ length quotas
     → ((k : ℕ) (d : ℕ × ℕ) (e : ℕ × ℤ) → k < length quotas
-    → get_or portions k e ≡ signed_entry amount (with_unit (ltb (rank_of contenders (get_or contenders k d)) units) (get_or quotas k d)))
+    → get_or portions k e ≡ with_unit amount (ltb (rank_of contenders (get_or contenders k d)) units) (get_or quotas k e))
     → portions ≡ signed_portions_of amount claims
-portions_made amount base units claims ps quotas contenders portions base_is ps_is quotas_are contenders_are units_are len given =
+portions_made amount base units claims ps contenders quotas portions base_is ps_is quotas_are contenders_are units_are len given =
     same_lists portions (map (signed_entry amount) made) (all ∙ sym listed) (λ k e lt. at_place k e (omega (arith, all, lt)) (omega (arith, len, lt)))
     ∙ (ap (λ (b : ℕ). map (signed_entry amount) (portions_among (unsigned_abs amount) b ps)) base_is
     ∙ ap (λ (l : List (ℕ × ℕ)). map (signed_entry amount) (portions_among (unsigned_abs amount) (base_of claims) l)) ps_is)
@@ -222,7 +273,7 @@ portions_made amount base units claims ps quotas contenders portions base_is ps_
     made = portions_among (unsigned_abs amount) base ps
 
     all : length portions ≡ length ps
-    all = len ∙ (ap (λ (l : List (ℕ × ℕ)). length l) quotas_are ∙ length-map ps (λ p. (p.0, quota_of (unsigned_abs amount) base p.1)))
+    all = len ∙ (ap (λ (l : List (ℕ × ℤ)). length l) quotas_are ∙ length-map ps (signed_quota amount base))
 
     listed : length (map (signed_entry amount) made) ≡ length ps
     listed = length-map made (signed_entry amount) ∙ length-portions (unsigned_abs amount) base ps
@@ -230,7 +281,7 @@ portions_made amount base units claims ps quotas contenders portions base_is ps_
     at_place : (k : ℕ) (e : ℕ × ℤ) → k < length ps → k < length quotas → get_or portions k e ≡ get_or (map (signed_entry amount) made) k e
     at_place k e lt lt' =
         given k (0, 0) e lt'
-        ∙ (ap (signed_entry amount) (unit_given (unsigned_abs amount) base units ps quotas contenders quotas_are contenders_are units_are k (0, 0) lt)
+        ∙ (unit_given amount base units ps contenders quotas quotas_are contenders_are units_are k (0, 0) e lt
         ∙ sym (get_or-map (signed_entry amount) made k (0, 0) e (rw (length-portions (unsigned_abs amount) base ps) lt)))
 
 -- the quotas of the places before one, and its own, fit the amount

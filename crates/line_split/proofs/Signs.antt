@@ -1,16 +1,17 @@
 -- Signed portions add up as their sizes do.
-use Rattle.std.proofs.Common.{◌≡◌, ◌∙◌, ◌+◌, ◌<◌, ◌≤◌, ◌++◌, ◌∷◌, [], ℕ, ℤ, pos, negsuc, ◌+ℤ◌, unsigned_abs, List, All, fold, length, get_or, map, sum_by, ap, subst, sym, refl, arith}
-use Rattle.std.proofs.lemmas.Int.{ints}
+use mir.Val.{SFits}
+use Rattle.std.proofs.Common.{rules, w64, to_z, of_z, ◌≡◌, ◌∙◌, ◌+◌, ◌<◌, ◌≤◌, ◌++◌, ◌∷◌, [], ℕ, ℤ, pos, negsuc, ◌+ℤ◌, unsigned_abs, List, All, fold, length, get_or, map, sum_by, ap, subst, sym, refl, arith}
+use Rattle.std.proofs.lemmas.Int.{ints, to_z-of_z}
 use Rattle.std.proofs.lemmas.List.Elements.{All-map}
 use Rattle.std.proofs.lemmas.List.Sums.{get_or-le-sum_by}
 use Rattle.line_split.specs.LargestRemainder.{portions_of}
-use Rattle.line_split.specs.Signs.{int_sum_by, signed_portions_of, with_sign_of}
+use Rattle.line_split.specs.Signs.{int_sum_by, signed_entry, signed_portions_of, with_sign_of}
 use Rattle.line_split.proofs.Fair.{portions_are_fair}
 use Rattle.line_split.specs.Claims.{base_of, participants_of}
 use Rattle.line_split.proofs.ClaimLemmas.{length-participants}
 use Rattle.line_split.proofs.Places.{length-portions}
 use Rattle.line_split.proofs.PortionAccounts.{portion_accounts, portions_below}
-use Rattle.line_split.specs.declared.TheConstants.{RESIDUE}
+use Rattle.line_split.specs.declared.TheConstants.{MOST_AMOUNT, RESIDUE}
 
 -- numbers with a sign add up to their sum with that sign
 pub sign_adds : (amount : ℤ) (a b : ℕ) → with_sign_of amount a +ℤ with_sign_of amount b ≡ with_sign_of amount (a + b)
@@ -31,8 +32,16 @@ pub size_of_signed : (amount : ℤ) (a : ℕ) → unsigned_abs (with_sign_of amo
 size_of_signed (pos n) a = refl
 size_of_signed (negsuc n) a = omega (arith, ints)
 
+-- a sum of a number and a small one, as it is kept in 64 bits
+pub kept_sum : (z u : ℤ) → unsigned_abs z + unsigned_abs u ≤ MOST_AMOUNT → to_z w64 (of_z w64 (to_z w64 (of_z w64 z) +ℤ to_z w64 (of_z w64 u))) ≡ z +ℤ u
+kept_sum z u small =
+    let first : SFits w64 z = search rules in
+    let second : SFits w64 u = search rules in
+    let sum : SFits w64 (z +ℤ u) = search rules in
+    (λ i. to_z w64 (of_z w64 (to_z-of_z w64 z first i +ℤ to_z-of_z w64 u second i))) ∙ to_z-of_z w64 (z +ℤ u) sum
+
 abbrev pub signed_list : ℤ → List (ℕ × ℕ) → List (ℕ × ℤ)
-signed_list amount xs = map (λ x. (x.0, with_sign_of amount x.1)) xs
+signed_list amount xs = map (signed_entry amount) xs
 
 signed_from : (amount : ℤ) (start : ℕ) (xs : List (ℕ × ℕ))
     → fold (λ (s : ℤ) (x : ℕ × ℤ). s +ℤ x.1) (with_sign_of amount start) (signed_list amount xs) ≡ with_sign_of amount (fold (λ (s : ℕ) (x : ℕ × ℕ). s + x.1) start xs)
@@ -81,6 +90,6 @@ signed_portions_below amount accounts claims some below =
 -- none is larger than what is divided
 pub signed_portions_small : (amount : ℤ) (most : ℕ) (claims : List (ℕ × ℕ)) → unsigned_abs amount ≤ most → All (λ portion. unsigned_abs portion.1 ≤ most) (signed_portions_of amount claims)
 signed_portions_small amount most claims small =
-    All-map (λ (portion : ℕ × ℤ). unsigned_abs portion.1 ≤ most) (λ (portion : ℕ × ℕ). (portion.0, with_sign_of amount portion.1)) (portions_of (unsigned_abs amount) claims) (λ k d below.
+    All-map (λ (portion : ℕ × ℤ). unsigned_abs portion.1 ≤ most) (signed_entry amount) (portions_of (unsigned_abs amount) claims) (λ k d below.
     let size = portions_within (unsigned_abs amount) most claims (portions_of (unsigned_abs amount) claims) refl small k d below in
     omega (arith, size, size_of_signed amount (get_or (portions_of (unsigned_abs amount) claims) k d).1))

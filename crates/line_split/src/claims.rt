@@ -64,12 +64,12 @@ pub struct Claims {
 }
 
 impl Model for Claims {
-    ghost use Rattle.std.specs.Prelude.{◌≤◌, length, vec_capacity};
+    ghost use Rattle.std.specs.Prelude.{◌≤◌, ℕ, length, vec_capacity};
     ghost use Rattle.line_split.specs.declared.TheConstants.{MOST_CLAIMS};
     ghost use Rattle.line_split.specs.Claims.{AreClaims};
     ghost use Rattle.line_split.specs.WithRoom.{WithRoom};
 
-    ghost Value = { WithRoom };
+    ghost Value = { WithRoom ℕ };
 
     ghost view = { λ c. record { list = c.pairs.items; room = c.room } };
 

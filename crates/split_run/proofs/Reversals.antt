@@ -3,14 +3,14 @@ use Rattle.std.proofs.Common.{◌≡◌, ◌∙◌, ◌++◌, ◌∷◌, [], ℕ
 use Rattle.std.specs.Prelude.{◌==◌, if◌then◌else◌}
 use Rattle.std.proofs.lemmas.Int.{ints}
 use Rattle.line_split.specs.Signs.{int_sum_by, signed_portions_of}
-use Rattle.line_split.specs.UsageLine.{UsageLine}
+use Rattle.line_split.specs.UsageLine.{IsReversalOf, UsageLine}
 use Rattle.line_split.proofs.FairSigns.{reversed_portions}
 use Rattle.line_split.proofs.IntSums.{int_sum_by-cons, none_plus}
 use Rattle.cwr_share.specs.ClaimsOn.{claims_on}
 use Rattle.cwr_share.specs.Registered.{Registered}
 use Rattle.payee_book.specs.Run.{portion_of, statement_of}
 use Rattle.payee_book.specs.Statement.{total_of}
-use Rattle.split_run.specs.Divisions.{IsReversalOf, division_by}
+use Rattle.split_run.specs.Divisions.{division_by}
 use Rattle.split_run.proofs.AddsUp.{portion_first, total_from}
 
 abbrev negated : List (ℕ × ℤ) → List (ℕ × ℤ)

@@ -2,10 +2,10 @@
 
 ghost use Rattle.std.specs.Prelude.{◌≡◌, ◌++◌, ◌∷◌, ◌+ℤ◌, ℕ, pos, List};
 ghost use Rattle.cwr_share.specs.Registered.{Registered};
-ghost use Rattle.line_split.specs.UsageLine.{UsageLine};
+ghost use Rattle.line_split.specs.UsageLine.{IsReversalOf, UsageLine};
 ghost use Rattle.payee_book.specs.Run.{portion_of, statement_of};
 ghost use Rattle.payee_book.specs.Statement.{total_of};
-ghost use Rattle.split_run.specs.Divisions.{IsReversalOf, division_by};
+ghost use Rattle.split_run.specs.Divisions.{division_by};
 ghost use Rattle.split_run.specs.declared.TheConstants.{MOST_NODES, MOST_THREADS};
 ghost use Rattle.split_run.specs.Taken.{TakingKeepsUp, WhatWasSentIsTheStatement};
 

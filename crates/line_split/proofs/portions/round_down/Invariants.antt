@@ -1,13 +1,17 @@
-use Rattle.std.proofs.Common.{◌≡◌, ◌+◌, ◌++◌, sum_by, map, take, drop, vec_capacity}
+use Rattle.std.proofs.Common.{◌≡◌, ◌+◌, unsigned_abs, sum_by, map, take, vec_capacity}
+use Rattle.line_split.specs.Claims.{base_of, counted_claims, participants_of, total_of}
 use Rattle.line_split.specs.LargestRemainder.{contenders_of, quota_of}
-use Rattle.line_split.specs.Contenders.{place_and_remainder}
+use Rattle.line_split.specs.Contenders.{place_and_remainder, signed_quota}
 use Rattle.line_split.proofs.portions.round_down.Given as goal
 
--- the quotas and contenders so far, the shares of the rest, and what the quotas leave of the amount
-abbrev pub invariant-loop-place : goal.invariant-loop-place
-invariant-loop-place l = record {
-  quotas : l.list ≡ map (λ p. (p.0, quota_of l.amount l.base p.1)) (take l.place l.fn.list) ++ drop l.place l.fn.list;
-  contenders : map place_and_remainder l.contenders.items ≡ contenders_of l.amount l.base (take l.place l.fn.list);
-  left : l.left + sum_by (λ p. quota_of l.amount l.base p.1) (take l.place l.fn.list) ≡ l.amount;
-  room : vec_capacity l.contenders ≡ vec_capacity l.fn.contenders;
+-- what counts and the base, the quotas and contenders so far, what the quotas leave of the amount's size, and the room that there was
+abbrev pub invariant-loop-claim : goal.invariant-loop-claim
+invariant-loop-claim l = record {
+  counted : l.counted ≡ total_of (counted_claims l.claims);
+  base : l.base ≡ base_of l.claims;
+  quotas : l.list.items ≡ map (signed_quota l.amount l.base) (take l.claim-index (participants_of l.claims));
+  contenders : map place_and_remainder l.contenders.items ≡ contenders_of (unsigned_abs l.amount) l.base (take l.claim-index (participants_of l.claims));
+  left : l.left + sum_by (λ p. quota_of (unsigned_abs l.amount) l.base p.1) (take l.claim-index (participants_of l.claims)) ≡ unsigned_abs l.amount;
+  room : vec_capacity l.list ≡ vec_capacity l.fn.list;
+  places : vec_capacity l.contenders ≡ vec_capacity l.fn.contenders;
 }

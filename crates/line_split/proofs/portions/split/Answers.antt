@@ -1,4 +1,4 @@
-use Rattle.std.proofs.Common.{◌≡◌, ◌∙◌, ap, List, w64, to_z, of_z, ℕ, ℤ}
+use Rattle.std.proofs.Common.{◌∙◌, ap, List, w64, ℕ, ℤ}
 use Rattle.std.proofs.lemmas.Int.{to_z-of_z}
 use Rattle.line_split.specs.Signs.{int_sum_by, signed_portions_of}
 use Rattle.line_split.proofs.Signs.{portions_add_up}

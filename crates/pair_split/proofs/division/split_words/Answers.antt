@@ -5,7 +5,8 @@ use Rattle.std.specs.Prelude.{IfOk, string_bytes}
 use Rattle.line_split.specs.declared.TheConstants.{MOST_AMOUNT}
 use Rattle.line_split.specs.FairSplit.{sizes_of}
 use Rattle.line_split.specs.LargestRemainder.{portions_of}
-use Rattle.line_split.specs.Signs.{SignedWithRoom, signed_portions_of}
+use Rattle.line_split.specs.Signs.{signed_portions_of}
+use Rattle.line_split.specs.WithRoom.{WithRoom}
 use Rattle.line_split.proofs.FairSigns.{sizes_signed}
 use Rattle.line_split.proofs.Signs.{portions_count}
 use Rattle.pair_split.specs.Rows.{labels_of, text_of}
@@ -15,7 +16,7 @@ use Rattle.pair_split.proofs.division.split_words.Goals as goal
 pub split-requires-clause-room : goal.split-requires-clause-room
 split-requires-clause-room c =
     let claims = ap (λ (l : List (ℕ × ℕ)). length l) c.in_ok-claims.ensures.claims ∙ (length-claims (map string_bytes c.args.words.now) ∙ length-map c.args.words.now string_bytes) in
-    let room = ap (λ (p : SignedWithRoom). p.room) c.in-Ok.ensures in
+    let room = ap (λ (p : WithRoom ℤ). p.room) c.in-Ok.ensures in
     omega (arith, claims, room)
 
 -- the sizes of the portions of an amount that is not negative

@@ -1,4 +1,4 @@
-use Rattle.std.proofs.Common.{ℕ, List, rules}
+use Rattle.std.proofs.Common.{ℕ, List}
 use Rattle.std.proofs.lemmas.Result.{on_ok_weaker}
 use Rattle.std.specs.Prelude.{string_bytes}
 use Rattle.std.specs.declared.io.ErrorKind.{ErrorKind}
@@ -7,6 +7,7 @@ use Rattle.settle_run.specs.declared.fault.Fault.TheVariants.{Tis, Cwr, Usage, R
 use Rattle.royalty_program.specs.Files.{AreInputs, IsFaultOver}
 use Rattle.royalty_program.specs.Status.{IsOfPaths, failure_of_run}
 use Rattle.royalty_program.proofs.FileLemmas.{first_unread, second_unread, third_unread}
+use Rattle.clap.proofs.TakesLemmas.{passed_up}
 use Rattle.royalty_program.proofs.files.settle_files.Goals as goal
 
 -- a fault of the files is why the run fails, where it is no lack of memory
@@ -59,10 +60,24 @@ returns-in-Err-clause-files g c =
     rw c.from.ensures (fails (g.S.Source.holds c.args.files.now) (g.S.Source.refuses c.args.files.now) (string_bytes asked.tis) (string_bytes asked.cwr) (string_bytes asked.usage) c.in-Err.fault over)
 
 pub returns-in_err-tis-clause-files : goal.returns-in_err-tis-clause-files
-returns-in_err-tis-clause-files g c = search (rules, first_unread)
+returns-in_err-tis-clause-files g c =
+    let asked = c.args.asked in
+    passed_up c.from_residual.result c.in_err-tis.field-0.0 (IsOfPaths (g.S.Source.holds c.args.files.now) (g.S.Source.refuses c.args.files.now) (string_bytes asked.tis) (string_bytes asked.cwr) (string_bytes asked.usage))
+    c.from_residual.ensures.1
+    (first_unread (g.S.Source.holds c.args.files.now) (g.S.Source.refuses c.args.files.now) (string_bytes asked.cwr) (string_bytes asked.usage) asked.tis c.in_err-tis.field-0.0 c.in_err-tis.ensures.failure)
 
 pub returns-in_err-cwr-clause-files : goal.returns-in_err-cwr-clause-files
-returns-in_err-cwr-clause-files g c = search (rules, second_unread)
+returns-in_err-cwr-clause-files g c =
+    let asked = c.args.asked in
+    passed_up c.from_residual-in_err-cwr.result c.in_err-cwr.field-0.0 (IsOfPaths (g.S.Source.holds c.args.files.now) (g.S.Source.refuses c.args.files.now) (string_bytes asked.tis) (string_bytes asked.cwr) (string_bytes asked.usage))
+    c.from_residual-in_err-cwr.ensures.1
+    (second_unread (g.S.Source.holds c.args.files.now) (g.S.Source.refuses c.args.files.now) (string_bytes asked.tis) (string_bytes asked.usage) asked.cwr c.in_err-cwr.field-0.0 c.in_ok-tis.tis.items
+    c.in_ok-tis.ensures.bytes c.in_err-cwr.ensures.failure)
 
 pub returns-in_err-usage-clause-files : goal.returns-in_err-usage-clause-files
-returns-in_err-usage-clause-files g c = search (rules, third_unread)
+returns-in_err-usage-clause-files g c =
+    let asked = c.args.asked in
+    passed_up c.from_residual-in_err-usage.result c.in_err-usage.field-0.0 (IsOfPaths (g.S.Source.holds c.args.files.now) (g.S.Source.refuses c.args.files.now) (string_bytes asked.tis) (string_bytes asked.cwr) (string_bytes asked.usage))
+    c.from_residual-in_err-usage.ensures.1
+    (third_unread (g.S.Source.holds c.args.files.now) (g.S.Source.refuses c.args.files.now) (string_bytes asked.tis) (string_bytes asked.cwr) asked.usage c.in_err-usage.field-0.0 c.in_ok-tis.tis.items c.in_ok-cwr.cwr.items
+    c.in_ok-tis.ensures.bytes c.in_ok-cwr.ensures.bytes c.in_err-usage.ensures.failure)
