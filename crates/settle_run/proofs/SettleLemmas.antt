@@ -1,5 +1,5 @@
 -- The reasons of the residue of a run.
-use Rattle.std.proofs.Common.{◌≡◌, ◌∙◌, ◌+◌, ◌<◌, ◌++◌, ◌∷◌, ◌⊎◌, [], ℕ, ℤ, List, length, map, set, drop, get_or, All, ap, sym, refl, inl, inr, arith, codes}
+use Rattle.std.proofs.Common.{◌≡◌, ◌∙◌, ◌<◌, ◌++◌, ◌∷◌, ◌⊎◌, [], ℕ, ℤ, List, length, map, set, drop, get_or, All, ap, sym, refl, inl, inr, arith, codes}
 use Rattle.std.specs.Prelude.{flat_map, zip}
 use Rattle.std.proofs.lemmas.Bool.{cases_eq}
 use Rattle.std.proofs.lemmas.List.{get_or-map, get_or-set_other, get_or-set_same, length-set}

@@ -76,8 +76,11 @@ loop-contender-preserved c k e lt = elim (cases_eq k c.place.result) [
       ap (λ (n : ℕ). get_or c.loop-contender.list n (0, pos 0)) (sym is)
       ∙ (get_or_default c.loop-contender.list k (0, pos 0) e (omega (arith, lt, c.loop-contender.auto.list)) ∙ c.loop-contender.invariant k e lt) in
       get_or-set_at c.loop-contender.list c.place.result k _ e is (omega (arith, lt, is, c.loop-contender.auto.list))
-      ∙ ((λ i. ((old i).0, unit_kept a (get_or c.args.list.now k e).1 (so_far k) c.args.left c.signed-unit.result (get_or c.loop-contender.list c.place.result (0, pos 0)).1
-      (ap (λ (p : ℕ × ℤ). p.1) old) c.signed-unit.ensures (c.requires.small k e lt) (omega (arith, few k, c.loop-contender-test.true, length-take-le c.args.left c.sort_unstable.new.self)) i))
+      ∙ ((λ i. (
+        (old i).0,
+        unit_kept a (get_or c.args.list.now k e).1 (so_far k) c.args.left c.signed-unit.result (get_or c.loop-contender.list c.place.result (0, pos 0)).1
+            (ap (λ (p : ℕ × ℤ). p.1) old) c.signed-unit.ensures (c.requires.small k e lt) (omega (arith, few k, c.loop-contender-test.true, length-take-le c.args.left c.sort_unstable.new.self)) i,
+      ))
       ∙ ap (λ (n : ℕ). ((get_or c.args.list.now k e).0, (get_or c.args.list.now k e).1 +ℤ with_sign_of a n)) (sym (more k ∙ ap (λ (b : Bool). so_far k + bit b) (eq-eqb (place_of this) k (sym (is ∙ c.place.ensures))))))
   | inr other ↦
       let none_more : so_far k ≡ count_by (λ (t : Contender). eqb (place_of t) k) (take (c.loop-contender.contender-index + 1) served) = omega (arith, more k, ap bit (ne_eqb (place_of this) k (λ same. other (sym (c.place.ensures ∙ same))))) in
