@@ -4,7 +4,9 @@ pub mod FieldLemmas
 pub mod FileLemmas
 pub mod LawLemmas
 pub mod LineLemmas
+pub mod OnePayees
 pub mod OneRegistry
 pub mod OrderLemmas
 pub mod PartyLemmas
 pub mod PartyWorks
+pub mod PayeeLemmas

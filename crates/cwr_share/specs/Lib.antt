@@ -9,3 +9,5 @@ pub mod Compiled
 pub mod Found
 pub mod Reading
 pub mod Parties
+pub mod Payees
+pub mod PayeeTable

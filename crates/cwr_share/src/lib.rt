@@ -13,6 +13,8 @@ pub mod laws;
 mod lines;
 mod numbers;
 mod parties;
+mod payee_fault;
+mod payees;
 mod reading;
 mod record_type;
 mod registration;
@@ -21,6 +23,8 @@ mod registry;
 mod share_line;
 
 pub use cwr_fault::CwrFault;
+pub use payee_fault::PayeeFault;
+pub use payees::{MOST_NAME_BYTES, MOST_PAYEES, Payees};
 pub use record_type::RecordType;
 pub use registry::{Registry, Work};
 

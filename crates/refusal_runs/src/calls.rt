@@ -2,7 +2,7 @@
 ghost use Rattle.std.specs.Prelude.{◌<◌, ◌≡◌, All, true};
 
 use block_draw::Draw;
-use cwr_share::{CwrFault, Registry};
+use cwr_share::{CwrFault, PayeeFault, Payees, Registry};
 use line_split::{ClaimFault, Claims, LineFault, MOST_CLAIMS, Portions, Reason, Usage};
 use mail_box::{LaneMail, LinkMail, Mail, ShyMail};
 use pair_split::{PairFault, split_words};
@@ -30,6 +30,7 @@ pub fn make_calls<R: Threads + Wait + Sync, W: Write>(
     out: &mut W,
 ) -> io::Result<()> {
     tell("TisTable::read", territories(alloc), out)?;
+    tell("Payees::read", payees(alloc), out)?;
     tell("Registry::read", registrations(alloc), out)?;
     tell("Registry::scratch", scratch(alloc), out)?;
     tell("Usage::read", lines(alloc), out)?;
@@ -62,6 +63,14 @@ fn territories(alloc: Global) -> Answer {
     match TisTable::read(alloc, TERRITORIES.as_bytes()) {
         Ok(table) => Some(table.len() as u64),
         Err(TisFault::Memory) => None,
+        Err(_) => Some(WRONG),
+    }
+}
+
+fn payees(alloc: Global) -> Answer {
+    match Payees::read(alloc, b"party,payee\nA,Z\n\"B\",A\n") {
+        Ok(payees) => Some(payees.len() as u64),
+        Err(PayeeFault::Memory) => None,
         Err(_) => Some(WRONG),
     }
 }

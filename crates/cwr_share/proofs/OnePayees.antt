@@ -1,0 +1,47 @@
+-- Rows are a table of payees in one way only, and a table has no fault but lack of memory.
+use Rattle.std.proofs.Common.{◌≡◌, ◌≤◌, ◌<◌, ◌+◌, ℕ, List, ◌∷◌, ◌++◌, length, map, ap, refl, subst, inl, inr, arith, length-append}
+use Rattle.std.proofs.Math.Seq.{get_or-append_seam, take-append_seam}
+use Rattle.cwr_share.specs.PayeeTable.{AreRows, IsFaultOf, IsFaultOfRow, IsFirstFault, IsPayeeRow, IsTableOf, payee_row_of}
+use Rattle.cwr_share.specs.declared.payees.TheConstants.{MOST_PAYEES}
+use Rattle.cwr_share.specs.declared.payee_fault.PayeeFault.{PayeeFault}
+use Rattle.cwr_share.specs.declared.payee_fault.PayeeFault.TheVariants.{Csv, Fields, Twice, Rows, Memory}
+
+-- the rows of a table are one list of payees
+pub one_table : (rows : List (List (List ℕ))) (payees other : List (List ℕ × List ℕ)) → IsTableOf rows payees → IsTableOf rows other → payees ≡ other
+one_table rows payees other is too =
+    let same : is.below ≡ too.below = cc in
+    rw (is.same, too.same, same) refl
+
+-- a row that names a payee is refused for nothing but lack of memory
+sound_row : (earlier : List (List ℕ × List ℕ)) (row : List (List ℕ)) (number : ℕ) (fault : PayeeFault)
+    → IsPayeeRow earlier row → number ≤ MOST_PAYEES → IsFaultOfRow earlier number row fault → fault ≡ Memory
+sound_row earlier row number (Csv n) good few refused = absurd (refused.2 good.whole)
+sound_row earlier row number (Fields n) good few refused = absurd (refused.3 good.names)
+sound_row earlier row number (Twice n) good few refused = absurd (good.new refused.4)
+sound_row earlier row number Rows good few refused = absurd (omega arith)
+sound_row earlier row number Memory good few refused = refl
+
+-- among rows that name payees, one stands below those before it
+row_between : (before : List (List (List ℕ))) (row : List (List ℕ)) (after : List (List (List ℕ)))
+    → AreRows (before ++ row ∷ after) → IsPayeeRow (map payee_row_of before) row
+row_between before row after sound =
+    let within : length before < length (before ++ row ∷ after) = omega (arith, length-append before (row ∷ after)) in
+    rw (take-append_seam, get_or-append_seam) at (sound (length before) within)
+
+-- no row of a table is the first that is refused, but for lack of memory
+no_first_fault : (rows : List (List (List ℕ))) (payees : List (List ℕ × List ℕ)) (fault : PayeeFault) → IsTableOf rows payees → IsFirstFault rows fault → fault ≡ Memory
+no_first_fault rows payees fault is first =
+    let same : is.below ≡ first.before ++ first.row ∷ first.after = cc in
+    sound_row (map payee_row_of first.before) first.row (length first.before + 1) fault
+    (row_between first.before first.row first.after (subst AreRows same is.sound))
+    (omega (arith, is.few, ap length same, length-append first.before (first.row ∷ first.after)))
+    first.refused
+
+-- rows that are a table are refused for nothing but lack of memory
+pub no_fault : (rows : List (List (List ℕ))) (payees : List (List ℕ × List ℕ)) (fault : PayeeFault) → IsTableOf rows payees → IsFaultOf rows fault → fault ≡ Memory
+no_fault rows payees (Csv n) is (inl (first, none)) = absurd (none is.below is.headed)
+no_fault rows payees (Csv n) is (inr first) = no_first_fault rows payees (Csv n) is first
+no_fault rows payees (Fields n) is first = no_first_fault rows payees (Fields n) is first
+no_fault rows payees (Twice n) is first = no_first_fault rows payees (Twice n) is first
+no_fault rows payees Rows is first = no_first_fault rows payees Rows is first
+no_fault rows payees Memory is fault = refl

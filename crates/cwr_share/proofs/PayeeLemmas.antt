@@ -1,0 +1,201 @@
+-- How the rows of a table of payees are read one by one, and how a party's payee is found.
+use Rattle.std.proofs.Common.{◌≡◌, ◌≤◌, ◌<◌, ◌+◌, ◌⊎◌, Bool, true, false, is_some, ℕ, List, Option, Some, None, [], ◌∷◌, ◌++◌, length, map, nat_eq, take, slice_index_or, ap, sym, refl, ◌∙◌, append_assoc, inl, inr, arith}
+use Rattle.std.specs.List.{find}
+use Rattle.std.specs.Option.{option_map, option_map_or}
+use Rattle.std.specs.Cmp.Lexicographic.{pointwise}
+use Rattle.std.proofs.Math.Seq.{take-append_seam}
+use Rattle.std.proofs.lemmas.Bool.{cases_Bool, cases_lt, false_from_ne_true, false≢true}
+use Rattle.std.proofs.lemmas.Cmp.{nat_list_eq_equiv}
+use Rattle.std.proofs.lemmas.List.{append-nil, get_or_append_left, get_or_push, length_push, map-append, map_push, take-append-le}
+use Rattle.std.proofs.lemmas.List.Elements.{All-push, All-tail}
+use Rattle.std.proofs.lemmas.Slice.Eq.{bytes_eq-Decides}
+use Rattle.arrayvec.specs.ArrayVec.{ArrayVec}
+use Rattle.std.specs.Map.{lookup}
+use Rattle.cwr_share.specs.PayeeTable.{AreRows, HasNames, IsFaultOf, IsFaultOfRow, IsFirstFault, IsPayeeRow, IsTableOf, header, payee_row_of}
+use Rattle.cwr_share.specs.Payees.{AreNames, HasRow, IsName, payee_of}
+use Rattle.cwr_share.specs.declared.payees.TheConstants.{MOST_NAME_BYTES, MOST_PAYEES}
+use Rattle.cwr_share.specs.declared.payee_fault.PayeeFault.{PayeeFault}
+use Rattle.cwr_share.specs.declared.payee_fault.PayeeFault.TheVariants.{Csv, Fields, Twice, Rows, Memory}
+use Rattle.cwr_share.proofs.CompiledLemmas.{contains_cases, contains_later}
+
+-- the rows below the header that were read so far are this table
+pub record Walked (rows left : List (List (List ℕ))) (number : ℕ) (payees : List (List ℕ × List ℕ)) : Type 0 where
+  pub below : List (List (List ℕ))
+  pub split : rows ≡ header ∷ (below ++ left)
+  pub sound : AreRows below
+  pub same : payees ≡ map payee_row_of below
+  pub count : length below + 1 ≡ number
+
+-- below the header no row is read yet
+pub walked_start : (rows left : List (List (List ℕ))) → rows ≡ header ∷ left → Walked rows left 1 []
+walked_start rows left is = record { below = []; split = is; sound = λ place within. absurd (omega arith); same = refl; count = refl }
+
+-- rows that name payees, and one more below them
+rows_push : (below : List (List (List ℕ))) (row : List (List ℕ)) → AreRows below → IsPayeeRow (map payee_row_of below) row → AreRows (below ++ row ∷ [])
+rows_push below row sound good = λ place within. by place (last_or (length below) place (rw length_push at within))
+  where
+    last_or : (n place : ℕ) → place < n + 1 → (place < n) ⊎ (place ≡ n)
+    last_or n place within = elim (cases_lt place n) [ inl before ↦ inl before | inr after ↦ inr (omega (arith, within, after)) ]
+
+    by : (place : ℕ) → (place < length below) ⊎ (place ≡ length below) → IsPayeeRow (map payee_row_of (take place (below ++ row ∷ []))) (slice_index_or (below ++ row ∷ []) place [])
+    by place (inl before) = rw (take-append-le place below (row ∷ []) (omega arith), get_or_append_left below (row ∷ []) [] place before) (sound place before)
+    by place (inr last) = rw (last, take-append_seam below (row ∷ []), get_or_push below row [] (length below) refl) good
+
+-- a row that names a payee adds it to the table
+pub walked_more : (rows left : List (List (List ℕ))) (row : List (List ℕ)) (number : ℕ) (payees grown : List (List ℕ × List ℕ))
+    → Walked rows (row ∷ left) number payees → IsPayeeRow payees row → grown ≡ payees ++ payee_row_of row ∷ [] → Walked rows left (number + 1) grown
+walked_more rows left row number payees grown walked good is = record {
+  below = walked.below ++ row ∷ [];
+  split = walked.split ∙ ap (λ (l : List (List (List ℕ))). header ∷ l) (sym (append_assoc walked.below (row ∷ []) left));
+  sound = rows_push walked.below row walked.sound (rw walked.same at good);
+  same = rw (is, walked.same) (sym (map-append payee_row_of walked.below (row ∷ [])));
+  count = rw (length_push walked.below row, walked.count) refl;
+}
+
+-- where no row is left, the rows are the table
+pub walked_table : (rows : List (List (List ℕ))) (number : ℕ) (payees : List (List ℕ × List ℕ)) → Walked rows [] number payees → number ≤ MOST_PAYEES + 1 → IsTableOf rows payees
+walked_table rows number payees walked few = record {
+  below = walked.below;
+  headed = walked.split ∙ ap (λ (l : List (List (List ℕ))). header ∷ l) (append-nil walked.below);
+  few = omega (arith, walked.count, few);
+  sound = walked.sound;
+  same = walked.same;
+}
+
+-- the row at hand is the first that is refused
+first_fault : (rows left : List (List (List ℕ))) (row : List (List ℕ)) (number : ℕ) (payees : List (List ℕ × List ℕ)) (fault : PayeeFault)
+    → Walked rows (row ∷ left) number payees → IsFaultOfRow payees number row fault → IsFirstFault rows fault
+first_fault rows left row number payees fault walked refused = record {
+  before = walked.below;
+  row = row;
+  after = left;
+  split = walked.split;
+  sound = walked.sound;
+  refused = rw walked.count (rw walked.same at refused);
+}
+
+-- the table is refused for the row at hand
+pub walked_fault : (rows left : List (List (List ℕ))) (row : List (List ℕ)) (number : ℕ) (payees : List (List ℕ × List ℕ)) (fault : PayeeFault)
+    → Walked rows (row ∷ left) number payees → IsFaultOfRow payees number row fault → IsFaultOf rows fault
+walked_fault rows left row number payees (Csv n) walked refused = inr (first_fault rows left row number payees (Csv n) walked refused)
+walked_fault rows left row number payees (Fields n) walked refused = first_fault rows left row number payees (Fields n) walked refused
+walked_fault rows left row number payees (Twice n) walked refused = first_fault rows left row number payees (Twice n) walked refused
+walked_fault rows left row number payees Rows walked refused = first_fault rows left row number payees Rows walked refused
+walked_fault rows left row number payees Memory walked refused = tt
+
+-- a row as the table keeps it
+abbrev pub as_row : ArrayVec ℕ × ArrayVec ℕ → List ℕ × List ℕ
+as_row entry = (entry.0.items, entry.1.items)
+
+-- what a look-up finds is the payee of the row of the party, and nothing where it has no row
+pub looked_up : (entries : List (ArrayVec ℕ × ArrayVec ℕ)) (party : List ℕ)
+    → option_map (λ payee. payee.items) (lookup (λ other. pointwise nat_eq party other.items) entries) ≡ option_map (λ row. row.1) (find (λ row. pointwise nat_eq row.0 party) (map as_row entries))
+looked_up [] party = refl
+looked_up (entry ∷ entries) party =
+    let turned = nat_list_eq_equiv.symm entry.0.items party in
+    elim (cases_Bool (pointwise nat_eq party entry.0.items)) [
+      | inl its ↦ rw (turned, its) refl
+      | inr other ↦ rw (turned, other) (looked_up entries party)
+    ]
+
+-- so a party that is found is paid to the payee that is found
+pub paid_as_found : (entries : List (ArrayVec ℕ × ArrayVec ℕ)) (party : List ℕ) (payee : ArrayVec ℕ)
+    → Some payee ≡ lookup (λ other. pointwise nat_eq party other.items) entries → payee.items ≡ payee_of (map as_row entries) party
+paid_as_found entries party payee found = on (find (λ row. pointwise nat_eq row.0 party) (map as_row entries)) (ap (option_map (λ (payee : ArrayVec ℕ). payee.items)) found ∙ looked_up entries party)
+  where
+    on : (row : Option (List ℕ × List ℕ)) → Some payee.items ≡ option_map (λ row. row.1) row → payee.items ≡ option_map_or (λ row. row.1) row party
+    on (Some row) is = cc
+    on None is = cc
+
+-- and one that is not found is paid itself
+pub paid_itself : (entries : List (ArrayVec ℕ × ArrayVec ℕ)) (party : List ℕ)
+    → None ≡ lookup (λ other. pointwise nat_eq party other.items) entries → party ≡ payee_of (map as_row entries) party
+paid_itself entries party found = on (find (λ row. pointwise nat_eq row.0 party) (map as_row entries)) (ap (option_map (λ (payee : ArrayVec ℕ). payee.items)) found ∙ looked_up entries party)
+  where
+    on : (row : Option (List ℕ × List ℕ)) → None ≡ option_map (λ row. row.1) row → party ≡ option_map_or (λ row. row.1) row party
+    on None is = refl
+    on (Some row) is = cc
+
+-- a party longer than any in a table has no row
+pub paid_too_long : (payees : List (List ℕ × List ℕ)) (party : List ℕ) → AreNames payees → MOST_NAME_BYTES < length party → party ≡ payee_of payees party
+paid_too_long [] party names long = refl
+paid_too_long (row ∷ payees) party names long =
+    elim (cases_Bool (pointwise nat_eq row.0 party)) [
+      | inl its ↦
+          let short = (names 0 row (omega arith)).0.1 in
+          absurd (omega (arith, short, long, ap (λ (text : List ℕ). length text) ((bytes_eq-Decides row.0 party).0 its)))
+      | inr other ↦ rw other (paid_too_long payees party (All-tail (λ row. IsName row.0 × IsName row.1) row payees names) long)
+    ]
+
+-- whether a party has a row, by what a look-up of it finds
+pub row_if_some : (entries : List (ArrayVec ℕ × ArrayVec ℕ)) (party : List ℕ)
+    → is_some (lookup (λ other. pointwise nat_eq party other.items) entries) ≡ true → HasRow (map as_row entries) party
+row_if_some [] party found = absurd (false≢true found)
+row_if_some (entry ∷ entries) party found =
+    elim (cases_Bool (pointwise nat_eq party entry.0.items)) [
+      | inl its ↦ (0, omega arith, sym ((bytes_eq-Decides party entry.0.items).0 its))
+      | inr other ↦ contains_later entry.0.items party (map (λ row. row.0) (map as_row entries)) (row_if_some entries party (rw other at found))
+    ]
+
+pub no_row_if_none : (entries : List (ArrayVec ℕ × ArrayVec ℕ)) (party : List ℕ)
+    → is_some (lookup (λ other. pointwise nat_eq party other.items) entries) ≡ false → ¬ HasRow (map as_row entries) party
+no_row_if_none [] party found (k, within, is) = absurd (omega (arith, within))
+no_row_if_none (entry ∷ entries) party found there =
+    elim (cases_Bool (pointwise nat_eq party entry.0.items)) [
+      | inl its ↦ absurd (false≢true (sym (rw its at found)))
+      | inr other ↦
+          elim (contains_cases entry.0.items party (map (λ row. row.0) (map as_row entries)) there) [
+            | inl is ↦ absurd (false≢true (sym other ∙ (bytes_eq-Decides party entry.0.items).1 (sym is)))
+            | inr later ↦ no_row_if_none entries party (rw other at found) later
+          ]
+    ]
+
+-- a new row goes last
+pub entry_added : (entries : List (ArrayVec ℕ × ArrayVec ℕ)) (party payee : ArrayVec ℕ) (grown : List (ArrayVec ℕ × ArrayVec ℕ)) → grown ≡ entries ++ (party, payee) ∷ []
+    → map as_row grown ≡ map as_row entries ++ (party.items, payee.items) ∷ []
+entry_added entries party payee grown is = ap (map as_row) is ∙ map_push as_row entries (party, payee)
+
+-- the names of one more
+pub names_more : (payees : List (List ℕ × List ℕ)) (row : List (List ℕ)) → AreNames payees → HasNames row → AreNames (payees ++ payee_row_of row ∷ [])
+names_more payees row names has = All-push (λ row. IsName row.0 × IsName row.1) payees (payee_row_of row) names ((has.0.some, has.0.short), (has.1.some, has.1.short))
+
+-- where a look-up finds nothing
+pub none_if_not : {X : Type 0} (found : Option X) → false ≡ is_some found → found ≡ None
+none_if_not None is = refl
+none_if_not (Some x) is = absurd (false≢true is)
+
+module _ (party : List ℕ) where
+  -- a test that a row is the party's
+  abbrev is_row_of : List ℕ × List ℕ → Bool
+  is_row_of row = pointwise nat_eq row.0 party
+
+  apart : (text : List ℕ) → ¬ (text ≡ party) → pointwise nat_eq text party ≡ false
+  apart text other = false_from_ne_true (pointwise nat_eq text party) (λ same. other ((bytes_eq-Decides text party).0 same))
+
+  -- rows of other parties are passed over
+  pub passed_over : (payees after : List (List ℕ × List ℕ)) → ¬ HasRow payees party → find is_row_of (payees ++ after) ≡ find is_row_of after
+  passed_over [] after none = refl
+  passed_over (row ∷ payees) after none =
+      let other = apart row.0 (λ is. none (0, omega arith, is)) in
+      rw other (passed_over payees after (λ later. none (contains_later row.0 party (map (λ row. row.0) payees) later)))
+
+  -- a row of another party
+  pub one_over : (before after : List (List ℕ × List ℕ)) (row : List ℕ × List ℕ) → ¬ (row.0 ≡ party) → find is_row_of (before ++ row ∷ after) ≡ find is_row_of (before ++ after)
+  one_over [] after row other = rw (apart row.0 other) refl
+  one_over (first ∷ before) after row other = elim (cases_Bool (is_row_of first)) [
+    | inl its ↦ rw its refl
+    | inr not_its ↦ rw not_its (one_over before after row other)
+  ]
+
+-- the payee of a party is that of its row
+pub payee_of_row : (before after : List (List ℕ × List ℕ)) (party payee : List ℕ) → ¬ HasRow before party → payee_of (before ++ (party, payee) ∷ after) party ≡ payee
+payee_of_row before after party payee none = rw (passed_over party before ((party, payee) ∷ after) none, (bytes_eq-Decides party party).1 refl) refl
+
+pub payee_of_others : (before after : List (List ℕ × List ℕ)) (row : List ℕ × List ℕ) (party : List ℕ) → ¬ (row.0 ≡ party)
+    → payee_of (before ++ row ∷ after) party ≡ payee_of (before ++ after) party
+payee_of_others before after row party other = rw (one_over party before after row other) refl
+
+pub payee_of_itself : (payees : List (List ℕ × List ℕ)) (party : List ℕ) → ¬ HasRow payees party → payee_of payees party ≡ party
+payee_of_itself payees party none =
+    let nothing : find (is_row_of party) payees ≡ None = ap (find (is_row_of party)) (sym (append-nil payees)) ∙ passed_over party payees [] none in
+    rw nothing refl

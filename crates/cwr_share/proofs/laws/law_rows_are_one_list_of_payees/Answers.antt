@@ -1,0 +1,5 @@
+use Rattle.cwr_share.proofs.OnePayees.{one_table}
+use Rattle.cwr_share.proofs.laws.law_rows_are_one_list_of_payees.Goals as goal
+
+pub returns : goal.returns
+returns c = one_table

@@ -1,0 +1,90 @@
+-- The table of payees as CSV: a header, and a row for each party that is paid to another account. Rows count from 0, the header's.
+use Rattle.std.specs.Prelude.{ℕ, ◌≡◌, ◌≤◌, ◌<◌, ◌+◌, ◌⊎◌, ◌∷◌, ◌++◌, [], List, length, map, codes, take, slice_index_or, Option, Some, None, ⊤}
+use Rattle.csv_table.specs.Forms.{IsPrintable}
+use Rattle.cwr_share.specs.Fields.{trimmed}
+use Rattle.cwr_share.specs.Payees.{HasRow}
+use Rattle.cwr_share.specs.declared.payees.TheConstants.{MOST_NAME_BYTES, MOST_PAYEES}
+use Rattle.cwr_share.specs.declared.payee_fault.PayeeFault.{PayeeFault}
+use Rattle.cwr_share.specs.declared.payee_fault.PayeeFault.TheVariants.{Csv, Fields, Twice, Rows, Memory}
+
+abbrev pub header : List (List ℕ)
+header = codes "party" ∷ codes "payee" ∷ []
+
+-- the two fields of a row, without the spaces at their ends
+abbrev pub party_field : List (List ℕ) → List ℕ
+party_field row = trimmed (slice_index_or row 0 [])
+
+abbrev pub payee_field : List (List ℕ) → List ℕ
+payee_field row = trimmed (slice_index_or row 1 [])
+
+-- the party of a row, with its payee
+abbrev pub payee_row_of : List (List ℕ) → List ℕ × List ℕ
+payee_row_of row = (party_field row, payee_field row)
+
+-- both are names: 1 to 64 bytes of printable ASCII
+abbrev pub HasNames : List (List ℕ) → Type 0
+HasNames row = IsPrintable MOST_NAME_BYTES (party_field row) × IsPrintable MOST_NAME_BYTES (payee_field row)
+
+-- a row that names a payee, below the rows of the earlier ones
+pub record IsPayeeRow (earlier : List (List ℕ × List ℕ)) (row : List (List ℕ)) : Type 0 where
+  pub whole : length row ≡ length header
+  pub names : HasNames row
+  pub new : ¬ HasRow earlier (party_field row)
+
+-- rows below the header that name payees, each below those before it
+abbrev pub AreRows : List (List (List ℕ)) → Type 0
+AreRows rows = (place : ℕ) → place < length rows → IsPayeeRow (map payee_row_of (take place rows)) (slice_index_or rows place [])
+
+-- the rows are this table
+pub record IsTableOf (rows : List (List (List ℕ))) (payees : List (List ℕ × List ℕ)) : Type 0 where
+  pub below : List (List (List ℕ))
+  pub headed : rows ≡ header ∷ below
+  pub few : length below ≤ MOST_PAYEES
+  pub sound : AreRows below
+  pub same : payees ≡ map payee_row_of below
+
+-- what a row is refused for, by its number: the first thing, in this order, that is not as it has to be
+abbrev pub IsFaultOfRow : List (List ℕ × List ℕ) → ℕ → List (List ℕ) → PayeeFault → Type 0
+IsFaultOfRow earlier number row Rows = MOST_PAYEES < number
+IsFaultOfRow earlier number row (Csv n) = (n ≡ number) × (number ≤ MOST_PAYEES) × (¬ (length row ≡ length header))
+IsFaultOfRow earlier number row (Fields n) = (n ≡ number) × (number ≤ MOST_PAYEES) × (length row ≡ length header) × (¬ HasNames row)
+IsFaultOfRow earlier number row (Twice n) =
+    (n ≡ number) × (number ≤ MOST_PAYEES) × (length row ≡ length header) × HasNames row × HasRow earlier (party_field row)
+IsFaultOfRow earlier number row Memory = ⊤
+
+-- a row that is refused stands below a header and rows that name payees
+pub record IsFirstFault (rows : List (List (List ℕ))) (fault : PayeeFault) : Type 0 where
+  pub before : List (List (List ℕ))
+  pub row : List (List ℕ)
+  pub after : List (List (List ℕ))
+  pub split : rows ≡ header ∷ (before ++ row ∷ after)
+  pub sound : AreRows before
+  pub refused : IsFaultOfRow (map payee_row_of before) (length before + 1) row fault
+
+-- the first row is not the header, or there is none
+abbrev pub HasNoHeader : List (List (List ℕ)) → Type 0
+HasNoHeader rows = (below : List (List (List ℕ))) → ¬ (rows ≡ header ∷ below)
+
+-- What a table is refused for: its header, or else the first row that names no payee. Memory may run out at any row, the header's too.
+abbrev pub IsFaultOf : List (List (List ℕ)) → PayeeFault → Type 0
+IsFaultOf rows Memory = ⊤
+IsFaultOf rows Rows = IsFirstFault rows Rows
+IsFaultOf rows (Csv n) = ((n ≡ 0) × HasNoHeader rows) ⊎ IsFirstFault rows (Csv n)
+IsFaultOf rows (Fields n) = IsFirstFault rows (Fields n)
+IsFaultOf rows (Twice n) = IsFirstFault rows (Twice n)
+
+-- the fault's number
+abbrev pub number_of_fault : PayeeFault → ℕ
+number_of_fault (Csv row) = 1
+number_of_fault (Fields row) = 2
+number_of_fault (Twice row) = 3
+number_of_fault Rows = 4
+number_of_fault Memory = 5
+
+-- the row's number, where the fault is one row's
+abbrev pub place_of_fault : PayeeFault → Option ℕ
+place_of_fault (Csv row) = Some row
+place_of_fault (Fields row) = Some row
+place_of_fault (Twice row) = Some row
+place_of_fault Rows = None
+place_of_fault Memory = None

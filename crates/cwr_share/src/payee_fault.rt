@@ -1,0 +1,76 @@
+//! Why bytes are no table of payees.
+
+ghost use Rattle.std.specs.Prelude.{◌≡◌};
+
+use std::alloc::{AllocError, AllocFailed};
+use thiserror::Error;
+
+/// Why bytes are no table of payees. Rows count from 0, the header's.
+#[derive(Clone, Copy, Debug, PartialEq, Eq, Error)]
+pub enum PayeeFault {
+    /// Row 0 is missing or is not the header, or another row has more or fewer than two fields.
+    #[error("row {0} is not party,payee")]
+    Csv(u64),
+    /// The party or the payee of this row, without the spaces at its ends, is not 1 to 64 bytes of
+    /// printable ASCII.
+    #[error("a field of row {0} is not 1 to 64 bytes of printable ASCII")]
+    Fields(u64),
+    /// An earlier row has the party of this one.
+    #[error("the party of row {0} has a row already")]
+    Twice(u64),
+    /// There are more than 65,536 rows.
+    #[error("there are more than 65536 rows")]
+    Rows,
+    /// A growth of memory was refused.
+    #[error("memory ran out")]
+    Memory,
+}
+
+impl PayeeFault {
+    ghost use Rattle.cwr_share.specs.PayeeTable.{number_of_fault, place_of_fault};
+
+    /// The fault's number: 1 to 5, in the order above.
+    pub fn number(&self) -> u8
+        ensures { result ≡ number_of_fault self.now }
+    {
+        match self {
+            PayeeFault::Csv(_) => 1,
+            PayeeFault::Fields(_) => 2,
+            PayeeFault::Twice(_) => 3,
+            PayeeFault::Rows => 4,
+            PayeeFault::Memory => 5,
+        }
+    }
+
+    /// The number of the row at fault, where it is one row's.
+    pub fn place(&self) -> Option<u64>
+        ensures { result ≡ place_of_fault self.now }
+    {
+        match *self {
+            PayeeFault::Csv(row) | PayeeFault::Fields(row) | PayeeFault::Twice(row) => Some(row),
+            PayeeFault::Rows | PayeeFault::Memory => None,
+        }
+    }
+}
+
+impl From<AllocError> for PayeeFault {
+    ghost use Rattle.std.specs.Prelude.{◌≡◌};
+    ghost use Rattle.cwr_share.specs.declared.payee_fault.PayeeFault.TheVariants.{Memory};
+
+    ghost from_gives = { λ _ fault. fault ≡ Memory };
+
+    fn from(_: AllocError) -> PayeeFault {
+        PayeeFault::Memory
+    }
+}
+
+impl<T: Drop> From<AllocFailed<T>> for PayeeFault {
+    ghost use Rattle.std.specs.Prelude.{◌≡◌};
+    ghost use Rattle.cwr_share.specs.declared.payee_fault.PayeeFault.TheVariants.{Memory};
+
+    ghost from_gives = { λ _ fault. fault ≡ Memory };
+
+    fn from(_: AllocFailed<T>) -> PayeeFault {
+        PayeeFault::Memory
+    }
+}

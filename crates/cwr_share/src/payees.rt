@@ -1,0 +1,136 @@
+//! The table of payees: who is paid what a party claims.
+
+ghost use Rattle.std.specs.Prelude.{ℕ, ◌≡◌, ◌≤◌, ◌<◌, ◌+◌, ◌↔◌, ◌++◌, ◌∷◌, [], IfErr, IfNone, IfOk, IfSome, IsTrue, OnOk, length};
+ghost use Rattle.csv_table.specs.Forms.{IsPrintable};
+ghost use Rattle.csv_table.specs.Table.{rows_of};
+ghost use Rattle.cwr_share.specs.Fields.{trimmed as trimmed_text};
+ghost use Rattle.cwr_share.specs.PayeeTable.{IsFaultOf, IsFaultOfRow, IsPayeeRow, IsTableOf, payee_row_of};
+ghost use Rattle.cwr_share.specs.Payees.{AreNames, payee_of};
+ghost use Rattle.cwr_share.specs.declared.payees.TheConstants.{MOST_NAME_BYTES};
+
+use crate::PayeeFault;
+use crate::numbers::{in_place, in_place_if_short};
+use crate::share_line::trimmed;
+use arrayvec::ArrayVec;
+use csv_table::Rows;
+use csv_table::forms::is_printable;
+use indexmap::IndexMap;
+use std::alloc::{AllocError, Global};
+use std::marker::Model;
+
+/// The most rows that a table of payees has below its header.
+pub const MOST_PAYEES: usize = 65_536;
+
+/// The most bytes of a party and of a payee in a table of payees.
+pub const MOST_NAME_BYTES: usize = 64;
+
+/// The name of a party or of a payee, which lies in the value itself.
+type Name = ArrayVec<u8, MOST_NAME_BYTES>;
+
+/// A table of payees, at most 65,536. A party without a row is its own payee.
+#[derive(Drop)]
+pub struct Payees {
+    /// The payee of each party that has a row.
+    rows: IndexMap<Name, Name>,
+}
+
+impl Model for Payees {
+    ghost use Rattle.std.specs.Prelude.{ℕ, List, map};
+    ghost use Rattle.cwr_share.specs.Payees.{AreNames};
+
+    ghost Value = { List (List ℕ × List ℕ) };
+
+    ghost view = { λ p. map (λ row. (row.0.items, row.1.items)) p.rows.entries };
+
+    ghost invariant = { λ p. AreNames (map (λ row. (row.0.items, row.1.items)) p.rows.entries) };
+}
+
+impl Payees {
+    /// A table with no rows: every party is its own payee.
+    pub fn none(alloc: Global) -> Payees
+        ensures { result ≡ [] }
+    {
+        Payees {
+            rows: IndexMap::new(alloc),
+        }
+    }
+
+    /// Reads a table of payees: CSV with the header `party,payee`. The spaces at the ends of a field
+    /// do not count.
+    pub fn read(alloc: Global, bytes: &[u8]) -> Result<Payees, PayeeFault>
+        ensures payees { IfOk result (IsTableOf (rows_of bytes.now)) }
+        ensures fault { IfErr result (IsFaultOf (rows_of bytes.now)) }
+    {
+        let mut rows = Rows::of(alloc, bytes);
+        if !(rows.next()? && rows.is(&["party", "payee"])) {
+            return Err(PayeeFault::Csv(0));
+        }
+        let mut payees = Payees::none(alloc);
+        for number in 1..=MOST_PAYEES as u64 {
+            if !rows.next()? {
+                return Ok(payees);
+            }
+            payees.add_row(number, &rows)?;
+        }
+        if rows.next()? {
+            return Err(PayeeFault::Rows);
+        }
+        Ok(payees)
+    }
+
+    /// The payee of a party: that of its row, or else the party itself. It is not looked up again.
+    pub fn payee_of<'a>(&'a self, party: &'a [u8]) -> &'a [u8]
+        ensures { result.now ≡ payee_of self.now party.now }
+    {
+        match in_place_if_short(party) {
+            Some(name) => match self.rows.get(&name) {
+                Some(payee) => payee.as_slice(),
+                None => party,
+            },
+            None => party,
+        }
+    }
+
+    /// How many rows there are.
+    pub fn len(&self) -> usize
+        ensures rows { result ≡ length self.now }
+        ensures names { AreNames self.now }
+    {
+        self.rows.len()
+    }
+
+    /// Adds the row at hand, which has this number.
+    fn add_row(&mut self, number: u64, rows: &Rows<'_>) -> Result<(), PayeeFault>
+        requires { number ≤ MOST_PAYEES }
+        ensures added { OnOk result (IsPayeeRow self.old rows.now.row × (self.new ≡ self.old ++ payee_row_of rows.now.row ∷ [])) }
+        ensures fault { IfErr result (IsFaultOfRow self.old number rows.now.row) }
+    {
+        if rows.len() != 2 {
+            return Err(PayeeFault::Csv(number));
+        }
+        let Some(party) = name(rows.field(0)) else {
+            return Err(PayeeFault::Fields(number));
+        };
+        let Some(payee) = name(rows.field(1)) else {
+            return Err(PayeeFault::Fields(number));
+        };
+        if self.rows.contains_key(&party) {
+            return Err(PayeeFault::Twice(number));
+        }
+        self.rows.insert(party, payee)?;
+        Ok(())
+    }
+}
+
+/// The name that a field writes, where it is one.
+fn name(field: &[u8]) -> Option<Name>
+    ensures some { IfSome result (λ name. IsPrintable MOST_NAME_BYTES (trimmed_text field.now) × (name.items ≡ trimmed_text field.now)) }
+    ensures none { IfNone result (¬ IsPrintable MOST_NAME_BYTES (trimmed_text field.now)) }
+{
+    let text = trimmed(field);
+    if is_printable(text, MOST_NAME_BYTES) {
+        Some(in_place(text))
+    } else {
+        None
+    }
+}
