@@ -1,15 +1,13 @@
 -- What share lines come to: those of a party, from the last one back; those of a registration, claimant by claimant; and the answer on a usage line.
 use Rattle.std.proofs.Common.{◌≡◌, ◌∙◌, ◌≤◌, ◌<◌, ◌+◌, ◌-◌, ◌++◌, ◌∷◌, ◌⊎◌, [], ℕ, Bool, true, false, List, Some, None, All, AllPairs, Contains, zero, suc, drop, filter, length, take, map, get_or, ltb, nat_eq, nat_le, not, sum_by, append-nil, ap, sym, refl, subst, inl, inr, arith}
 use Rattle.std.specs.Prelude.{Any, IsTrue, ◌↔◌, ◌==◌, ◌&&◌, if◌then◌else◌}
-use Rattle.std.specs.List.{enumerate_from, list_any, range_with_len}
+use Rattle.std.specs.List.{list_any, range_with_len}
 use Rattle.std.specs.Cmp.Lexicographic.{pointwise}
 use Rattle.std.proofs.lemmas.Bool.{cases_Bool, false_from_ne_true, le-leb, le-ltb, leb-false, leb-true, lt-leb, lt-ltb, false≢true, cases_eq, cases_lt, and_parts, and_right, eqb-true, eq-eqb, ne_eqb}
 use Rattle.std.proofs.lemmas.Bool.Decides.{same_from_decides}
-use Rattle.std.proofs.lemmas.List.{append_assoc, drop_all, drop-drop, get_or-append_right, get_or-map, length-append, get_or_append_left, get_or_default, length-map, length_push, length-drop, length-take-le, drop_more, get_or-drop, get_or-take, same_lists, take_all}
-use Rattle.std.proofs.lemmas.List.Elements.{All-append, All-contains, All-filter, All-push, All-map, All-tail, filter_more, filter_passes}
-use Rattle.std.proofs.lemmas.List.Kept.{AllPairs-filter}
-use Rattle.std.proofs.lemmas.List.Folds.{Any-from_list_any, list_any_at, list_any_none}
-use Rattle.std.proofs.lemmas.List.FromFn.{get_or-enumerate_from, get_or-map-range_with_len, length-enumerate_from, length-map-range_with_len}
+use Rattle.std.proofs.lemmas.List.{append_assoc, drop_all, drop-drop, get_or-append_right, get_or-map, length-append, get_or_append_left, get_or_default, length-map, length_push, length-drop, length-take-le, drop_more, get_or-drop, get_or-take, take_all}
+use Rattle.std.proofs.lemmas.List.Elements.{All-append, All-contains, All-filter, All-push, All-tail, filter_more}
+use Rattle.std.proofs.lemmas.List.Folds.{Any-from_list_any, list_any_at}
 use Rattle.std.proofs.lemmas.List.Sums.{count_by-le-length, length-filter, sum_by-cons, sum_by-take-le, sum_by_more}
 use Rattle.std.proofs.lemmas.Slice.Eq.{bytes_eq-Decides}
 use Rattle.std.proofs.Math.Seq.{drop-append_seam, get_or-append_seam}
@@ -22,17 +20,13 @@ use Rattle.line_split.specs.declared.reason.Reason.TheVariants.{Land, Over, Work
 use Rattle.line_split.specs.UsageLine.{UsageLine}
 use Rattle.line_split.specs.declared.usage.Right.{Right}
 use Rattle.line_split.specs.declared.usage.Right.TheVariants.{P, M, S}
-use Rattle.cwr_share.specs.ClaimsOn.{claim_of, claims_among, claims_by, claims_on, covers, deciding, is_alike, is_known, reason_against, renamed, share_for}
-use Rattle.cwr_share.specs.Compiled.{AreClaimLines, InterestsRise, IsCompiled, Kept, begins_interest, claim_line, claim_lines, claims_of_claimants, kept_lines, line_by, lines_at, lines_of_claimants, lines_of_party, nameless, places_in, share_under}
+use Rattle.cwr_share.specs.ClaimsOn.{claims_by, claims_on, covers, deciding, is_alike, is_known, reason_against, share_for}
+use Rattle.cwr_share.specs.Compiled.{AreClaimLines, AreInRuns, begins_interest, claim_line, claim_lines, claims_of_claimants, lines_at, lines_of_claimants, lines_of_party, places_in, share_under}
 use Rattle.cwr_share.specs.declared.claim_line.ClaimLine.{ClaimLine}
-use Rattle.cwr_share.specs.Found.{LookedUp}
 use Rattle.cwr_share.specs.Registered.{Registered}
 use Rattle.cwr_share.specs.Registrations.{ShareLine, find_work}
-use Rattle.cwr_share.proofs.CompiledLemmas.{AllPairs-head, AllPairs-tail, contains_cases, lines_of_party_none, same_text}
-
--- two lines of one party, of which the later has no lower interest
-abbrev pub IsAlike : ShareLine → ShareLine → Type 0
-IsAlike line later = (line.party ≡ later.party) × (line.interest ≤ later.interest)
+use Rattle.cwr_share.proofs.Runs.{run_tells, runs_drop}
+use Rattle.cwr_share.proofs.CompiledLemmas.{AllPairs-head, AllPairs-tail, contains_cases, same_text}
 
 module _ (table : List (ℕ × List ℕ)) (land : ℕ) where
   -- a later line of the interest and party whose territory contains the land
@@ -44,30 +38,6 @@ module _ (table : List (ℕ × List ℕ)) (land : ℕ) where
   is_decided [] = false
   is_decided (line ∷ later) = has_later line (line ∷ later)
 
-  -- what tells of the first of the lines after it tells of a line of the same interest, and nothing of another
-  pub before_tells : (line : ShareLine) (later : List ShareLine) → AllPairs IsAlike (line ∷ later) → (not (begins_interest line later) && is_decided later) ≡ has_later line later
-  before_tells line [] alike = refl
-  before_tells line (next ∷ later) alike =
-      let (party, low) = AllPairs-head IsAlike line (next ∷ later) alike 0 next (omega arith) in
-      let above : All (IsAlike next) later = AllPairs-head IsAlike next later (AllPairs-tail IsAlike line (next ∷ later) alike) in
-      elim (cases_eq next.interest line.interest) [
-        | inl same ↦
-            let one : (next.interest, next.party) ≡ (line.interest, line.party) = cc (same, party) in
-            rw (eq-eqb next.interest line.interest same)
-            (ap (λ (of : ℕ × List ℕ). list_any (λ other. ((of.0 == other.interest) && pointwise nat_eq of.1 other.party) && covers table land other) (next ∷ later)) one)
-        | inr different ↦
-            let none : has_later line (next ∷ later) ≡ false = list_any_none (λ other. is_alike line other && covers table land other) (next ∷ later)
-            (λ k d within.
-            let apart : (line.interest == (get_or (next ∷ later) k d).interest) ≡ false =
-            ne_eqb line.interest (get_or (next ∷ later) k d).interest (λ same. different (not_lower k d within low above same)) in
-            rw apart refl) in
-            rw (ne_eqb next.interest line.interest different) (sym none)
-      ]
-    where
-      not_lower : (k : ℕ) (d : ShareLine) → k < length (next ∷ later) → line.interest ≤ next.interest → All (IsAlike next) later → line.interest ≡ (get_or (next ∷ later) k d).interest → next.interest ≡ line.interest
-      not_lower zero d within low above same = sym same
-      not_lower (suc k) d within low above same = let high = (above k d (omega (arith, within))).1 in omega (arith, high, low, same)
-
   -- what some lines come to, and whether the interest of the first is decided
   pub record Claimed (right : Right) (lines : List ShareLine) (claim : ℕ) (decided : Bool) : Type 0 where
     pub sum : claim ≡ sum_by (share_for right) (deciding table land lines)
@@ -77,11 +47,11 @@ module _ (table : List (ℕ × List ℕ)) (land : ℕ) where
   unfolding deciding
   claimed_none right = record { sum = refl; first = refl }
 
-  module _ (right : Right) (line : ShareLine) (later : List ShareLine) (claim : ℕ) (decided : Bool) (alike : AllPairs IsAlike (line ∷ later))
+  module _ (right : Right) (line : ShareLine) (later : List ShareLine) (claim : ℕ) (decided : Bool) (runs : AreInRuns (line ∷ later))
       (claimed : Claimed right later claim decided) (covered : Bool) (is : covers table land line ≡ covered) where
     -- whether a line after it decides
     tells : (not (begins_interest line later) && decided) ≡ has_later line later
-    tells = rw claimed.first (before_tells line later alike)
+    tells = rw claimed.first (run_tells table land line later runs)
 
     itself : is_alike line line ≡ true
     itself = rw (eq-eqb line.interest line.interest refl, same_text line.party line.party refl) refl
@@ -165,10 +135,6 @@ claim_line_at account (line ∷ later) others count d e within = by (cases_lt co
         let second : length (line ∷ later) - count ≡ 1 = omega arith in
         rw (together, first, second) (ap (λ n. get_or (claim_lines account later ++ this ∷ others) n d) its ∙ get_or-append_seam (claim_lines account later) this others d)
 
--- what is left of a list whose pairs are related
-AllPairs-drop : {X : Type 0} (R : X → X → Type 0) (n : ℕ) (xs : List X) → AllPairs R xs → AllPairs R (drop n xs)
-AllPairs-drop R n xs pairs = λ i j d before within. rw (get_or-drop n xs i d, get_or-drop n xs j d) (pairs (n + i) (n + j) d (omega (arith, before)) (omega (arith, within, length-drop n xs)))
-
 -- one line more from the last one back
 module _ (lines : List ShareLine) (count : ℕ) (e : ShareLine) (some : count < length lines) where
   pub next_line : drop (length lines - (count + 1)) lines ≡ get_or lines (length lines - 1 - count) e ∷ drop (length lines - count) lines
@@ -178,9 +144,9 @@ module _ (lines : List ShareLine) (count : ℕ) (e : ShareLine) (some : count < 
       let second : place + 1 ≡ length lines - count = omega arith in
       rw (first, sym second) (drop_more lines place e (omega arith))
 
-  -- it is alike with those after it
-  pub next_alike : AllPairs IsAlike lines → AllPairs IsAlike (get_or lines (length lines - 1 - count) e ∷ drop (length lines - count) lines)
-  next_alike alike = rw next_line at (AllPairs-drop IsAlike (length lines - (count + 1)) lines alike)
+  -- it is in a run with those after it
+  pub next_runs : AreInRuns lines → AreInRuns (get_or lines (length lines - 1 - count) e ∷ drop (length lines - count) lines)
+  next_runs runs = rw next_line at (runs_drop (length lines - (count + 1)) lines runs)
 
 -- as many lines as places
 pub length-lines_at : (lines : List ShareLine) (places : List ℕ) → length (lines_at lines places) ≡ length places
@@ -192,12 +158,12 @@ share_same P account begins line = refl
 share_same M account begins line = refl
 share_same S account begins line = refl
 
-abbrev no_line : ShareLine
+abbrev pub no_line : ShareLine
 no_line = record { interest = 0; party = []; performing = 0; mechanical = 0; synchronisation = 0; includes = false; territory = 0 }
 
 -- The next line of the account whose lines come first.
 module _ (table : List (ℕ × List ℕ)) (land : ℕ) (right : Right) (lines : List ClaimLine) (count : ℕ) (line : ClaimLine) (is : line ≡ get_or lines count line) (claim : ℕ) (decided : Bool)
-    (account : ℕ) (first : List ShareLine) (others : List ClaimLine) (split : lines ≡ claim_lines account first ++ others) (alike : AllPairs IsAlike first) (some : count < length first)
+    (account : ℕ) (first : List ShareLine) (others : List ClaimLine) (split : lines ≡ claim_lines account first ++ others) (runs : AreInRuns first) (some : count < length first)
     (claimed : Claimed table land right (drop (length first - count) first) claim decided) where
   abbrev its_line : ShareLine
   its_line = get_or first (length first - 1 - count) no_line
@@ -220,21 +186,21 @@ module _ (table : List (ℕ × List ℕ)) (land : ℕ) (right : Right) (lines : 
   one_more : drop (length first - (count + 1)) first ≡ its_line ∷ after_it
   one_more = next_line first count no_line some
 
-  alike_here : AllPairs IsAlike (its_line ∷ after_it)
-  alike_here = next_alike first count no_line some alike
+  runs_here : AreInRuns (its_line ∷ after_it)
+  runs_here = next_runs first count no_line some runs
 
   -- it decides
   pub step_more : (not line.begins && decided) ≡ false → encloses table line.territory land ≡ true → Claimed table land right (drop (length first - (count + 1)) first) (claim + share_under right line) true
   step_more new here =
-      rw (one_more, share) (claimed_more table land right its_line after_it claim decided alike_here claimed true (rw territory at here) (rw begins at new) refl)
+      rw (one_more, share) (claimed_more table land right its_line after_it claim decided runs_here claimed true (rw territory at here) (rw begins at new) refl)
 
   -- its territory does not contain the land
   pub step_apart : (not line.begins && decided) ≡ false → encloses table line.territory land ≡ false → Claimed table land right (drop (length first - (count + 1)) first) claim false
-  step_apart new apart = rw one_more (claimed_apart table land right its_line after_it claim decided alike_here claimed false (rw territory at apart) (rw begins at new) refl)
+  step_apart new apart = rw one_more (claimed_apart table land right its_line after_it claim decided runs_here claimed false (rw territory at apart) (rw begins at new) refl)
 
   -- its interest is decided
   pub step_before : (not line.begins && decided) ≡ true → Claimed table land right (drop (length first - (count + 1)) first) claim true
-  step_before old = rw one_more (claimed_before table land right its_line after_it claim decided alike_here claimed (covers table land its_line) refl (rw begins at old))
+  step_before old = rw one_more (claimed_before table land right its_line after_it claim decided runs_here claimed (covers table land its_line) refl (rw begins at old))
 
 -- The lines of the first account end where those of another begin.
 module _ (lines : List ClaimLine) (count : ℕ) (same : (k : ℕ) (d : ClaimLine) → k < count → (get_or lines k d).account ≡ (get_or lines 0 d).account)
@@ -423,8 +389,8 @@ module _ (named : List ShareLine) (claimants : List (ℕ × List ℕ)) (lines : 
     some_lines : 0 < length (lines_at named claimant_here.1)
     some_lines = omega (arith, length-lines_at named claimant_here.1, claim_lines_of.some n (0, []) inside)
 
-    pub its_lines : (0 < length (lines_at named claimant_here.1)) × AllPairs IsAlike (lines_at named claimant_here.1)
-    its_lines = (some_lines, claim_lines_of.alike n (0, []) inside)
+    pub its_lines : (0 < length (lines_at named claimant_here.1)) × AreInRuns (lines_at named claimant_here.1)
+    its_lines = (some_lines, claim_lines_of.runs n (0, []) inside)
 
     -- the first line is the claimant's
     pub its_account : (d : ClaimLine) → (get_or lines at d).account ≡ claimant_here.0
@@ -445,7 +411,7 @@ module _ (named : List ShareLine) (claimants : List (ℕ × List ℕ)) (lines : 
 
     -- where the claim of the first account and the number of its lines are worked out, they are the claimant's, and behind its lines are those of the next
     pub claim_here : (table : List (ℕ × List ℕ)) (land : ℕ) (right : Right) (claim count : ℕ)
-        → ((account : ℕ) (first : List ShareLine) (others : List ClaimLine) → drop at lines ≡ claim_lines account first ++ others → 0 < length first → AllPairs IsAlike first → All (λ other. ¬ (other.account ≡ account)) others
+        → ((account : ℕ) (first : List ShareLine) (others : List ClaimLine) → drop at lines ≡ claim_lines account first ++ others → 0 < length first → AreInRuns first → All (λ other. ¬ (other.account ≡ account)) others
         → (claim ≡ sum_by (share_for right) (deciding table land first)) × (count ≡ length first))
         → (get_or (claims_of_claimants table land right named claimants) n (claimant_here.0, claim) ≡ (claimant_here.0, claim)) × (drop (at + count) lines ≡ lines_of_claimants named (drop (n + 1) claimants))
     claim_here table land right claim count worked_out =
@@ -492,11 +458,11 @@ module _ (table : List (ℕ × List ℕ)) (land : ℕ) where
           ])
 
 -- two functions that agree at each element
-map_agree : {X Y : Type 0} (f g : X → Y) (xs : List X) → All (λ x. f x ≡ g x) xs → map f xs ≡ map g xs
+pub map_agree : {X Y : Type 0} (f g : X → Y) (xs : List X) → All (λ x. f x ≡ g x) xs → map f xs ≡ map g xs
 map_agree f g [] agree = refl
 map_agree f g (x ∷ xs) agree = rw (agree 0 x (omega arith), map_agree f g xs (All-tail (λ x. f x ≡ g x) x xs agree)) refl
 
-map_twice : {X Y Z : Type 0} (f : X → Y) (g : Y → Z) (xs : List X) → map g (map f xs) ≡ map (λ x. g (f x)) xs
+pub map_twice : {X Y Z : Type 0} (f : X → Y) (g : Y → Z) (xs : List X) → map g (map f xs) ≡ map (λ x. g (f x)) xs
 map_twice f g [] = refl
 map_twice f g (x ∷ xs) = ap (λ l. g (f x) ∷ l) (map_twice f g xs)
 
@@ -546,66 +512,6 @@ merged g (suc m) from (a ∷ accounts) rising within left_out =
     behind zero d inside low apart above = omega (arith, apart)
     behind (suc k) d inside low apart above = let more = above k d (omega (arith, inside)) in omega (arith, more, low)
 
-module _ (table : List (ℕ × List ℕ)) (land : ℕ) (right : Right) (parties : List (List ℕ)) (lines : List ShareLine) (claimants : List (ℕ × List ℕ)) (compiled : IsCompiled parties lines claimants) where
-  -- the claim of an account
-  abbrev of_account : ℕ → ℕ
-  of_account account = claim_of table land right lines (get_or parties account [])
-
-  -- the claims of the claimants are those of their accounts
-  by_account : claims_of_claimants table land right lines claimants ≡ map (λ account. (account, of_account account)) (map (λ claimant. claimant.0) claimants)
-  by_account =
-      map_agree (λ (claimant : ℕ × List ℕ). (claimant.0, sum_by (share_for right) (deciding table land (lines_at lines claimant.1)))) (λ claimant. (claimant.0, of_account claimant.0)) claimants
-      (λ k d within.
-      let claimant = get_or claimants k d in
-      let party = get_or parties claimant.0 [] in
-      ap (λ n. (claimant.0, n)) (ap (λ l. sum_by (share_for right) (deciding table land l)) (compiled.exact k d within) ∙ ap (sum_by (share_for right)) (sym (deciding_of_party table land party lines))))
-      ∙ sym (map_twice (λ (claimant : ℕ × List ℕ). claimant.0) (λ account. (account, of_account account)) claimants)
-
-  -- an account without a claimant has no claim
-  no_claim : (account : ℕ) → account < length parties → ¬ Contains (map (λ claimant. claimant.0) claimants) account → of_account account ≡ 0
-  unfolding deciding
-  no_claim account inside without =
-      let party = get_or parties account [] in
-      let none = lines_of_party_none party lines (λ has. without (compiled.every account inside has)) in
-      ap (sum_by (share_for right)) (deciding_of_party table land party lines) ∙ ap (λ l. sum_by (share_for right) (deciding table land l)) none
-
-  -- the claims of the accounts from 1 on
-  abbrev one_by_one : List (ℕ × ℕ)
-  one_by_one = map (λ claimant. (claimant.0, claim_of table land right lines claimant.1)) (enumerate_from 1 (drop 1 parties))
-
-  abbrev from_one : List (ℕ × ℕ)
-  from_one = map (λ account. (account, of_account account)) (range_with_len 1 (length (drop 1 parties)))
-
-  all_accounts : one_by_one ≡ from_one
-  all_accounts =
-      let n = length (drop 1 parties) in
-      let long : length one_by_one ≡ n = length-map (enumerate_from 1 (drop 1 parties)) _ ∙ length-enumerate_from 1 (drop 1 parties) in
-      same_lists one_by_one from_one (long ∙ sym (length-map-range_with_len _ 1 n)) (λ k d within.
-      let inside : k < n = omega (arith, within, long) in
-      let numbered : get_or (enumerate_from 1 (drop 1 parties)) k (0, []) ≡ (1 + k, get_or parties (1 + k) []) =
-      get_or-enumerate_from 1 (drop 1 parties) k (0, []) inside ∙ ap (λ (party : List ℕ). (1 + k, party)) (get_or-drop 1 parties k []) in
-      get_or-map _ (enumerate_from 1 (drop 1 parties)) k (0, []) d (omega (arith, inside, length-enumerate_from 1 (drop 1 parties)))
-      ∙ (ap (λ (e : ℕ × List ℕ). (e.0, claim_of table land right lines e.1)) numbered
-      ∙ sym (get_or-map-range_with_len (λ account. (account, of_account account)) 1 n k (1 + k) d inside refl)))
-
-  -- the claims of the claimants that are not 0 are the claims of all parties that are not 0
-  pub same_claims : filter counts (claims_of_claimants table land right lines claimants) ≡ claims_among table land right lines (drop 1 parties)
-  same_claims =
-      let long : length (drop 1 parties) ≡ length parties - 1 = length-drop 1 parties in
-      let accounts = map (λ (claimant : ℕ × List ℕ). claimant.0) claimants in
-      let rising : AllPairs (λ a b. a < b) accounts = λ i j d before within.
-      let inside : j < length claimants = omega (arith, within, length-map claimants (λ (claimant : ℕ × List ℕ). claimant.0)) in
-      let first = get_or-map (λ (claimant : ℕ × List ℕ). claimant.0) claimants i (0, []) d (omega arith) in
-      let second = get_or-map (λ (claimant : ℕ × List ℕ). claimant.0) claimants j (0, []) d inside in
-      let lower = compiled.rising i j (0, []) before inside in
-      omega (arith, first, second, lower) in
-      let known : All (λ a. (1 ≤ a) × (a < 1 + length (drop 1 parties))) accounts =
-      All-map (λ a. (1 ≤ a) × (a < 1 + length (drop 1 parties))) (λ (claimant : ℕ × List ℕ). claimant.0) claimants
-      (λ k d within. let (some, inside) = compiled.accounts k d within in (some, omega (arith, inside, long))) in
-      ap (filter counts) by_account
-      ∙ (merged of_account (length (drop 1 parties)) 1 accounts rising known (λ account some inside without. no_claim account (omega (arith, some, inside, long)) without)
-      ∙ ap (filter counts) (sym all_accounts))
-
 -- the test of a territory tells whether it has a row
 pub known_tells : (table : List (ℕ × List ℕ)) (code : ℕ) → (is_known table code ≡ true) ↔ IsKnown table code
 known_tells table code = (λ told. to (Any-from_list_any test table told), λ known. back (known_at table code known))
@@ -653,116 +559,3 @@ module _ (table : List (ℕ × List ℕ)) (registered : Registered) (line : Usag
     against_nothing known within =
         let test : ltb MOST_CLAIMED (total_of (claims_by table registered line lines)) ≡ false = le-ltb MOST_CLAIMED _ (leb-true _ MOST_CLAIMED within) in
         rw (works, known, test) (refl, refl)
-
--- the share lines of one party are alike, where interests do not fall
-pub alike_in_party : (party : List ℕ) (lines : List ShareLine) → InterestsRise lines → AllPairs IsAlike (lines_of_party party lines)
-alike_in_party party lines rise = λ i j d before within.
-    let of_party : ShareLine → Bool = λ line. pointwise nat_eq line.party party in
-    let kept = filter_passes of_party lines in
-    let first = get_or (lines_of_party party lines) i d in
-    let second = get_or (lines_of_party party lines) j d in
-    let same = (bytes_eq-Decides first.party party).0 (kept i d (omega arith)) ∙ sym ((bytes_eq-Decides second.party party).0 (kept j d within)) in
-    (same, AllPairs-filter (λ line later. line.interest ≤ later.interest) of_party lines rise i j d before within)
-
--- a share line without its party
-abbrev unnamed : ShareLine → ShareLine
-unnamed line = renamed (λ text. []) line
-
--- an element of what a list is mapped to
-get_or_mapped : {X Y : Type 0} (f : X → Y) (xs : List X) (k : ℕ) (d : X) → get_or (map f xs) k (f d) ≡ f (get_or xs k d)
-get_or_mapped f [] k d = refl
-get_or_mapped f (x ∷ xs) zero d = refl
-get_or_mapped f (x ∷ xs) (suc k) d = get_or_mapped f xs k d
-
--- the nameless lines are the lines without their parties
-pub nameless_lines : (parties : List (List ℕ)) (registration : Kept) → nameless registration ≡ map unnamed (kept_lines parties registration)
-nameless_lines parties registration = sym (map_twice (line_by parties) unnamed registration.shares)
-
-lines_at_unnamed : (lines : List ShareLine) (places : List ℕ) → lines_at (map unnamed lines) places ≡ map unnamed (lines_at lines places)
-lines_at_unnamed lines [] = refl
-lines_at_unnamed lines (place ∷ places) =
-    ap (λ (l : ShareLine). l ∷ lines_at (map unnamed lines) places) (get_or_mapped unnamed lines place none)
-    ∙ ap (λ (l : List ShareLine). unnamed (get_or lines place none) ∷ l) (lines_at_unnamed lines places)
-  where
-    none : ShareLine
-    none = record { interest = 0; party = []; performing = 0; mechanical = 0; synchronisation = 0; includes = false; territory = 0 }
-
--- lines that are alike are so without their party
-alike_unnamed : (lines : List ShareLine) → AllPairs IsAlike lines → AllPairs IsAlike (map unnamed lines)
-alike_unnamed lines alike = λ i j d before within.
-    let inside : j < length lines = omega (arith, within, length-map lines unnamed) in
-    rw (get_or-map unnamed lines i d d (omega (arith, before, inside)), get_or-map unnamed lines j d d inside) (refl, (alike i j d before inside).1)
-
-share_unnamed : (right : Right) (line : ShareLine) → share_for right (unnamed line) ≡ share_for right line
-share_unnamed P line = refl
-share_unnamed M line = refl
-share_unnamed S line = refl
-
-module _ (table : List (ℕ × List ℕ)) (land : ℕ) where
-  later_unnamed : (line : ShareLine) (later : List ShareLine) → All (IsAlike line) later → has_later table land (unnamed line) (map unnamed later) ≡ has_later table land line later
-  later_unnamed line [] alike = refl
-  later_unnamed line (other ∷ later) alike =
-      rw (same_text line.party other.party (alike 0 other (omega arith)).0, later_unnamed line later (All-tail (IsAlike line) other later alike)) refl
-
-  -- what the lines of a party come to without their party
-  sum_unnamed : (right : Right) (lines : List ShareLine) → AllPairs IsAlike lines → sum_by (share_for right) (deciding table land (map unnamed lines)) ≡ sum_by (share_for right) (deciding table land lines)
-  unfolding deciding
-  sum_unnamed right [] alike = refl
-  sum_unnamed right (line ∷ later) alike =
-      let same = later_unnamed line later (AllPairs-head IsAlike line later alike) in
-      let rest = sum_unnamed right later (AllPairs-tail IsAlike line later alike) in
-      rw same (elim (cases_Bool (covers table land line && not (has_later table land line later))) [
-        | inl decides ↦
-            rw decides
-            (omega (arith, rest, share_unnamed right line, sum_by-cons (share_for right) (unnamed line) (deciding table land (map unnamed later)), sum_by-cons (share_for right) line (deciding table land later)))
-        | inr not_it ↦ rw not_it rest
-      ])
-
-module _ (parties : List (List ℕ)) (registration : Kept) (claimants : List (ℕ × List ℕ)) (compiled : IsCompiled parties (kept_lines parties registration) claimants)
-    (rise : InterestsRise (kept_lines parties registration)) where
-  -- the lines of a claimant
-  at_places : (places : List ℕ) → lines_at (nameless registration) places ≡ map unnamed (lines_at (kept_lines parties registration) places)
-  at_places places = ap (λ l. lines_at l places) (nameless_lines parties registration) ∙ lines_at_unnamed (kept_lines parties registration) places
-
-  alike_named : All (λ claimant. AllPairs IsAlike (lines_at (kept_lines parties registration) claimant.1)) claimants
-  alike_named = λ k d within. rw (compiled.exact k d within) (alike_in_party _ (kept_lines parties registration) rise)
-
-  pub alike_nameless : All (λ claimant. AllPairs IsAlike (lines_at (nameless registration) claimant.1)) claimants
-  alike_nameless = λ k d within.
-      let places = (get_or claimants k d).1 in
-      subst (AllPairs IsAlike) (sym (at_places places)) (alike_unnamed (lines_at (kept_lines parties registration) places) (alike_named k d within))
-
-  -- the claims of the claimants without the parties
-  pub same_nameless : (table : List (ℕ × List ℕ)) (land : ℕ) (right : Right)
-      → claims_of_claimants table land right (nameless registration) claimants ≡ claims_of_claimants table land right (kept_lines parties registration) claimants
-  same_nameless table land right =
-      map_agree (λ (claimant : ℕ × List ℕ). (claimant.0, sum_by (share_for right) (deciding table land (lines_at (nameless registration) claimant.1))))
-      (λ claimant. (claimant.0, sum_by (share_for right) (deciding table land (lines_at (kept_lines parties registration) claimant.1)))) claimants
-      (λ k d within.
-      let claimant = get_or claimants k d in
-      ap (λ (n : ℕ). (claimant.0, n))
-      (ap (λ l. sum_by (share_for right) (deciding table land l)) (at_places claimant.1) ∙ sum_unnamed table land right (lines_at (kept_lines parties registration) claimant.1) (alike_named k d within)))
-
-module _ (table : List (ℕ × List ℕ)) (registered : Registered) (line : UsageLine) (registration : Kept) (land : ℕ) (up : LookedUp registered line.work registration)
-    (same : land ≡ line.territory) (known : is_known table line.territory ≡ true) where
-  -- the claims of its claimants
-  abbrev claims_here : List (ℕ × ℕ)
-  claims_here = claims_of_claimants table land line.right (nameless registration) up.kept.claimants
-
-  these : filter counts claims_here ≡ claims_by table registered line (kept_lines registered.parties registration)
-  these =
-      rw same (ap (filter counts) (same_nameless registered.parties registration up.kept.claimants up.kept.compiled up.rise table line.territory line.right)
-      ∙ same_claims table line.territory line.right registered.parties (kept_lines registered.parties registration) up.kept.claimants up.kept.compiled)
-
-  total : total_of (claims_by table registered line (kept_lines registered.parties registration)) ≡ total_of claims_here
-  total = ap total_of (sym these) ∙ total-counts claims_here
-
-  -- what a claim of too much comes to
-  pub answered_over : nat_le (total_of claims_here) MOST_CLAIMED ≡ false → (reason_against table registered line ≡ Some Over) × (claims_on table registered line ≡ [])
-  answered_over over = against_over table registered line (kept_lines registered.parties registration) up.works known (ap (λ n. nat_le n MOST_CLAIMED) total ∙ over)
-
-  -- and one of no more
-  pub answered : nat_le (total_of claims_here) MOST_CLAIMED ≡ true → (reason_against table registered line ≡ None) × (claims_on table registered line ≡ filter counts claims_here)
-  answered within =
-      let (reason, claims) = against_nothing table registered line (kept_lines registered.parties registration) up.works known (ap (λ n. nat_le n MOST_CLAIMED) total ∙ within) in
-      (reason, claims ∙ sym these)

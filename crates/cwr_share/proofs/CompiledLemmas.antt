@@ -516,6 +516,7 @@ looked_up works registrations parties registered work place registration sound k
     let texts = map (λ (party : Vec ℕ Global). party.items) parties in
     let inside : place < length registrations = omega (arith, within, kept.paired) in
     subst (λ r. LookedUp r work registration) view (record {
+      sound = sound;
       works = found_at work texts works registrations place registration kept.paired index is;
       kept = subst (IsKept (map (λ party. party.items) parties)) (sym is) (kept.kept place registration inside);
       rise = subst (λ (r : Kept). InterestsRise (kept_lines texts r)) (sym is) (kept.rise place registration inside);

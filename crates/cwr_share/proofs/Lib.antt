@@ -1,12 +1,17 @@
+pub mod Answered
 pub mod ClaimLemmas
 pub mod CompiledLemmas
 pub mod FieldLemmas
+pub mod Groups
 pub mod FileLemmas
 pub mod LawLemmas
 pub mod LineLemmas
 pub mod OnePayees
 pub mod OneRegistry
 pub mod OrderLemmas
+pub mod PaidClaims
 pub mod PartyLemmas
+pub mod PartyShares
 pub mod PartyWorks
 pub mod PayeeLemmas
+pub mod Runs

@@ -85,7 +85,7 @@ module _ {K : Type 0} {order : K → K → Ordering} (total : IsTotalOrder order
       on (inr (less, later)) (inr (more, after)) = absurd (not_before_itself x x (total.trans x y x more less) refl)
 
 -- what a work finds is one of the works
-found_inside : (works : List (List ℕ × List ShareLine)) (work : List ℕ) (lines : List ShareLine) → find_work work works ≡ Some lines → Contains works (work, lines)
+pub found_inside : (works : List (List ℕ × List ShareLine)) (work : List ℕ) (lines : List ShareLine) → find_work work works ≡ Some lines → Contains works (work, lines)
 found_inside [] work lines found = cc
 found_inside ((name, list) ∷ works) work lines found = on (pointwise nat_eq name work) refl (found_inside works work lines)
   where

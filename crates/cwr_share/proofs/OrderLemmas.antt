@@ -4,7 +4,9 @@ use Rattle.std.specs.Prelude.{⊤, ◌&&◌, flat_map, if◌then◌else◌, reve
 use Rattle.std.specs.Option.{option_eq}
 use Rattle.std.specs.List.{HoldsAt}
 use Rattle.std.specs.List.Sorted.{IsNonDecreasingBy, IsPartitionPoint}
-use Rattle.std.proofs.lemmas.Bool.{eq-eqb, le-ltb, lt-ltb, ne_eqb}
+use Rattle.std.proofs.lemmas.Bool.{cases_Bool, eq-eqb, le-ltb, lt-ltb, ne_eqb}
+use Rattle.std.proofs.lemmas.Cmp.{nat_eq_equiv}
+use Rattle.cwr_share.specs.ClaimsOn.{is_alike}
 use Rattle.std.proofs.lemmas.List.{append_assoc, drop_more, get_or-map, map-append, reverse-append}
 use Rattle.std.proofs.lemmas.List.Elements.{All-append, All-cons, All-nil, All-push, All-tail}
 use Rattle.cwr_share.specs.Compiled.{begins_interest, claim_line, claim_lines, in_order, IsCompiled, line_by, placed, with_place}
@@ -99,6 +101,14 @@ IsBelow (Some before) account = before.0 < account
 abbrev same_interest : ℕ × ℕ → ℕ × ℕ → Bool
 same_interest line other = (line.0 == other.0) && (line.1 == other.1)
 
+-- two lines without parties are alike where their interests are
+alike_nameless : (line next : ShareLine) → line.party ≡ [] → next.party ≡ [] → is_alike line next ≡ (next.interest == line.interest)
+alike_nameless line next none nothing =
+    rw (none, nothing) (elim (cases_Bool (line.interest == next.interest)) [
+      | inl same ↦ rw same (sym (sym (nat_eq_equiv.symm line.interest next.interest) ∙ same))
+      | inr other ↦ rw other (sym (sym (nat_eq_equiv.symm line.interest next.interest) ∙ other))
+    ])
+
 -- The share lines at places in order, where the line before them is of this account and interest. Each one begins an interest unless the one before it is of the same.
 module _ (line_of : ℕ → ShareLine) where
   abbrev pub lines_in : Option (ℕ × ℕ) → List Placed → List ClaimLine
@@ -112,44 +122,54 @@ module _ (line_of : ℕ → ShareLine) where
   last_of account [] before = before
   last_of account (place ∷ places) before = Some (account, (line_of place).interest)
 
-  begins : (account place : ℕ) (places : List ℕ) (before : Option (ℕ × ℕ)) → IsBelow before account
-      → not (option_eq same_interest (last_of account places before) (Some (account, (line_of place).interest))) ≡ begins_interest (line_of place) (map line_of places)
-  begins account place [] None below = refl
-  begins account place [] (Some before) below = let other : (before.0 == account) ≡ false = ne_eqb before.0 account (λ same. absurd (omega (arith, below, same))) in rw other refl
-  begins account place (next ∷ places) before below = let same : (account == account) ≡ true = eq-eqb account account refl in rw same refl
+  -- the lines have lost their parties
+  module _ (nameless : (place : ℕ) → (line_of place).party ≡ []) where
+    begins : (account place : ℕ) (places : List ℕ) (before : Option (ℕ × ℕ)) → IsBelow before account
+        → not (option_eq same_interest (last_of account places before) (Some (account, (line_of place).interest))) ≡ begins_interest (line_of place) (map line_of places)
+    begins account place [] None below = refl
+    begins account place [] (Some before) below = let other : (before.0 == account) ≡ false = ne_eqb before.0 account (λ same. absurd (omega (arith, below, same))) in rw other refl
+    begins account place (next ∷ places) before below =
+        let same : (account == account) ≡ true = eq-eqb account account refl in
+        rw same (ap not (sym (alike_nameless (line_of place) (line_of next) (nameless place) (nameless next))))
 
-  lines_of_one : (account : ℕ) (places : List ℕ) (before : Option (ℕ × ℕ)) (rest : List Placed) → IsBelow before account
-      → lines_in before (placed (account, places) ++ rest) ≡ claim_lines account (map line_of places) ++ lines_in (last_of account places before) rest
-  lines_of_one account [] before rest below = rw (claim_lines_none account) refl
-  lines_of_one account (place ∷ places) before rest below =
-      let line = line_of place in
-      let front = claim_lines account (map line_of places) in
-      let after = lines_in (Some (account, line.interest)) rest in
-      let step : lines_in before ((placed (account, places) ++ at_place account place ∷ []) ++ rest)
-      ≡ front ++ claim_line account (not (option_eq same_interest (last_of account places before) (Some (account, line.interest)))) line ∷ after =
-      ap (lines_in before) (append_assoc (placed (account, places)) (at_place account place ∷ []) rest) ∙ lines_of_one account places before (at_place account place ∷ rest) below in
-      ap (λ (l : List Placed). lines_in before (l ++ rest)) (placed_before account place places)
-      ∙ (step
-      ∙ (ap (λ (b : Bool). front ++ claim_line account b line ∷ after) (begins account place places before below)
-      ∙ (sym (append_assoc front (claim_line account (begins_interest line (map line_of places)) line ∷ []) after)
-      ∙ ap (λ (l : List ClaimLine). l ++ after) (sym (claim_lines_more account line (map line_of places))))))
+    lines_of_one : (account : ℕ) (places : List ℕ) (before : Option (ℕ × ℕ)) (rest : List Placed) → IsBelow before account
+        → lines_in before (placed (account, places) ++ rest) ≡ claim_lines account (map line_of places) ++ lines_in (last_of account places before) rest
+    lines_of_one account [] before rest below = rw (claim_lines_none account) refl
+    lines_of_one account (place ∷ places) before rest below =
+        let line = line_of place in
+        let front = claim_lines account (map line_of places) in
+        let after = lines_in (Some (account, line.interest)) rest in
+        let step : lines_in before ((placed (account, places) ++ at_place account place ∷ []) ++ rest)
+        ≡ front ++ claim_line account (not (option_eq same_interest (last_of account places before) (Some (account, line.interest)))) line ∷ after =
+        ap (lines_in before) (append_assoc (placed (account, places)) (at_place account place ∷ []) rest) ∙ lines_of_one account places before (at_place account place ∷ rest) below in
+        ap (λ (l : List Placed). lines_in before (l ++ rest)) (placed_before account place places)
+        ∙ (step
+        ∙ (ap (λ (b : Bool). front ++ claim_line account b line ∷ after) (begins account place places before below)
+        ∙ (sym (append_assoc front (claim_line account (begins_interest line (map line_of places)) line ∷ []) after)
+        ∙ ap (λ (l : List ClaimLine). l ++ after) (sym (claim_lines_more account line (map line_of places))))))
 
-  -- they are those of each claimant
-  pub lines_of_all : (claimants : List (ℕ × List ℕ)) (before : Option (ℕ × ℕ)) → Rising claimants → All (λ claimant. IsBelow before claimant.0) claimants
-      → lines_in before (in_order claimants) ≡ flat_map (λ claimant. claim_lines claimant.0 (map line_of claimant.1)) claimants
-  lines_of_all [] before rising below = refl
-  lines_of_all (claimant ∷ later) before rising below =
-      lines_of_one claimant.0 claimant.1 before (in_order later) (below 0 claimant (omega arith))
-      ∙ ap (λ (l : List ClaimLine). claim_lines claimant.0 (map line_of claimant.1) ++ l)
-      (lines_of_all later (last_of claimant.0 claimant.1 before) (AllPairs-tail (λ claimant other. claimant.0 < other.0) claimant later rising) (still_below claimant.1))
-    where
-      still_below : (places : List ℕ) → All (λ other. IsBelow (last_of claimant.0 places before) other.0) later
-      still_below [] = All-tail (λ (claimant : ℕ × List ℕ). IsBelow before claimant.0) claimant later below
-      still_below (place ∷ places) = AllPairs-head (λ claimant other. claimant.0 < other.0) claimant later rising
+    -- they are those of each claimant
+    pub lines_of_all : (claimants : List (ℕ × List ℕ)) (before : Option (ℕ × ℕ)) → Rising claimants → All (λ claimant. IsBelow before claimant.0) claimants
+        → lines_in before (in_order claimants) ≡ flat_map (λ claimant. claim_lines claimant.0 (map line_of claimant.1)) claimants
+    lines_of_all [] before rising below = refl
+    lines_of_all (claimant ∷ later) before rising below =
+        lines_of_one claimant.0 claimant.1 before (in_order later) (below 0 claimant (omega arith))
+        ∙ ap (λ (l : List ClaimLine). claim_lines claimant.0 (map line_of claimant.1) ++ l)
+        (lines_of_all later (last_of claimant.0 claimant.1 before) (AllPairs-tail (λ claimant other. claimant.0 < other.0) claimant later rising) (still_below claimant.1))
+      where
+        still_below : (places : List ℕ) → All (λ other. IsBelow (last_of claimant.0 places before) other.0) later
+        still_below [] = All-tail (λ (claimant : ℕ × List ℕ). IsBelow before claimant.0) claimant later below
+        still_below (place ∷ places) = AllPairs-head (λ claimant other. claimant.0 < other.0) claimant later rising
 
 -- the share line at a place
 abbrev pub line_at : List ShareLine → ℕ → ShareLine
 line_at lines place = get_or lines place (record { interest = 0; party = []; performing = 0; mechanical = 0; synchronisation = 0; includes = false; territory = 0 })
+
+-- lines that have lost their parties have none at any place
+pub nameless_at : (shares : List RegisteredShare) (place : ℕ) → (line_at (map (line_by []) shares) place).party ≡ []
+nameless_at [] place = refl
+nameless_at (share ∷ shares) zero = refl
+nameless_at (share ∷ shares) (suc place) = nameless_at shares place
 
 -- one line more is added in order
 pub lines_next : (shares : List RegisteredShare) (order : List Placed) (n : ℕ) (d : Placed) (share : RegisteredShare) (before : Option (ℕ × ℕ)) (lines : List ClaimLine)

@@ -1,10 +1,10 @@
 -- How a registration is kept, so that its claims take one look at each of its share lines.
-use Rattle.std.specs.Prelude.{ℕ, ◌++◌, ◌==◌, nat_lt, if◌then◌else◌, ◌≡◌, ◌≤◌, ◌<◌, ◌+◌, ◌∷◌, List, All, AllPairs, Contains, [], drop, filter, length, map, nat_eq, slice_index_or, sum_by, take, zip, false, Vec, Bool, Option, Some, None, not, flat_map, reverse}
-use Rattle.std.specs.Option.{option_eq}
+use Rattle.std.specs.Prelude.{ℕ, ◌++◌, ◌==◌, nat_lt, if◌then◌else◌, ◌≡◌, ◌≤◌, ◌<◌, ◌+◌, ◌∷◌, List, All, AllPairs, Contains, [], drop, filter, length, map, nat_eq, slice_index_or, sum_by, take, zip, false, true, ⊤, Vec, Bool, not, flat_map, reverse}
+use Rattle.std.specs.List.{list_any}
 use Rattle.std.specs.Cmp.Lexicographic.{pointwise}
 use Rattle.line_split.specs.declared.usage.Right.{Right}
 use Rattle.line_split.specs.declared.usage.Right.TheVariants.{P, M, S}
-use Rattle.cwr_share.specs.ClaimsOn.{deciding, share_for}
+use Rattle.cwr_share.specs.ClaimsOn.{deciding, is_alike, share_for}
 use Rattle.cwr_share.specs.Registrations.{ShareLine}
 use Rattle.cwr_share.specs.declared.registration.Placed.{Placed}
 use Rattle.cwr_share.specs.declared.claim_line.ClaimLine.{ClaimLine}
@@ -130,14 +130,19 @@ claim_line account begins line = record {
   shares = record { performing = share_for P line; mechanical = share_for M line; synchronisation = share_for S line };
 }
 
--- the interest of the first of some lines
-abbrev pub interest_of : List ShareLine → Option ℕ
-interest_of [] = None
-interest_of (line ∷ _) = Some line.interest
-
--- the line is not of the interest of the first of those after it
+-- the line is not of the interest and party of the first of those after it
 abbrev pub begins_interest : ShareLine → (later : List ShareLine) → Bool
-begins_interest line later = not (option_eq nat_eq (interest_of later) (Some line.interest))
+begins_interest line [] = true
+begins_interest line (next ∷ _) = not (is_alike line next)
+
+-- no line among others is of the interest and party of the line
+abbrev pub IsApart : (others : List ShareLine) → ShareLine → Type 0
+IsApart others line = list_any (λ other. is_alike line other) others ≡ false
+
+-- lines of one interest and party stand together
+unfoldable pub AreInRuns : List ShareLine → Type 0
+AreInRuns [] = ⊤
+AreInRuns (line ∷ later) = (begins_interest line later ≡ true → IsApart later line) × AreInRuns later
 
 -- the share lines of an account, from the last one back
 unfoldable pub claim_lines : (account : ℕ) → List ShareLine → List ClaimLine
@@ -154,14 +159,14 @@ share_under P line = line.shares.performing
 share_under M line = line.shares.mechanical
 share_under S line = line.shares.synchronisation
 
--- such lines of some claimants, in order of account; a claimant's share lines are alike but for their interests, which do not fall
+-- such lines of some claimants, in order of account; among a claimant's share lines those of one interest and party stand together
 pub record AreClaimLines (named : List ShareLine) (claimants : List (ℕ × List ℕ)) (lines : List ClaimLine) : Type 0 where
   pub exact : lines ≡ lines_of_claimants named claimants
   pub few : length claimants ≤ length lines
   pub rising : AllPairs (λ claimant later. claimant.0 < later.0) claimants
   pub accounts : All (λ claimant. 0 < claimant.0) claimants
   pub some : All (λ claimant. 0 < length claimant.1) claimants
-  pub alike : All (λ claimant. AllPairs (λ line later. (line.party ≡ later.party) × (line.interest ≤ later.interest)) (lines_at named claimant.1)) claimants
+  pub runs : All (λ claimant. AreInRuns (lines_at named claimant.1)) claimants
 
 -- what a registry keeps: each work with its share lines, and the parties
 abbrev pub registered_as : List WorkNumber → List Kept → List (Vec ℕ Global) → Registered

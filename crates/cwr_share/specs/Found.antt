@@ -4,11 +4,12 @@ use Rattle.cwr_share.specs.Compiled.{InterestsRise, IsKept, Kept, kept_lines}
 use Rattle.cwr_share.specs.declared.TheConstants.{MOST_SHARES}
 use Rattle.cwr_share.specs.declared.claim_line.ClaimLine.{ClaimLine}
 use Rattle.cwr_share.specs.declared.registry.Work.{Work}
-use Rattle.cwr_share.specs.Registered.{Registered}
+use Rattle.cwr_share.specs.Registered.{IsRegistered, Registered}
 use Rattle.cwr_share.specs.Registrations.{find_work}
 
 -- A registry has this registration of a work.
 pub record LookedUp (registered : Registered) (work : List ℕ) (registration : Kept) : Type 0 where
+  pub sound : IsRegistered registered
   pub works : find_work work registered.works ≡ Some (kept_lines registered.parties registration)
   pub kept : IsKept registered.parties registration
   pub rise : InterestsRise (kept_lines registered.parties registration)

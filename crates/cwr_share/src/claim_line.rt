@@ -3,11 +3,11 @@
 //! The lines of a registration stand together, by account, and those of an account from the last one of
 //! the file back. So its claims are worked out in one pass over neighbouring memory.
 
-ghost use Rattle.std.specs.Prelude.{◌≡◌, ◌≤◌, ◌<◌, ◌++◌, ◌==◌, ℕ, List, All, AllPairs, [], filter, if◌then◌else◌, length, not, nat_le, sum_by, ◌*◌};
+ghost use Rattle.std.specs.Prelude.{◌≡◌, ◌≤◌, ◌<◌, ◌++◌, ◌==◌, ℕ, List, All, [], filter, if◌then◌else◌, length, not, nat_le, sum_by, ◌*◌};
 ghost use Rattle.line_split.specs.Claims.{total_of};
 ghost use Rattle.line_split.specs.declared.TheConstants.{MOST_CLAIMED};
 ghost use Rattle.cwr_share.specs.ClaimsOn.{deciding, share_for};
-ghost use Rattle.cwr_share.specs.Compiled.{AreClaimLines, claim_lines, claims_of_claimants, share_under};
+ghost use Rattle.cwr_share.specs.Compiled.{AreClaimLines, AreInRuns, claim_lines, claims_of_claimants, share_under};
 ghost use Rattle.cwr_share.specs.Registrations.{ShareLine};
 ghost use Rattle.cwr_share.specs.declared.TheConstants.{MOST_SHARES};
 
@@ -22,7 +22,7 @@ pub(crate) struct ClaimLine {
     /// What the account gets under each right, nothing where the territory is excluded.
     pub(crate) shares: CollectionShares,
     pub(crate) territory: Code,
-    /// Whether the line before it is of another interest, or of another account.
+    /// Whether the line before it is of another interest, or of another party.
     pub(crate) begins: bool,
 }
 
@@ -83,7 +83,7 @@ fn first_claim(lines: &[ClaimLine], tis: &TisTable, land: Code, right: Right) ->
     ensures some { 0 < result.1 }
     ensures within { result.1 ≤ length lines.now }
     ensures claim { (account : ℕ) (first : List ShareLine) (others : List ClaimLine) → lines.now ≡ claim_lines account first ++ others → 0 < length first
-        → AllPairs (λ line later. (line.party ≡ later.party) × (line.interest ≤ later.interest)) first → All (λ other. ¬ (other.account ≡ account)) others
+        → AreInRuns first → All (λ other. ¬ (other.account ≡ account)) others
         → (result.0 ≡ sum_by (share_for right) (deciding tis.now land first)) × (result.1 ≡ length first) }
 {
     let mut claim = 0;

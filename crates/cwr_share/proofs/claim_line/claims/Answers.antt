@@ -1,12 +1,12 @@
-use Rattle.std.proofs.Common.{◌≡◌, ◌≤◌, ◌<◌, ◌+◌, ◌++◌, ℕ, List, All, AllPairs, arith, drop, get_or, length, refl, sym}
+use Rattle.std.proofs.Common.{◌≡◌, ◌≤◌, ◌<◌, ◌+◌, ◌++◌, ℕ, List, All, arith, drop, get_or, length, refl, sym}
 use Rattle.std.specs.Prelude.{sum_by}
 use Rattle.std.proofs.lemmas.List.{take_rest}
 use Rattle.line_split.specs.declared.usage.Right.{Right}
 use Rattle.cwr_share.specs.ClaimsOn.{deciding, share_for}
-use Rattle.cwr_share.specs.Compiled.{AreClaimLines, claim_lines, claims_of_claimants, lines_of_claimants}
+use Rattle.cwr_share.specs.Compiled.{AreClaimLines, AreInRuns, claim_lines, claims_of_claimants, lines_of_claimants}
 use Rattle.cwr_share.specs.Registrations.{ShareLine}
 use Rattle.cwr_share.specs.declared.claim_line.ClaimLine.{ClaimLine}
-use Rattle.cwr_share.proofs.ClaimLemmas.{Gathered, IsAlike, claim_here, claimant_here, claimant_left, gathered_all, gathered_few, gathered_more, gathered_none, gathered_over, gathered_zero, is_here, its_account, length-claims, lower_accounts, none_left}
+use Rattle.cwr_share.proofs.ClaimLemmas.{Gathered, claim_here, claimant_here, claimant_left, gathered_all, gathered_few, gathered_more, gathered_none, gathered_over, gathered_zero, is_here, its_account, length-claims, lower_accounts, none_left}
 use Rattle.cwr_share.proofs.claim_line.claims.Goals as goal
 use Rattle.cwr_share.proofs.claim_line.claims.Goals.{then-claim-gt0, else-claim-gt0}
 
@@ -29,7 +29,7 @@ record Next (table : List (ℕ × List ℕ)) (land : ℕ) (right : Right) (named
   left : n < length (claims_of_claimants table land right named claimants)
   lower : All (λ other. other.0 < claimant.0) out
   claim : (claim count : ℕ)
-      → ((account : ℕ) (first : List ShareLine) (others : List ClaimLine) → drop at lines ≡ claim_lines account first ++ others → 0 < length first → AllPairs IsAlike first
+      → ((account : ℕ) (first : List ShareLine) (others : List ClaimLine) → drop at lines ≡ claim_lines account first ++ others → 0 < length first → AreInRuns first
       → All (λ other. ¬ (other.account ≡ account)) others → (claim ≡ sum_by (share_for right) (deciding table land first)) × (count ≡ length first))
       → (get_or (claims_of_claimants table land right named claimants) n (claimant.0, claim) ≡ (claimant.0, claim)) × (drop (at + count) lines ≡ lines_of_claimants named (drop (n + 1) claimants))
 

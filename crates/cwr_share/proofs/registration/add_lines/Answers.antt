@@ -3,7 +3,7 @@ use Rattle.std.proofs.lemmas.List.{drop_all}
 use Rattle.cwr_share.specs.Compiled.{line_by}
 use Rattle.cwr_share.specs.declared.claim_line.ClaimLine.{ClaimLine}
 use Rattle.cwr_share.specs.declared.registration.Placed.{Placed}
-use Rattle.cwr_share.proofs.OrderLemmas.{line_at, lines_in, lines_next, lines_of_all}
+use Rattle.cwr_share.proofs.OrderLemmas.{line_at, lines_in, lines_next, lines_of_all, nameless_at}
 use Rattle.cwr_share.proofs.registration.add_lines.Goals as goal
 
 pub loop-entry-preserved : goal.loop-entry-preserved
@@ -20,7 +20,7 @@ pub returns : goal.returns
 returns c = λ claimants ordered.
     let lines = map (line_by []) c.args.shares.now in
     let past : drop c.loop-entry.entry-index c.args.order.now ≡ [] = drop_all c.loop-entry.entry-index c.args.order.now c.loop-entry-test.false in
-    let all = lines_of_all (line_at lines) claimants None ordered.rising (λ k d within. tt) in
+    let all = lines_of_all (line_at lines) (nameless_at c.args.shares.now) claimants None ordered.rising (λ k d within. tt) in
     sym (append-nil c.loop-entry.lines.items)
     ∙ (ap (λ (rest : List Placed). c.loop-entry.lines.items ++ lines_in (line_at lines) c.loop-entry.later rest) (sym past)
     ∙ (c.loop-entry.invariant
