@@ -69,7 +69,8 @@ fn a_party_is_paid_to_the_payee_of_its_row(rt: HostRuntime) -> Result<(), Fail> 
         &rt,
         rt.alloc(),
         &Asked::Rows,
-        "B,A: A A C
+        "\
+B,A: A A C
 A,B: B B C
 A,B/B,C: B C C
 B,A/A,B: B A C
@@ -78,7 +79,8 @@ X,A: A B C
 A,A: A B C
  A ,  B  : B B C
 \"A\",\"Z, Ltd\": Z, Ltd B C
-A,B C: B C B C",
+A,B C: B C B C
+",
     )
 }
 
@@ -88,7 +90,8 @@ fn a_table_is_refused_for_its_first_fault(rt: HostRuntime) -> Result<(), Fail> {
         &rt,
         rt.alloc(),
         &Asked::Rows,
-        ",A: 2 Some(1)
+        "\
+,A: 2 Some(1)
 A,: 2 Some(1)
 A,  : 2 Some(1)
 A,X/A,X: 3 Some(2)
@@ -97,7 +100,8 @@ A: 1 Some(1)
 A,B,C: 1 Some(1)
 A,B/A: 1 Some(2)
 A,B/A,: 2 Some(2)
-A,B/A,B/,C: 3 Some(2)",
+A,B/A,B/,C: 3 Some(2)
+",
     )
 }
 
@@ -107,12 +111,14 @@ fn a_header_is_needed(rt: HostRuntime) -> Result<(), Fail> {
         &rt,
         rt.alloc(),
         &Asked::Table,
-        "party,payee: A B C
+        "\
+party,payee: A B C
 party,payee/: A B C
 party;payee/A,B: 1 Some(0)
 payee,party/A,B: 1 Some(0)
 party,payee,/A,B: 1 Some(0)
-A,B: 1 Some(0)",
+A,B: 1 Some(0)
+",
     )?;
     assert_eq!(rt;
         Payees::read(rt.alloc(), b"").err(),
