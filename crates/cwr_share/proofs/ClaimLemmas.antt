@@ -21,7 +21,7 @@ use Rattle.line_split.specs.UsageLine.{UsageLine}
 use Rattle.line_split.specs.declared.usage.Right.{Right}
 use Rattle.line_split.specs.declared.usage.Right.TheVariants.{P, M, S}
 use Rattle.cwr_share.specs.ClaimsOn.{claims_by, claims_on, covers, deciding, is_alike, is_known, reason_against, share_for}
-use Rattle.cwr_share.specs.Compiled.{AreClaimLines, AreInRuns, begins_interest, claim_line, claim_lines, claims_of_claimants, lines_at, lines_of_claimants, lines_of_party, places_in, share_under}
+use Rattle.cwr_share.specs.Compiled.{AreClaimLines, AreInRuns, begins_interest, claim_line, claim_lines, claims_of_claimants, lines_at, lines_of_claimants, lines_of_parties, lines_of_party, places_in, share_under}
 use Rattle.cwr_share.specs.declared.claim_line.ClaimLine.{ClaimLine}
 use Rattle.cwr_share.specs.Registered.{Registered}
 use Rattle.cwr_share.specs.Registrations.{ShareLine, find_work}
@@ -310,16 +310,16 @@ module _ (table : List (ℕ × List ℕ)) (land : ℕ) (right : Right) (lines : 
         omega (arith, lower, ap (λ (p : ℕ × ℕ). p.0) this, other, ap (λ (p : ℕ × List ℕ). p.0) is))
 
 -- as many lines as places
-pub length-lines_of_claimants : (named : List ShareLine) (claimants : List (ℕ × List ℕ)) → length (lines_of_claimants named claimants) ≡ places_in claimants
-length-lines_of_claimants named [] = refl
-length-lines_of_claimants named (claimant ∷ later) =
-    let front = claim_lines claimant.0 (lines_at named claimant.1) in
+pub length-lines_of_parties : (accounts : List ℕ) (lines : List ShareLine) (claimants : List (ℕ × List ℕ)) → length (lines_of_parties accounts lines claimants) ≡ places_in claimants
+length-lines_of_parties accounts lines [] = refl
+length-lines_of_parties accounts lines (claimant ∷ later) =
+    let front = claim_lines (get_or accounts claimant.0 0) (lines_at lines claimant.1) in
     omega (
       arith,
-      length-append front (lines_of_claimants named later),
-      length-claim_lines claimant.0 (lines_at named claimant.1),
-      length-lines_at named claimant.1,
-      length-lines_of_claimants named later,
+      length-append front (lines_of_parties accounts lines later),
+      length-claim_lines (get_or accounts claimant.0 0) (lines_at lines claimant.1),
+      length-lines_at lines claimant.1,
+      length-lines_of_parties accounts lines later,
       sum_by-cons (λ (p : ℕ × List ℕ). length p.1) claimant later,
     )
 

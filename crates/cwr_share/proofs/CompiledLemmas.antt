@@ -6,8 +6,8 @@ use Rattle.std.specs.Cmp.Lexicographic.{pointwise, slice_cmp}
 use Rattle.std.specs.Ordering.{ordering_index, ordering_reverse}
 use Rattle.std.proofs.lemmas.Bool.{cases_Bool, cases_lt, cases_order, eq-eqb, le-ltb, lt-ltb, ltb-false, ltb-true, ne_eqb, false_from_ne_true}
 use Rattle.std.proofs.lemmas.Cmp.{nat_list_cmp_total, nat_list_eq_equiv, tied_itself}
-use Rattle.std.proofs.lemmas.List.{get_or_default, get_or_past, get_or-map, get_or_append_left, get_or_push, drop-append-le, drop_all, length-drop, length-map, length-take-le, length_push, map_push, take-append-le, take_all, take_more}
-use Rattle.std.proofs.lemmas.List.Elements.{All-cons, All-contains, All-map, Contains-get_or, recursion_from_All, All-head, All-nil, All-push, All-tail, Contains-push_cases, filter-append, filter_passes}
+use Rattle.std.proofs.lemmas.List.{get_or_default, get_or-map, get_or_append_left, get_or_push, drop-append-le, drop_all, length-drop, length-map, length-take-le, length_push, map_push, take-append-le, take_all, take_more}
+use Rattle.std.proofs.lemmas.List.Elements.{All-cons, All-head, All-nil, All-push, All-tail, Contains-push_cases, filter-append, filter_passes}
 use Rattle.std.proofs.lemmas.List.Kept.{AllPairs-cons}
 use Rattle.std.proofs.lemmas.List.Sums.{sum_by-cons}
 use Rattle.std.proofs.lemmas.List.Sorted.{searchable_from_sorted}
@@ -15,9 +15,9 @@ use Rattle.std.proofs.lemmas.Map.Keys.{Less-from_sorted}
 use Rattle.std.proofs.lemmas.Map.Lookups.{exact_bytes}
 use Rattle.std.proofs.lemmas.Option.{cond_some, none-some}
 use Rattle.std.proofs.lemmas.Slice.Eq.{bytes_eq-Decides}
-use Rattle.cwr_share.specs.Compiled.{AreKept, AreWorkNumbers, InterestsRise, IsCompiled, IsExtent, IsKept, Kept, WorkNumber, kept_lines, line_by, lines_at, lines_of_party, part, places_in, registered_as, with_place}
-use Rattle.cwr_share.specs.Found.{LookedUp}
-use Rattle.cwr_share.specs.Registered.{IsRegistered, IsShareLine, Registered}
+use Rattle.cwr_share.specs.Compiled.{AreKept, AreWorkNumbers, InterestsRise, IsCompiled, IsExtent, IsKept, Kept, Numbered, WorkNumber, accounts_of, kept_lines, line_by, lines_at, lines_of_party, names_of, part, places_in, registered_as, with_place}
+use Rattle.cwr_share.specs.Found.{LookedUp, names_in}
+use Rattle.cwr_share.specs.Registered.{IsRegistered, Registered}
 use Rattle.cwr_share.specs.Registrations.{ShareLine, find_work}
 use Rattle.cwr_share.specs.declared.share_line.RegisteredShare.{RegisteredShare}
 use Rattle.cwr_share.specs.declared.numbers.TheConstants.{MOST_WORK_BYTES}
@@ -65,12 +65,12 @@ module _ {X : Type 0} (text : X → List ℕ) (xs : List X) (rising : IsStrictly
       by (inl low) = let no = here Less (λ d. gap.0 k d zero-le low) in cc
       by (inr high) = let no = here Greater (λ d. gap.1 k d high inside) in cc
 
-module _ (account place : ℕ) where
-  -- a claimant of a lower account stays in front
-  behind_lower : (claimant : ℕ × List ℕ) (later more : List (ℕ × List ℕ)) → claimant.0 < account → more ≡ with_place account place later → claimant ∷ more ≡ with_place account place (claimant ∷ later)
+module _ (party place : ℕ) where
+  -- a claimant of a lower party stays in front
+  behind_lower : (claimant : ℕ × List ℕ) (later more : List (ℕ × List ℕ)) → claimant.0 < party → more ≡ with_place party place later → claimant ∷ more ≡ with_place party place (claimant ∷ later)
   behind_lower claimant later more low rest =
-      let not_lower : ltb account claimant.0 ≡ false = le-ltb account claimant.0 (omega arith) in
-      let other : (account == claimant.0) ≡ false = ne_eqb account claimant.0 (λ same. absurd (omega arith)) in
+      let not_lower : ltb party claimant.0 ≡ false = le-ltb party claimant.0 (omega arith) in
+      let other : (party == claimant.0) ≡ false = ne_eqb party claimant.0 (λ same. absurd (omega arith)) in
       rw (not_lower, other) (ap (λ (l : List (ℕ × List ℕ)). claimant ∷ l) rest)
 
 -- the first and the others of a list whose pairs are related
@@ -91,52 +91,52 @@ pub contains_cases : {X : Type 0} (x y : X) (xs : List X) → Contains (x ∷ xs
 contains_cases x y xs (zero, within, is) = inl is
 contains_cases x y xs (suc k, within, is) = inr (k, omega (arith, within), is)
 
--- claimants in order of account
+-- claimants in order of party
 abbrev pub Rising : List (ℕ × List ℕ) → Type 0
 Rising claimants = AllPairs (λ claimant later. claimant.0 < later.0) claimants
 
-module _ (account place : ℕ) where
+module _ (party place : ℕ) where
   -- where the place goes, by the first claimant
   pub place_goes : (claimant : ℕ × List ℕ) (later : List (ℕ × List ℕ))
-      → ((account < claimant.0) × (with_place account place (claimant ∷ later) ≡ (account, place ∷ []) ∷ claimant ∷ later))
-      ⊎ (((account ≡ claimant.0) × (with_place account place (claimant ∷ later) ≡ (account, claimant.1 ++ place ∷ []) ∷ later))
-      ⊎ ((claimant.0 < account) × (with_place account place (claimant ∷ later) ≡ claimant ∷ with_place account place later)))
-  place_goes claimant later = elim (cases_order account claimant.0) [
+      → ((party < claimant.0) × (with_place party place (claimant ∷ later) ≡ (party, place ∷ []) ∷ claimant ∷ later))
+      ⊎ (((party ≡ claimant.0) × (with_place party place (claimant ∷ later) ≡ (party, claimant.1 ++ place ∷ []) ∷ later))
+      ⊎ ((claimant.0 < party) × (with_place party place (claimant ∷ later) ≡ claimant ∷ with_place party place later)))
+  place_goes claimant later = elim (cases_order party claimant.0) [
     | inl is ↦
-        let not_lower : ltb account claimant.0 ≡ false = le-ltb account claimant.0 (omega arith) in
-        inr (inl (is, rw (not_lower, eq-eqb account claimant.0 is) refl))
-    | inr (inl less) ↦ inl (less, rw (lt-ltb account claimant.0 less) refl)
-    | inr (inr more) ↦ inr (inr (more, sym (behind_lower account place claimant later (with_place account place later) more refl)))
+        let not_lower : ltb party claimant.0 ≡ false = le-ltb party claimant.0 (omega arith) in
+        inr (inl (is, rw (not_lower, eq-eqb party claimant.0 is) refl))
+    | inr (inl less) ↦ inl (less, rw (lt-ltb party claimant.0 less) refl)
+    | inr (inr more) ↦ inr (inr (more, sym (behind_lower party place claimant later (with_place party place later) more refl)))
   ]
 
   -- what holds of each claimant once the place is added
-  each_with_place : (P Q : ℕ × List ℕ → Type 0) → ((claimant : ℕ × List ℕ) → Q claimant → ¬ (claimant.0 ≡ account) → P claimant)
-      → ((claimant : ℕ × List ℕ) → Q claimant → claimant.0 ≡ account → P (account, claimant.1 ++ place ∷ []))
-      → (claimants : List (ℕ × List ℕ)) → (All (λ claimant. ¬ (claimant.0 ≡ account)) claimants → P (account, place ∷ []))
-      → Rising claimants → All Q claimants → All P (with_place account place claimants)
-  each_with_place P Q same more [] new rising all = All-cons P (account, place ∷ []) [] (new (All-nil (λ (claimant : ℕ × List ℕ). ¬ (claimant.0 ≡ account)))) (All-nil P)
+  each_with_place : (P Q : ℕ × List ℕ → Type 0) → ((claimant : ℕ × List ℕ) → Q claimant → ¬ (claimant.0 ≡ party) → P claimant)
+      → ((claimant : ℕ × List ℕ) → Q claimant → claimant.0 ≡ party → P (party, claimant.1 ++ place ∷ []))
+      → (claimants : List (ℕ × List ℕ)) → (All (λ claimant. ¬ (claimant.0 ≡ party)) claimants → P (party, place ∷ []))
+      → Rising claimants → All Q claimants → All P (with_place party place claimants)
+  each_with_place P Q same more [] new rising all = All-cons P (party, place ∷ []) [] (new (All-nil (λ (claimant : ℕ × List ℕ). ¬ (claimant.0 ≡ party)))) (All-nil P)
   each_with_place P Q same more (claimant ∷ later) new rising all =
       let above : All (λ other. claimant.0 < other.0) later = AllPairs-head (λ claimant other. claimant.0 < other.0) claimant later rising in
       let first : Q claimant = All-head Q claimant later all in
       let rest : All Q later = All-tail Q claimant later all in
-      let behind : account ≤ claimant.0 → All P later = λ low k d within. same (get_or later k d) (rest k d within) (λ is. absurd (omega (arith, above k d within, low, is))) in
+      let behind : party ≤ claimant.0 → All P later = λ low k d within. same (get_or later k d) (rest k d within) (λ is. absurd (omega (arith, above k d within, low, is))) in
       elim (place_goes claimant later) [
         | inl (less, is) ↦
-            let apart : All (λ other. ¬ (other.0 ≡ account)) (claimant ∷ later) =
-            All-cons (λ (other : ℕ × List ℕ). ¬ (other.0 ≡ account)) claimant later (λ equal. absurd (omega (arith, less, equal))) (λ k d within equal. absurd (omega (arith, above k d within, less, equal))) in
+            let apart : All (λ other. ¬ (other.0 ≡ party)) (claimant ∷ later) =
+            All-cons (λ (other : ℕ × List ℕ). ¬ (other.0 ≡ party)) claimant later (λ equal. absurd (omega (arith, less, equal))) (λ k d within equal. absurd (omega (arith, above k d within, less, equal))) in
             rw is
-            (All-cons P (account, place ∷ []) (claimant ∷ later) (new apart)
+            (All-cons P (party, place ∷ []) (claimant ∷ later) (new apart)
             (All-cons P claimant later (same claimant first (λ equal. absurd (omega (arith, less, equal)))) (behind (omega (arith, less)))))
-        | inr (inl (equal, is)) ↦ rw is (All-cons P (account, claimant.1 ++ place ∷ []) later (more claimant first (sym equal)) (behind (omega (arith, equal))))
+        | inr (inl (equal, is)) ↦ rw is (All-cons P (party, claimant.1 ++ place ∷ []) later (more claimant first (sym equal)) (behind (omega (arith, equal))))
         | inr (inr (greater, is)) ↦
             let rest_placed = each_with_place P Q same more later
-            (λ apart. new (All-cons (λ (other : ℕ × List ℕ). ¬ (other.0 ≡ account)) claimant later (λ equal. absurd (omega (arith, greater, equal))) apart))
+            (λ apart. new (All-cons (λ (other : ℕ × List ℕ). ¬ (other.0 ≡ party)) claimant later (λ equal. absurd (omega (arith, greater, equal))) apart))
             (AllPairs-tail (λ claimant other. claimant.0 < other.0) claimant later rising) rest in
-            rw is (All-cons P claimant (with_place account place later) (same claimant first (λ equal. absurd (omega (arith, greater, equal)))) rest_placed)
+            rw is (All-cons P claimant (with_place party place later) (same claimant first (λ equal. absurd (omega (arith, greater, equal)))) rest_placed)
       ]
 
-  -- the accounts still rise
-  pub rising_with_place : (claimants : List (ℕ × List ℕ)) → Rising claimants → Rising (with_place account place claimants)
+  -- the parties still rise
+  pub rising_with_place : (claimants : List (ℕ × List ℕ)) → Rising claimants → Rising (with_place party place claimants)
   rising_with_place [] rising = λ i j d before within. absurd (omega arith)
   rising_with_place (claimant ∷ later) rising =
       let R : ℕ × List ℕ → ℕ × List ℕ → Type 0 = λ claimant other. claimant.0 < other.0 in
@@ -145,16 +145,16 @@ module _ (account place : ℕ) where
       elim (place_goes claimant later) [
         | inl (less, is) ↦
             rw is
-            (AllPairs-cons R (account, place ∷ []) (claimant ∷ later) (All-cons (λ other. account < other.0) claimant later less (λ k d within. lt_trans less (above k d within))) rising)
-        | inr (inl (equal, is)) ↦ rw is (AllPairs-cons R (account, claimant.1 ++ place ∷ []) later (λ k d within. rw equal (above k d within)) rest)
+            (AllPairs-cons R (party, place ∷ []) (claimant ∷ later) (All-cons (λ other. party < other.0) claimant later less (λ k d within. lt_trans less (above k d within))) rising)
+        | inr (inl (equal, is)) ↦ rw is (AllPairs-cons R (party, claimant.1 ++ place ∷ []) later (λ k d within. rw equal (above k d within)) rest)
         | inr (inr (greater, is)) ↦
             rw is
-            (AllPairs-cons R claimant (with_place account place later)
+            (AllPairs-cons R claimant (with_place party place later)
             (each_with_place (R claimant) (R claimant) (λ other low apart. low) (λ other low equal. greater) later (λ apart. greater) rest above) (rising_with_place later rest))
       ]
 
   -- one claimant more at most
-  few_with_place : (claimants : List (ℕ × List ℕ)) → length (with_place account place claimants) ≤ length claimants + 1
+  few_with_place : (claimants : List (ℕ × List ℕ)) → length (with_place party place claimants) ≤ length claimants + 1
   few_with_place [] = omega arith
   few_with_place (claimant ∷ later) = elim (place_goes claimant later) [
     | inl (less, is) ↦ rw is (omega arith)
@@ -163,38 +163,38 @@ module _ (account place : ℕ) where
   ]
 
   -- one place more
-  places_with_place : (claimants : List (ℕ × List ℕ)) → places_in (with_place account place claimants) ≡ places_in claimants + 1
+  places_with_place : (claimants : List (ℕ × List ℕ)) → places_in (with_place party place claimants) ≡ places_in claimants + 1
   places_with_place [] = refl
   places_with_place (claimant ∷ later) =
       let count = λ (claimant : ℕ × List ℕ). length claimant.1 in
       elim (place_goes claimant later) [
-        | inl (less, is) ↦ rw is (omega (arith, sum_by-cons count (account, place ∷ []) (claimant ∷ later)))
+        | inl (less, is) ↦ rw is (omega (arith, sum_by-cons count (party, place ∷ []) (claimant ∷ later)))
         | inr (inl (equal, is)) ↦
-            rw is (omega (arith, sum_by-cons count (account, claimant.1 ++ place ∷ []) later, sum_by-cons count claimant later, length_push claimant.1 place))
+            rw is (omega (arith, sum_by-cons count (party, claimant.1 ++ place ∷ []) later, sum_by-cons count claimant later, length_push claimant.1 place))
         | inr (inr (greater, is)) ↦
-            rw is (omega (arith, sum_by-cons count claimant (with_place account place later), sum_by-cons count claimant later, places_with_place later))
+            rw is (omega (arith, sum_by-cons count claimant (with_place party place later), sum_by-cons count claimant later, places_with_place later))
       ]
 
-  -- each account that had a claimant has one
-  still_there : (claimants : List (ℕ × List ℕ)) (other : ℕ) → Contains (map (λ claimant. claimant.0) claimants) other → Contains (map (λ claimant. claimant.0) (with_place account place claimants)) other
+  -- each party that had a claimant has one
+  still_there : (claimants : List (ℕ × List ℕ)) (other : ℕ) → Contains (map (λ claimant. claimant.0) claimants) other → Contains (map (λ claimant. claimant.0) (with_place party place claimants)) other
   still_there [] other has = absurd (omega (arith, has.1))
   still_there (claimant ∷ later) other has = elim (place_goes claimant later) [
-    | inl (less, is) ↦ rw is (contains_later account other (claimant.0 ∷ map (λ claimant. claimant.0) later) has)
+    | inl (less, is) ↦ rw is (contains_later party other (claimant.0 ∷ map (λ claimant. claimant.0) later) has)
     | inr (inl (equal, is)) ↦ rw is (subst (λ a. Contains (a ∷ map (λ claimant. claimant.0) later) other) (sym equal) has)
     | inr (inr (greater, is)) ↦
         rw is
-        (⊎_elim (λ same. subst (Contains (claimant.0 ∷ map (λ claimant. claimant.0) (with_place account place later))) same (contains_first claimant.0 (map (λ claimant. claimant.0) (with_place account place later))))
-        (λ rest. contains_later claimant.0 other (map (λ claimant. claimant.0) (with_place account place later)) (still_there later other rest))
+        (⊎_elim (λ same. subst (Contains (claimant.0 ∷ map (λ claimant. claimant.0) (with_place party place later))) same (contains_first claimant.0 (map (λ claimant. claimant.0) (with_place party place later))))
+        (λ rest. contains_later claimant.0 other (map (λ claimant. claimant.0) (with_place party place later)) (still_there later other rest))
         (contains_cases claimant.0 other (map (λ claimant. claimant.0) later) has))
   ]
 
-  -- and the account too
-  now_there : (claimants : List (ℕ × List ℕ)) → Contains (map (λ claimant. claimant.0) (with_place account place claimants)) account
-  now_there [] = contains_first account []
+  -- and the party too
+  now_there : (claimants : List (ℕ × List ℕ)) → Contains (map (λ claimant. claimant.0) (with_place party place claimants)) party
+  now_there [] = contains_first party []
   now_there (claimant ∷ later) = elim (place_goes claimant later) [
-    | inl (less, is) ↦ rw is (contains_first account (claimant.0 ∷ map (λ claimant. claimant.0) later))
-    | inr (inl (equal, is)) ↦ rw is (contains_first account (map (λ claimant. claimant.0) later))
-    | inr (inr (greater, is)) ↦ rw is (contains_later claimant.0 account (map (λ claimant. claimant.0) (with_place account place later)) (now_there later))
+    | inl (less, is) ↦ rw is (contains_first party (claimant.0 ∷ map (λ claimant. claimant.0) later))
+    | inr (inl (equal, is)) ↦ rw is (contains_first party (map (λ claimant. claimant.0) later))
+    | inr (inr (greater, is)) ↦ rw is (contains_later claimant.0 party (map (λ claimant. claimant.0) (with_place party place later)) (now_there later))
   ]
 
 -- texts are tested for being one
@@ -244,10 +244,21 @@ account_is parties account other rising within inside same = elim (cases_order a
     never : (a b : List ℕ) → a ≡ b → slice_cmp nat_cmp a b ≡ Less → ⊥
     never a b same less = let level : slice_cmp nat_cmp b b ≡ Less = subst (λ t. slice_cmp nat_cmp t b ≡ Less) same less in let no = sym (tied_itself nat_list_cmp_total b) ∙ level in cc
 
--- the places of an account are those of lines that are kept under it
-pub own_places : (parties : List (List ℕ)) (kept : List RegisteredShare) (claimants : List (ℕ × List ℕ)) → IsStrictlySortedBy (slice_cmp nat_cmp) parties → All IsShareLine (map (line_by parties) kept)
-    → IsCompiled parties (map (line_by parties) kept) claimants → All (λ claimant. All (HoldsAt (λ share. share.account ≡ claimant.0) kept) claimant.1) claimants
-own_places parties kept claimants rising filled compiled = λ k d inside j e within f.
+-- no text stands at two places
+abbrev pub HasOnce : List (List ℕ) → Type 0
+HasOnce names = (i j : ℕ) → i < length names → j < length names → get_or names i [] ≡ get_or names j [] → i ≡ j
+
+pub once_from_pairs : (names : List (List ℕ)) → AllPairs (λ name later. ¬ (name ≡ later)) names → HasOnce names
+once_from_pairs names apart i j within inside same = elim (cases_order i j) [
+  | inl is ↦ is
+  | inr (inl less) ↦ absurd (apart i j [] less inside same)
+  | inr (inr more) ↦ absurd (apart j i [] more within (sym same))
+]
+
+-- the places of a party are those of lines that are kept under it
+pub own_places : (parties : List (List ℕ)) (kept : List RegisteredShare) (claimants : List (ℕ × List ℕ)) → HasOnce parties → All (λ share. share.party < length parties) kept
+    → IsCompiled parties (map (line_by parties) kept) claimants → All (λ claimant. All (HoldsAt (λ share. share.party ≡ claimant.0) kept) claimant.1) claimants
+own_places parties kept claimants once known compiled = λ k d inside j e within f.
     let claimant = get_or claimants k d in
     let lines = map (line_by parties) kept in
     let place = get_or claimant.1 j e in
@@ -263,12 +274,7 @@ own_places parties kept claimants rising filled compiled = λ k d inside j e wit
     let passes = filter_passes (λ line. pointwise nat_eq line.party party) lines j line among in
     let same : get_or (lines_of_party party lines) j line ≡ line = ap (λ (l : List ShareLine). get_or l j line) (sym exact) ∙ at in
     let whose : line.party ≡ party = (bytes_eq-Decides line.party party).0 (subst (λ (l : ShareLine). pointwise nat_eq l.party party ≡ true) same passes) in
-    let some : 0 < length line.party = subst (λ (l : ShareLine). 0 < length l.party) (get_or-map (line_by parties) kept place f line its) (filled place line there).party in
-    let known : share.account < length parties = elim (cases_lt share.account (length parties)) [
-      | inl among_them ↦ among_them
-      | inr past ↦ absurd (omega (arith, some, ap (λ (text : List ℕ). length text) (get_or_past parties share.account [] past)))
-    ] in
-    account_is parties share.account claimant.0 rising known (compiled.accounts k d inside).1 whose
+    once share.party claimant.0 (known place f its) (compiled.known k d inside) whose
 
 -- no line is compiled yet
 pub compiled_none : (parties : List (List ℕ)) → IsCompiled parties [] []
@@ -276,15 +282,15 @@ compiled_none parties = record {
   few = omega arith;
   total = refl;
   rising = λ i j d before within. absurd (omega arith);
-  accounts = λ k d within. absurd (omega arith);
+  known = λ k d within. absurd (omega arith);
   some = λ k d within. absurd (omega arith);
   within = λ k d within. absurd (omega arith);
   exact = λ k d within. absurd (omega arith);
-  every = λ account inside has. absurd (omega (arith, has.1));
+  every = λ party inside has. absurd (omega (arith, has.1));
 }
 
-module _ (parties : List (List ℕ)) (lines : List ShareLine) (claimants : List (ℕ × List ℕ)) (line : ShareLine) (account : ℕ)
-    (rising : IsStrictlySortedBy (slice_cmp nat_cmp) parties) (some : 0 < account) (inside : account < length parties) (whose : get_or parties account [] ≡ line.party)
+module _ (parties : List (List ℕ)) (lines : List ShareLine) (claimants : List (ℕ × List ℕ)) (line : ShareLine) (party : ℕ)
+    (once : HasOnce parties) (inside : party < length parties) (whose : get_or parties party [] ≡ line.party)
     (compiled : IsCompiled parties lines claimants) where
   abbrev Inside : ℕ × List ℕ → Type 0
   Inside claimant = All (λ place. place < length lines) claimant.1
@@ -295,55 +301,55 @@ module _ (parties : List (List ℕ)) (lines : List ShareLine) (claimants : List 
   abbrev Longer : ℕ × List ℕ → Type 0
   Longer claimant = lines_at (lines ++ line ∷ []) claimant.1 ≡ lines_of_party (get_or parties claimant.0 []) (lines ++ line ∷ [])
 
-  -- the claimants of other accounts keep their lines
-  same_lines : (claimant : ℕ × List ℕ) → Exact claimant → ¬ (claimant.0 ≡ account) → Longer claimant
+  -- the claimants that are other parties keep their lines
+  same_lines : (claimant : ℕ × List ℕ) → Exact claimant → ¬ (claimant.0 ≡ party) → Longer claimant
   same_lines claimant (is, within, known) other =
-      let apart : ¬ (line.party ≡ get_or parties claimant.0 []) = λ same. other (account_is parties claimant.0 account rising known inside (sym same ∙ sym whose)) in
+      let apart : ¬ (line.party ≡ get_or parties claimant.0 []) = λ same. other (once claimant.0 party known inside (sym same ∙ sym whose)) in
       lines_at_longer lines line claimant.1 within ∙ (is ∙ sym (lines_of_party_other (get_or parties claimant.0 []) lines line apart))
 
-  -- that of the account gets the line
-  more_lines : (claimant : ℕ × List ℕ) → Exact claimant → claimant.0 ≡ account → Longer (account, claimant.1 ++ length lines ∷ [])
+  -- that of the party gets the line
+  more_lines : (claimant : ℕ × List ℕ) → Exact claimant → claimant.0 ≡ party → Longer (party, claimant.1 ++ length lines ∷ [])
   more_lines claimant (is, within, known) same =
-      let party : get_or parties claimant.0 [] ≡ get_or parties account [] = ap (λ a. get_or parties a []) same in
+      let own : get_or parties claimant.0 [] ≡ get_or parties party [] = ap (λ a. get_or parties a []) same in
       lines_at_last lines line claimant.1 within
-      ∙ (ap (λ l. l ++ line ∷ []) (is ∙ ap (λ p. lines_of_party p lines) party) ∙ sym (lines_of_party_more (get_or parties account []) lines line (sym whose)))
+      ∙ (ap (λ l. l ++ line ∷ []) (is ∙ ap (λ p. lines_of_party p lines) own) ∙ sym (lines_of_party_more (get_or parties party []) lines line (sym whose)))
 
-  -- or it is the first of the account
-  first_line : All (λ claimant. ¬ (claimant.0 ≡ account)) claimants → Longer (account, length lines ∷ [])
+  -- or it is the first of the party
+  first_line : All (λ claimant. ¬ (claimant.0 ≡ party)) claimants → Longer (party, length lines ∷ [])
   first_line none =
-      let absent : ¬ Contains (map (λ line. line.party) lines) (get_or parties account []) =
-      λ has. missing claimants none (compiled.every account inside has) in
+      let absent : ¬ Contains (map (λ line. line.party) lines) (get_or parties party []) =
+      λ has. missing claimants none (compiled.every party inside has) in
       rw (get_or_push lines line _ (length lines) refl)
-      (ap (λ l. l ++ line ∷ []) (sym (lines_of_party_none (get_or parties account []) lines absent)) ∙ sym (lines_of_party_more (get_or parties account []) lines line (sym whose)))
+      (ap (λ l. l ++ line ∷ []) (sym (lines_of_party_none (get_or parties party []) lines absent)) ∙ sym (lines_of_party_more (get_or parties party []) lines line (sym whose)))
     where
-      missing : (claimants : List (ℕ × List ℕ)) → All (λ claimant. ¬ (claimant.0 ≡ account)) claimants → ¬ Contains (map (λ claimant. claimant.0) claimants) account
+      missing : (claimants : List (ℕ × List ℕ)) → All (λ claimant. ¬ (claimant.0 ≡ party)) claimants → ¬ Contains (map (λ claimant. claimant.0) claimants) party
       missing [] none has = absurd (omega (arith, has.1))
-      missing (claimant ∷ later) none has = elim (contains_cases claimant.0 account (map (λ claimant. claimant.0) later) has) [
+      missing (claimant ∷ later) none has = elim (contains_cases claimant.0 party (map (λ claimant. claimant.0) later) has) [
         | inl is ↦ none 0 claimant (omega arith) is
-        | inr rest ↦ missing later (All-tail (λ claimant. ¬ (claimant.0 ≡ account)) claimant later none) rest
+        | inr rest ↦ missing later (All-tail (λ claimant. ¬ (claimant.0 ≡ party)) claimant later none) rest
       ]
 
   -- a line more is compiled
-  pub compiled_more : IsCompiled parties (lines ++ line ∷ []) (with_place account (length lines) claimants)
+  pub compiled_more : IsCompiled parties (lines ++ line ∷ []) (with_place party (length lines) claimants)
   compiled_more = record {
-    few = omega (arith, few_with_place account (length lines) claimants, compiled.few, length_push lines line);
-    total = omega (arith, places_with_place account (length lines) claimants, compiled.total, length_push lines line);
-    rising = rising_with_place account (length lines) claimants compiled.rising;
-    accounts = each_with_place account (length lines) (λ claimant. (0 < claimant.0) × (claimant.0 < length parties)) (λ claimant. (0 < claimant.0) × (claimant.0 < length parties))
-        (λ claimant known other. known) (λ claimant known same. (some, inside)) claimants (λ none. (some, inside)) compiled.rising compiled.accounts;
-    some = each_with_place account (length lines) (λ claimant. 0 < length claimant.1) (λ claimant. 0 < length claimant.1) (λ claimant filled other. filled)
+    few = omega (arith, few_with_place party (length lines) claimants, compiled.few, length_push lines line);
+    total = omega (arith, places_with_place party (length lines) claimants, compiled.total, length_push lines line);
+    rising = rising_with_place party (length lines) claimants compiled.rising;
+    known = each_with_place party (length lines) (λ claimant. claimant.0 < length parties) (λ claimant. claimant.0 < length parties)
+        (λ claimant known other. known) (λ claimant known same. inside) claimants (λ none. inside) compiled.rising compiled.known;
+    some = each_with_place party (length lines) (λ claimant. 0 < length claimant.1) (λ claimant. 0 < length claimant.1) (λ claimant filled other. filled)
         (λ claimant filled same. omega (arith, length_push claimant.1 (length lines))) claimants (λ none. omega arith) compiled.rising compiled.some;
-    within = each_with_place account (length lines) (λ claimant. All (λ place. place < length (lines ++ line ∷ [])) claimant.1) Inside (λ claimant all other. further claimant.1 all)
+    within = each_with_place party (length lines) (λ claimant. All (λ place. place < length (lines ++ line ∷ [])) claimant.1) Inside (λ claimant all other. further claimant.1 all)
         (λ claimant all same. All-push (λ place. place < length (lines ++ line ∷ [])) claimant.1 (length lines) (further claimant.1 all) last) claimants
         (λ none. All-cons (λ place. place < length (lines ++ line ∷ [])) (length lines) [] last (λ k d within. absurd (omega arith))) compiled.rising compiled.within;
-    exact = each_with_place account (length lines) Longer Exact same_lines more_lines claimants first_line compiled.rising
-        (λ k d within. (compiled.exact k d within, compiled.within k d within, (compiled.accounts k d within).1));
+    exact = each_with_place party (length lines) Longer Exact same_lines more_lines claimants first_line compiled.rising
+        (λ k d within. (compiled.exact k d within, compiled.within k d within, compiled.known k d within));
     every = λ other known has.
         elim (Contains-push_cases (map (λ line. line.party) lines) line.party (get_or parties other []) (rw map_push at has)) [
-          | inl earlier ↦ still_there account (length lines) claimants other (compiled.every other known earlier)
+          | inl earlier ↦ still_there party (length lines) claimants other (compiled.every other known earlier)
           | inr is ↦
-              let same : other ≡ account = account_is parties other account rising known inside (sym is ∙ sym whose) in
-              rw same (now_there account (length lines) claimants)
+              let same : other ≡ party = once other party known inside (sym is ∙ sym whose) in
+              rw same (now_there party (length lines) claimants)
         ];
   }
     where
@@ -354,24 +360,15 @@ module _ (parties : List (List ℕ)) (lines : List ShareLine) (claimants : List 
       further places all = λ k d within. omega (arith, all k d within, length_push lines line)
 
 -- the line at the next place is compiled
-pub compiled_next : (parties : List (List ℕ)) (lines : List ShareLine) (place : ℕ) (line : ShareLine) (account : ℕ) (claimants more : List (ℕ × List ℕ))
-    → IsStrictlySortedBy (slice_cmp nat_cmp) parties → get_or parties 0 [] ≡ [] → All IsShareLine lines
-    → place < length lines → line ≡ get_or lines place line → account < length parties → get_or parties account [] ≡ line.party
-    → IsCompiled parties (take place lines) claimants → more ≡ with_place account place claimants → IsCompiled parties (take (place + 1) lines) more
-compiled_next parties lines place line account claimants more rising residue filled within is inside whose compiled grown =
+pub compiled_next : (parties : List (List ℕ)) (lines : List ShareLine) (place : ℕ) (line : ShareLine) (party : ℕ) (claimants more : List (ℕ × List ℕ))
+    → HasOnce parties → place < length lines → line ≡ get_or lines place line → party < length parties → get_or parties party [] ≡ line.party
+    → IsCompiled parties (take place lines) claimants → more ≡ with_place party place claimants → IsCompiled parties (take (place + 1) lines) more
+compiled_next parties lines place line party claimants more once within is inside whose compiled grown =
     let front : length (take place lines) ≡ place = length-take-le place lines (omega arith) in
-    let party : 0 < length line.party = subst (λ (l : ShareLine). 0 < length l.party) (sym is) (filled place line within).party in
-    let some : 0 < account = elim (cases_order 0 account) [
-      | inl none ↦
-          let empty : line.party ≡ [] = sym whose ∙ (ap (λ a. get_or parties a []) (sym none) ∙ residue) in
-          absurd (omega (arith, party, ap (λ (text : List ℕ). length text) empty))
-      | inr (inl less) ↦ less
-      | inr (inr more) ↦ absurd (omega arith)
-    ] in
     let last : take (place + 1) lines ≡ take place lines ++ line ∷ [] = take_more lines place line within ∙ ap (λ l. take place lines ++ l ∷ []) (sym is) in
     rw (grown, last)
-    (subst (λ n. IsCompiled parties (take place lines ++ line ∷ []) (with_place account n claimants)) front
-    (compiled_more parties (take place lines) claimants line account rising some inside whose compiled))
+    (subst (λ n. IsCompiled parties (take place lines ++ line ∷ []) (with_place party n claimants)) front
+    (compiled_more parties (take place lines) claimants line party once inside whose compiled))
 
 -- What lies within a list stays where more comes behind it, and what comes behind it is what comes.
 module _ {X : Type 0} (xs ys : List X) where
@@ -493,34 +490,28 @@ entry_at parties Holds (key ∷ works) (first ∷ registrations) (suc place) reg
     entry_at parties Holds works registrations place registration (omega (arith, paired)) (omega (arith, within)) is
     (All-tail (λ (entry : List ℕ × List ShareLine). Holds entry.1) (key.items, kept_lines parties first) (entries parties works registrations) all)
 
--- the parties of a registry rise, the residue's too
-pub parties_rise : (registered : Registered) → IsRegistered registered → IsStrictlySortedBy (slice_cmp nat_cmp) registered.parties
-unfolding IsStrictlySortedBy
-parties_rise registered sound =
-    let filled : (party : List ℕ) → Contains sound.numbers party → 0 < length party =
-    λ party has.
-    let (work, lines, entry, among) = (sound.exact.exact party).0 has in
-    let good = All-contains (λ (entry : List ℕ × List ShareLine). All IsShareLine entry.1) registered.works (work, lines) sound.shares entry in
-    All-contains (λ (text : List ℕ). 0 < length text) (map (λ line. line.party) lines) party (All-map (λ (text : List ℕ). 0 < length text) (λ (line : ShareLine). line.party) lines (λ k d within. (good k d within).party)) among in
-    rw sound.accounts (recursion_from_All (λ y. slice_cmp nat_cmp [] y ≡ Less) sound.numbers (λ k d within. above (get_or sound.numbers k d) (filled (get_or sound.numbers k d) (Contains-get_or sound.numbers k d within))), sound.exact.rising)
-  where
-    above : (party : List ℕ) → 0 < length party → slice_cmp nat_cmp [] party ≡ Less
-    above [] some = absurd (omega arith)
-    above (byte ∷ rest) some = refl
+-- the parties of a registry that is kept are those by number
+pub names_as : (works : List WorkNumber) (registrations : List Kept) (parties : List Numbered) (payees : List (Vec ℕ Global)) → names_in (registered_as works registrations parties payees) ≡ names_of parties
+names_as works registrations [] payees = refl
+names_as works registrations (party ∷ parties) payees = ap (λ (names : List (List ℕ)). party.0.items ∷ names) (names_as works registrations parties payees)
 
 -- what a look-up by the index finds
-pub looked_up : (works : List WorkNumber) (registrations : List Kept) (parties : List (Vec ℕ Global)) (registered : Registered) (work : List ℕ) (place : ℕ) (registration : Kept)
-    → IsRegistered (registered_as works registrations parties) → AreKept works registrations parties → registered_as works registrations parties ≡ registered
+pub looked_up : (works : List WorkNumber) (registrations : List Kept) (parties : List Numbered) (payees : List (Vec ℕ Global)) (registered : Registered) (work : List ℕ) (place : ℕ) (registration : Kept)
+    → IsRegistered (registered_as works registrations parties payees) → AreKept works registrations parties payees → registered_as works registrations parties payees ≡ registered
     → Some place ≡ position (is_work work) works → place < length works → registration ≡ get_or registrations place registration → LookedUp registered work registration
-looked_up works registrations parties registered work place registration sound kept view index within is =
-    let texts = map (λ (party : Vec ℕ Global). party.items) parties in
+looked_up works registrations parties payees registered work place registration sound kept view index within is =
+    let names = names_of parties in
+    let as_names = sym (names_as works registrations parties payees) in
     let inside : place < length registrations = omega (arith, within, kept.paired) in
     subst (λ r. LookedUp r work registration) view (record {
       sound = sound;
-      works = found_at work texts works registrations place registration kept.paired index is;
-      kept = subst (IsKept (map (λ party. party.items) parties)) (sym is) (kept.kept place registration inside);
-      rise = subst (λ (r : Kept). InterestsRise (kept_lines texts r)) (sym is) (kept.rise place registration inside);
-      few = entry_at texts (λ lines. length lines ≤ MOST_SHARES) works registrations place registration kept.paired inside is sound.few;
+      accounts = accounts_of parties;
+      are = kept.accounts;
+      works = found_at work names works registrations place registration kept.paired index is ∙ ap (λ (names : List (List ℕ)). Some (kept_lines names registration)) as_names;
+      kept = subst (λ (names : List (List ℕ)). IsKept names (accounts_of parties) registration) as_names (subst (IsKept names (accounts_of parties)) (sym is) (kept.kept place registration inside));
+      rise = subst (λ (names : List (List ℕ)). InterestsRise (kept_lines names registration)) as_names (subst (λ (r : Kept). InterestsRise (kept_lines names r)) (sym is) (kept.rise place registration inside));
+      few = subst (λ (names : List (List ℕ)). length (kept_lines names registration) ≤ MOST_SHARES) as_names
+          (entry_at names (λ lines. length lines ≤ MOST_SHARES) works registrations place registration kept.paired inside is sound.few);
     })
 
 -- there is a registration at a place

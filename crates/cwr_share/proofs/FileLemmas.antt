@@ -979,12 +979,12 @@ first_fault lines left line number reading fault walked refused = record {
 }
 
 -- the lines are refused for the line at hand
-pub walked_fault : (lines left : List (List ℕ)) (line : List ℕ) (number : ℕ) (reading : Reading) (fault : CwrFault) → Walked lines (line ∷ left) number reading
-    → (fault ≡ Memory) ⊎ ((before : List (List ℕ)) → IsReadTo before reading → IsFaultOfLine before line number fault) → IsFaultOf lines fault
-walked_fault lines left line number reading fault walked (inl memory) = subst (λ (f : CwrFault). IsFaultOf lines f) (sym memory) tt
-walked_fault lines left line number reading fault walked (inr refused) = by fault refused
+pub walked_fault : (rows : List (List ℕ × List ℕ)) (lines left : List (List ℕ)) (line : List ℕ) (number : ℕ) (reading : Reading) (fault : CwrFault) → Walked lines (line ∷ left) number reading
+    → (fault ≡ Memory) ⊎ ((before : List (List ℕ)) → IsReadTo before reading → IsFaultOfLine before line number fault) → IsFaultOf rows lines fault
+walked_fault rows lines left line number reading fault walked (inl memory) = subst (λ (f : CwrFault). IsFaultOf rows lines f) (sym memory) tt
+walked_fault rows lines left line number reading fault walked (inr refused) = by fault refused
   where
-    by : (f : CwrFault) → ((before : List (List ℕ)) → IsReadTo before reading → IsFaultOfLine before line number f) → IsFaultOf lines f
+    by : (f : CwrFault) → ((before : List (List ℕ)) → IsReadTo before reading → IsFaultOfLine before line number f) → IsFaultOf rows lines f
     by (Short n) refused = first_fault lines left line number reading (Short n) walked refused
     by (Share n) refused = first_fault lines left line number reading (Share n) walked refused
     by (Mark n) refused = first_fault lines left line number reading (Mark n) walked refused
@@ -999,8 +999,8 @@ walked_fault lines left line number reading fault walked (inr refused) = by faul
         no_line (inr share) = share.3
     by Memory refused = tt
 
--- the lines are refused for their parties
-pub parties_fault : (lines : List (List ℕ)) (reading : Reading) (fault : CwrFault) → IsReadTo lines reading
-    → (fault ≡ Memory) ⊎ ((fault ≡ Accounts) × ((lines : List (List ℕ)) → IsReadTo lines reading → HasTooMany lines)) → IsFaultOf lines fault
-parties_fault lines reading fault read (inl memory) = subst (λ (f : CwrFault). IsFaultOf lines f) (sym memory) tt
-parties_fault lines reading fault read (inr (many, parties)) = subst (λ (f : CwrFault). IsFaultOf lines f) (sym many) (parties lines read)
+-- the lines are refused for their payees
+pub payees_fault : (rows : List (List ℕ × List ℕ)) (lines : List (List ℕ)) (reading : Reading) (fault : CwrFault) → IsReadTo lines reading
+    → (fault ≡ Memory) ⊎ ((fault ≡ Accounts) × ((lines : List (List ℕ)) → IsReadTo lines reading → HasTooMany rows lines)) → IsFaultOf rows lines fault
+payees_fault rows lines reading fault read (inl memory) = subst (λ (f : CwrFault). IsFaultOf rows lines f) (sym memory) tt
+payees_fault rows lines reading fault read (inr (many, payees)) = subst (λ (f : CwrFault). IsFaultOf rows lines f) (sym many) (payees lines read)

@@ -1,18 +1,22 @@
--- A file has one registry: its works find the same share lines, and it has the same parties. And a file of registrations is refused for nothing but memory.
-use Rattle.std.proofs.Common.{◌≡◌, ◌∙◌, ◌∷◌, ◌++◌, ◌<◌, ◌≤◌, ◌+◌, ℕ, Bool, true, false, List, [], All, Contains, Some, count_by, length, slice_index_or, ap, ◌⊎◌, sym, subst, refl, inl, inr, arith, nat_eq}
+-- A file and a table of payees have one registry: its works find the same share lines, and it has the same payees. And a file of registrations is refused for nothing but memory.
+use Rattle.std.proofs.Common.{◌≡◌, ◌∙◌, ◌∷◌, ◌++◌, ◌<◌, ◌≤◌, ◌+◌, ℕ, Bool, true, false, List, [], All, Contains, Some, count_by, length, map, slice_index_or, ap, ◌⊎◌, sym, subst, refl, inl, inr, arith, nat_eq}
 use Rattle.std.specs.Cmp.{IsTotalOrder}
-use Rattle.std.specs.Cmp.Lexicographic.{nat_list_cmp_total, pointwise}
+use Rattle.std.specs.Cmp.Lexicographic.{nat_list_cmp_total, pointwise, slice_cmp}
+use Rattle.std.specs.Ordering.{nat_cmp}
+use Rattle.std.proofs.lemmas.Bool.{false≢true}
 use Rattle.std.specs.List.Sorted.{IsStrictlySortedBy}
 use Rattle.std.specs.declared.cmp.Ordering.{Ordering}
 use Rattle.std.specs.declared.cmp.Ordering.TheVariants.{Less}
 use Rattle.std.proofs.lemmas.Cmp.{tied_itself}
 use Rattle.std.proofs.Math.Seq.{get_or-append_seam, take-append_seam}
-use Rattle.std.proofs.lemmas.List.{length-append}
+use Rattle.std.proofs.lemmas.List.{get_or-map, length-append, length-map}
 use Rattle.std.proofs.lemmas.List.Elements.{All-cons, All-contains, All-tail, All-weaker, Contains-get_or}
 use Rattle.std.proofs.lemmas.Map.Keys.{sorted_tail}
 use Rattle.std.proofs.lemmas.Map.Views.{All-after_first}
 use Rattle.std.proofs.lemmas.Slice.Eq.{bytes_eq-Decides}
-use Rattle.cwr_share.specs.CwrFile.{AreSound, IsFaultOf, IsFaultOfLine, IsFaultOfOpening, IsFaultOfShare, IsFileOf, IsFirstFault, IsOpening, IsPartyInForce, IsShareRecord, IsSound}
+use Rattle.cwr_share.specs.CwrFile.{AreSound, IsFaultOf, IsFaultOfLine, IsFaultOfOpening, IsFaultOfShare, IsFileOf, IsFirstFault, IsOpening, IsPartyInForce, IsPayeeInForce, IsShareRecord, IsSound}
+use Rattle.cwr_share.specs.Parties.{party_of, payee_by}
+use Rattle.cwr_share.specs.Payees.{HasRow, IsPayeeIn, payee_of}
 use Rattle.cwr_share.specs.Records.{is_share_line, share_fields}
 use Rattle.cwr_share.specs.Registered.{IsRegistered, Registered}
 use Rattle.cwr_share.specs.Registrations.{ShareLine, find_work}
@@ -20,7 +24,8 @@ use Rattle.cwr_share.specs.declared.cwr_fault.CwrFault.{CwrFault}
 use Rattle.cwr_share.specs.declared.cwr_fault.CwrFault.TheVariants.{Short, Share, Mark, Land, Party, Work, Many, Accounts, Memory}
 use Rattle.cwr_share.specs.declared.fields.ShareFields.{ShareFields}
 use Rattle.cwr_share.proofs.PartyLemmas.{contains_cases, contains_later}
-use Rattle.cwr_share.proofs.PartyWorks.{find_once}
+use Rattle.cwr_share.proofs.PartyWorks.{contains_back, contains_through, find_once}
+use Rattle.cwr_share.proofs.PayeeLemmas.{payee_at, payee_of_itself, payee_of_others}
 
 module _ {K : Type 0} {order : K → K → Ordering} (total : IsTotalOrder order) where
   -- nothing comes before itself
@@ -84,6 +89,10 @@ module _ {K : Type 0} {order : K → K → Ordering} (total : IsTotalOrder order
       on (inr above) (inl same) = sym same
       on (inr (less, later)) (inr (more, after)) = absurd (not_before_itself x x (total.trans x y x more less) refl)
 
+-- the payees of a registry rise
+names_rise : (registered : Registered) (is : IsRegistered registered) → IsStrictlySortedBy (slice_cmp nat_cmp) is.names
+names_rise registered is = sorted_tail (slice_cmp nat_cmp) [] is.names (subst (IsStrictlySortedBy (slice_cmp nat_cmp)) is.accounts is.rising)
+
 -- what a work finds is one of the works
 pub found_inside : (works : List (List ℕ × List ShareLine)) (work : List ℕ) (lines : List ShareLine) → find_work work works ≡ Some lines → Contains works (work, lines)
 found_inside [] work lines found = cc
@@ -97,34 +106,100 @@ found_inside ((name, list) ∷ works) work lines found = on (pointwise nat_eq na
     on false is later = contains_later (name, list) works (work, lines) (later (rw is at found))
 
 -- the works of two registries of a file find the same
-pub one_works : (lines : List (List ℕ)) (registered other : Registered) → IsFileOf lines registered → IsFileOf lines other
+pub one_works : (rows : List (List ℕ × List ℕ)) (lines : List (List ℕ)) (registered other : Registered) → IsFileOf rows lines registered → IsFileOf rows lines other
     → (work : List ℕ) → find_work work registered.works ≡ find_work work other.works
-one_works lines registered other of other_of work = of.in_force work ∙ sym (other_of.in_force work)
+one_works rows lines registered other of other_of work = of.in_force work ∙ sym (other_of.in_force work)
 
--- the parties of a registry are those in force
-module _ (lines : List (List ℕ)) (registered : Registered) (of : IsFileOf lines registered) (is : IsRegistered registered) where
-  in_force_of_number : (party : List ℕ) → Contains is.numbers party → IsPartyInForce lines party
-  in_force_of_number party inside =
-      let (work, shares, here, at) = (is.exact.exact party).0 inside in
+-- the parties of a registry are those in force, and it has the payees of these
+module _ (rows : List (List ℕ × List ℕ)) (lines : List (List ℕ)) (registered : Registered) (of : IsFileOf rows lines registered) (is : IsRegistered registered) where
+  in_force_of_row : (party : List ℕ) → HasRow registered.payees party → IsPartyInForce lines party
+  in_force_of_row party has =
+      let (work, shares, here, at) = (is.in_force party).0 has in
       (work, shares, sym (of.in_force work) ∙ find_once registered.works work shares is.once here, at)
 
-  number_in_force : (party : List ℕ) → IsPartyInForce lines party → Contains is.numbers party
-  number_in_force party (work, shares, found, at) = (is.exact.exact party).1 (work, shares, found_inside registered.works work shares (of.in_force work ∙ found), at)
+  row_in_force : (party : List ℕ) → IsPartyInForce lines party → HasRow registered.payees party
+  row_in_force party (work, shares, found, at) = (is.in_force party).1 (work, shares, found_inside registered.works work shares (of.in_force work ∙ found), at)
 
--- the parties of a registry of a file are parties of any other
-same_numbers : (lines : List (List ℕ)) (registered other : Registered) → IsFileOf lines registered → IsFileOf lines other
-    → (is : IsRegistered registered) (other_is : IsRegistered other) → All (Contains other_is.numbers) is.numbers
-same_numbers lines registered other of other_of is other_is k d within =
-    let number = slice_index_or is.numbers k d in
-    number_in_force lines other other_of other_is number (in_force_of_number lines registered of is number (Contains-get_or is.numbers k d within))
+  -- each row is paid by the table
+  paid_by : All (λ row. row.1 ≡ payee_of rows row.0) registered.payees
+  paid_by = of.paid
+
+  name_in_force : (payee : List ℕ) → Contains is.names payee → IsPayeeInForce rows lines payee
+  name_in_force payee inside =
+      let (party, has, same) = contains_back (λ (row : List ℕ × List ℕ). row.0) (λ row. row.1) (payee_of rows) registered.payees paid_by payee ((is.exact payee).0 inside) in
+      let (work, shares, found, at) = in_force_of_row party has in
+      (work, shares, found, subst (Contains (map (payee_by rows) shares)) same (contains_through party_of (payee_by rows) (payee_of rows) shares (λ place d within. refl) party at))
+
+  in_force_name : (payee : List ℕ) → IsPayeeInForce rows lines payee → Contains is.names payee
+  in_force_name payee (work, shares, found, at) =
+      let (party, has, same) = contains_back party_of (payee_by rows) (payee_of rows) shares (λ place d within. refl) payee at in
+      let row = row_in_force party (work, shares, found, has) in
+      (is.exact payee).1
+      (subst (IsPayeeIn registered.payees) same (contains_through (λ (row : List ℕ × List ℕ). row.0) (λ row. row.1) (payee_of rows) registered.payees paid_by party row))
+
+  -- a party in force has its payee by the table, and any other is its own
+  paid_in_force : (party : List ℕ) → HasRow registered.payees party → payee_of registered.payees party ≡ payee_of rows party
+  paid_in_force party (place, within, at) =
+      let payees = registered.payees in
+      let inside : place < length payees = omega (arith, within, length-map payees (λ (row : List ℕ × List ℕ). row.0)) in
+      let whose : (slice_index_or payees place ([], [])).0 ≡ party =
+      sym (get_or-map (λ (row : List ℕ × List ℕ). row.0) payees place ([], []) party inside) ∙ at in
+      ap (payee_of payees) (sym whose)
+      ∙ (payee_at payees is.one_payee place ([], []) inside
+      ∙ (of.paid place ([], []) inside ∙ ap (payee_of rows) whose))
+
+-- the payees of a registry of a file are payees of any other
+same_names : (rows : List (List ℕ × List ℕ)) (lines : List (List ℕ)) (registered other : Registered) → IsFileOf rows lines registered → IsFileOf rows lines other
+    → (is : IsRegistered registered) (other_is : IsRegistered other) → All (Contains other_is.names) is.names
+same_names rows lines registered other of other_of is other_is k d within =
+    let name = slice_index_or is.names k d in
+    in_force_name rows lines other other_of other_is name (name_in_force rows lines registered of is name (Contains-get_or is.names k d within))
 
 -- two registries of a file have the same accounts
-pub one_parties : (lines : List (List ℕ)) (registered other : Registered) → IsFileOf lines registered → IsFileOf lines other
+pub one_parties : (rows : List (List ℕ × List ℕ)) (lines : List (List ℕ)) (registered other : Registered) → IsFileOf rows lines registered → IsFileOf rows lines other
     → IsRegistered registered → IsRegistered other → registered.parties ≡ other.parties
-one_parties lines registered other of other_of is other_is =
-    let same = one-in_order nat_list_cmp_total is.numbers other_is.numbers is.exact.rising other_is.exact.rising
-    (same_numbers lines registered other of other_of is other_is) (same_numbers lines other registered other_of of other_is is) in
-    is.accounts ∙ ap (λ (numbers : List (List ℕ)). [] ∷ numbers) same ∙ sym other_is.accounts
+one_parties rows lines registered other of other_of is other_is =
+    let same = one-in_order nat_list_cmp_total is.names other_is.names (names_rise registered is) (names_rise other other_is)
+    (same_names rows lines registered other of other_of is other_is) (same_names rows lines other registered other_of of other_is is) in
+    is.accounts ∙ ap (λ (names : List (List ℕ)). [] ∷ names) same ∙ sym other_is.accounts
+
+-- and each party has the same payee in them
+pub one_payees : (rows : List (List ℕ × List ℕ)) (lines : List (List ℕ)) (registered other : Registered) → IsFileOf rows lines registered → IsFileOf rows lines other
+    → IsRegistered registered → IsRegistered other → (party : List ℕ) → payee_of registered.payees party ≡ payee_of other.payees party
+one_payees rows lines registered other of other_of is other_is party = elim (has_row registered.payees party) [
+  | inl has ↦
+      let there = row_in_force rows lines other other_of other_is party (in_force_of_row rows lines registered of is party has) in
+      paid_in_force rows lines registered of is party has ∙ sym (paid_in_force rows lines other other_of other_is party there)
+  | inr none ↦
+      let nor : ¬ HasRow other.payees party = λ has. none (row_in_force rows lines registered of is party (in_force_of_row rows lines other other_of other_is party has)) in
+      payee_of_itself registered.payees party none ∙ sym (payee_of_itself other.payees party nor)
+]
+  where
+    has_row : (payees : List (List ℕ × List ℕ)) (party : List ℕ) → HasRow payees party ⊎ ¬ HasRow payees party
+    has_row [] party = inr (λ has. absurd (omega (arith, has.1)))
+    has_row (row ∷ payees) party = on (pointwise nat_eq row.0 party) refl (has_row payees party)
+      where
+        on : (told : Bool) → pointwise nat_eq row.0 party ≡ told → HasRow payees party ⊎ ¬ HasRow payees party → HasRow (row ∷ payees) party ⊎ ¬ HasRow (row ∷ payees) party
+        on true its rest = inl (0, omega arith, (bytes_eq-Decides row.0 party).0 its)
+        on false other (inl has) = inl (contains_later row.0 (map (λ row. row.0) payees) party has)
+        on false other (inr none) = inr (λ has. elim (contains_cases row.0 (map (λ row. row.0) payees) party has) [
+          | inl is ↦ false≢true (sym other ∙ (bytes_eq-Decides row.0 party).1 is)
+          | inr later ↦ none later
+        ])
+
+-- a row of the table that names no party in force is not looked at
+pub unused_row : (before after : List (List ℕ × List ℕ)) (row : List ℕ × List ℕ) (lines : List (List ℕ)) (registered : Registered) → ¬ IsPartyInForce lines row.0 → IsRegistered registered
+    → IsFileOf (before ++ row ∷ after) lines registered → IsFileOf (before ++ after) lines registered
+unused_row before after row lines registered unused is of = record {
+  sound = of.sound;
+  in_force = of.in_force;
+  paid = λ place d within.
+      let party = (slice_index_or registered.payees place d).0 in
+      let has : HasRow registered.payees party =
+      (place, omega (arith, within, length-map registered.payees (λ (row : List ℕ × List ℕ). row.0)), get_or-map (λ (row : List ℕ × List ℕ). row.0) registered.payees place d party within) in
+      let other : ¬ (row.0 ≡ party) = λ same. unused (subst (IsPartyInForce lines) (sym same) (in_force_of_row (before ++ row ∷ after) lines registered of is party has)) in
+      of.paid place d within ∙ payee_of_others before after row party other;
+}
 
 -- the first line of a registration that is as it has to be is not refused
 opening_stands : (line : List ℕ) (number : ℕ) (fault : CwrFault) → IsOpening line → ¬ IsFaultOfOpening line number fault
@@ -170,21 +245,21 @@ lines_stand lines fault sound first =
         rw (take-append_seam before (line ∷ after), get_or-append_seam before line after []) at here
 
 -- a file that is its registrations is refused for nothing but lack of memory
-pub no_fault : (lines : List (List ℕ)) (registered : Registered) (fault : CwrFault) → IsFileOf lines registered → IsRegistered registered
-    → IsFaultOf lines fault → fault ≡ Memory
-no_fault lines registered Memory of is refused = refl
-no_fault lines registered Accounts of is refused =
+pub no_fault : (rows : List (List ℕ × List ℕ)) (lines : List (List ℕ)) (registered : Registered) (fault : CwrFault) → IsFileOf rows lines registered → IsRegistered registered
+    → IsFaultOf rows lines fault → fault ≡ Memory
+no_fault rows lines registered Memory of is refused = refl
+no_fault rows lines registered Accounts of is refused =
     absurd (omega (
       arith,
-      is.few_numbers,
+      is.few_names,
       refused.many,
-      length-among nat_list_cmp_total refused.parties is.numbers refused.rising is.exact.rising
-          (All-weaker (IsPartyInForce lines) (Contains is.numbers) (number_in_force lines registered of is) refused.parties refused.each),
+      length-among nat_list_cmp_total refused.payees is.names refused.rising (names_rise registered is)
+          (All-weaker (IsPayeeInForce rows lines) (Contains is.names) (in_force_name rows lines registered of is) refused.payees refused.each),
     ))
-no_fault lines registered (Short n) of is refused = absurd (lines_stand lines (Short n) of.sound refused)
-no_fault lines registered (Share n) of is refused = absurd (lines_stand lines (Share n) of.sound refused)
-no_fault lines registered (Mark n) of is refused = absurd (lines_stand lines (Mark n) of.sound refused)
-no_fault lines registered (Land n) of is refused = absurd (lines_stand lines (Land n) of.sound refused)
-no_fault lines registered (Party n) of is refused = absurd (lines_stand lines (Party n) of.sound refused)
-no_fault lines registered (Work n) of is refused = absurd (lines_stand lines (Work n) of.sound refused)
-no_fault lines registered (Many n) of is refused = absurd (lines_stand lines (Many n) of.sound refused)
+no_fault rows lines registered (Short n) of is refused = absurd (lines_stand lines (Short n) of.sound refused)
+no_fault rows lines registered (Share n) of is refused = absurd (lines_stand lines (Share n) of.sound refused)
+no_fault rows lines registered (Mark n) of is refused = absurd (lines_stand lines (Mark n) of.sound refused)
+no_fault rows lines registered (Land n) of is refused = absurd (lines_stand lines (Land n) of.sound refused)
+no_fault rows lines registered (Party n) of is refused = absurd (lines_stand lines (Party n) of.sound refused)
+no_fault rows lines registered (Work n) of is refused = absurd (lines_stand lines (Work n) of.sound refused)
+no_fault rows lines registered (Many n) of is refused = absurd (lines_stand lines (Many n) of.sound refused)

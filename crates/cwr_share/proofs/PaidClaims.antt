@@ -12,23 +12,16 @@ use Rattle.std.proofs.lemmas.List.FromFn.{get_or-enumerate_from, get_or-map-rang
 use Rattle.std.proofs.lemmas.List.Sums.{sum_by-cons}
 use Rattle.std.proofs.lemmas.Slice.Eq.{bytes_eq-Decides}
 use Rattle.line_split.specs.declared.usage.Right.{Right}
-use Rattle.cwr_share.specs.ClaimsOn.{covers, deciding, share_for}
+use Rattle.cwr_share.specs.ClaimsOn.{claim_of, claims_among, covers, deciding, share_for}
 use Rattle.cwr_share.specs.Compiled.{IsCompiled, claims_of_claimants, lines_at, lines_of_party}
 use Rattle.cwr_share.specs.Registrations.{ShareLine}
 use Rattle.cwr_share.proofs.ClaimLemmas.{counts, deciding_of_party, has_later, map_agree, map_twice, merged}
-use Rattle.cwr_share.proofs.CompiledLemmas.{account_is, contains_later}
+use Rattle.cwr_share.proofs.CompiledLemmas.{HasOnce, account_is, contains_later}
 use Rattle.cwr_share.proofs.Groups.{AreOfParties, Rise, claim_at_places, claims_of_groups, grouped, in_order, joins, low_after, of_a_party, owed, owed_nothing, rising_after}
 use Rattle.cwr_share.proofs.PartyShares.{IsOfOne, part, parts_add_up}
 
--- an account's claim: the shares of the lines that decide whose parties are paid to its payee
-abbrev pub claim_paid : List (ℕ × List ℕ) → (land : ℕ) → Right → (pay : List ℕ → List ℕ) → List ShareLine → (payee : List ℕ) → ℕ
-claim_paid table land right pay lines payee = sum_by (share_for right) (filter (λ line. pointwise nat_eq (pay line.party) payee) (deciding table land lines))
-
-abbrev pub claims_paid : List (ℕ × List ℕ) → (land : ℕ) → Right → (pay : List ℕ → List ℕ) → List ShareLine → List (List ℕ) → List (ℕ × ℕ)
-claims_paid table land right pay lines payees = filter counts (map (λ claimant. (claimant.0, claim_paid table land right pay lines claimant.1)) (enumerate_from 1 payees))
-
 -- what holds of all lines holds of those that decide
-deciding_among : (P : ShareLine → Type 0) (table : List (ℕ × List ℕ)) (land : ℕ) (lines : List ShareLine) → All P lines → All P (deciding table land lines)
+pub deciding_among : (P : ShareLine → Type 0) (table : List (ℕ × List ℕ)) (land : ℕ) (lines : List ShareLine) → All P lines → All P (deciding table land lines)
 unfolding deciding
 deciding_among P table land [] all = All-nil P
 deciding_among P table land (line ∷ later) all = elim (cases_Bool (covers table land line && not (has_later table land line later))) [
@@ -36,7 +29,7 @@ deciding_among P table land (line ∷ later) all = elim (cases_Bool (covers tabl
   | inr not_it ↦ rw not_it (deciding_among P table land later (All-tail P line later all))
 ]
 
-sums_agree : {X : Type 0} (f g : X → ℕ) (xs : List X) → All (λ x. f x ≡ g x) xs → sum_by f xs ≡ sum_by g xs
+pub sums_agree : {X : Type 0} (f g : X → ℕ) (xs : List X) → All (λ x. f x ≡ g x) xs → sum_by f xs ≡ sum_by g xs
 sums_agree f g [] agree = refl
 sums_agree f g (x ∷ xs) agree = omega (arith, sum_by-cons f x xs, sum_by-cons g x xs, All-head (λ x. f x ≡ g x) x xs agree, sums_agree f g xs (All-tail (λ x. f x ≡ g x) x xs agree))
 
@@ -58,13 +51,13 @@ in_groups account_of (claimant ∷ later) rise =
           (All-cons (There ((account, next ++ claimant.1) ∷ others)) claimant later (0, omega arith, refl) (subst (λ groups. All (There groups) later) split rest))
     ]
 
--- A registration that is compiled by the numbers of its parties, each of which has an account, whose payee is the party's.
+-- The parties by number have accounts whose payees are theirs, and which do not fall.
 pub record ArePaid (pay : List ℕ → List ℕ) (names : List (List ℕ)) (account_of : ℕ → ℕ) (payees : List (List ℕ)) : Type 0 where
   pub rising : IsStrictlySortedBy (slice_cmp nat_cmp) payees
-  pub distinct : (i j : ℕ) → i < length names → j < length names → get_or names i [] ≡ get_or names j [] → i ≡ j
-  pub some : (party : ℕ) → 0 < party → party < length names → 0 < account_of party
+  pub distinct : HasOnce names
+  pub some : (party : ℕ) → party < length names → 0 < account_of party
   pub known : (party : ℕ) → party < length names → account_of party < length payees
-  pub paid : (party : ℕ) → 0 < party → party < length names → get_or payees (account_of party) [] ≡ pay (get_or names party [])
+  pub paid : (party : ℕ) → party < length names → get_or payees (account_of party) [] ≡ pay (get_or names party [])
   pub ordered : (i j : ℕ) → i < j → j < length names → account_of i ≤ account_of j
 
 module _ (pay : List ℕ → List ℕ) (names payees : List (List ℕ)) (account_of : ℕ → ℕ) (are : ArePaid pay names account_of payees)
@@ -73,12 +66,12 @@ module _ (pay : List ℕ → List ℕ) (names payees : List (List ℕ)) (account
   name party = get_or names party []
 
   pub rise : Rise account_of claimants
-  rise = λ i j d before within. are.ordered (get_or claimants i d).0 (get_or claimants j d).0 (compiled.rising i j d before within) (compiled.accounts j d within).1
+  rise = λ i j d before within. are.ordered (get_or claimants i d).0 (get_or claimants j d).0 (compiled.rising i j d before within) (compiled.known j d within)
 
   two : AllPairs (λ claimant later. ¬ (name claimant.0 ≡ name later.0)) claimants
   two = λ i j d before within same.
       let apart = compiled.rising i j d before within in
-      let one = are.distinct (get_or claimants i d).0 (get_or claimants j d).0 (compiled.accounts i d (omega (arith, before, within))).1 (compiled.accounts j d within).1 same in
+      let one = are.distinct (get_or claimants i d).0 (get_or claimants j d).0 (compiled.known i d (omega (arith, before, within))) (compiled.known j d within) same in
       absurd (omega (arith, apart, one))
 
   of_party : (party : List ℕ) (lines : List ShareLine) → All (λ line. line.party ≡ party) (lines_of_party party lines)
@@ -97,13 +90,16 @@ module _ (pay : List ℕ → List ℕ) (names payees : List (List ℕ)) (account
   module _ (table : List (ℕ × List ℕ)) (land : ℕ) (right : Right) where
     -- the claim of an account
     abbrev of_account : ℕ → ℕ
-    of_account account = claim_paid table land right pay lines (get_or payees account [])
+    of_account account = claim_of table land right pay lines (get_or payees account [])
+
+    abbrev is_owed : ℕ → ℕ × List ℕ → Bool
+    is_owed account claimant = account == account_of claimant.0
 
     abbrev is_paid : ℕ → ShareLine → Bool
     is_paid account line = pointwise nat_eq (pay line.party) (get_or payees account [])
 
     -- a line's party has a claimant, whose account says whether the line is paid to this one
-    of_one : (account : ℕ) → account < length payees → All (IsOfOne name account_of (share_for right) account (is_paid account) claimants) lines
+    of_one : (account : ℕ) → account < length payees → All (IsOfOne (λ (claimant : ℕ × List ℕ). name claimant.0) (is_owed account) (share_for right) (is_paid account) claimants) lines
     of_one account inside k d within = with (named k d within)
       where
         line : ShareLine
@@ -112,15 +108,14 @@ module _ (pay : List ℕ → List ℕ) (names payees : List (List ℕ)) (account
         has_line : Contains (map (λ line. line.party) lines) line.party
         has_line = (k, omega (arith, within, length-map lines (λ (line : ShareLine). line.party)), get_or-map (λ (line : ShareLine). line.party) lines k d _ within)
 
-        with : Contains names line.party → IsOfOne name account_of (share_for right) account (is_paid account) claimants line
+        with : Contains names line.party → IsOfOne (λ (claimant : ℕ × List ℕ). name claimant.0) (is_owed account) (share_for right) (is_paid account) claimants line
         with (party, there, at) =
             let whose : name party ≡ line.party = get_or_default names party [] line.party there ∙ at in
             let (place, placed, here) = compiled.every party there (subst (Contains (map (λ line. line.party) lines)) (sym whose) has_line) in
             let inside_them : place < length claimants = omega (arith, placed, length-map claimants (λ (claimant : ℕ × List ℕ). claimant.0)) in
             let own = get_or claimants place (0, []) in
             let is : own.0 ≡ party = sym (get_or-map (λ (claimant : ℕ × List ℕ). claimant.0) claimants place (0, []) party inside_them) ∙ here in
-            let positive : 0 < party = omega (arith, is, (compiled.accounts place (0, []) inside_them).0) in
-            let payee : get_or payees (account_of party) [] ≡ pay line.party = are.paid party positive there ∙ ap pay whose in
+            let payee : get_or payees (account_of party) [] ≡ pay line.party = are.paid party there ∙ ap pay whose in
             let told : (account == account_of own.0) ≡ is_paid account line =
             ap (λ (p : ℕ). account == account_of p) is
             ∙ elim (cases_eq account (account_of party)) [
@@ -136,14 +131,14 @@ module _ (pay : List ℕ → List ℕ) (names payees : List (List ℕ)) (account
     pub owed_claim : (account : ℕ) → account < length payees → owed lines name account_of table land right account claimants ≡ of_account account
     owed_claim account inside =
         sums_agree (λ (claimant : ℕ × List ℕ). if account == account_of claimant.0 then claim_at_places lines name account_of table land right claimant.1 else 0)
-        (part name account_of (share_for right) account (deciding table land lines)) claimants
+        (part (λ (claimant : ℕ × List ℕ). name claimant.0) (is_owed account) (share_for right) (deciding table land lines)) claimants
         (λ k d within.
         let claimant = get_or claimants k d in
         ap (λ (n : ℕ). if account == account_of claimant.0 then n else 0)
         (ap (λ (l : List ShareLine). sum_by (share_for right) (deciding table land l)) (compiled.exact k d within)
         ∙ ap (sum_by (share_for right)) (sym (deciding_of_party table land (name claimant.0) lines))))
-        ∙ parts_add_up name account_of (share_for right) account (is_paid account) claimants two (deciding table land lines)
-        (deciding_among (IsOfOne name account_of (share_for right) account (is_paid account) claimants) table land lines (of_one account inside))
+        ∙ parts_add_up (λ (claimant : ℕ × List ℕ). name claimant.0) (is_owed account) (share_for right) (is_paid account) claimants two (deciding table land lines)
+        (deciding_among (IsOfOne (λ (claimant : ℕ × List ℕ). name claimant.0) (is_owed account) (share_for right) (is_paid account) claimants) table land lines (of_one account inside))
 
     abbrev groups : List (ℕ × List ℕ)
     groups = grouped account_of claimants
@@ -151,7 +146,7 @@ module _ (pay : List ℕ → List ℕ) (names payees : List (List ℕ)) (account
     -- each account of the groups is known
     known : All (λ group. (1 ≤ group.0) × (group.0 < length payees)) groups
     known = of_a_party account_of (λ (account : ℕ). (1 ≤ account) × (account < length payees)) claimants rise
-        (λ k d within. let (some, inside) = compiled.accounts k d within in (are.some (get_or claimants k d).0 some inside, are.known (get_or claimants k d).0 inside))
+        (λ k d within. let inside = compiled.known k d within in (are.some (get_or claimants k d).0 inside, are.known (get_or claimants k d).0 inside))
 
     by_account : claims_of_claimants table land right lines groups ≡ map (λ account. (account, of_account account)) (map (λ group. group.0) groups)
     by_account =
@@ -170,7 +165,7 @@ module _ (pay : List ℕ → List ℕ) (names payees : List (List ℕ)) (account
 
     -- the claims of the accounts from 1 on
     abbrev one_by_one : List (ℕ × ℕ)
-    one_by_one = map (λ claimant. (claimant.0, claim_paid table land right pay lines claimant.1)) (enumerate_from 1 (drop 1 payees))
+    one_by_one = map (λ claimant. (claimant.0, claim_of table land right pay lines claimant.1)) (enumerate_from 1 (drop 1 payees))
 
     abbrev from_one : List (ℕ × ℕ)
     from_one = map (λ account. (account, of_account account)) (range_with_len 1 (length (drop 1 payees)))
@@ -184,11 +179,11 @@ module _ (pay : List ℕ → List ℕ) (names payees : List (List ℕ)) (account
         let numbered : get_or (enumerate_from 1 (drop 1 payees)) k (0, []) ≡ (1 + k, get_or payees (1 + k) []) =
         get_or-enumerate_from 1 (drop 1 payees) k (0, []) inside ∙ ap (λ (payee : List ℕ). (1 + k, payee)) (get_or-drop 1 payees k []) in
         get_or-map _ (enumerate_from 1 (drop 1 payees)) k (0, []) d (omega (arith, inside, length-enumerate_from 1 (drop 1 payees)))
-        ∙ (ap (λ (e : ℕ × List ℕ). (e.0, claim_paid table land right pay lines e.1)) numbered
+        ∙ (ap (λ (e : ℕ × List ℕ). (e.0, claim_of table land right pay lines e.1)) numbered
         ∙ sym (get_or-map-range_with_len (λ account. (account, of_account account)) 1 n k (1 + k) d inside refl)))
 
     -- the claims of the groups that are not 0 are the claims of all payees that are not 0
-    pub same_paid : filter counts (claims_of_claimants table land right lines groups) ≡ claims_paid table land right pay lines (drop 1 payees)
+    pub same_paid : filter counts (claims_of_claimants table land right lines groups) ≡ claims_among table land right pay lines (drop 1 payees)
     same_paid =
         let long : length (drop 1 payees) ≡ length payees - 1 = length-drop 1 payees in
         let accounts = map (λ (group : ℕ × List ℕ). group.0) groups in

@@ -1,25 +1,66 @@
--- The works of a registry with their share lines, and the parties of these.
+-- The works of a registry with their share lines, the parties of these, and their payees.
 use Rattle.std.proofs.Common.{◌≡◌, ◌<◌, ◌≤◌, ◌↔◌, ◌⊎◌, nat_eq, Some, Vec, Global, ℕ, suc, zero, List, [], ◌∷◌, ◌++◌, length, map, All, Contains, slice_index_or, ap, sym, refl, subst, ◌∙◌, inl, inr, arith}
-use Rattle.std.specs.Ordering.{nat_cmp}
-use Rattle.std.specs.Cmp.Lexicographic.{pointwise, slice_cmp}
+use Rattle.std.specs.Cmp.Lexicographic.{pointwise}
+use Rattle.std.specs.Map.{lookup}
 use Rattle.std.specs.List.{AllPairs, IsDistinct, zip}
-use Rattle.std.specs.List.Sorted.{IsStrictlySortedBy}
+use Rattle.std.specs.List.Sorted.{IsNonDecreasingBy}
 use Rattle.std.proofs.lemmas.Bool.{false_from_ne_true, false≢true}
-use Rattle.std.proofs.lemmas.Map.Keys.{apart_from_distinct, sorted_tail}
+use Rattle.std.proofs.lemmas.Map.Keys.{apart_from_distinct}
 use Rattle.std.proofs.lemmas.Slice.Eq.{bytes_eq-Decides}
 use Rattle.std.proofs.lemmas.Slice.Zip.{get_or-zip, length-zip}
-use Rattle.std.proofs.lemmas.List.Elements.{All-map, All-weaker}
+use Rattle.std.proofs.lemmas.List.Elements.{All-map, All-tail, All-weaker}
 use Rattle.std.proofs.lemmas.List.{get_or-map, get_or_default, length-map, map_push}
-use Rattle.cwr_share.specs.Parties.{AreAccountsOf, HasMany, HasManyFound, IsAmong, IsPartyFound}
-use Rattle.cwr_share.specs.Compiled.{AreKept, AreWorkNumbers, InterestsRise, IsKept, Kept, WorkNumber, kept_lines, registered_as}
+use Rattle.cwr_share.specs.Compiled.{AreAccounts, AreKept, AreShort, AreWorkNumbers, InterestsRise, IsKept, Kept, Numbered, WorkNumber, accounts_of, kept_lines, names_of, registered_as}
+use Rattle.cwr_share.specs.CwrFile.{AreSound, HasTooMany, IsPayeeInForce}
+use Rattle.cwr_share.specs.Parties.{AreAccountsOf, HasMany, HasManyFound, IsAccountOf, IsAmong, IsPayeeFound, party_of, payee_by}
+use Rattle.cwr_share.specs.Payees.{HasRow, IsPayeeIn, payee_of}
 use Rattle.cwr_share.specs.Reading.{AreShareLines, works_of}
+use Rattle.cwr_share.specs.Registered.{IsPartyOf, IsRegistered, IsShareLine}
+use Rattle.cwr_share.specs.Registrations.{ShareLine, find_work, shares_in_force}
 use Rattle.cwr_share.specs.declared.TheConstants.{MOST_SHARES}
 use Rattle.cwr_share.specs.declared.cwr_fault.CwrFault.{CwrFault}
 use Rattle.cwr_share.specs.declared.cwr_fault.CwrFault.TheVariants.{Accounts, Memory}
-use Rattle.cwr_share.specs.Registered.{IsPartyOf, IsRegistered, IsShareLine}
-use Rattle.cwr_share.specs.CwrFile.{AreSound, HasTooMany, IsPartyInForce}
-use Rattle.cwr_share.specs.Registrations.{ShareLine, find_work, shares_in_force}
-use Rattle.cwr_share.proofs.PartyLemmas.{contains_later, parties_in}
+use Rattle.cwr_share.proofs.ClaimLemmas.{map_twice}
+use Rattle.cwr_share.proofs.CompiledLemmas.{names_as}
+use Rattle.cwr_share.proofs.PartyLemmas.{account_found, contains_later, is_named}
+use Rattle.cwr_share.proofs.PayeeLemmas.{payee_at}
+
+-- a party with its account
+abbrev pub as_party : Numbered → List ℕ × ℕ
+as_party party = (party.0.items, party.1)
+
+-- pairs of what a list is mapped to, and of what it is mapped to otherwise
+pub pairs_of_maps : {X Y Z : Type 0} (f : X → Y) (g : X → Z) (R : Y → Y → Type 0) (S : Z → Z → Type 0) → ((x y : X) → R (f x) (f y) → S (g x) (g y)) → (xs : List X) → AllPairs R (map f xs) → AllPairs S (map g xs)
+pairs_of_maps f g R S so [] pairs i j d before within = absurd (omega (arith, within))
+pairs_of_maps f g R S so (x ∷ xs) pairs i j d before within =
+    let second : j < length (x ∷ xs) = omega (arith, within, length-map (x ∷ xs) g) in
+    let first : i < length (x ∷ xs) = omega (arith, before, second) in
+    rw (get_or-map g (x ∷ xs) i x d first, get_or-map g (x ∷ xs) j x d second)
+    (so (slice_index_or (x ∷ xs) i x) (slice_index_or (x ∷ xs) j x)
+    (rw (get_or-map f (x ∷ xs) i x (f x) first, get_or-map f (x ∷ xs) j x (f x) second) at (pairs i j (f x) before (omega (arith, second, length-map (x ∷ xs) f)))))
+
+-- numbers that do not fall, by what a list is mapped to
+pub rises_of_map : {X Y : Type 0} (f : X → Y) (n : Y → ℕ) (xs : List X) → IsNonDecreasingBy (λ x. n (f x)) xs → IsNonDecreasingBy n (map f xs)
+rises_of_map f n [] rises i j d low within = absurd (omega (arith, within))
+rises_of_map f n (x ∷ xs) rises i j d low within =
+    let second : j < length (x ∷ xs) = omega (arith, within, length-map (x ∷ xs) f) in
+    let first : i < length (x ∷ xs) = omega (arith, low, second) in
+    rw (get_or-map f (x ∷ xs) i x d first, get_or-map f (x ∷ xs) j x d second) (rises i j x low second)
+
+-- where one text follows from another, what is among the ones tells what is among the others
+module _ {X : Type 0} (f g : X → List ℕ) (h : List ℕ → List ℕ) where
+  pub contains_through : (xs : List X) → All (λ x. g x ≡ h (f x)) xs → (text : List ℕ) → Contains (map f xs) text → Contains (map g xs) (h text)
+  contains_through [] agree text there = absurd (omega (arith, there.1))
+  contains_through (x ∷ xs) agree text (zero, within, is) = (0, omega arith, agree 0 x (omega arith) ∙ ap h is)
+  contains_through (x ∷ xs) agree text (suc k, within, is) =
+      contains_later (g x) (map g xs) (h text) (contains_through xs (All-tail (λ x. g x ≡ h (f x)) x xs agree) text (k, omega (arith, within), is))
+
+  pub contains_back : (xs : List X) → All (λ x. g x ≡ h (f x)) xs → (other : List ℕ) → Contains (map g xs) other → (text : List ℕ) × Contains (map f xs) text × (h text ≡ other)
+  contains_back [] agree other there = absurd (omega (arith, there.1))
+  contains_back (x ∷ xs) agree other (zero, within, is) = (f x, (0, omega arith, refl), sym (agree 0 x (omega arith)) ∙ is)
+  contains_back (x ∷ xs) agree other (suc k, within, is) =
+      let (text, has, same) = contains_back xs (All-tail (λ x. g x ≡ h (f x)) x xs agree) other (k, omega (arith, within), is) in
+      (text, contains_later (f x) (map f xs) text has, same)
 
 -- a pair of maps over what stands beside one another
 map-zip : {A B C D : Type 0} (f : A → C) (g : B → D) (xs : List A) (ys : List B) → map (λ (e : A × B). (f e.0, g e.1)) (zip xs ys) ≡ zip (map f xs) (map g ys)
@@ -38,6 +79,10 @@ once_texts text_of (key ∷ keys) distinct i j d before within same =
     let second = get_or-map text_of (key ∷ keys) j key d inside in
     let apart = apart_from_distinct (λ key other. pointwise nat_eq (text_of key) (text_of other)) (key ∷ keys) i j key distinct before inside in
     false≢true (sym apart ∙ (bytes_eq-Decides (text_of (slice_index_or (key ∷ keys) i key)) (text_of (slice_index_or (key ∷ keys) j key))).1 (sym first ∙ same ∙ second))
+
+-- a share line of one of the works has the text
+abbrev IsOfWorks : (text_by : ShareLine → List ℕ) → List (List ℕ × List ShareLine) → List ℕ → Type 0
+IsOfWorks text_by works text = (work : List ℕ) × (lines : List ShareLine) × Contains works (work, lines) × Contains (map text_by lines) text
 
 -- works that differ, each with its share lines
 module _ (names : List (List ℕ)) (lists : List (List ShareLine)) (paired : length names ≡ length lists) where
@@ -70,14 +115,14 @@ module _ (names : List (List ℕ)) (lists : List (List ShareLine)) (paired : len
       let name = slice_index_or names k [] in
       (name, (k, omega (arith, within, in_names, length-zip names lists), get_or-zip names lists k (name, lines) in_names within ∙ cc (get_or_default names k name [] in_names)))
 
-  -- the parties of the works are those of the lists
-  pub parties_of_works : (party : List ℕ) → IsAmong lists party ↔ IsPartyOf (zip names lists) party
-  parties_of_works party = (there, back)
+  -- what the works have is what the lists have
+  pub among_zip : (text_by : ShareLine → List ℕ) (text : List ℕ) → IsAmong text_by lists text ↔ IsOfWorks text_by (zip names lists) text
+  among_zip text_by text = (there, back)
     where
-      there : IsAmong lists party → IsPartyOf (zip names lists) party
+      there : IsAmong text_by lists text → IsOfWorks text_by (zip names lists) text
       there (lines, inside, at) = let (name, here) = zip_work lines inside in (name, lines, here, at)
 
-      back : IsPartyOf (zip names lists) party → IsAmong lists party
+      back : IsOfWorks text_by (zip names lists) text → IsAmong text_by lists text
       back (name, lines, inside, at) = (lines, zip_list name lines inside, at)
 
 -- a work that is there once finds what is beside it
@@ -96,10 +141,10 @@ abbrev numbers_of : List WorkNumber → List (List ℕ)
 numbers_of works = map (λ work. work.items) works
 
 -- a registry's works, where each registration has the share lines of its work
-pub registered_works : (works : List WorkNumber) (lists : List (Vec ShareLine Global)) (registrations : List Kept) (parties : List (Vec ℕ Global))
-    → map (kept_lines (items_of parties)) registrations ≡ items_of lists → (registered_as works registrations parties).works ≡ works_of works lists
-registered_works works lists registrations parties same =
-    map-zip (λ (work : WorkNumber). work.items) (kept_lines (items_of parties)) works registrations
+pub registered_works : (works : List WorkNumber) (lists : List (Vec ShareLine Global)) (registrations : List Kept) (parties : List Numbered) (payees : List (Vec ℕ Global))
+    → map (kept_lines (names_of parties)) registrations ≡ items_of lists → (registered_as works registrations parties payees).works ≡ works_of works lists
+registered_works works lists registrations parties payees same =
+    map-zip (λ (work : WorkNumber). work.items) (kept_lines (names_of parties)) works registrations
     ∙ ap (zip (numbers_of works)) same
     ∙ sym (map-zip (λ (work : WorkNumber). work.items) (λ (lines : Vec ShareLine Global). lines.items) works lists)
 
@@ -117,52 +162,117 @@ module _ (works : List WorkNumber) (lists : List (Vec ShareLine Global)) (paired
   each_work : (P : List ShareLine → Type 0) → All (λ lines. P lines.items) lists → All (λ entry. P entry.1) (works_of works lists)
   each_work P each = subst (All (λ entry. P entry.1)) (sym zipped) (zip_each (numbers_of works) (items_of lists) beside_items P (All-map P (λ (lines : Vec ShareLine Global). lines.items) lists each))
 
-  among_works : (party : List ℕ) → IsAmong (items_of lists) party ↔ IsPartyOf (works_of works lists) party
-  among_works party = subst (λ (works : List (List ℕ × List ShareLine)). IsAmong (items_of lists) party ↔ IsPartyOf works party) (sym zipped) (parties_of_works (numbers_of works) (items_of lists) beside_items party)
+  among_works : (text_by : ShareLine → List ℕ) (text : List ℕ) → IsAmong text_by (items_of lists) text ↔ IsOfWorks text_by (works_of works lists) text
+  among_works text_by text =
+      subst (λ (works : List (List ℕ × List ShareLine)). IsAmong text_by (items_of lists) text ↔ IsOfWorks text_by works text) (sym zipped) (among_zip (numbers_of works) (items_of lists) beside_items text_by text)
 
-  -- what many parties of the lists are for the works
-  pub many_found : HasMany (items_of lists) → HasManyFound (works_of works lists)
-  many_found (parties, rising, each, many) = (parties, rising, All-weaker (IsAmong (items_of lists)) (IsPartyFound (works_of works lists)) (λ party among. found party ((among_works party).0 among)) parties each, many)
+  -- what many payees of the lists are for the works
+  pub many_found : (rows : List (List ℕ × List ℕ)) → HasMany rows (items_of lists) → HasManyFound rows (works_of works lists)
+  many_found rows (payees, rising, each, many) =
+      (payees, rising, All-weaker (IsAmong (payee_by rows) (items_of lists)) (IsPayeeFound rows (works_of works lists)) (λ payee among. found payee ((among_works (payee_by rows) payee).0 among)) payees each, many)
     where
-      found : (party : List ℕ) → IsPartyOf (works_of works lists) party → IsPartyFound (works_of works lists) party
-      found party (work, lines, inside, at) = (work, lines, find_once (works_of works lists) work lines once_works inside, at)
+      found : (payee : List ℕ) → IsOfWorks (payee_by rows) (works_of works lists) payee → IsPayeeFound rows (works_of works lists) payee
+      found payee (work, lines, inside, at) = (work, lines, find_once (works_of works lists) work lines once_works inside, at)
 
-  -- what is read is a registry's
-  pub registered : (registrations : List Kept) (parties : List (Vec ℕ Global)) → All (λ lines. AreShareLines lines.items) lists
-      → map (kept_lines (items_of parties)) registrations ≡ items_of lists → AreAccountsOf (items_of lists) (items_of parties)
-      → IsRegistered (registered_as works registrations parties)
-  registered registrations parties sound same accounts =
-      subst (λ (registered : List (List ℕ × List ShareLine)). IsRegistered (record { works = registered; parties = items_of parties })) (sym (registered_works works lists registrations parties same))
-      (record {
-        once = once_works;
-        few = each_work (λ lines. length lines ≤ MOST_SHARES) (λ k d within. (sound k d within).few);
-        shares = each_work (All IsShareLine) (λ k d within. (sound k d within).sound);
-        numbers = accounts.numbers;
-        accounts = accounts.accounts;
-        few_numbers = accounts.few;
-        exact = record {
-          rising = sorted_tail (slice_cmp nat_cmp) [] accounts.numbers (subst (IsStrictlySortedBy (slice_cmp nat_cmp)) accounts.accounts accounts.rising);
-          exact = λ party. (λ inside. (among_works party).0 ((accounts.exact.exact party).0 inside), λ of_work. (accounts.exact.exact party).1 ((among_works party).1 of_work));
-        };
-      })
+  module _ (rows : List (List ℕ × List ℕ)) (registrations : List Kept) (parties : List Numbered) (payees : List (Vec ℕ Global))
+      (accounts : AreAccountsOf rows (items_of lists) (map as_party parties) (items_of payees)) where
+    abbrev as_row : Numbered → List ℕ × List ℕ
+    as_row party = (party.0.items, slice_index_or (items_of payees) party.1 [])
+
+    -- the parties of the rows are the parties by number
+    same_names : map (λ (row : List ℕ × List ℕ). row.0) (map as_row parties) ≡ map (λ (party : List ℕ × ℕ). party.0) (map as_party parties)
+    same_names = map_twice as_row (λ row. row.0) parties ∙ sym (map_twice as_party (λ party. party.0) parties)
+
+    paid_at : (place : ℕ) (d : Numbered) → place < length parties → IsAccountOf (items_of payees) (payee_of rows (slice_index_or parties place d).0.items) (slice_index_or parties place d).1
+    paid_at place d within =
+        subst (λ (party : List ℕ × ℕ). IsAccountOf (items_of payees) (payee_of rows party.0) party.1) (get_or-map as_party parties place d ([], 0) within)
+        (accounts.paid place ([], 0) (omega (arith, within, length-map parties as_party)))
+
+    -- each row has the payee of its party
+    pub paid_rows : All (λ row. row.1 ≡ payee_of rows row.0) (map as_row parties)
+    paid_rows = All-map (λ (row : List ℕ × List ℕ). row.1 ≡ payee_of rows row.0) as_row parties (λ place d within. (paid_at place d within).2)
+
+    one_row : AllPairs (λ row later. ¬ (row.0 ≡ later.0)) (map as_row parties)
+    one_row = pairs_of_maps as_party as_row (λ party later. ¬ (party.0 ≡ later.0)) (λ row later. ¬ (row.0 ≡ later.0)) (λ party later apart. apart) parties accounts.once
+
+    -- the parties have rows
+    has_row : (party : List ℕ) → HasRow (map as_row parties) party ↔ IsPartyOf (works_of works lists) party
+    has_row party = (
+      λ has. (among_works party_of party).0 ((accounts.each.exact party).0 (subst (λ (names : List (List ℕ)). Contains names party) same_names has)),
+      λ of. subst (λ (names : List (List ℕ)). Contains names party) (sym same_names) ((accounts.each.exact party).1 ((among_works party_of party).1 of)),
+    )
+
+    -- the names are the payees of the rows
+    named : (payee : List ℕ) → Contains accounts.names payee ↔ IsPayeeIn (map as_row parties) payee
+    named payee = (λ has. there ((accounts.exact.exact payee).0 has), λ has. (accounts.exact.exact payee).1 (back has))
+      where
+        paid_name : Numbered → List ℕ
+        paid_name party = slice_index_or (items_of payees) party.1 []
+
+        agree : All (λ (party : Numbered). paid_name party ≡ payee_of rows party.0.items) parties
+        agree place d within = (paid_at place d within).2
+
+        there : IsAmong (payee_by rows) (items_of lists) payee → IsPayeeIn (map as_row parties) payee
+        there (lines, inside, at) =
+            let (party, has, same) = contains_back party_of (payee_by rows) (payee_of rows) lines (λ place d within. refl) payee at in
+            let number = subst (λ (names : List (List ℕ)). Contains names party) (map_twice as_party (λ (party : List ℕ × ℕ). party.0) parties) ((accounts.each.exact party).1 (lines, inside, has)) in
+            let paid = contains_through (λ (party : Numbered). party.0.items) paid_name (payee_of rows) parties agree party number in
+            subst (λ (names : List (List ℕ)). Contains names payee) (sym (map_twice as_row (λ (row : List ℕ × List ℕ). row.1) parties)) (subst (Contains (map paid_name parties)) same paid)
+
+        back : IsPayeeIn (map as_row parties) payee → IsAmong (payee_by rows) (items_of lists) payee
+        back has =
+            let paid = subst (λ (names : List (List ℕ)). Contains names payee) (map_twice as_row (λ (row : List ℕ × List ℕ). row.1) parties) has in
+            let (party, number, same) = contains_back (λ (party : Numbered). party.0.items) paid_name (payee_of rows) parties agree payee paid in
+            let (lines, inside, at) = (accounts.each.exact party).0 (subst (λ (names : List (List ℕ)). Contains names party) (sym (map_twice as_party (λ (party : List ℕ × ℕ). party.0) parties)) number) in
+            (lines, inside, subst (Contains (map (payee_by rows) lines)) same (contains_through party_of (payee_by rows) (payee_of rows) lines (λ place d within. refl) party at))
+
+    -- what is read is a registry's
+    pub registered : All (λ lines. AreShareLines lines.items) lists → map (kept_lines (names_of parties)) registrations ≡ items_of lists
+        → IsRegistered (registered_as works registrations parties payees)
+    registered sound same =
+        subst (λ (registered : List (List ℕ × List ShareLine)). IsRegistered (record { works = registered; payees = map as_row parties; parties = items_of payees }))
+        (sym (registered_works works lists registrations parties payees same))
+        (record {
+          once = once_works;
+          few = each_work (λ lines. length lines ≤ MOST_SHARES) (λ k d within. (sound k d within).few);
+          shares = each_work (All IsShareLine) (λ k d within. (sound k d within).sound);
+          one_payee = one_row;
+          in_force = has_row;
+          names = accounts.names;
+          accounts = accounts.accounts;
+          few_names = accounts.few;
+          rising = accounts.rising;
+          exact = named;
+        })
+
+    -- its parties have their accounts
+    pub have_accounts : AreAccounts (registered_as works registrations parties payees) (accounts_of parties)
+    have_accounts = record {
+      exact = map_twice as_row (λ row. row.1) parties ∙ sym (map_twice (λ (party : Numbered). party.1) (λ account. slice_index_or (items_of payees) account []) parties);
+      some = All-map (λ account. (0 < account) × (account < length (items_of payees))) (λ (party : Numbered). party.1) parties (λ place d within. ((paid_at place d within).0, (paid_at place d within).1));
+      ordered = pairs_of_maps as_party (λ (party : Numbered). party.1) (λ party later. party.1 ≤ later.1) (λ account later. account ≤ later) (λ party later order. order) parties
+          (λ i j d before within. accounts.ordered i j d (omega (arith, before)) within);
+    }
 
 -- and it is kept for its claims
-pub kept_for_claims : (works : List WorkNumber) (lists : List (Vec ShareLine Global)) (registrations : List Kept) (parties : List (Vec ℕ Global)) → length works ≡ length lists
-    → AreWorkNumbers works → All (λ lines. AreShareLines lines.items) lists → map (kept_lines (items_of parties)) registrations ≡ items_of lists
-    → All (IsKept (items_of parties)) registrations
-    → AreKept works registrations parties
-kept_for_claims works lists registrations parties paired short sound same kept = record {
-  paired = paired ∙ sym (length-map lists (λ (lines : Vec ShareLine Global). lines.items)) ∙ sym (ap length same) ∙ length-map registrations (kept_lines (items_of parties));
+pub kept_for_claims : (works : List WorkNumber) (lists : List (Vec ShareLine Global)) (registrations : List Kept) (parties : List Numbered) (payees : List (Vec ℕ Global)) → length works ≡ length lists
+    → AreWorkNumbers works → AreShort (names_of parties) → All (λ lines. AreShareLines lines.items) lists → map (kept_lines (names_of parties)) registrations ≡ items_of lists
+    → AreAccounts (registered_as works registrations parties payees) (accounts_of parties) → All (IsKept (names_of parties) (accounts_of parties)) registrations
+    → AreKept works registrations parties payees
+kept_for_claims works lists registrations parties payees paired short names sound same accounts kept = record {
+  paired = paired ∙ sym (length-map lists (λ (lines : Vec ShareLine Global). lines.items)) ∙ sym (ap length same) ∙ length-map registrations (kept_lines (names_of parties));
   short = short;
+  names = names;
+  accounts = accounts;
   kept = kept;
   rise = rise;
 }
   where
-    rise : All (λ registration. InterestsRise (kept_lines (items_of parties) registration)) registrations
+    rise : All (λ registration. InterestsRise (kept_lines (names_of parties) registration)) registrations
     rise k d within =
-        subst InterestsRise (get_or-map (kept_lines (items_of parties)) registrations k d [] within)
+        subst InterestsRise (get_or-map (kept_lines (names_of parties)) registrations k d [] within)
         (subst (All InterestsRise) (sym same) (All-map InterestsRise (λ (lines : Vec ShareLine Global). lines.items) lists (λ j e inside. (sound j e inside).rise))
-        k [] (omega (arith, within, length-map registrations (kept_lines (items_of parties)))))
+        k [] (omega (arith, within, length-map registrations (kept_lines (names_of parties)))))
 
 -- one registration more
 module _ (parties : List (List ℕ)) (registrations : List Kept) (registration : Kept) (yielded : List (Vec ShareLine Global)) (lines : Vec ShareLine Global)
@@ -174,12 +284,12 @@ module _ (parties : List (List ℕ)) (registrations : List Kept) (registration :
       ∙ cc (same, is)
       ∙ sym (map_push (λ (lines : Vec ShareLine Global). lines.items) yielded lines)
 
--- the parties of each list have accounts
-pub known_in : (lists : List (Vec ShareLine Global)) (parties : List (List ℕ)) (lines : Vec ShareLine Global) → Contains lists lines → AreAccountsOf (items_of lists) parties
-    → All (λ line. Contains parties line.party) lines.items
-known_in lists parties lines (place, within, is) accounts k d inside =
-    subst (λ (parties : List (List ℕ)). Contains parties party) (sym accounts.accounts)
-    (contains_later [] accounts.numbers party ((accounts.exact.exact party).1 (lines.items, here, (k, omega (arith, inside, length-map lines.items (λ (line : ShareLine). line.party)), at))))
+-- the parties of each list have numbers
+pub known_in : (rows : List (List ℕ × List ℕ)) (lists : List (Vec ShareLine Global)) (parties : List Numbered) (payees : List (List ℕ)) (lines : Vec ShareLine Global) → Contains lists lines
+    → AreAccountsOf rows (items_of lists) (map as_party parties) payees → All (λ line. Contains (names_of parties) line.party) lines.items
+known_in rows lists parties payees lines (place, within, is) accounts k d inside =
+    subst (λ (names : List (List ℕ)). Contains names party) (map_twice as_party (λ (party : List ℕ × ℕ). party.0) parties)
+    ((accounts.each.exact party).1 (lines.items, here, (k, omega (arith, inside, length-map lines.items (λ (line : ShareLine). line.party)), at)))
   where
     party : List ℕ
     party = (slice_index_or lines.items k d).party
@@ -187,23 +297,58 @@ known_in lists parties lines (place, within, is) accounts k d inside =
     here : Contains (items_of lists) lines.items
     here = (place, omega (arith, within, length-map lists (λ (lines : Vec ShareLine Global). lines.items)), get_or-map (λ (lines : Vec ShareLine Global). lines.items) lists place lines lines.items within ∙ ap (λ (lines : Vec ShareLine Global). lines.items) is)
 
-    at : slice_index_or (parties_in lines.items) k party ≡ party
+    at : slice_index_or (map party_of lines.items) k party ≡ party
     at = get_or-map (λ (line : ShareLine). line.party) lines.items k d party inside
 
--- what the lists are refused for, the works are refused for
-pub many_works : (works : List WorkNumber) (lists : List (Vec ShareLine Global)) (fault : CwrFault) → length works ≡ length lists
-    → IsDistinct (λ (work other : WorkNumber). pointwise nat_eq work.items other.items) works
-    → (fault ≡ Memory) ⊎ ((fault ≡ Accounts) × HasMany (items_of lists)) → (fault ≡ Memory) ⊎ ((fault ≡ Accounts) × HasManyFound (works_of works lists))
-many_works works lists fault paired once (inl memory) = inl memory
-many_works works lists fault paired once (inr (accounts, many)) = inr (accounts, many_found works lists paired once many)
+-- no two parties have one number
+pub once_in : (rows : List (List ℕ × List ℕ)) (lists : List (List ShareLine)) (parties : List Numbered) (payees : List (List ℕ)) → AreAccountsOf rows lists (map as_party parties) payees
+    → AllPairs (λ name later. ¬ (name ≡ later)) (names_of parties)
+once_in rows lists parties payees accounts = pairs_of_maps as_party (λ (party : Numbered). party.0.items) (λ party later. ¬ (party.0 ≡ later.0)) (λ name later. ¬ (name ≡ later)) (λ party later apart. apart) parties accounts.once
 
--- where the works are those in force, too many of their parties are too many in force
-pub many_in_force : (lines : List (List ℕ)) (works : List (List ℕ × List ShareLine)) → AreSound lines → ((work : List ℕ) → find_work work works ≡ shares_in_force lines work)
-    → HasManyFound works → HasTooMany lines
-many_in_force lines works sound in_force (parties, rising, each, many) = record {
+-- what the lists are refused for, the works are refused for
+pub many_works : (rows : List (List ℕ × List ℕ)) (works : List WorkNumber) (lists : List (Vec ShareLine Global)) (fault : CwrFault) → length works ≡ length lists
+    → IsDistinct (λ (work other : WorkNumber). pointwise nat_eq work.items other.items) works
+    → (fault ≡ Memory) ⊎ ((fault ≡ Accounts) × HasMany rows (items_of lists)) → (fault ≡ Memory) ⊎ ((fault ≡ Accounts) × HasManyFound rows (works_of works lists))
+many_works rows works lists fault paired once (inl memory) = inl memory
+many_works rows works lists fault paired once (inr (accounts, many)) = inr (accounts, many_found works lists paired once rows many)
+
+-- where the works are those in force, too many of their payees are too many in force
+pub many_in_force : (rows : List (List ℕ × List ℕ)) (lines : List (List ℕ)) (works : List (List ℕ × List ShareLine)) → AreSound lines → ((work : List ℕ) → find_work work works ≡ shares_in_force lines work)
+    → HasManyFound rows works → HasTooMany rows lines
+many_in_force rows lines works sound in_force (payees, rising, each, many) = record {
   sound = sound;
-  parties = parties;
+  payees = payees;
   rising = rising;
-  each = All-weaker (IsPartyFound works) (IsPartyInForce lines) (λ party found. (found.0, found.1, sym (in_force found.0) ∙ found.2, found.3)) parties each;
+  each = All-weaker (IsPayeeFound rows works) (IsPayeeInForce rows lines) (λ payee found. (found.0, found.1, sym (in_force found.0) ∙ found.2, found.3)) payees each;
   many = many;
 }
+
+-- the payee of a party that has an account
+module _ (works : List WorkNumber) (registrations : List Kept) (parties : List Numbered) (payees : List (Vec ℕ Global)) (sound : IsRegistered (registered_as works registrations parties payees)) where
+  abbrev rows : List (List ℕ × List ℕ)
+  rows = (registered_as works registrations parties payees).payees
+
+  abbrev kept_row : Numbered → List ℕ × List ℕ
+  kept_row party = (party.0.items, slice_index_or (items_of payees) party.1 [])
+
+  pub payee_kept : AreAccounts (registered_as works registrations parties payees) (accounts_of parties) → (text : List ℕ) (account : ℕ) → lookup (is_named text) parties ≡ Some account
+      → HasRow rows text × (account < length payees) × (slice_index_or (items_of payees) account [] ≡ payee_of rows text)
+  payee_kept are text account found =
+      let (place, within, name, at) = account_found text parties account found in
+      let texts = items_of payees in
+      let inside : place < length rows = omega (arith, within, length-map parties kept_row) in
+      let named : place < length (names_of parties) = omega (arith, within, length-map parties (λ (party : Numbered). party.0.items)) in
+      let numbered : place < length (accounts_of parties) = omega (arith, within, length-map parties (λ (party : Numbered). party.1)) in
+      let has : Contains (names_of parties) text = (place, named, get_or_default (names_of parties) place text [] named ∙ name) in
+      let party : (slice_index_or rows place ([], [])).0 ≡ text =
+      sym (get_or-map (λ (row : List ℕ × List ℕ). row.0) rows place ([], []) [] inside) ∙ (ap (λ (names : List (List ℕ)). slice_index_or names place []) (names_as works registrations parties payees) ∙ name) in
+      let seconds : map (λ (row : List ℕ × List ℕ). row.1) rows ≡ map (λ account. slice_index_or texts account []) (accounts_of parties) =
+      map_twice kept_row (λ row. row.1) parties ∙ sym (map_twice (λ (party : Numbered). party.1) (λ account. slice_index_or texts account []) parties) in
+      let paid : (slice_index_or rows place ([], [])).1 ≡ slice_index_or texts account [] =
+      sym (get_or-map (λ (row : List ℕ × List ℕ). row.1) rows place ([], []) [] inside)
+      ∙ (ap (λ (names : List (List ℕ)). slice_index_or names place []) seconds
+      ∙ (get_or-map (λ (account : ℕ). slice_index_or texts account []) (accounts_of parties) place 0 [] numbered ∙ ap (λ (account : ℕ). slice_index_or texts account []) at)) in (
+        subst (λ (names : List (List ℕ)). Contains names text) (sym (names_as works registrations parties payees)) has,
+        omega (arith, at, (are.some place 0 numbered).1, length-map payees (λ (payee : Vec ℕ Global). payee.items)),
+        sym paid ∙ (sym (payee_at rows sound.one_payee place ([], []) inside) ∙ ap (payee_of rows) party),
+      )

@@ -1,5 +1,5 @@
 -- How the rows of a table of payees are read one by one, and how a party's payee is found.
-use Rattle.std.proofs.Common.{◌≡◌, ◌≤◌, ◌<◌, ◌+◌, ◌⊎◌, Bool, true, false, is_some, ℕ, List, Option, Some, None, [], ◌∷◌, ◌++◌, length, map, nat_eq, take, slice_index_or, ap, sym, refl, ◌∙◌, append_assoc, inl, inr, arith}
+use Rattle.std.proofs.Common.{◌≡◌, ◌≤◌, ◌<◌, ◌+◌, ◌⊎◌, AllPairs, zero, suc, get_or, Bool, true, false, is_some, ℕ, List, Option, Some, None, [], ◌∷◌, ◌++◌, length, map, nat_eq, take, slice_index_or, ap, sym, refl, subst, ◌∙◌, append_assoc, inl, inr, arith}
 use Rattle.std.specs.List.{find}
 use Rattle.std.specs.Option.{option_map, option_map_or}
 use Rattle.std.specs.Cmp.Lexicographic.{pointwise}
@@ -8,6 +8,7 @@ use Rattle.std.proofs.lemmas.Bool.{cases_Bool, cases_lt, false_from_ne_true, fal
 use Rattle.std.proofs.lemmas.Cmp.{nat_list_eq_equiv}
 use Rattle.std.proofs.lemmas.List.{append-nil, get_or_append_left, get_or_push, length_push, map-append, map_push, take-append-le}
 use Rattle.std.proofs.lemmas.List.Elements.{All-push, All-tail}
+use Rattle.std.proofs.lemmas.Option.{none-some}
 use Rattle.std.proofs.lemmas.Slice.Eq.{bytes_eq-Decides}
 use Rattle.arrayvec.specs.ArrayVec.{ArrayVec}
 use Rattle.std.specs.Map.{lookup}
@@ -127,6 +128,20 @@ paid_too_long (row ∷ payees) party names long =
       | inr other ↦ rw other (paid_too_long payees party (All-tail (λ row. IsName row.0 × IsName row.1) row payees names) long)
     ]
 
+-- a payee that is found has a name
+pub paid_named : (entries : List (ArrayVec ℕ × ArrayVec ℕ)) (party : List ℕ) (payee : ArrayVec ℕ)
+    → Some payee ≡ lookup (λ other. pointwise nat_eq party other.items) entries → AreNames (map as_row entries) → 0 < length payee.items
+paid_named [] party payee found names = absurd (none-some payee (sym found))
+paid_named (entry ∷ entries) party payee found names = on (pointwise nat_eq party entry.0.items) refl (paid_named entries party payee)
+  where
+    on : (told : Bool) → pointwise nat_eq party entry.0.items ≡ told
+        → (Some payee ≡ lookup (λ other. pointwise nat_eq party other.items) entries → AreNames (map as_row entries) → 0 < length payee.items) → 0 < length payee.items
+    on true its later =
+        let same : Some payee ≡ Some entry.1 = rw its at found in
+        let is : payee ≡ entry.1 = cc in
+        subst (λ (p : ArrayVec ℕ). 0 < length p.items) (sym is) (names 0 (as_row entry) (omega arith)).1.0
+    on false other later = later (rw other at found) (All-tail (λ row. IsName row.0 × IsName row.1) (as_row entry) (map as_row entries) names)
+
 -- whether a party has a row, by what a look-up of it finds
 pub row_if_some : (entries : List (ArrayVec ℕ × ArrayVec ℕ)) (party : List ℕ)
     → is_some (lookup (λ other. pointwise nat_eq party other.items) entries) ≡ true → HasRow (map as_row entries) party
@@ -199,3 +214,14 @@ pub payee_of_itself : (payees : List (List ℕ × List ℕ)) (party : List ℕ) 
 payee_of_itself payees party none =
     let nothing : find (is_row_of party) payees ≡ None = ap (find (is_row_of party)) (sym (append-nil payees)) ∙ passed_over party payees [] none in
     rw nothing refl
+
+-- where each party has one row, the payee of a row's party is the row's
+pub payee_at : (payees : List (List ℕ × List ℕ)) → AllPairs (λ row later. ¬ (row.0 ≡ later.0)) payees → (place : ℕ) (d : List ℕ × List ℕ) → place < length payees
+    → payee_of payees (get_or payees place d).0 ≡ (get_or payees place d).1
+payee_at [] once place d within = absurd (omega (arith, within))
+payee_at (row ∷ payees) once zero d within = rw ((bytes_eq-Decides row.0 row.0).1 refl) refl
+payee_at (row ∷ payees) once (suc place) d within =
+    let party = (get_or payees place d).0 in
+    let other : pointwise nat_eq row.0 party ≡ false =
+    false_from_ne_true (pointwise nat_eq row.0 party) (λ told. once 0 (suc place) d (omega arith) within ((bytes_eq-Decides row.0 party).0 told)) in
+    rw other (payee_at payees (λ i j e before inside. once (suc i) (suc j) e (omega (arith, before)) (omega (arith, inside))) place d (omega (arith, within)))

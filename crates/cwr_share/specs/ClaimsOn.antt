@@ -1,5 +1,5 @@
 -- The claims of a registry on a usage line.
-use Rattle.std.specs.Prelude.{ℕ, zero, suc, ◌+◌, ◌==◌, ◌&&◌, ◌∷◌, Bool, List, [], drop, filter, map, not, nat_eq, nat_lt, reverse, sum_by, if◌then◌else◌, Option, Some, None}
+use Rattle.std.specs.Prelude.{ℕ, zero, suc, ◌+◌, ◌==◌, ◌&&◌, ◌∷◌, ◌≡◌, All, Bool, List, [], drop, filter, map, not, nat_eq, nat_lt, reverse, sum_by, if◌then◌else◌, Option, Some, None}
 use Rattle.std.specs.List.{enumerate_from, find, list_any}
 use Rattle.std.specs.Option.{option_map_or}
 use Rattle.std.specs.Cmp.Lexicographic.{pointwise}
@@ -11,6 +11,7 @@ use Rattle.line_split.specs.declared.usage.Right.{Right}
 use Rattle.line_split.specs.declared.usage.Right.TheVariants.{P, M, S}
 use Rattle.line_split.specs.declared.reason.Reason.{Reason}
 use Rattle.line_split.specs.declared.reason.Reason.TheVariants.{Work, Land, Over}
+use Rattle.cwr_share.specs.Payees.{payee_of}
 use Rattle.cwr_share.specs.Registrations.{ShareLine, find_work}
 use Rattle.cwr_share.specs.Registered.{Registered}
 
@@ -44,9 +45,9 @@ deciding table land (line ∷ later) =
     then line ∷ deciding table land later
     else deciding table land later
 
--- a party's claim: the shares of its lines that decide, one for each of its interests
-abbrev pub claim_of : List (ℕ × List ℕ) → (land : ℕ) → Right → List ShareLine → (party : List ℕ) → ℕ
-claim_of table land right lines party = sum_by (share_for right) (filter (λ line. pointwise nat_eq line.party party) (deciding table land lines))
+-- a payee's claim: the shares of the lines that decide, of the parties that are paid to it, one for each interest and party
+abbrev pub claim_of : List (ℕ × List ℕ) → (land : ℕ) → Right → (pay : List ℕ → List ℕ) → List ShareLine → (payee : List ℕ) → ℕ
+claim_of table land right pay lines payee = sum_by (share_for right) (filter (λ line. pointwise nat_eq (pay line.party) payee) (deciding table land lines))
 
 -- the sum of a function over the numbers below one
 unfoldable pub sum_below : ℕ → (ℕ → ℕ) → ℕ
@@ -66,13 +67,18 @@ renamed name line = record {
 }
 
 -- the accounts with a claim to something, each with its claim; accounts count from 1
-abbrev pub claims_among : List (ℕ × List ℕ) → (land : ℕ) → Right → List ShareLine → List (List ℕ) → List (ℕ × ℕ)
-claims_among table land right lines numbers = filter (λ claim. not (claim.1 == 0))
-    (map (λ claimant. (claimant.0, claim_of table land right lines claimant.1)) (enumerate_from 1 numbers))
+abbrev pub claims_among : List (ℕ × List ℕ) → (land : ℕ) → Right → (pay : List ℕ → List ℕ) → List ShareLine → (payees : List (List ℕ)) → List (ℕ × ℕ)
+claims_among table land right pay lines payees = filter (λ claim. not (claim.1 == 0))
+    (map (λ claimant. (claimant.0, claim_of table land right pay lines claimant.1)) (enumerate_from 1 payees))
 
 -- the claims on a line by the share lines of its work
 abbrev pub claims_by : List (ℕ × List ℕ) → Registered → UsageLine → List ShareLine → List (ℕ × ℕ)
-claims_by table registered line lines = claims_among table line.territory line.right lines (drop 1 registered.parties)
+claims_by table registered line lines = claims_among table line.territory line.right (payee_of registered.payees) lines (drop 1 registered.parties)
+
+-- the parties of a work have the same payees in two registries
+abbrev pub ArePaidAlike : (work : List ℕ) → Registered → Registered → Type 0
+ArePaidAlike work registered other = (lines : List ShareLine) → find_work work registered.works ≡ Some lines
+    → All (λ line. payee_of registered.payees line.party ≡ payee_of other.payees line.party) lines
 
 -- the territory has a row in the table
 abbrev pub is_known : List (ℕ × List ℕ) → ℕ → Bool

@@ -13,7 +13,7 @@ use Rattle.cwr_share.specs.declared.registrations.Extent.{Extent}
 use Rattle.cwr_share.specs.declared.share_line.RegisteredShare.{RegisteredShare}
 use Rattle.cwr_share.specs.Registered.{Registered}
 use Rattle.std.specs.declared.alloc.Global.{Global}
-use Rattle.cwr_share.specs.declared.numbers.TheConstants.{MOST_WORK_BYTES}
+use Rattle.cwr_share.specs.declared.numbers.TheConstants.{MOST_PARTY_BYTES, MOST_WORK_BYTES}
 use Rattle.arrayvec.specs.ArrayVec.{ArrayVec}
 
 -- the work number that a registration is found by
@@ -24,11 +24,11 @@ WorkNumber = ArrayVec ℕ
 abbrev pub AreWorkNumbers : List WorkNumber → Type 0
 AreWorkNumbers works = All (λ work. length work.items ≤ MOST_WORK_BYTES) works
 
--- a kept share line, where these are the parties of the accounts
+-- a kept share line, where these are the parties by number
 abbrev pub line_by : List (List ℕ) → RegisteredShare → ShareLine
 line_by parties share = record {
   interest = share.interest;
-  party = slice_index_or parties share.account [];
+  party = slice_index_or parties share.party [];
   performing = share.shares.performing;
   mechanical = share.shares.mechanical;
   synchronisation = share.shares.synchronisation;
@@ -79,35 +79,35 @@ lines_of_party party lines = filter (λ line. pointwise nat_eq line.party party)
 abbrev pub places_in : List (ℕ × List ℕ) → ℕ
 places_in claimants = sum_by (λ claimant. length claimant.1) claimants
 
--- For each party that has a share line its account and the places of its lines, in order of account; the party of an account stands at its place among the parties.
+-- For each party that has a share line its number, which is its place among the parties, and the places of its lines; in order of number.
 pub record IsCompiled (parties : List (List ℕ)) (lines : List ShareLine) (claimants : List (ℕ × List ℕ)) : Type 0 where
   pub few : length claimants ≤ length lines
   pub total : places_in claimants ≡ length lines
   pub rising : AllPairs (λ claimant later. claimant.0 < later.0) claimants
-  pub accounts : All (λ claimant. (0 < claimant.0) × (claimant.0 < length parties)) claimants
+  pub known : All (λ claimant. claimant.0 < length parties) claimants
   pub some : All (λ claimant. 0 < length claimant.1) claimants
   pub within : All (λ claimant. All (λ place. place < length lines) claimant.1) claimants
   pub exact : All (λ claimant. lines_at lines claimant.1 ≡ lines_of_party (slice_index_or parties claimant.0 []) lines) claimants
-  pub every : (account : ℕ) → account < length parties → Contains (map (λ line. line.party) lines) (slice_index_or parties account [])
-      → Contains (map (λ claimant. claimant.0) claimants) account
+  pub every : (party : ℕ) → party < length parties → Contains (map (λ line. line.party) lines) (slice_index_or parties party [])
+      → Contains (map (λ claimant. claimant.0) claimants) party
 
--- the places with one more, of an account, which comes last among those of the account
-abbrev pub with_place : (account place : ℕ) → List (ℕ × List ℕ) → List (ℕ × List ℕ)
-with_place account place [] = (account, place ∷ []) ∷ []
-with_place account place (claimant ∷ later) =
-    if nat_lt account claimant.0 then (account, place ∷ []) ∷ claimant ∷ later
-    else if account == claimant.0 then (account, claimant.1 ++ place ∷ []) ∷ later
-    else claimant ∷ with_place account place later
+-- the places with one more, of a party, which comes last among those of the party
+abbrev pub with_place : (party place : ℕ) → List (ℕ × List ℕ) → List (ℕ × List ℕ)
+with_place party place [] = (party, place ∷ []) ∷ []
+with_place party place (claimant ∷ later) =
+    if nat_lt party claimant.0 then (party, place ∷ []) ∷ claimant ∷ later
+    else if party == claimant.0 then (party, claimant.1 ++ place ∷ []) ∷ later
+    else claimant ∷ with_place party place later
 
--- the places of a claimant from the last one back, each with the account
+-- the places of a claimant from the last one back, each with the party
 abbrev pub placed : ℕ × List ℕ → List Placed
-placed claimant = map (λ place. record { account = claimant.0; place = place }) (reverse claimant.1)
+placed claimant = map (λ place. record { party = claimant.0; place = place }) (reverse claimant.1)
 
 -- those of claimants, one claimant's after another's
 abbrev pub in_order : List (ℕ × List ℕ) → List Placed
 in_order claimants = flat_map placed claimants
 
--- those of claimants in order of account
+-- those of claimants in order of party
 pub record IsInOrder (claimants : List (ℕ × List ℕ)) (order : List Placed) : Type 0 where
   pub rising : AllPairs (λ claimant later. claimant.0 < later.0) claimants
   pub exact : order ≡ in_order claimants
@@ -153,6 +153,10 @@ claim_lines account (line ∷ later) = claim_lines account later ++ claim_line a
 abbrev pub lines_of_claimants : List ShareLine → List (ℕ × List ℕ) → List ClaimLine
 lines_of_claimants lines claimants = flat_map (λ claimant. claim_lines claimant.0 (lines_at lines claimant.1)) claimants
 
+-- those of claimants that are parties, under the accounts of these
+abbrev pub lines_of_parties : (accounts : List ℕ) → List ShareLine → List (ℕ × List ℕ) → List ClaimLine
+lines_of_parties accounts lines claimants = flat_map (λ claimant. claim_lines (slice_index_or accounts claimant.0 0) (lines_at lines claimant.1)) claimants
+
 -- what such a line gives under a right
 abbrev pub share_under : Right → ClaimLine → ℕ
 share_under P line = line.shares.performing
@@ -168,22 +172,47 @@ pub record AreClaimLines (named : List ShareLine) (claimants : List (ℕ × List
   pub some : All (λ claimant. 0 < length claimant.1) claimants
   pub runs : All (λ claimant. AreInRuns (lines_at named claimant.1)) claimants
 
--- what a registry keeps: each work with its share lines, and the parties
-abbrev pub registered_as : List WorkNumber → List Kept → List (Vec ℕ Global) → Registered
-registered_as works registrations parties = record {
-  works = map (λ entry. (entry.0.items, kept_lines (map (λ party. party.items) parties) entry.1)) (zip works registrations);
-  parties = map (λ party. party.items) parties;
+-- a party's number and its account
+abbrev pub Numbered : Type 0
+Numbered = ArrayVec ℕ × ℕ
+
+-- the parties by number
+abbrev pub names_of : List Numbered → List (List ℕ)
+names_of parties = map (λ party. party.0.items) parties
+
+-- the account of each
+abbrev pub accounts_of : List Numbered → List ℕ
+accounts_of parties = map (λ party. party.1) parties
+
+-- what a registry keeps: each work with its share lines, the parties with their accounts, and the payees of these
+abbrev pub registered_as : List WorkNumber → List Kept → List Numbered → List (Vec ℕ Global) → Registered
+registered_as works registrations parties payees = record {
+  works = map (λ entry. (entry.0.items, kept_lines (names_of parties) entry.1)) (zip works registrations);
+  payees = map (λ party. (party.0.items, slice_index_or (map (λ payee. payee.items) payees) party.1 [])) parties;
+  parties = map (λ payee. payee.items) payees;
 }
 
--- a registration is kept for its claims
-pub record IsKept (parties : List (List ℕ)) (kept : Kept) : Type 0 where
+-- A registration is kept for its claims: by party its lines stand under the account of the party.
+pub record IsKept (parties : List (List ℕ)) (accounts : List ℕ) (kept : Kept) : Type 0 where
   pub claimants : List (ℕ × List ℕ)
   pub compiled : IsCompiled parties (kept_lines parties kept) claimants
-  pub lines : kept.lines ≡ lines_of_claimants (nameless kept) claimants
+  pub lines : kept.lines ≡ lines_of_parties accounts (nameless kept) claimants
 
--- each work has one registration, which is kept for its claims
-pub record AreKept (works : List WorkNumber) (registrations : List Kept) (parties : List (Vec ℕ Global)) : Type 0 where
+-- The accounts of a registry's parties are those of their payees, and do not fall.
+pub record AreAccounts (registered : Registered) (accounts : List ℕ) : Type 0 where
+  pub exact : map (λ row. row.1) registered.payees ≡ map (λ account. slice_index_or registered.parties account []) accounts
+  pub some : All (λ account. (0 < account) × (account < length registered.parties)) accounts
+  pub ordered : AllPairs (λ account later. account ≤ later) accounts
+
+-- names no longer than the field of a party number
+abbrev pub AreShort : List (List ℕ) → Type 0
+AreShort names = All (λ name. length name ≤ MOST_PARTY_BYTES) names
+
+-- a registry keeps each of its works for its claims
+pub record AreKept (works : List WorkNumber) (registrations : List Kept) (parties : List Numbered) (payees : List (Vec ℕ Global)) : Type 0 where
   pub paired : length works ≡ length registrations
   pub short : AreWorkNumbers works
-  pub kept : All (IsKept (map (λ party. party.items) parties)) registrations
-  pub rise : All (λ registration. InterestsRise (kept_lines (map (λ party. party.items) parties) registration)) registrations
+  pub names : AreShort (names_of parties)
+  pub accounts : AreAccounts (registered_as works registrations parties payees) (accounts_of parties)
+  pub kept : All (IsKept (names_of parties) (accounts_of parties)) registrations
+  pub rise : All (λ registration. InterestsRise (kept_lines (names_of parties) registration)) registrations

@@ -5,9 +5,10 @@ use Rattle.std.specs.Cmp.Lexicographic.{slice_cmp}
 use Rattle.std.specs.Ordering.{nat_cmp}
 use Rattle.cwr_share.specs.Fields.{HasLand, HasMark, HasParty, HasShares, IsFilled, field_of}
 use Rattle.cwr_share.specs.Records.{ends_registration, is_share_line, opens_registration, share_fields}
+use Rattle.cwr_share.specs.Payees.{payee_of}
 use Rattle.cwr_share.specs.Registrations.{ShareLine, find_work, shares_in_force}
 use Rattle.cwr_share.specs.Registered.{Registered}
-use Rattle.cwr_share.specs.declared.TheConstants.{MOST_PARTIES, MOST_SHARES}
+use Rattle.cwr_share.specs.declared.TheConstants.{MOST_ACCOUNTS, MOST_SHARES}
 use Rattle.cwr_share.specs.declared.fields.TheConstants.{WORK}
 use Rattle.cwr_share.specs.declared.fields.ShareFields.{ShareFields}
 use Rattle.cwr_share.specs.declared.cwr_fault.CwrFault.{CwrFault}
@@ -91,24 +92,30 @@ abbrev pub IsPartyInForce : List (List ℕ) → List ℕ → Type 0
 IsPartyInForce lines party = (work : List ℕ) × (shares : List ShareLine) × (shares_in_force lines work ≡ Some shares)
     × Contains (map (λ share. share.party) shares) party
 
--- all lines are sound, but the registrations in force have too many parties, each counted once
-pub record HasTooMany (lines : List (List ℕ)) : Type 0 where
+-- the payee of such a party, where these are the rows of a table of payees
+abbrev pub IsPayeeInForce : List (List ℕ × List ℕ) → List (List ℕ) → List ℕ → Type 0
+IsPayeeInForce rows lines payee = (work : List ℕ) × (shares : List ShareLine) × (shares_in_force lines work ≡ Some shares)
+    × Contains (map (λ share. payee_of rows share.party) shares) payee
+
+-- all lines are sound, but the parties in force have too many payees, each counted once
+pub record HasTooMany (rows : List (List ℕ × List ℕ)) (lines : List (List ℕ)) : Type 0 where
   pub sound : AreSound lines
-  pub parties : List (List ℕ)
-  pub rising : IsStrictlySortedBy (slice_cmp nat_cmp) parties
-  pub each : All (IsPartyInForce lines) parties
-  pub many : MOST_PARTIES < length parties
+  pub payees : List (List ℕ)
+  pub rising : IsStrictlySortedBy (slice_cmp nat_cmp) payees
+  pub each : All (IsPayeeInForce rows lines) payees
+  pub many : MOST_ACCOUNTS < length payees
 
--- What a file is refused for: the first line that is not sound, or else too many parties. Memory may run out at any time.
-abbrev pub IsFaultOf : List (List ℕ) → CwrFault → Type 0
-IsFaultOf lines Accounts = HasTooMany lines
-IsFaultOf lines Memory = ⊤
-IsFaultOf lines fault = IsFirstFault lines fault
+-- What a file is refused for, with a table of payees: the first line that is not sound, or else too many payees. Memory may run out at any time.
+abbrev pub IsFaultOf : List (List ℕ × List ℕ) → List (List ℕ) → CwrFault → Type 0
+IsFaultOf rows lines Accounts = HasTooMany rows lines
+IsFaultOf rows lines Memory = ⊤
+IsFaultOf rows lines fault = IsFirstFault lines fault
 
--- a file of sound lines, and what its registrations in force are
-pub record IsFileOf (lines : List (List ℕ)) (registered : Registered) : Type 0 where
+-- a file of sound lines, what its registrations in force are, and who is paid what their parties claim by the rows of a table of payees
+pub record IsFileOf (rows : List (List ℕ × List ℕ)) (lines : List (List ℕ)) (registered : Registered) : Type 0 where
   pub sound : AreSound lines
   pub in_force : (work : List ℕ) → find_work work registered.works ≡ shares_in_force lines work
+  pub paid : All (λ row. row.1 ≡ payee_of rows row.0) registered.payees
 
 -- the fault's number
 abbrev pub number_of_fault : CwrFault → ℕ

@@ -13,6 +13,10 @@ payee_of payees party = option_map_or (λ row. row.1) (find (λ row. pointwise n
 abbrev pub HasRow : List (List ℕ × List ℕ) → (party : List ℕ) → Type 0
 HasRow payees party = Contains (map (λ row. row.0) payees) party
 
+-- the name is the payee of a row
+abbrev pub IsPayeeIn : List (List ℕ × List ℕ) → (payee : List ℕ) → Type 0
+IsPayeeIn payees payee = Contains (map (λ row. row.1) payees) payee
+
 -- the length of a name in a table
 abbrev pub IsName : List ℕ → Type 0
 IsName text = (0 < length text) × (length text ≤ MOST_NAME_BYTES)

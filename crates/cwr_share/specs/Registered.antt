@@ -1,4 +1,4 @@
--- What a registry has: the share lines of the registrations in force, and the accounts of their parties.
+-- What a registry has: the share lines of the registrations in force, their parties with their payees, and the accounts of these.
 use Rattle.std.specs.Prelude.{ℕ, ◌≡◌, ◌≤◌, ◌<◌, ◌∷◌, ◌↔◌, List, All, Contains, [], length, map}
 use Rattle.std.specs.List.{AllPairs}
 use Rattle.std.specs.List.Sorted.{IsStrictlySortedBy}
@@ -6,12 +6,16 @@ use Rattle.std.specs.Cmp.Lexicographic.{slice_cmp}
 use Rattle.std.specs.Ordering.{nat_cmp}
 use Rattle.line_split.specs.declared.TheConstants.{FULL_SHARE}
 use Rattle.csv_table.specs.declared.forms.TheConstants.{MOST_CODE}
-use Rattle.cwr_share.specs.declared.TheConstants.{MOST_PARTIES, MOST_SHARES}
+use Rattle.cwr_share.specs.declared.TheConstants.{MOST_ACCOUNTS, MOST_SHARES}
+use Rattle.cwr_share.specs.Payees.{HasRow, IsPayeeIn}
 use Rattle.cwr_share.specs.Registrations.{ShareLine}
 
--- the works in any order, each with its share lines in the order of the file; and the parties by account, where the residue has an empty text
 pub record Registered : Type 0 where
+  -- in any order, each with its share lines in the order of the file
   pub works : List (List ℕ × List ShareLine)
+  -- each of their parties with its payee, in any order
+  pub payees : List (List ℕ × List ℕ)
+  -- the payees by account, where the residue has an empty text
   pub parties : List (List ℕ)
 
 -- a share line in its limits
@@ -26,18 +30,18 @@ pub record IsShareLine (line : ShareLine) : Type 0 where
 abbrev pub IsPartyOf : List (List ℕ × List ShareLine) → List ℕ → Type 0
 IsPartyOf works party = (work : List ℕ) × (lines : List ShareLine) × Contains works (work, lines) × Contains (map (λ line. line.party) lines) party
 
--- the parties of the works, each once and in byte order
-pub record ArePartiesOf (works : List (List ℕ × List ShareLine)) (parties : List (List ℕ)) : Type 0 where
-  pub rising : IsStrictlySortedBy (slice_cmp nat_cmp) parties
-  pub exact : (party : List ℕ) → Contains parties party ↔ IsPartyOf works party
-
 -- what every registry keeps to
 pub record IsRegistered (registered : Registered) : Type 0 where
   pub once : AllPairs (λ entry later. ¬ (entry.0 ≡ later.0)) registered.works
   pub few : All (λ entry. length entry.1 ≤ MOST_SHARES) registered.works
   pub shares : All (λ entry. All IsShareLine entry.1) registered.works
-  -- the numbers of the interested parties, in byte order
-  pub numbers : List (List ℕ)
-  pub accounts : registered.parties ≡ [] ∷ numbers
-  pub few_numbers : length numbers ≤ MOST_PARTIES
-  pub exact : ArePartiesOf registered.works numbers
+  -- each party of the works has one payee
+  pub one_payee : AllPairs (λ row later. ¬ (row.0 ≡ later.0)) registered.payees
+  pub in_force : (party : List ℕ) → HasRow registered.payees party ↔ IsPartyOf registered.works party
+  -- the names of the payees
+  pub names : List (List ℕ)
+  pub accounts : registered.parties ≡ [] ∷ names
+  pub few_names : length names ≤ MOST_ACCOUNTS
+  -- each once and in byte order, in which the empty text comes first
+  pub rising : IsStrictlySortedBy (slice_cmp nat_cmp) registered.parties
+  pub exact : (payee : List ℕ) → Contains names payee ↔ IsPayeeIn registered.payees payee

@@ -3,7 +3,8 @@
 //!
 //! `Registry::read` reads a file. Each registration has share lines: who collects which share, in
 //! which territories. `Registry::claims` asks, for the work, the land and the right of a usage line,
-//! what each party's shares come to.
+//! what each party's shares come to. `Registry::paid` does the same for a table of payees, which
+//! `Payees::read` reads: several parties may be paid to one account.
 #![tactic(auto)]
 
 mod claim_line;
@@ -31,5 +32,5 @@ pub use registry::{Registry, Work};
 /// The most share lines that one registration has.
 pub const MOST_SHARES: usize = 256;
 
-/// The most parties that all registrations in force have.
-pub const MOST_PARTIES: usize = 511;
+/// The most accounts that the payees of all registrations in force have.
+pub const MOST_ACCOUNTS: usize = 511;

@@ -1,66 +1,87 @@
-//! The parties of the registrations in force, and their accounts.
+//! The parties of the registrations in force, their payees, and the accounts of these.
 
-ghost use Rattle.std.specs.Prelude.{◌≡◌, ◌≤◌, ◌<◌, ◌+◌, ◌∷◌, ◌⊎◌, [], All, Contains, IfOk, IfErr, IfSome, IfNone, OnOk, length, map, slice_index_or};
-ghost use Rattle.std.specs.List.Sorted.{IsStrictlySortedBy};
+ghost use Rattle.std.specs.Prelude.{◌≡◌, ◌≤◌, ◌<◌, ◌+◌, ◌∷◌, ◌⊎◌, ◌↔◌, [], ℕ, List, All, AllPairs, Contains, IfOk, IfErr, IfSome, IfNone, OnOk, length, map, slice_index_or};
+ghost use Rattle.std.specs.List.Sorted.{IsNonDecreasingBy, IsStrictlySortedBy};
 ghost use Rattle.std.specs.Cmp.Lexicographic.{slice_cmp};
 ghost use Rattle.std.specs.Ordering.{nat_cmp};
 ghost use Rattle.std.specs.BTreeSet.{btree_set_len};
-ghost use Rattle.cwr_share.specs.Parties.{AreAccountsOf, AreFound, AreShort, HasAdded, HasMany, texts_of};
+ghost use Rattle.cwr_share.specs.Compiled.{AreShort, names_of};
+ghost use Rattle.cwr_share.specs.Parties.{AreAccountsOf, AreFilled, AreFound, HasAdded, HasMany, IsAccountOf, party_of, payee_by, texts_in, texts_of};
+ghost use Rattle.cwr_share.specs.Payees.{payee_of};
 ghost use Rattle.cwr_share.specs.Registered.{IsShareLine};
-ghost use Rattle.cwr_share.specs.declared.TheConstants.{MOST_PARTIES};
+ghost use Rattle.cwr_share.specs.declared.TheConstants.{MOST_ACCOUNTS};
 ghost use Rattle.cwr_share.specs.declared.cwr_fault.CwrFault.TheVariants.{Accounts, Memory};
 
 use crate::numbers::{PartyNumber, in_place};
 use crate::share_line::ShareRecord;
-use crate::{CwrFault, MOST_PARTIES};
-use indexmap::IndexSet;
+use crate::{CwrFault, MOST_ACCOUNTS, Payees};
+use indexmap::{IndexMap, IndexSet};
 use line_split::Account;
 use std::alloc::{AllocError, Global};
 use std::collections::BTreeSet;
 
-/// The parties of these share lines by account, each once and in byte order. The residue's
-/// account has no text.
+/// The parties of share lines and who is paid what they claim.
+#[derive(Drop)]
+pub(crate) struct Parties {
+    /// The payee of each account, in byte order; the residue's has none.
+    pub(crate) payees: Vec<Vec<u8>>,
+    /// The account of each party. Those of one account stand side by side, in order of account.
+    pub(crate) accounts: IndexMap<PartyNumber, Account>,
+}
+
+/// The parties of these share lines.
 pub(crate) fn parties_of(
     alloc: Global,
+    payees: &Payees,
     registrations: &[Vec<ShareRecord>],
-) -> Result<Vec<Vec<u8>>, CwrFault>
+) -> Result<Parties, CwrFault>
     requires filled { All (λ lines. All IsShareLine lines.items) registrations.now }
-    ensures parties { IfOk result (λ parties. AreAccountsOf (map (λ lines. lines.items) registrations.now) (map (λ party. party.items) parties.items)) }
-    ensures short { IfOk result (λ parties. AreShort (map (λ party. party.items) parties.items)) }
-    ensures fault { IfErr result (λ fault. (fault ≡ Memory) ⊎ ((fault ≡ Accounts) × HasMany (map (λ lines. lines.items) registrations.now))) }
+    ensures parties { IfOk result (λ parties. AreAccountsOf payees.now (map (λ lines. lines.items) registrations.now)
+        (map (λ party. (party.0.items, party.1)) parties.accounts.entries) (map (λ payee. payee.items) parties.payees.items)) }
+    ensures short { IfOk result (λ parties. AreShort (names_of parties.accounts.entries)) }
+    ensures fault { IfErr result (λ fault. (fault ≡ Memory) ⊎ ((fault ≡ Accounts) × HasMany payees.now (map (λ lines. lines.items) registrations.now))) }
 {
     let mut seen = IndexSet::new(alloc);
     let mut found = BTreeSet::new(alloc);
     for shares in registrations {
-        add_parties(alloc, shares.as_slice(), &mut seen, &mut found)?;
+        add_parties(alloc, payees, shares.as_slice(), &mut seen, &mut found)?;
     }
-    Ok(by_account(alloc, found)?)
+    let by_account = by_account(alloc, found)?;
+    let accounts = in_order_of_account(alloc, payees, seen.as_slice(), by_account.as_slice())?;
+    Ok(Parties {
+        payees: by_account,
+        accounts,
+    })
 }
 
-/// Adds the parties of a registration. Those that were seen before are found already.
+/// Adds the parties of a registration and their payees. Of those that were seen before the payees are
+/// found already.
 fn add_parties(
     alloc: Global,
+    payees: &Payees,
     shares: &[ShareRecord],
     seen: &mut IndexSet<PartyNumber>,
     found: &mut BTreeSet<Vec<u8>>,
 ) -> Result<(), CwrFault>
-    requires seen { AreFound (texts_of found.old) seen.old.keys }
-    requires few { btree_set_len found.old ≤ MOST_PARTIES }
-    requires short { AreShort (texts_of found.old) }
-    ensures exact { OnOk result (HasAdded (texts_of found.old) (map (λ share. share.party) shares.now) (texts_of found.new)) }
-    ensures few { OnOk result (btree_set_len found.new ≤ MOST_PARTIES) }
-    ensures seen { OnOk result (AreFound (texts_of found.new) seen.new.keys) }
-    ensures short { OnOk result (AreShort (texts_of found.new)) }
-    ensures fault { IfErr result (λ fault. (fault ≡ Memory) ⊎ ((fault ≡ Accounts) × (MOST_PARTIES < length (texts_of found.new))
+    requires seen { AreFound payees.now (texts_of found.old) seen.old.keys }
+    requires few { btree_set_len found.old ≤ MOST_ACCOUNTS }
+    requires filled { AreFilled (texts_of found.old) }
+    requires sound { All IsShareLine shares.now }
+    ensures payees { OnOk result (HasAdded (texts_of found.old) (map (payee_by payees.now) shares.now) (texts_of found.new)) }
+    ensures parties { OnOk result (HasAdded (texts_in seen.old.keys) (map party_of shares.now) (texts_in seen.new.keys)) }
+    ensures few { OnOk result (btree_set_len found.new ≤ MOST_ACCOUNTS) }
+    ensures seen { OnOk result (AreFound payees.now (texts_of found.new) seen.new.keys) }
+    ensures filled { OnOk result (AreFilled (texts_of found.new)) }
+    ensures fault { IfErr result (λ fault. (fault ≡ Memory) ⊎ ((fault ≡ Accounts) × (MOST_ACCOUNTS < length (texts_of found.new))
         × IsStrictlySortedBy (slice_cmp nat_cmp) (texts_of found.new)
-        × All (λ text. Contains (texts_of found.old) text ⊎ Contains (map (λ share. share.party) shares.now) text) (texts_of found.new))) }
+        × All (λ text. Contains (texts_of found.old) text ⊎ Contains (map (payee_by payees.now) shares.now) text) (texts_of found.new))) }
 {
     for share in shares {
         if !seen.contains(&share.party) {
             let party = share.party.as_slice();
             seen.insert(in_place(party))?;
-            found.insert(Vec::from_slice(alloc, party)?)?;
-            if found.len() > MOST_PARTIES {
+            found.insert(Vec::from_slice(alloc, payees.payee_of(party))?)?;
+            if found.len() > MOST_ACCOUNTS {
                 return Err(CwrFault::Accounts);
             }
         }
@@ -68,54 +89,55 @@ fn add_parties(
     Ok(())
 }
 
-/// The residue's account, and the parties' after it.
+/// The residue's account, and the payees' after it.
 fn by_account(alloc: Global, found: BTreeSet<Vec<u8>>) -> Result<Vec<Vec<u8>>, AllocError>
-    requires { All (λ text. 0 < length text) (texts_of found) }
-    ensures parties { IfOk result (λ parties. map (λ party. party.items) parties.items ≡ [] ∷ texts_of found) }
-    ensures rising { IfOk result (λ parties. IsStrictlySortedBy (slice_cmp nat_cmp) (map (λ party. party.items) parties.items)) }
+    requires { AreFilled (texts_of found) }
+    ensures payees { IfOk result (λ payees. map (λ payee. payee.items) payees.items ≡ [] ∷ texts_of found) }
+    ensures rising { IfOk result (λ payees. IsStrictlySortedBy (slice_cmp nat_cmp) (map (λ payee. payee.items) payees.items)) }
 {
-    let mut parties = Vec::new(alloc);
-    parties.push(Vec::new(alloc))?;
-    parties.extend(found)?;
-    Ok(parties)
+    let mut payees = Vec::new(alloc);
+    payees.push(Vec::new(alloc))?;
+    payees.extend(found)?;
+    Ok(payees)
 }
 
-/// The parties' numbers by account. A party's place among them is found by its hash.
-pub(crate) fn numbers_of(
+/// The account of each party, which is that of its payee, in order of account.
+fn in_order_of_account(
     alloc: Global,
-    parties: &[Vec<u8>],
-) -> Result<IndexSet<PartyNumber>, AllocError>
-    requires short { AreShort (map (λ party. party.items) parties.now) }
-    requires rising { IsStrictlySortedBy (slice_cmp nat_cmp) (map (λ party. party.items) parties.now) }
-    ensures { IfOk result (λ numbers. map (λ number. number.items) numbers.keys ≡ map (λ party. party.items) parties.now) }
+    payees: &Payees,
+    seen: &[PartyNumber],
+    by_account: &[Vec<u8>],
+) -> Result<IndexMap<PartyNumber, Account>, AllocError>
+    requires rising { IsStrictlySortedBy (slice_cmp nat_cmp) (map (λ payee. payee.items) by_account.now) }
+    requires few { length by_account.now ≤ MOST_ACCOUNTS + 1 }
+    requires residue { slice_index_or (map (λ payee. payee.items) by_account.now) 0 [] ≡ [] }
+    requires known { AreFound payees.now (map (λ payee. payee.items) by_account.now) seen.now }
+    requires filled { AreFilled (texts_in seen.now) }
+    ensures same { IfOk result (λ parties. (text : List ℕ) → Contains (names_of parties.entries) text ↔ Contains (texts_in seen.now) text) }
+    ensures once { IfOk result (λ parties. AllPairs (λ name later. ¬ (name ≡ later)) (names_of parties.entries)) }
+    ensures paid { IfOk result (λ parties. All (λ party. IsAccountOf (map (λ payee. payee.items) by_account.now) (payee_of payees.now party.0.items) party.1) parties.entries) }
+    ensures ordered { IfOk result (λ parties. IsNonDecreasingBy (λ party. party.1) parties.entries) }
+    ensures short { IfOk result (λ parties. AreShort (names_of parties.entries)) }
 {
-    let mut numbers = IndexSet::new(alloc);
-    for party in parties {
-        numbers.insert(in_place(party.as_slice()))?;
+    let mut accounts = IndexMap::new(alloc);
+    for party in seen {
+        let number = party.as_slice();
+        if let Some(account) = account_of(by_account, payees.payee_of(number)) {
+            accounts.insert(in_place(number), account)?;
+        }
     }
-    Ok(numbers)
+    accounts.sort_unstable_by_key(|_, account| *account)?;
+    Ok(accounts)
 }
 
-/// The account of a party: its place among the numbers, where it has one.
-pub(crate) fn account_among(numbers: &IndexSet<PartyNumber>, party: &PartyNumber) -> Option<Account>
-    requires few { length numbers.now.keys ≤ MOST_PARTIES + 1 }
-    ensures some { IfSome result (λ account. (account < length numbers.now.keys) × (slice_index_or (map (λ number. number.items) numbers.now.keys) account [] ≡ party.now.items)) }
-    ensures none { IfNone result (¬ Contains (map (λ number. number.items) numbers.now.keys) party.now.items) }
+/// The account of a payee: its place among the payees, where it has one.
+pub(crate) fn account_of(payees: &[Vec<u8>], payee: &[u8]) -> Option<Account>
+    requires rising { IsStrictlySortedBy (slice_cmp nat_cmp) (map (λ other. other.items) payees.now) }
+    requires few { length payees.now ≤ MOST_ACCOUNTS + 1 }
+    ensures some { IfSome result (λ account. (account < length payees.now) × (slice_index_or (map (λ other. other.items) payees.now) account [] ≡ payee.now)) }
+    ensures none { IfNone result (¬ Contains (map (λ other. other.items) payees.now) payee.now) }
 {
-    match numbers.get_index_of(party) {
-        Some(place) => Some(place as Account),
-        None => None,
-    }
-}
-
-/// The account of a party: its place among the parties, where it has one.
-pub(crate) fn account_of(parties: &[Vec<u8>], party: &[u8]) -> Option<Account>
-    requires rising { IsStrictlySortedBy (slice_cmp nat_cmp) (map (λ other. other.items) parties.now) }
-    requires few { length parties.now ≤ MOST_PARTIES + 1 }
-    ensures some { IfSome result (λ account. (account < length parties.now) × (slice_index_or (map (λ other. other.items) parties.now) account [] ≡ party.now)) }
-    ensures none { IfNone result (¬ Contains (map (λ other. other.items) parties.now) party.now) }
-{
-    match parties.binary_search_by(|other| other.as_slice().cmp(party)) {
+    match payees.binary_search_by(|other| other.as_slice().cmp(payee)) {
         Ok(place) => Some(place as Account),
         Err(_) => None,
     }

@@ -80,7 +80,8 @@ impl Payees {
 
     /// The payee of a party: that of its row, or else the party itself. It is not looked up again.
     pub fn payee_of<'a>(&'a self, party: &'a [u8]) -> &'a [u8]
-        ensures { result.now ≡ payee_of self.now party.now }
+        ensures payee { result.now ≡ payee_of self.now party.now }
+        ensures named { 0 < length party.now → 0 < length result.now }
     {
         match in_place_if_short(party) {
             Some(name) => match self.rows.get(&name) {

@@ -4,6 +4,7 @@ ghost use Rattle.std.specs.Prelude.{◌≡◌, ◌<◌, ◌+◌, ◌++◌, ◌�
 ghost use Rattle.cwr_share.specs.Compiled.{AreWorkNumbers};
 ghost use Rattle.cwr_share.specs.CwrFile.{HasTooMany, IsFaultOfLine, IsFaultOfOpening, IsFileOf};
 ghost use Rattle.cwr_share.specs.Parties.{HasManyFound};
+ghost use Rattle.cwr_share.specs.Payees.{payee_of};
 ghost use Rattle.cwr_share.specs.Reading.{AreShareLines, HasInForce, IsReadTo, IsTable, works_of};
 ghost use Rattle.cwr_share.specs.Records.{is_share_line, share_fields, type_of};
 ghost use Rattle.cwr_share.specs.declared.cwr_fault.CwrFault.TheVariants.{Accounts, Memory};
@@ -11,12 +12,12 @@ ghost use Rattle.cwr_share.specs.declared.record_type.RecordType.TheVariants as 
 
 use crate::fields::{SPT, SWT, ShareFields, WORK};
 use crate::numbers::{WorkNumber, in_place};
-use crate::parties::{numbers_of, parties_of};
+use crate::parties::parties_of;
 use crate::record_type::record_type;
 use crate::registration::CompiledRegistration;
 use crate::registrations::Registrations;
 use crate::share_line::{ShareRecord, is_filled, trimmed};
-use crate::{CwrFault, RecordType, Registry};
+use crate::{CwrFault, Payees, RecordType, Registry};
 use indexmap::IndexSet;
 use std::alloc::{AllocError, Global};
 
@@ -139,21 +140,22 @@ impl Reading {
         Ok(())
     }
 
-    /// The registry of the lines so far, with the parties' accounts.
-    pub(crate) fn finish(self, alloc: Global) -> Result<Registry, CwrFault>
+    /// The registry of the lines so far, with the accounts of the parties' payees.
+    pub(crate) fn finish(self, alloc: Global, payees: &Payees) -> Result<Registry, CwrFault>
         requires { (lines : List (List ℕ)) × IsReadTo lines self }
-        ensures registry { IfOk result (λ registry. (lines : List (List ℕ)) → IsReadTo lines self → IsFileOf lines registry) }
-        ensures fault { IfErr result (λ fault. (fault ≡ Memory) ⊎ ((fault ≡ Accounts) × ((lines : List (List ℕ)) → IsReadTo lines self → HasTooMany lines))) }
+        ensures registry { IfOk result (λ registry. (lines : List (List ℕ)) → IsReadTo lines self → IsFileOf payees.now lines registry) }
+        ensures fault { IfErr result (λ fault. (fault ≡ Memory) ⊎ ((fault ≡ Accounts) × ((lines : List (List ℕ)) → IsReadTo lines self → HasTooMany payees.now lines))) }
     {
         let mut reading = self;
         reading.end()?;
-        registry_of(alloc, reading.works, reading.registrations)
+        registry_of(alloc, payees, reading.works, reading.registrations)
     }
 }
 
 /// The registry of these works with their share lines.
 fn registry_of(
     alloc: Global,
+    payees: &Payees,
     works: IndexSet<WorkNumber>,
     lists: Vec<Vec<ShareRecord>>,
 ) -> Result<Registry, CwrFault>
@@ -161,14 +163,14 @@ fn registry_of(
     requires lists { All (λ lines. AreShareLines lines.items) lists.items }
     requires short { AreWorkNumbers works.keys }
     ensures works { IfOk result (λ registry. registry.works ≡ works_of works.keys lists.items) }
-    ensures fault { IfErr result (λ fault. (fault ≡ Memory) ⊎ ((fault ≡ Accounts) × HasManyFound (works_of works.keys lists.items))) }
+    ensures paid { IfOk result (λ registry. All (λ row. row.1 ≡ payee_of payees.now row.0) registry.payees) }
+    ensures fault { IfErr result (λ fault. (fault ≡ Memory) ⊎ ((fault ≡ Accounts) × HasManyFound payees.now (works_of works.keys lists.items))) }
 {
     let mut registrations = Registrations::room(alloc, works.len())?;
-    let parties = parties_of(alloc, lists.as_slice())?;
-    let numbers = numbers_of(alloc, parties.as_slice())?;
+    let parties = parties_of(alloc, payees, lists.as_slice())?;
     let mut registration = CompiledRegistration::new(alloc);
     for shares in &lists {
-        registration.compile(shares.as_slice(), &numbers)?;
+        registration.compile(shares.as_slice(), &parties.accounts)?;
         registrations = registrations.and(&registration)?;
     }
     Ok(Registry::of(works, registrations, parties))

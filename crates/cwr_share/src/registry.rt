@@ -8,13 +8,14 @@ ghost use Rattle.cwr_share.specs.Compiled.{AreKept, registered_as};
 ghost use Rattle.cwr_share.specs.CwrFile.{IsFaultOf, IsFileOf};
 ghost use Rattle.cwr_share.specs.Found.{IsLookUp};
 ghost use Rattle.cwr_share.specs.Lines.{lines_of};
+ghost use Rattle.cwr_share.specs.Payees.{HasRow, payee_of};
 ghost use Rattle.cwr_share.specs.Registered.{IsRegistered};
 
-use crate::CwrFault;
+use crate::{CwrFault, Payees};
 use crate::claim_line::{ClaimLine, claims};
 use crate::lines::Lines;
-use crate::numbers::{WorkNumber, in_place_if_short};
-use crate::parties::account_of;
+use crate::numbers::{PartyNumber, WorkNumber, in_place_if_short};
+use crate::parties::{Parties, account_of};
 use crate::reading::Reading;
 use crate::registrations::Registrations;
 use indexmap::IndexSet;
@@ -23,14 +24,13 @@ use std::alloc::{AllocError, Global};
 use std::marker::Model;
 use tis_tree::{Code, MOST_ROWS, TisTable};
 
-/// The registrations in force of a file, and the accounts of their parties.
+/// The registrations in force of a file, and the accounts of their parties' payees.
 #[derive(Drop)]
 pub struct Registry {
     works: IndexSet<WorkNumber>,
     /// The registration of each work.
     registrations: Registrations,
-    /// The party of each account; the residue's has none.
-    parties: Vec<Vec<u8>>,
+    parties: Parties,
 }
 
 impl Model for Registry {
@@ -40,39 +40,50 @@ impl Model for Registry {
 
     ghost Value = { Registered };
 
-    ghost view = { λ r. registered_as r.works.keys r.registrations r.parties.items };
+    ghost view = { λ r. registered_as r.works.keys r.registrations r.parties.accounts.entries r.parties.payees.items };
 
-    ghost invariant = { λ r. IsRegistered (registered_as r.works.keys r.registrations r.parties.items) × AreKept r.works.keys r.registrations r.parties.items };
+    ghost invariant = { λ r. IsRegistered (registered_as r.works.keys r.registrations r.parties.accounts.entries r.parties.payees.items)
+        × AreKept r.works.keys r.registrations r.parties.accounts.entries r.parties.payees.items };
 }
 
 impl Registry {
     /// Reads a CWR 2.2 file with line ends of either kind, LF or CR LF. Of several registrations (NWR,
-    /// REV) of a work the last one is in force.
+    /// REV) of a work the last one is in force. Each party is paid itself.
     pub fn read(alloc: Global, bytes: &[u8]) -> Result<Registry, CwrFault>
-        ensures registrations { IfOk result (IsFileOf (lines_of bytes.now)) }
+        ensures registrations { IfOk result (IsFileOf [] (lines_of bytes.now)) }
         ensures sound { IfOk result IsRegistered }
-        ensures fault { IfErr result (IsFaultOf (lines_of bytes.now)) }
+        ensures fault { IfErr result (IsFaultOf [] (lines_of bytes.now)) }
+    {
+        Registry::paid(alloc, bytes, &Payees::none(alloc))
+    }
+
+    /// The same where what a party claims is paid to its payee. Several parties may be paid to one
+    /// account: their claims are added before an amount is divided.
+    pub fn paid(alloc: Global, bytes: &[u8], payees: &Payees) -> Result<Registry, CwrFault>
+        ensures registrations { IfOk result (IsFileOf payees.now (lines_of bytes.now)) }
+        ensures sound { IfOk result IsRegistered }
+        ensures fault { IfErr result (IsFaultOf payees.now (lines_of bytes.now)) }
     {
         let mut lines = Lines::of(bytes);
         let mut reading = Reading::new(alloc);
         for number in 1..=bytes.len() as u64 {
             let Some(line) = lines.next() else {
-                return reading.finish(alloc);
+                return reading.finish(alloc, payees);
             };
             reading.add(alloc, number, line)?;
         }
-        reading.finish(alloc)
+        reading.finish(alloc, payees)
     }
 
     /// The registry of these parts.
     pub(crate) fn of(
         works: IndexSet<WorkNumber>,
         registrations: Registrations,
-        parties: Vec<Vec<u8>>,
+        parties: Parties,
     ) -> Registry
-        requires sound { IsRegistered (registered_as works.keys registrations parties.items) }
-        requires kept { AreKept works.keys registrations parties.items }
-        ensures { result ≡ registered_as works.keys registrations parties.items }
+        requires sound { IsRegistered (registered_as works.keys registrations parties.accounts.entries parties.payees.items) }
+        requires kept { AreKept works.keys registrations parties.accounts.entries parties.payees.items }
+        ensures { result ≡ registered_as works.keys registrations parties.accounts.entries parties.payees.items }
     {
         Registry {
             works,
@@ -81,38 +92,50 @@ impl Registry {
         }
     }
 
-    /// How many accounts there are: one for each party, and the residue's.
+    /// How many accounts there are: one for each payee, and the residue's.
     pub fn accounts(&self) -> u16
         ensures accounts { result ≡ length self.now.parties }
         ensures sound { IsRegistered self.now }
     {
-        self.parties.len() as u16
+        self.parties.payees.len() as u16
     }
 
-    /// The party of each account, by its interested party number. The residue's has none.
+    /// The payee of each account: a name of the table of payees, or the interested party number of a
+    /// party that has no row there. The residue's account has none.
     pub fn parties(&self) -> &[Vec<u8>]
         ensures { map (λ party. party.items) result.now ≡ self.now.parties }
     {
-        self.parties.as_slice()
+        self.parties.payees.as_slice()
     }
 
-    /// The interested party number of an account.
+    /// The payee of an account.
     pub fn party(&self, account: Account) -> &[u8]
         requires { account < length self.now.parties }
         ensures { result.now ≡ slice_index_or self.now.parties account [] }
     {
-        self.parties[account as usize].as_slice()
+        self.parties.payees[account as usize].as_slice()
     }
 
-    /// The account of a party. No account has an empty text.
-    pub fn account_of(&self, party: &[u8]) -> Option<Account>
-        ensures some { IfSome result (λ account. (0 < account) × (account < length self.now.parties) × (slice_index_or self.now.parties account [] ≡ party.now)) }
-        ensures none { IfNone result ((party.now ≡ []) ⊎ ¬ Contains self.now.parties party.now) }
+    /// The account of a payee. No account has an empty text.
+    pub fn account_of(&self, payee: &[u8]) -> Option<Account>
+        ensures some { IfSome result (λ account. (0 < account) × (account < length self.now.parties) × (slice_index_or self.now.parties account [] ≡ payee.now)) }
+        ensures none { IfNone result ((payee.now ≡ []) ⊎ ¬ Contains self.now.parties payee.now) }
     {
-        if party.is_empty() {
+        if payee.is_empty() {
             return None;
         }
-        account_of(self.parties.as_slice(), party)
+        account_of(self.parties.payees.as_slice(), payee)
+    }
+
+    /// The payee of a party, where the registrations in force have the party.
+    pub fn payee_of(&self, party: &[u8]) -> Option<&[u8]>
+        ensures some { IfSome result (λ payee. HasRow self.now.payees party.now × (payee.now ≡ payee_of self.now.payees party.now)) }
+        ensures none { IfNone result (¬ HasRow self.now.payees party.now) }
+    {
+        let accounts = &self.parties.accounts;
+        let number: PartyNumber = in_place_if_short(party)?;
+        let account = accounts.get(&number)?;
+        Some(self.parties.payees[*account as usize].as_slice())
     }
 
     /// How many works have a registration in force.

@@ -31,11 +31,11 @@ pub(crate) struct ShareRecord {
     pub(crate) territory: Code,
 }
 
-/// A share line as a registration keeps it: with the account of its party.
+/// A share line as a registration keeps it: with the number of its party.
 #[derive(Clone, Copy)]
 pub(crate) struct RegisteredShare {
     pub(crate) interest: usize,
-    pub(crate) account: Account,
+    pub(crate) party: usize,
     pub(crate) shares: CollectionShares,
     pub(crate) includes: bool,
     pub(crate) territory: Code,
@@ -113,13 +113,14 @@ impl ShareRecord {
         })
     }
 
-    /// What is kept of it, where its party has this account.
-    pub(crate) fn kept(&self, account: Account) -> RegisteredShare
-        ensures { (parties : List (List ℕ)) → slice_index_or parties account [] ≡ self.now.party → line_by parties result ≡ self.now }
+    /// What is kept of it, where its party has this number.
+    pub(crate) fn kept(&self, party: usize) -> RegisteredShare
+        ensures line { (parties : List (List ℕ)) → slice_index_or parties party [] ≡ self.now.party → line_by parties result ≡ self.now }
+        ensures party { result.party ≡ party }
     {
         RegisteredShare {
             interest: self.interest,
-            account,
+            party,
             shares: self.shares,
             includes: self.includes,
             territory: self.territory,
@@ -128,12 +129,12 @@ impl ShareRecord {
 }
 
 impl RegisteredShare {
-    /// The line in the form that claims are worked out from.
-    pub(crate) fn claim_line(&self, begins: bool) -> ClaimLine
-        ensures { result ≡ claim_line self.now.account begins (line_by [] self.now) }
+    /// The line in the form that claims are worked out from, where its party has this account.
+    pub(crate) fn claim_line(&self, account: Account, begins: bool) -> ClaimLine
+        ensures { result ≡ claim_line account begins (line_by [] self.now) }
     {
         ClaimLine {
-            account: self.account,
+            account,
             shares: if self.includes {
                 self.shares
             } else {

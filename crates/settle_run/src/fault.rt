@@ -1,9 +1,9 @@
 //! Why a run has no statements.
 
 ghost use Rattle.std.specs.Prelude.{◌≡◌};
-ghost use Rattle.settle_run.specs.Faults.{fault_of_cwr, fault_of_tis, fault_of_usage, number_of, place_of};
+ghost use Rattle.settle_run.specs.Faults.{fault_of_cwr, fault_of_payees, fault_of_tis, fault_of_usage, number_of, place_of};
 
-use cwr_share::CwrFault;
+use cwr_share::{CwrFault, PayeeFault};
 use line_split::LineFault;
 use split_run::RunFault;
 use std::alloc::AllocError;
@@ -25,10 +25,13 @@ pub enum Fault {
     /// Memory was refused.
     #[error("out of room")]
     Room,
+    /// The table of payees is refused.
+    #[error("the payees: {0}")]
+    Payee(PayeeFault),
 }
 
 impl Fault {
-    /// The fault's number: 1 to 4, in the order above.
+    /// The fault's number: 1 to 5, in the order above.
     pub fn number(&self) -> u8
         ensures { result ≡ number_of self.now }
     {
@@ -37,6 +40,7 @@ impl Fault {
             Fault::Cwr(_) => 2,
             Fault::Usage(_) => 3,
             Fault::Room => 4,
+            Fault::Payee(_) => 5,
         }
     }
 
@@ -49,6 +53,7 @@ impl Fault {
             Fault::Cwr(fault) => fault.place(),
             Fault::Usage(fault) => fault.place(),
             Fault::Room => None,
+            Fault::Payee(fault) => fault.place(),
         }
     }
 }
@@ -77,6 +82,20 @@ impl From<CwrFault> for Fault {
         match fault {
             CwrFault::Memory => Fault::Room,
             _ => Fault::Cwr(fault),
+        }
+    }
+}
+
+impl From<PayeeFault> for Fault {
+    ghost use Rattle.std.specs.Prelude.{◌≡◌};
+    ghost use Rattle.settle_run.specs.Faults.{fault_of_payees};
+
+    ghost from_gives = { λ fault given. given ≡ fault_of_payees fault };
+
+    fn from(fault: PayeeFault) -> Fault {
+        match fault {
+            PayeeFault::Memory => Fault::Room,
+            _ => Fault::Payee(fault),
         }
     }
 }

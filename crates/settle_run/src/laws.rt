@@ -1,21 +1,32 @@
 //! What the statements of a run keep to. A law has an empty body: its contract is the law.
 
-ghost use Rattle.std.specs.Prelude.{◌≡◌, ℕ, List};
+ghost use Rattle.std.specs.Prelude.{◌≡◌, ◌∷◌, ◌↔◌, ℕ, List, None, Option, Some, []};
+ghost use Rattle.csv_table.specs.Table.{rows_of};
+ghost use Rattle.cwr_share.specs.PayeeTable.{header};
 ghost use Rattle.settle_run.specs.Settled.{AreStatementsOf, HaveNoFault, IsFaultOf};
 ghost use Rattle.settle_run.specs.declared.fault.Fault.{Fault};
 ghost use Rattle.settle_run.specs.declared.fault.Fault.TheVariants.{Room};
 
-/// Three inputs have one text: whoever works out their statements, and with however many threads, comes to
-/// the same bytes.
-pub fn law_three_inputs_have_one_text()
-    ensures { (territories_file registrations_file usage_file text other : List ℕ) → AreStatementsOf territories_file registrations_file usage_file text
-        → AreStatementsOf territories_file registrations_file usage_file other → text ≡ other }
+/// The inputs have one text, with a table of payees and without: whoever works out their statements, and
+/// with however many threads, comes to the same bytes.
+pub fn law_inputs_have_one_text()
+    ensures { (territories_file : List ℕ) (payees_file : Option (List ℕ)) (registrations_file usage_file text other : List ℕ)
+        → AreStatementsOf territories_file payees_file registrations_file usage_file text
+        → AreStatementsOf territories_file payees_file registrations_file usage_file other → text ≡ other }
+{}
+
+/// A table of payees that has no rows is as good as none.
+pub fn law_a_table_without_rows_is_none()
+    ensures { (territories_file payees_file registrations_file usage_file text : List ℕ) → rows_of payees_file ≡ header ∷ []
+        → AreStatementsOf territories_file (Some payees_file) registrations_file usage_file text ↔ AreStatementsOf territories_file None registrations_file usage_file text }
 {}
 
 /// Inputs without a fault are refused for none, and inputs that have statements are without a fault.
 pub fn law_inputs_with_statements_have_no_fault()
-    ensures sound { (territories_file registrations_file usage_file : List ℕ) (fault : Fault) → HaveNoFault territories_file registrations_file usage_file
-        → IsFaultOf territories_file registrations_file usage_file fault → fault ≡ Room }
-    ensures settled { (territories_file registrations_file usage_file text : List ℕ) → AreStatementsOf territories_file registrations_file usage_file text
-        → HaveNoFault territories_file registrations_file usage_file }
+    ensures sound { (territories_file : List ℕ) (payees_file : Option (List ℕ)) (registrations_file usage_file : List ℕ) (fault : Fault)
+        → HaveNoFault territories_file payees_file registrations_file usage_file
+        → IsFaultOf territories_file payees_file registrations_file usage_file fault → fault ≡ Room }
+    ensures settled { (territories_file : List ℕ) (payees_file : Option (List ℕ)) (registrations_file usage_file text : List ℕ)
+        → AreStatementsOf territories_file payees_file registrations_file usage_file text
+        → HaveNoFault territories_file payees_file registrations_file usage_file }
 {}

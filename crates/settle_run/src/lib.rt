@@ -1,4 +1,4 @@
-//! The statements of a run, from its three inputs.
+//! The statements of a run, from its inputs: three, and a table of payees where there is one.
 #![tactic(auto)]
 
 mod fault;
@@ -6,4 +6,4 @@ pub mod laws;
 mod statements;
 
 pub use fault::Fault;
-pub use statements::{settle, settle_to};
+pub use statements::{settle, settle_paid, settle_to};

@@ -7,11 +7,11 @@ use Rattle.cwr_share.proofs.parties.account_of.Goals as goal
 pub returns-in-Ok-clause-some : goal.returns-in-Ok-clause-some
 returns-in-Ok-clause-some c =
     let text = λ (other : Vec ℕ Global). other.items in
-    let at = c.in-Ok.ensures.position (λ other. slice_cmp nat_cmp (text other) c.args.party.now) (always_returns_same _ _ _ (λ a r f k. search rules)) in
-    (c.in-Ok.ensures.bound, found text c.args.parties.now c.requires.rising c.args.party.now c.in-Ok.place c.in-Ok.ensures.bound at)
+    let at = c.in-Ok.ensures.position (λ other. slice_cmp nat_cmp (text other) c.args.payee.now) (always_returns_same _ _ _ (λ a r f k. search rules)) in
+    (c.in-Ok.ensures.bound, found text c.args.payees.now c.requires.rising c.args.payee.now c.in-Ok.place c.in-Ok.ensures.bound at)
 
 pub returns-in-Err-clause-none : goal.returns-in-Err-clause-none
 returns-in-Err-clause-none c =
     let text = λ (other : Vec ℕ Global). other.items in
-    let at = c.in-Err.ensures.position (λ other. slice_cmp nat_cmp (text other) c.args.party.now) (always_returns_same _ _ _ (λ a r f k. search rules)) in
-    not_found text c.args.parties.now c.requires.rising c.args.party.now c.in-Err.field-0 (at (searchable text c.args.parties.now c.requires.rising c.args.party.now))
+    let at = c.in-Err.ensures.position (λ other. slice_cmp nat_cmp (text other) c.args.payee.now) (always_returns_same _ _ _ (λ a r f k. search rules)) in
+    not_found text c.args.payees.now c.requires.rising c.args.payee.now c.in-Err.field-0 (at (searchable text c.args.payees.now c.requires.rising c.args.payee.now))

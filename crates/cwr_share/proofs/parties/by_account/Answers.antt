@@ -11,20 +11,20 @@ use Rattle.cwr_share.proofs.parties.by_account.Goals as goal
 
 module _ (c : goal.In_ok-extend) where
   abbrev texts : List (Vec ℕ Global) → List (List ℕ)
-  texts parties = map (λ party. party.items) parties
+  texts payees = map (λ payee. payee.items) payees
 
   extended : c.extend.new.self.items ≡ c.push.new.self.items ++ c.args.found.keys
   extended = rw c.in_ok-extend.was at (fact_from_extend (λ x. x) c.extend.result c.extend.ensures.ran (λ it b. YieldsList-from_rest c.args.found.keys b.0)
       (λ xs same gives. gives.0 ∙ ap (λ (xs : List (Vec ℕ Global)). c.push.new.self.items ++ xs) (sym (map-id xs) ∙ same)))
 
   first : texts c.push.new.self.items ≡ [] ∷ []
-  first = rw (c.in_ok-push.ensures.items, c.new-parties.ensures.items, c.new.ensures.items) refl
+  first = rw (c.in_ok-push.ensures.items, c.new-payees.ensures.items, c.new.ensures.items) refl
 
-pub returns-clause-parties : goal.returns-clause-parties
-returns-clause-parties c =
-    ap (texts c) (extended c) ∙ map-append (λ (party : Vec ℕ Global). party.items) c.push.new.self.items c.args.found.keys ∙ ap (λ (texts : List (List ℕ)). texts ++ texts_of c.args.found) (first c)
+pub returns-clause-payees : goal.returns-clause-payees
+returns-clause-payees c =
+    ap (texts c) (extended c) ∙ map-append (λ (payee : Vec ℕ Global). payee.items) c.push.new.self.items c.args.found.keys ∙ ap (λ (texts : List (List ℕ)). texts ++ texts_of c.args.found) (first c)
 
 pub returns-clause-rising : goal.returns-clause-rising
 returns-clause-rising c =
-    subst (IsStrictlySortedBy (slice_cmp nat_cmp)) (sym (returns-clause-parties c))
-    (rising_from_empty (texts_of c.args.found) (rising_texts (λ (party : Vec ℕ Global). party.items) c.args.found.keys c.extend.ensures.ran.2.4) c.requires)
+    subst (IsStrictlySortedBy (slice_cmp nat_cmp)) (sym (returns-clause-payees c))
+    (rising_from_empty (texts_of c.args.found) (rising_texts (λ (payee : Vec ℕ Global). payee.items) c.args.found.keys c.extend.ensures.ran.2.4) c.requires)

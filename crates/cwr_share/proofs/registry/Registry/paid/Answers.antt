@@ -3,9 +3,9 @@ use Rattle.std.proofs.lemmas.Result.{IfErr-weaker, IfOk-weaker, err_from_is_err_
 use Rattle.cwr_share.specs.CwrFile.{IsFaultOf, IsFileOf}
 use Rattle.cwr_share.specs.Lines.{lines_of}
 use Rattle.cwr_share.specs.Reading.{IsReadTo}
-use Rattle.cwr_share.proofs.FileLemmas.{none_left, parties_fault, walked_all, walked_fault, walked_more}
-use Rattle.cwr_share.proofs.registry.Registry.read.Goals as goal
-use Rattle.cwr_share.proofs.registry.Registry.read.Goals.{After-finish, Left-loop-number, else-loop-number-test, then-loop-number-test+in-Some+in_ok-add+else-number-number-end}
+use Rattle.cwr_share.proofs.FileLemmas.{none_left, payees_fault, walked_all, walked_fault, walked_more}
+use Rattle.cwr_share.proofs.registry.Registry.paid.Goals as goal
+use Rattle.cwr_share.proofs.registry.Registry.paid.Goals.{After-finish, Left-loop-number, else-loop-number-test, then-loop-number-test+in-Some+in_ok-add+else-number-number-end}
 
 -- all lines are read where none is left
 read_before : (c : After-finish) → IsReadTo (lines_of c.args.bytes.now) c.loop-number.reading
@@ -29,16 +29,16 @@ read_after c =
 
 pub returns-in_default-clause-registrations : goal.returns-in_default-clause-registrations
 returns-in_default-clause-registrations c =
-    IfOk-weaker c.finish.result _ (IsFileOf (lines_of c.args.bytes.now)) (λ registry whole. whole (lines_of c.args.bytes.now) (read_before c)) c.finish.ensures.registry
+    IfOk-weaker c.finish.result _ (IsFileOf c.args.payees.now (lines_of c.args.bytes.now)) (λ registry whole. whole (lines_of c.args.bytes.now) (read_before c)) c.finish.ensures.registry
 
 pub returns-in_default-clause-fault : goal.returns-in_default-clause-fault
 returns-in_default-clause-fault c =
-    IfErr-weaker c.finish.result _ (IsFaultOf (lines_of c.args.bytes.now)) (λ fault why. parties_fault (lines_of c.args.bytes.now) c.loop-number.reading fault (read_before c) why) c.finish.ensures.fault
+    IfErr-weaker c.finish.result _ (IsFaultOf c.args.payees.now (lines_of c.args.bytes.now)) (λ fault why. payees_fault c.args.payees.now (lines_of c.args.bytes.now) c.loop-number.reading fault (read_before c) why) c.finish.ensures.fault
 
 pub returns-in_err-add-clause-fault : goal.returns-in_err-add-clause-fault
 returns-in_err-add-clause-fault c =
     let p = err_from_is_err_and c.from_residual.result c.from_residual.ensures.1 in
-    rw (p.1, p.2) (walked_fault (lines_of c.args.bytes.now) c.next.new.self c.in-Some.line.now c.loop-number.number c.loop-number.reading c.in_err-add.field-0.0
+    rw (p.1, p.2) (walked_fault c.args.payees.now (lines_of c.args.bytes.now) c.next.new.self c.in-Some.line.now c.loop-number.number c.loop-number.reading c.in_err-add.field-0.0
     (rw c.in-Some.ensures.some at c.loop-number.invariant) c.in_err-add.ensures.fault)
 
 pub loop-number-preserved : goal.loop-number-preserved
@@ -51,10 +51,10 @@ finish-requires-2 c = (lines_of c.args.bytes.now, read_after c)
 
 pub returns-clause-registrations : goal.returns-clause-registrations
 returns-clause-registrations c =
-    IfOk-weaker c.finish-2.result _ (IsFileOf (lines_of c.args.bytes.now)) (λ registry whole. whole (lines_of c.args.bytes.now) (read_after (goal.at.returns-clause-registrations c).Left-loop-number))
+    IfOk-weaker c.finish-2.result _ (IsFileOf c.args.payees.now (lines_of c.args.bytes.now)) (λ registry whole. whole (lines_of c.args.bytes.now) (read_after (goal.at.returns-clause-registrations c).Left-loop-number))
     c.finish-2.ensures.registry
 
 pub returns-clause-fault : goal.returns-clause-fault
 returns-clause-fault c =
-    IfErr-weaker c.finish-2.result _ (IsFaultOf (lines_of c.args.bytes.now))
-    (λ fault why. parties_fault (lines_of c.args.bytes.now) c.loop-number-test.reading fault (read_after (goal.at.returns-clause-fault c).Left-loop-number) why) c.finish-2.ensures.fault
+    IfErr-weaker c.finish-2.result _ (IsFaultOf c.args.payees.now (lines_of c.args.bytes.now))
+    (λ fault why. payees_fault c.args.payees.now (lines_of c.args.bytes.now) c.loop-number-test.reading fault (read_after (goal.at.returns-clause-fault c).Left-loop-number) why) c.finish-2.ensures.fault
