@@ -379,7 +379,7 @@ module _ (text : List ℕ) where
       let entry : slice_index_or numbers place first.0 ≡ (slice_index_or (first ∷ entries) place first).0 = get_or-map (λ (entry : Numbered). entry.0) (first ∷ entries) place first first.0 inside in (
         inside,
         get_or-map (λ (entry : Numbered). entry.0.items) (first ∷ entries) place first [] inside
-        ∙ (ap (λ (number : ArrayVec ℕ). number.items) (sym entry) ∙ sym ((bytes_eq-Decides text (slice_index_or numbers place first.0).items).0 same)),
+            ∙ (ap (λ (number : ArrayVec ℕ). number.items) (sym entry) ∙ sym ((bytes_eq-Decides text (slice_index_or numbers place first.0).items).0 same)),
       )
 
   -- where none is found, no number has the text

@@ -11,13 +11,13 @@ ghost use Rattle.cwr_share.specs.Lines.{lines_of};
 ghost use Rattle.cwr_share.specs.Payees.{HasRow, payee_of};
 ghost use Rattle.cwr_share.specs.Registered.{IsRegistered};
 
-use crate::{CwrFault, Payees};
 use crate::claim_line::{ClaimLine, claims};
 use crate::lines::Lines;
 use crate::numbers::{PartyNumber, WorkNumber, in_place_if_short};
 use crate::parties::{Parties, account_of};
 use crate::reading::Reading;
 use crate::registrations::Registrations;
+use crate::{CwrFault, Payees};
 use indexmap::IndexSet;
 use line_split::{Account, Claims, Line, MOST_CLAIMS, Reason};
 use std::alloc::{AllocError, Global};
