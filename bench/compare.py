@@ -1,6 +1,6 @@
 #!/usr/bin/env python3
-"""Runs the program and the plain Rust one on small made-up inputs, good and bad,
-and compares statuses, statements and messages.
+"""Runs the program and the plain Rust one on small made-up inputs, good and bad, half of them with a table of
+payees, and compares statuses, statements and messages.
 
     python3 compare.py --program PATH [--cases 2000] [--seed 1]
 """
@@ -57,6 +57,16 @@ def registrations(rng):
     return end.join(lines) + (end if lines and rng.random() < 0.8 else "")
 
 
+def payees(rng):
+    names = PARTIES + ["Z", "Z Y", 'Q"', "N" * 64, "0"]
+    parties = rng.sample(names, rng.choice([0, 1, 2, 4, len(names)]))
+    rows = ["party,payee"]
+    for party in parties:
+        field = lambda name: '"' + name.replace('"', '""') + '"' if set(name) & set(',"') else rng.choice([name, name, f" {name}  "])
+        rows.append(f"{field(party)},{field(rng.choice(names))}")
+    return "\n".join(rows) + rng.choice(["\n", ""])
+
+
 def usage(rng):
     rows = ["usage,work,territory,right,amount"]
     for n in range(rng.randint(0, 12)):
@@ -98,18 +108,28 @@ def damaged(rng, data):
     return bytes(data)
 
 
+NAMES = ("tis", "cwr", "usage", "payees")
+
+
 def case(rng):
-    files = [make(rng).encode() for make in (territories, registrations, usage)]
+    """The three files of a case, and a table of payees in half of them."""
+    makers = [territories, registrations, usage] + [payees] * rng.randint(0, 1)
+    files = [make(rng).encode() for make in makers]
     if rng.random() < 0.5:
-        place = rng.randrange(3)
+        place = rng.randrange(len(files))
         files[place] = damaged(rng, files[place])
     return files
 
 
-def run(program, paths, plan):
+def words_of(program, paths, plan):
     words = [program, "run"]
-    for name, value in zip(("tis", "cwr", "usage", "workers", "readers", "nodes"), [*paths, *plan]):
+    for name, value in [*zip(NAMES, paths), *zip(("workers", "readers", "nodes"), plan)]:
         words += [f"--{name}", str(value)]
+    return words
+
+
+def run(program, paths, plan):
+    words = words_of(program, paths, plan)
     done = subprocess.run(words, capture_output=True)
     return done.returncode, done.stdout, done.stderr.split(b": ", 1)[-1]
 
@@ -123,15 +143,15 @@ def main():
     plain, program = build_plain(), os.path.abspath(a.program)
     statuses, rows, differing = {}, 0, 0
     with tempfile.TemporaryDirectory() as folder:
-        paths = [os.path.join(folder, name) for name in ("tis", "cwr", "usage")]
         for n in range(a.cases):
             rng = random.Random(a.seed * 1_000_003 + n)
-            for path, data in zip(paths, case(rng)):
-                with open(path, "wb") as f:
+            used = []
+            for name, data in zip(NAMES, case(rng)):
+                used.append(os.path.join(folder, name))
+                with open(used[-1], "wb") as f:
                     f.write(data)
-            used = list(paths)
             if rng.random() < 0.02:
-                used[rng.randrange(3)] = os.path.join(folder, "absent")
+                used[rng.randrange(len(used))] = os.path.join(folder, "absent")
             plan = rng.randint(1, 8), rng.randint(1, 8), rng.randint(1, 64)
             ours, theirs = run(program, used, plan), run(plain, used, plan)
             statuses[ours[0]] = statuses.get(ours[0], 0) + 1

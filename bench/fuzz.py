@@ -4,8 +4,8 @@
     python3 fuzz.py --program PATH [--cases 100000] [--seed 1] [--jobs 2] [--seconds 60] [--keep FOLDER]
     python3 fuzz.py --program PATH --only N [--seed 1] [--keep FOLDER]
 
-A case starts from the example files, from small made-up inputs or from generated ones of a realistic shape. Of each case one to
-three files are damaged, each one to six times: cut off, or with bytes, fields or lines left out, doubled, swapped, changed, put in
+A case starts from the example files, from small made-up inputs or from generated ones of a realistic shape, half of them with a
+table of payees. Of each case one to three files are damaged, each one to six times: cut off, or with bytes, fields or lines left out, doubled, swapped, changed, put in
 from elsewhere or from another file. The same seed and number give the same case, so a case that differs can be run again
 alone; its files are left in a folder of their own below FOLDER, with the two commands. A run that takes longer than so many
 seconds counts as one that differs.
@@ -21,8 +21,7 @@ import tempfile
 import compare
 import large
 from bench import HERE, build_plain
-
-NAMES = ("tis", "cwr", "usage")
+from compare import NAMES, words_of
 
 # what a byte is changed to, or what is put in, more often than any byte
 BYTES = b' ,"\r\n0159AIEXPMS+-.\x00\x7f\x80\xff'
@@ -148,6 +147,18 @@ def example():
     return files
 
 
+def payees_of(rng, registrations):
+    """A table of payees of some parties of the registrations, and of some that they do not have."""
+    parties = sorted({line[19:28].strip() for line in registrations.split(b"\n") if line[:3] in (b"SPT", b"SWT")} - {b""})
+    names = parties + [b"Z", b"Y", b"N" * 64]
+    some = [name for name in names if rng.random() < rng.choice([0.2, 0.8])]
+    rows = [b"party,payee"]
+    for party in some:
+        pair = [party, rng.choice(names)]
+        rows.append(b",".join(b'"' + name.replace(b'"', b'""') + b'"' for name in pair))
+    return b"\n".join(rows) + b"\n"
+
+
 def generated(rng, folder):
     """Small files of a realistic shape."""
     large.generate(folder, rng.randint(1, 60), rng.randint(1, 15), rng.randint(2, 9), rng.randrange(1 << 30), taken_back=1 / 3)
@@ -159,7 +170,7 @@ def generated(rng, folder):
 
 
 def case(seed, number, folder):
-    """The three files of a case, and its plan."""
+    """The files of a case, a table of payees last if it has one, and its plan."""
     rng = random.Random(seed * 1_000_003 + number)
     kind = rng.random()
     if kind < 0.3:
@@ -168,18 +179,15 @@ def case(seed, number, folder):
         files = [make(rng).encode() for make in (compare.territories, compare.registrations, compare.usage)]
     else:
         files = generated(rng, folder)
-    for place in {rng.choice([0, 1, 1, 2, 2]) for _ in range(rng.choice([1, 1, 1, 2, 3]))}:
+    places = [0, 1, 1, 2, 2]
+    if rng.random() < 0.5:
+        files.append(compare.payees(rng).encode() if rng.random() < 0.3 else payees_of(rng, files[1]))
+        places += [3, 3]
+    for place in {rng.choice(places) for _ in range(rng.choice([1, 1, 1, 2, 3]))}:
         for _ in range(rng.choice([1, 1, 1, 2, 3, 6])):
             damage = rng.choice([in_bytes, in_lines, in_fields])
             files[place] = damage(rng, files[place], files)
     return files, (rng.randint(1, 8), rng.randint(1, 8), rng.choice([1, 2, 3, 8, 64]))
-
-
-def command(program, paths, plan):
-    words = [program, "run"]
-    for name, value in zip((*NAMES, "workers", "readers", "nodes"), [*paths, *plan]):
-        words += [f"--{name}", str(value)]
-    return words
 
 
 def outcome(words, seconds):
@@ -207,7 +215,7 @@ def run_part(part):
         for number in range(first, a.cases, a.jobs):
             files, plan = case(a.seed, number, folder)
             paths = write(folder, files)
-            ours, theirs = (outcome(command(p, paths, plan), a.seconds) for p in (program, plain))
+            ours, theirs = (outcome(words_of(p, paths, plan), a.seconds) for p in (program, plain))
             end = ours[2].decode("ascii", "replace").split(" at ")[0].strip() if ours[0] else "statements"
             ends[end] = ends.get(end, 0) + 1
             if ours != theirs:
@@ -223,7 +231,7 @@ def keep(a, program, plain, number):
         files, plan = case(a.seed, number, room)
     paths = write(folder, files)
     for p in (program, plain):
-        print("  " + " ".join(command(p, paths, plan)))
+        print("  " + " ".join(words_of(p, paths, plan)))
 
 
 def main():

@@ -5,6 +5,7 @@
 mod book;
 mod cwr;
 mod linked;
+mod payees;
 mod rows;
 mod split;
 mod text;
@@ -22,8 +23,9 @@ const ACCOUNTS: usize = 512;
 
 const LARGEST_FILE: u64 = 268_435_456;
 
-fn words() -> Option<(Vec<String>, bool, Mode)> {
-    let names = ["--tis", "--cwr", "--usage", "--workers", "--readers", "--nodes"];
+/// The values of the six options that have to be there, and the path of the payees.
+fn words() -> Option<(Vec<String>, Option<String>, bool, Mode)> {
+    let names = ["--tis", "--cwr", "--usage", "--workers", "--readers", "--nodes", "--payees"];
     let mut values: Vec<Option<String>> = vec![None; names.len()];
     let (mut times, mut mode) = (false, Mode::One);
     let mut args = std::env::args().skip(1);
@@ -41,7 +43,8 @@ fn words() -> Option<(Vec<String>, bool, Mode)> {
         }
         values[names.iter().position(|n| *n == name)?] = Some(args.next()?);
     }
-    Some((values.into_iter().collect::<Option<_>>()?, times, mode))
+    let payees = values.pop()?;
+    Some((values.into_iter().collect::<Option<_>>()?, payees, times, mode))
 }
 
 fn fail(status: u8, text: String) -> ExitCode {
@@ -64,8 +67,8 @@ fn read(path: &str) -> std::io::Result<Vec<u8>> {
 }
 
 fn main() -> ExitCode {
-    let Some((words, times, mode)) = words() else {
-        let usage = "run --tis F --cwr F --usage F --workers n --readers n --nodes n [--mode m] [--times]";
+    let Some((words, payees, times, mode)) = words() else {
+        let usage = "run --tis F [--payees F] --cwr F --usage F --workers n --readers n --nodes n [--mode m] [--times]";
         return fail(2, usage.into());
     };
     let number = |i: usize, most: usize| {
@@ -86,21 +89,27 @@ fn main() -> ExitCode {
     };
 
     let mut files = Vec::new();
-    for f in &words[..3] {
+    for f in words[..1].iter().chain(&payees).chain(&words[1..3]) {
         match read(f) {
             Ok(b) => files.push(b),
             Err(_) => return fail(4, format!("cannot read {f}")),
         }
     }
-    let (usage, cwr, mut tis) =
-        (files.pop().unwrap(), files.pop().unwrap(), files.pop().unwrap());
+    let (usage, cwr) = (files.pop().unwrap(), files.pop().unwrap());
+    let paid = payees.and_then(|_| files.pop());
+    let mut tis = files.pop().unwrap();
     lap("load files");
     let tis = match tis::Tis::read(&mut tis) {
         Ok(t) => t,
         Err(f) => return refused("tis", f),
     };
     lap("read tis");
-    let registry = match cwr::Registry::read(&cwr, &tis, ACCOUNTS) {
+    let payees = match paid.map(|mut bytes| payees::read(&mut bytes)) {
+        Some(Ok(p)) => p,
+        Some(Err(f)) => return refused("payee", f),
+        None => payees::Payees::new(),
+    };
+    let registry = match cwr::Registry::read(&cwr, &tis, &payees, ACCOUNTS) {
         Ok(r) => r,
         Err(f) => return refused("cwr", f),
     };

@@ -124,7 +124,11 @@ impl Out {
         let line = &input.usage.lines[p.line as usize];
         let usage = input.usage.padded(line);
         let len = input.usage.usage_len(line);
-        self.fixed(&prefix.0, prefix.1);
+        if prefix.1 <= 32 {
+            self.fixed::<32>(prefix.0.first_chunk().unwrap(), prefix.1);
+        } else {
+            self.fixed(&prefix.0, prefix.1);
+        }
         if line.quote {
             self.quoted(&usage[..len]);
         } else if len <= 16 {
@@ -140,11 +144,14 @@ impl Out {
 }
 
 /// What a row begins with, and its length; filled up for a fixed-size move.
-struct Prefix([u8; 32], usize);
+struct Prefix([u8; LONGEST], usize);
+
+/// A kind, a name of 64 quotes and the commas have no more bytes.
+const LONGEST: usize = 160;
 
 impl Prefix {
     fn new(t: &[u8]) -> Prefix {
-        let mut p = Prefix([0; 32], t.len());
+        let mut p = Prefix([0; LONGEST], t.len());
         p.0[..t.len()].copy_from_slice(t);
         p
     }

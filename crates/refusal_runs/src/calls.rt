@@ -8,8 +8,8 @@ use mail_box::{LaneMail, LinkMail, Mail, ShyMail};
 use pair_split::{PairFault, split_words};
 use payee_book::{Book, Journal};
 use queue_core::Core;
-use settle_run::{Fault, settle};
-use small_run::{STATEMENTS, TERRITORIES, TWO_PARTIES, USES};
+use settle_run::{Fault, settle, settle_paid};
+use small_run::{B_PAID_TO_A, STATEMENTS, TERRITORIES, TWO_PARTIES, USES};
 use split_run::{NoGate, Plan, RunFault, run, run_cut};
 use std::alloc::{AllocError, Global};
 use std::io::{self, Write};
@@ -32,6 +32,7 @@ pub fn make_calls<R: Threads + Wait + Sync, W: Write>(
     tell("TisTable::read", territories(alloc), out)?;
     tell("Payees::read", payees(alloc), out)?;
     tell("Registry::read", registrations(alloc), out)?;
+    tell("Registry::paid", paid_registrations(alloc), out)?;
     tell("Registry::scratch", scratch(alloc), out)?;
     tell("Usage::read", lines(alloc), out)?;
     tell("Claims::of", claims(alloc), out)?;
@@ -49,7 +50,8 @@ pub fn make_calls<R: Threads + Wait + Sync, W: Write>(
     tell("run", total(rt, alloc, None), out)?;
     tell("run_cut", total(rt, alloc, Some(4)), out)?;
     tell("run_cut of a thread", total(rt, alloc, Some(2)), out)?;
-    tell("settle", statements(rt, alloc), out)
+    tell("settle", statements(rt, alloc, None), out)?;
+    tell("settle_paid", statements(rt, alloc, Some(B_PAID_TO_A)), out)
 }
 
 fn tell<W: Write>(call: &str, answer: Answer, out: &mut W) -> io::Result<()> {
@@ -78,6 +80,15 @@ fn payees(alloc: Global) -> Answer {
 fn registrations(alloc: Global) -> Answer {
     match Registry::read(alloc, TWO_PARTIES.as_bytes()) {
         Ok(registry) => Some(registry.works() as u64),
+        Err(CwrFault::Memory) => None,
+        Err(_) => Some(WRONG),
+    }
+}
+
+fn paid_registrations(alloc: Global) -> Answer {
+    let payees = Payees::read(alloc, B_PAID_TO_A.as_bytes()).ok()?;
+    match Registry::paid(alloc, TWO_PARTIES.as_bytes(), &payees) {
+        Ok(registry) => Some(u64::from(registry.accounts())),
         Err(CwrFault::Memory) => None,
         Err(_) => Some(WRONG),
     }
@@ -231,13 +242,19 @@ fn total<R: Threads + Wait + Sync>(rt: &R, alloc: Global, cut: Option<u64>) -> A
     }
 }
 
-fn statements<R: Threads + Wait + Sync>(rt: &R, alloc: Global) -> Answer {
+/// How long the statements of the small run are, with a table of payees where one is given.
+fn statements<R: Threads + Wait + Sync>(rt: &R, alloc: Global, payees: Option<&str>) -> Answer {
     let (tis, cwr, usage) = (
         TERRITORIES.as_bytes(),
         TWO_PARTIES.as_bytes(),
         USES.as_bytes(),
     );
-    match settle(rt, alloc, tis, cwr, usage, Plan::new(2, 2, 1)?) {
+    let plan = Plan::new(2, 2, 1)?;
+    let answer = match payees {
+        Some(payees) => settle_paid(rt, alloc, tis, payees.as_bytes(), cwr, usage, plan),
+        None => settle(rt, alloc, tis, cwr, usage, plan),
+    };
+    match answer {
         Ok(text) => Some(text.len() as u64),
         Err(Fault::Room) => None,
         Err(_) => Some(WRONG),

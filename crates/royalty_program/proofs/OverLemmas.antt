@@ -1,32 +1,34 @@
 -- The statements of the files that a run names, by the words that name them.
-use Rattle.std.proofs.Common.{◌≡◌, ◌≢◌, ◌∙◌, ◌⊎◌, ◌+◌, ℕ, List, [], Err, Ok, Result, codes, drop, inl, inr, refl, subst}
+use Rattle.std.proofs.Common.{◌≡◌, ◌≢◌, ◌∙◌, ◌⊎◌, ◌+◌, ℕ, List, [], None, Option, Err, Ok, Result, codes, drop, inl, inr, refl, subst}
+use Rattle.std.specs.Option.{option_map}
 use Rattle.std.specs.Result.{IfErr, OnOk}
 use Rattle.std.proofs.lemmas.Grind.{get_or_after_one}
 use Rattle.std.specs.Prelude.{string_bytes}
 use Rattle.std.specs.declared.io.ErrorKind.{ErrorKind}
 use Rattle.pair_split.specs.Pair.{word_at}
 use Rattle.royalty_program.specs.Answered.{AreReadFrom}
-use Rattle.royalty_program.specs.Asked.{IsDivision, IsRun, path_given}
+use Rattle.royalty_program.specs.Asked.{IsDivision, IsRun, path_given, path_if_given}
 use Rattle.royalty_program.specs.Files.{AreStatementsOver}
 use Rattle.royalty_program.specs.Status.{FailFor, IsOfDivision, IsOfPaths, IsOfRun, IsRefusal, status_of}
 use Rattle.royalty_program.specs.declared.failure.Failure.{Failure}
 use Rattle.royalty_program.specs.declared.failure.Failure.TheVariants.{Words, NotText, Pairs, Input, Room, File, Output}
 use Rattle.royalty_program.specs.declared.run_command.RunWords.{RunWords}
-use Rattle.royalty_program.proofs.RunLemmas.{cwr_in_order, tis_in_order, usage_in_order}
+use Rattle.royalty_program.proofs.RunLemmas.{cwr_in_order, payees_in_order, tis_in_order, usage_in_order}
 
 -- statements stay those of paths that are the same
-at_paths : (holds : List ℕ → List ℕ → Type 0) (text tis cwr usage tis' cwr' usage' : List ℕ) → tis ≡ tis' → cwr ≡ cwr' → usage ≡ usage'
-    → AreStatementsOver holds tis cwr usage text → AreStatementsOver holds tis' cwr' usage' text
-at_paths holds text tis cwr usage tis' cwr' usage' same_tis same_cwr same_usage over =
-    subst (λ (u : List ℕ). AreStatementsOver holds tis' cwr' u text) same_usage
-    (subst (λ (c : List ℕ). AreStatementsOver holds tis' c usage text) same_cwr
-    (subst (λ (t : List ℕ). AreStatementsOver holds t cwr usage text) same_tis over))
+at_paths : (holds : List ℕ → List ℕ → Type 0) (text tis tis' : List ℕ) (payees payees' : Option (List ℕ)) (cwr cwr' usage usage' : List ℕ) → tis ≡ tis' → payees ≡ payees' → cwr ≡ cwr' → usage ≡ usage'
+    → AreStatementsOver holds tis payees cwr usage text → AreStatementsOver holds tis' payees' cwr' usage' text
+at_paths holds text tis tis' payees payees' cwr cwr' usage usage' same_tis same_payees same_cwr same_usage over =
+    subst (λ (u : List ℕ). AreStatementsOver holds tis' payees' cwr' u text) same_usage
+    (subst (λ (c : List ℕ). AreStatementsOver holds tis' payees' c usage text) same_cwr
+    (subst (λ (p : Option (List ℕ)). AreStatementsOver holds tis' p cwr usage text) same_payees
+    (subst (λ (t : List ℕ). AreStatementsOver holds t payees cwr usage text) same_tis over)))
 
 -- by the paths that the options are given
 pub over_given : (holds : List ℕ → List ℕ → Type 0) (words : List (List ℕ)) (asked : RunWords) (text : List ℕ) → AreReadFrom words asked
-    → AreStatementsOver holds (string_bytes asked.tis) (string_bytes asked.cwr) (string_bytes asked.usage) text
-    → AreStatementsOver holds (path_given (codes "tis") words) (path_given (codes "cwr") words) (path_given (codes "usage") words) text
-over_given holds words asked text read over = at_paths holds text _ _ _ _ _ _ read.tis read.cwr read.usage over
+    → AreStatementsOver holds (string_bytes asked.tis) (option_map string_bytes asked.payees) (string_bytes asked.cwr) (string_bytes asked.usage) text
+    → AreStatementsOver holds (path_given (codes "tis") words) (path_if_given (codes "payees") words) (path_given (codes "cwr") words) (path_given (codes "usage") words) text
+over_given holds words asked text read over = at_paths holds text _ _ _ _ _ _ _ _ read.tis read.payees read.cwr read.usage over
 
 -- a word after the first
 word_on : (words : List (List ℕ)) (k : ℕ) → word_at (drop 1 words) k ≡ word_at words (1 + k)
@@ -34,24 +36,26 @@ word_on words k = get_or_after_one words k []
 
 -- and in the plain form by the words after the options
 pub over_in_order : (holds : List ℕ → List ℕ → Type 0) (words : List (List ℕ)) (asked : RunWords) (text : List ℕ) → IsRun words → AreReadFrom (drop 1 words) asked
-    → AreStatementsOver holds (string_bytes asked.tis) (string_bytes asked.cwr) (string_bytes asked.usage) text
-    → AreStatementsOver holds (word_at words 3) (word_at words 5) (word_at words 7) text
-over_in_order holds words asked text run read over = at_paths holds text _ _ _ _ _ _
+    → AreStatementsOver holds (string_bytes asked.tis) (option_map string_bytes asked.payees) (string_bytes asked.cwr) (string_bytes asked.usage) text
+    → AreStatementsOver holds (word_at words 3) None (word_at words 5) (word_at words 7) text
+over_in_order holds words asked text run read over = at_paths holds text _ _ _ _ _ _ _ _
     (read.tis ∙ tis_in_order (drop 1 words) run.options ∙ word_on words 2)
+    (read.payees ∙ payees_in_order (drop 1 words) run.options)
     (read.cwr ∙ cwr_in_order (drop 1 words) run.options ∙ word_on words 4)
     (read.usage ∙ usage_in_order (drop 1 words) run.options ∙ word_on words 6) over
 
 -- a run fails for the files that its options name
 pub fails_given : (holds : List ℕ → List ℕ → Type 0) (refuses : List ℕ → ErrorKind → Type 0) (words : List (List ℕ)) (asked : RunWords) → AreReadFrom words asked → (failure : Failure)
-    → IsOfPaths holds refuses (string_bytes asked.tis) (string_bytes asked.cwr) (string_bytes asked.usage) failure → IsOfRun holds refuses words failure
+    → IsOfPaths holds refuses (string_bytes asked.tis) (option_map string_bytes asked.payees) (string_bytes asked.cwr) (string_bytes asked.usage) failure → IsOfRun holds refuses words failure
 fails_given holds refuses words asked read failure is =
-    let given : IsOfPaths holds refuses (path_given (codes "tis") words) (path_given (codes "cwr") words) (path_given (codes "usage") words) failure =
-    subst (λ (u : List ℕ). IsOfPaths holds refuses (path_given (codes "tis") words) (path_given (codes "cwr") words) u failure) read.usage
-    (subst (λ (c : List ℕ). IsOfPaths holds refuses (path_given (codes "tis") words) c (string_bytes asked.usage) failure) read.cwr
-    (subst (λ (t : List ℕ). IsOfPaths holds refuses t (string_bytes asked.cwr) (string_bytes asked.usage) failure) read.tis is)) in
+    let given : IsOfPaths holds refuses (path_given (codes "tis") words) (path_if_given (codes "payees") words) (path_given (codes "cwr") words) (path_given (codes "usage") words) failure =
+    subst (λ (u : List ℕ). IsOfPaths holds refuses (path_given (codes "tis") words) (path_if_given (codes "payees") words) (path_given (codes "cwr") words) u failure) read.usage
+    (subst (λ (c : List ℕ). IsOfPaths holds refuses (path_given (codes "tis") words) (path_if_given (codes "payees") words) c (string_bytes asked.usage) failure) read.cwr
+    (subst (λ (p : Option (List ℕ)). IsOfPaths holds refuses (path_given (codes "tis") words) p (string_bytes asked.cwr) (string_bytes asked.usage) failure) read.payees
+    (subst (λ (t : List ℕ). IsOfPaths holds refuses t (option_map string_bytes asked.payees) (string_bytes asked.cwr) (string_bytes asked.usage) failure) read.tis is))) in
     as_run failure given
   where
-    as_run : (failure : Failure) → IsOfPaths holds refuses (path_given (codes "tis") words) (path_given (codes "cwr") words) (path_given (codes "usage") words) failure
+    as_run : (failure : Failure) → IsOfPaths holds refuses (path_given (codes "tis") words) (path_if_given (codes "payees") words) (path_given (codes "cwr") words) (path_given (codes "usage") words) failure
         → IsOfRun holds refuses words failure
     as_run (Words error) none = absurd none
     as_run NotText none = none

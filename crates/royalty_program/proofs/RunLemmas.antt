@@ -7,7 +7,7 @@ use Rattle.std.specs.Result.{IfErr, IsErrAnd}
 use Rattle.std.specs.Borrow.{Bor}
 use Rattle.std.proofs.lemmas.Slice.Eq.{bytes_eq-Decides}
 use Rattle.std.proofs.lemmas.List.Elements.{All-nil}
-use Rattle.clap.specs.Words.{AddsArg, App, HasKind, HasMatchesOf, IsAmong, IsParsedFrom, IsPlain, IsPlainArg, IsUnsignedIn, Kinds, NarrowsTo, Rule, Text, app_of, args_of, fault_of, first_of, first_value, found_of, groups_of, is_simple, is_simple_and_free, kind_of, matches_of, new_app, one_of, one_text, rows_of, rule_of, with_rule}
+use Rattle.clap.specs.Words.{AddsArg, App, HasKind, HasMatchesOf, IsAmong, IsParsedFrom, IsPlain, IsPlainArg, IsUnsignedIn, Kinds, NarrowsTo, Rule, SameRules, Text, app_of, args_of, fault_of, first_of, first_value, found_of, groups_of, is_simple, is_simple_and_free, kind_of, matches_of, new_app, one_of, one_text, rows_of, rule_of, with_rule}
 use Rattle.clap.specs.Built.{IsAuto}
 use Rattle.clap.specs.declared.builder.arg.Arg.{Arg}
 use Rattle.clap.specs.declared.builder.command.Command.{Command}
@@ -19,16 +19,17 @@ use Rattle.clap.specs.declared.error.kind.ErrorKind.{ErrorKind}
 use Rattle.clap.specs.declared.error.kind.ErrorKind.TheVariants as kinds
 use Rattle.clap.specs.declared.parser.matches.ArgMatches.{ArgMatches}
 use Rattle.clap.proofs.CallerLemmas.{added_plain, required_has_value}
+use Rattle.clap.proofs.BuiltLemmas.{plain_same}
 use Rattle.clap.proofs.CallerReads.{required_reads}
 use Rattle.clap.proofs.WalkLemmas.{first_value-rows, one_text-rows}
 use Rattle.split_run.specs.Plans.{Planned}
 use Rattle.split_run.specs.declared.TheConstants.{MOST_NODES, MOST_THREADS}
 use Rattle.pair_split.specs.Pair.{word_at}
 use Rattle.royalty_program.specs.Answered.{AreReadFrom, AreReadInOrder}
-use Rattle.royalty_program.specs.Asked.{AreAccepted, AreRunWords, AskForHelp, IsErrorOf, number_given, number_in, path_given}
+use Rattle.royalty_program.specs.Asked.{AreAccepted, AreRunWords, AskForHelp, IsErrorOf, number_given, number_in, path_given, path_if_given}
 use Rattle.royalty_program.specs.declared.run_command.RunWords.{RunWords}
-use Rattle.royalty_program.specs.RequiredArg.{IsRequiredArg}
-use Rattle.royalty_program.specs.RunCommand.{IsRunCommand, file_rule, number_rule, run_app}
+use Rattle.royalty_program.specs.RequiredArg.{IsOptionalArg, IsRequiredArg}
+use Rattle.royalty_program.specs.RunCommand.{IsRunCommand, file_rule, number_rule, optional_rule, run_app}
 use Rattle.royalty_program.proofs.RunWalked.{rows_6, run_free, run_matches, run_simple}
 use Rattle.royalty_program.proofs.SplitLemmas.{ReadsU64, required_same, unsigned_reads}
 
@@ -54,9 +55,9 @@ has_none start app args groups globals negates shape = record {
   shape = shape;
 }
 
--- one more required argument is added
+-- one more argument is added
 pub has_more : (old new : Command) (a : Arg) (args : List Arg) (app : App) (name : List ℕ) (rule : Rule) → HasArgs old args app → (added : AddsArg old a new)
-    → IsRequiredArg name a → rule_of a ≡ rule → HasArgs new (args ++ added.arg ∷ []) (with_rule app rule)
+    → IsOptionalArg name a → rule_of a ≡ rule → HasArgs new (args ++ added.arg ∷ []) (with_rule app rule)
 has_more old new a args app name rule has added needed is = record {
   list = added.args ∙ ap (λ l. l ++ added.arg ∷ []) has.list;
   plain = added_plain old new a added has.plain needed.plain;
@@ -65,25 +66,35 @@ has_more old new a args app name rule has added needed is = record {
   shape = added.shape needed.local ∙ ap₂ with_rule has.shape is;
 }
 
--- a new command with the six options is the command of a run
-pub adds_six : (c0 c1 c2 c3 c4 c5 c6 : Command) (tis cwr usage workers readers nodes : Arg) → HasArgs c0 [] (new_app (codes "run"))
-    → AddsArg c0 tis c1 → AddsArg c1 cwr c2 → AddsArg c2 usage c3 → AddsArg c3 workers c4 → AddsArg c4 readers c5 → AddsArg c5 nodes c6
-    → IsRequiredArg (codes "tis") tis → IsRequiredArg (codes "cwr") cwr → IsRequiredArg (codes "usage") usage
+-- what is asked of a required argument is asked of one that is not
+as_optional : (name : List ℕ) (a : Arg) → IsRequiredArg name a → IsOptionalArg name a
+as_optional name a needed = record { id = needed.id; plain = needed.plain; local = needed.local }
+
+-- an argument that reads alike is one too
+optional_same : (name : List ℕ) (a b : Arg) → SameRules a b → IsOptionalArg name a → IsOptionalArg name b
+optional_same name a b same may = record { id = ap (λ x. x.now) same.id ∙ may.id; plain = plain_same a b same may.plain; local = same.global ∙ may.local }
+
+-- a new command with the seven options is the command of a run
+pub adds_seven : (c0 c1 c2 c3 c4 c5 c6 c7 : Command) (tis payees cwr usage workers readers nodes : Arg) → HasArgs c0 [] (new_app (codes "run"))
+    → AddsArg c0 tis c1 → AddsArg c1 payees c2 → AddsArg c2 cwr c3 → AddsArg c3 usage c4 → AddsArg c4 workers c5 → AddsArg c5 readers c6 → AddsArg c6 nodes c7
+    → IsRequiredArg (codes "tis") tis → IsOptionalArg (codes "payees") payees → IsRequiredArg (codes "cwr") cwr → IsRequiredArg (codes "usage") usage
     → IsRequiredArg (codes "workers") workers → IsRequiredArg (codes "readers") readers → IsRequiredArg (codes "nodes") nodes
-    → rule_of tis ≡ file_rule (codes "tis") → rule_of cwr ≡ file_rule (codes "cwr") → rule_of usage ≡ file_rule (codes "usage")
+    → rule_of tis ≡ file_rule (codes "tis") → rule_of payees ≡ optional_rule (codes "payees") → rule_of cwr ≡ file_rule (codes "cwr") → rule_of usage ≡ file_rule (codes "usage")
     → rule_of workers ≡ number_rule (codes "workers") MOST_THREADS → rule_of readers ≡ number_rule (codes "readers") MOST_THREADS
     → rule_of nodes ≡ number_rule (codes "nodes") MOST_NODES
     → workers.value_parser ≡ Some (vp.Unsigned 1 MOST_THREADS) → readers.value_parser ≡ Some (vp.Unsigned 1 MOST_THREADS)
     → nodes.value_parser ≡ Some (vp.Unsigned 1 MOST_NODES)
-    → IsRunCommand c6
-adds_six c0 c1 c2 c3 c4 c5 c6 tis cwr usage workers readers nodes has a1 a2 a3 a4 a5 a6 n1 n2 n3 n4 n5 n6 r1 r2 r3 r4 r5 r6 p4 p5 p6 =
-    let h1 = has_more c0 c1 tis _ _ _ _ has a1 n1 r1 in
-    let h2 = has_more c1 c2 cwr _ _ _ _ h1 a2 n2 r2 in
-    let h3 = has_more c2 c3 usage _ _ _ _ h2 a3 n3 r3 in
-    let h4 = has_more c3 c4 workers _ _ _ _ h3 a4 n4 r4 in
-    let h5 = has_more c4 c5 readers _ _ _ _ h4 a5 n5 r5 in
-    let h6 = has_more c5 c6 nodes _ _ _ _ h5 a6 n6 r6 in record {
+    → IsRunCommand c7
+adds_seven c0 c1 c2 c3 c4 c5 c6 c7 tis payees cwr usage workers readers nodes has a1 a a2 a3 a4 a5 a6 n1 np n2 n3 n4 n5 n6 r1 rp r2 r3 r4 r5 r6 p4 p5 p6 =
+    let h1 = has_more c0 c1 tis _ _ _ _ has a1 (as_optional _ tis n1) r1 in
+    let hp = has_more c1 c2 payees _ _ _ _ h1 a np rp in
+    let h2 = has_more c2 c3 cwr _ _ _ _ hp a2 (as_optional _ cwr n2) r2 in
+    let h3 = has_more c3 c4 usage _ _ _ _ h2 a3 (as_optional _ usage n3) r3 in
+    let h4 = has_more c4 c5 workers _ _ _ _ h3 a4 (as_optional _ workers n4) r4 in
+    let h5 = has_more c5 c6 readers _ _ _ _ h4 a5 (as_optional _ readers n5) r5 in
+    let h6 = has_more c6 c7 nodes _ _ _ _ h5 a6 (as_optional _ nodes n6) r6 in record {
       tis = a1.arg;
+      payees = a.arg;
       cwr = a2.arg;
       usage = a3.arg;
       workers = a4.arg;
@@ -91,6 +102,7 @@ adds_six c0 c1 c2 c3 c4 c5 c6 tis cwr usage workers readers nodes has a1 a2 a3 a
       nodes = a6.arg;
       args = h6.list;
       needs_tis = required_same _ tis a1.arg a1.rules n1;
+      may_have_payees = optional_same _ payees a.arg a.rules np;
       needs_cwr = required_same _ cwr a2.arg a2.rules n2;
       needs_usage = required_same _ usage a3.arg a3.rules n3;
       needs_workers = required_same _ workers a4.arg a4.rules n4;
@@ -118,19 +130,20 @@ narrowed whole part least last most is narrows from to =
 
 -- the place of an option, by the first letter of its name
 place : List ℕ → ℕ
-place [] = 6
-place (x ∷ xs) = cond (x == 116) 0 (cond (x == 99) 1 (cond (x == 117) 2 (cond (x == 119) 3 (cond (x == 114) 4 (cond (x == 110) 5 6)))))
+place [] = 7
+place (x ∷ xs) = cond (x == 116) 0 (cond (x == 112) 1 (cond (x == 99) 2 (cond (x == 117) 3 (cond (x == 119) 4 (cond (x == 114) 5 (cond (x == 110) 6 7))))))
 
 -- the options stand in these places
 at_places : (c : Command) (k : ℕ) (d : Arg) → IsRunCommand c → k < length (args_of c) → place (slice_index_or (args_of c) k d).id.now ≡ k
 unfolding place
 at_places c zero d s low = rw (s.args, s.needs_tis.id) refl
-at_places c (suc zero) d s low = rw (s.args, s.needs_cwr.id) refl
-at_places c (suc (suc zero)) d s low = rw (s.args, s.needs_usage.id) refl
-at_places c (suc (suc (suc zero))) d s low = rw (s.args, s.needs_workers.id) refl
-at_places c (suc (suc (suc (suc zero)))) d s low = rw (s.args, s.needs_readers.id) refl
-at_places c (suc (suc (suc (suc (suc zero))))) d s low = rw (s.args, s.needs_nodes.id) refl
-at_places c (suc (suc (suc (suc (suc (suc k)))))) d s low = absurd (omega (arith, ap length s.args))
+at_places c (suc zero) d s low = rw (s.args, s.may_have_payees.id) refl
+at_places c (suc (suc zero)) d s low = rw (s.args, s.needs_cwr.id) refl
+at_places c (suc (suc (suc zero))) d s low = rw (s.args, s.needs_usage.id) refl
+at_places c (suc (suc (suc (suc zero)))) d s low = rw (s.args, s.needs_workers.id) refl
+at_places c (suc (suc (suc (suc (suc zero))))) d s low = rw (s.args, s.needs_readers.id) refl
+at_places c (suc (suc (suc (suc (suc (suc zero)))))) d s low = rw (s.args, s.needs_nodes.id) refl
+at_places c (suc (suc (suc (suc (suc (suc (suc k))))))) d s low = absurd (omega (arith, ap length s.args))
 
 -- so an option with the name of another is the other
 only_one : (c : Command) (j k : ℕ) (e d : Arg) → IsRunCommand c → j < length (args_of c) → k < length (args_of c)
@@ -145,17 +158,17 @@ is_own : (c : Command) (k : ℕ) (d : Arg) → IsRunCommand c → k < length (ar
 unfolding place
 is_own c k d s low =
     let at = at_places c k d s low in
-    let six : length (args_of c) ≡ 6 = ap length s.args in (
-      λ empty. let bad : 6 ≡ k = sym (ap place empty) ∙ at in omega arith,
+    let seven : length (args_of c) ≡ 7 = ap length s.args in (
+      λ empty. let bad : 7 ≡ k = sym (ap place empty) ∙ at in omega arith,
       λ auto. elim auto [
-        | inl h ↦ let bad : 6 ≡ k = sym (ap place h) ∙ at in omega arith
-        | inr h ↦ let bad : 6 ≡ k = sym (ap place h) ∙ at in omega arith
+        | inl h ↦ let bad : 7 ≡ k = sym (ap place h) ∙ at in omega arith
+        | inr h ↦ let bad : 7 ≡ k = sym (ap place h) ∙ at in omega arith
       ],
     )
 
 -- an option has a value
 has_value : (c : Command) (m : ArgMatches) (name : Text) (a : Arg) (k : ℕ) → IsRunCommand c → IsParsedFrom c m
-    → IsRequiredArg name a → slice_index_or (args_of c) k a ≡ a → k < 6
+    → IsRequiredArg name a → slice_index_or (args_of c) k a ≡ a → k < 7
     → is_some (first_value (found_of m) name) ≡ true
 has_value c m name a k s p needed here low =
     let value = needed.value in
@@ -171,14 +184,14 @@ pub has_tis : (c : Command) (m : ArgMatches) → IsRunCommand c → IsParsedFrom
 has_tis c m s p = has_value c m (codes "tis") s.tis 0 s p s.needs_tis (rw s.args refl) (omega arith)
 
 pub has_cwr : (c : Command) (m : ArgMatches) → IsRunCommand c → IsParsedFrom c m → is_some (first_value (found_of m) (codes "cwr")) ≡ true
-has_cwr c m s p = has_value c m (codes "cwr") s.cwr 1 s p s.needs_cwr (rw s.args refl) (omega arith)
+has_cwr c m s p = has_value c m (codes "cwr") s.cwr 2 s p s.needs_cwr (rw s.args refl) (omega arith)
 
 pub has_usage : (c : Command) (m : ArgMatches) → IsRunCommand c → IsParsedFrom c m → is_some (first_value (found_of m) (codes "usage")) ≡ true
-has_usage c m s p = has_value c m (codes "usage") s.usage 2 s p s.needs_usage (rw s.args refl) (omega arith)
+has_usage c m s p = has_value c m (codes "usage") s.usage 3 s p s.needs_usage (rw s.args refl) (omega arith)
 
 -- an option with a number has a text that passed its range
 number_text : (c : Command) (m : ArgMatches) (name : Text) (most : ℕ) (a : Arg) (k : ℕ) → IsRunCommand c → IsParsedFrom c m
-    → IsRequiredArg name a → slice_index_or (args_of c) k a ≡ a → k < 6 → a.value_parser ≡ Some (vp.Unsigned 1 most)
+    → IsRequiredArg name a → slice_index_or (args_of c) k a ≡ a → k < 7 → a.value_parser ≡ Some (vp.Unsigned 1 most)
     → (t : Text) × (one_text (found_of m) name ≡ Some t) × IsUnsignedIn 1 most t
 number_text c m name most a k s p needed here low parser =
     let value = needed.value in
@@ -200,20 +213,20 @@ abbrev pub IsUpTo : ℕ → Option ℕ → Type 0
 IsUpTo most r = IsSome r × IfSome r (λ n. 1 ≤ n) × IfSome r (λ n. n ≤ most)
 
 number_read : (c : Command) (m : ArgMatches) (name : Text) (most : ℕ) (a : Arg) (k : ℕ) (r : Option ℕ) → IsRunCommand c → IsParsedFrom c m
-    → IsRequiredArg name a → slice_index_or (args_of c) k a ≡ a → k < 6 → a.value_parser ≡ Some (vp.Unsigned 1 most)
+    → IsRequiredArg name a → slice_index_or (args_of c) k a ≡ a → k < 7 → a.value_parser ≡ Some (vp.Unsigned 1 most)
     → IsNumberOf m name r → IsUpTo most r
 number_read c m name most a k r s p needed here low parser reads =
     let text = number_text c m name most a k s p needed here low parser in
     unsigned_reads 1 most text.0 r (reads text.0 text.1) text.2
 
 pub workers_read : (c : Command) (m : ArgMatches) (r : Option ℕ) → IsRunCommand c → IsParsedFrom c m → IsNumberOf m (codes "workers") r → IsUpTo MOST_THREADS r
-workers_read c m r s p = number_read c m (codes "workers") MOST_THREADS s.workers 3 r s p s.needs_workers (rw s.args refl) (omega arith) s.few_workers
+workers_read c m r s p = number_read c m (codes "workers") MOST_THREADS s.workers 4 r s p s.needs_workers (rw s.args refl) (omega arith) s.few_workers
 
 pub readers_read : (c : Command) (m : ArgMatches) (r : Option ℕ) → IsRunCommand c → IsParsedFrom c m → IsNumberOf m (codes "readers") r → IsUpTo MOST_THREADS r
-readers_read c m r s p = number_read c m (codes "readers") MOST_THREADS s.readers 4 r s p s.needs_readers (rw s.args refl) (omega arith) s.few_readers
+readers_read c m r s p = number_read c m (codes "readers") MOST_THREADS s.readers 5 r s p s.needs_readers (rw s.args refl) (omega arith) s.few_readers
 
 pub nodes_read : (c : Command) (m : ArgMatches) (r : Option ℕ) → IsRunCommand c → IsParsedFrom c m → IsNumberOf m (codes "nodes") r → IsUpTo MOST_NODES r
-nodes_read c m r s p = number_read c m (codes "nodes") MOST_NODES s.nodes 5 r s p s.needs_nodes (rw s.args refl) (omega arith) s.few_nodes
+nodes_read c m r s p = number_read c m (codes "nodes") MOST_NODES s.nodes 6 r s p s.needs_nodes (rw s.args refl) (omega arith) s.few_nodes
 
 -- an answer that comes where a fact holds is there, since it holds
 pub some_by : {X P : Type 0} (o : Option X) → IfNone o (¬ P) → P → IsSome o
@@ -235,6 +248,12 @@ path_is m words name r v are got is =
     sym (got ∙ first_value-rows (found_of m) name ∙ ap (first_of name) are) ∙ ap (option_map (λ (s : Bor Text). s.now)) is in
     sym (ap (λ (o : Option Text). unwrap_or o []) shown)
 
+-- that of an option that need not be there, too
+pub path_if_is : (m : ArgMatches) (words : List Text) (name : Text) (r : Option (Bor Text)) → rows_of (found_of m) ≡ matches_of run_app words
+    → option_map (λ s. s.now) r ≡ first_value (found_of m) name → option_map (λ s. s.now) r ≡ path_if_given name words
+unfolding path_if_given
+path_if_is m words name r are got = got ∙ first_value-rows (found_of m) name ∙ ap (first_of name) are
+
 -- and so is its number
 number_is : (m : ArgMatches) (words : List Text) (name text : Text) (r : Option ℕ) (n : ℕ) → rows_of (found_of m) ≡ matches_of run_app words
     → one_text (found_of m) name ≡ Some text → IsNumberOf m name r → r ≡ Some n → n ≡ number_given name words
@@ -248,19 +267,19 @@ number_is m words name text r n are found reads is =
 pub workers_are : (c : Command) (m : ArgMatches) (words : List Text) (r : Option ℕ) (n : ℕ) → IsRunCommand c → IsParsedFrom c m
     → rows_of (found_of m) ≡ matches_of run_app words → IsNumberOf m (codes "workers") r → r ≡ Some n → n ≡ number_given (codes "workers") words
 workers_are c m words r n s p are reads is =
-    let text = number_text c m (codes "workers") MOST_THREADS s.workers 3 s p s.needs_workers (rw s.args refl) (omega arith) s.few_workers in
+    let text = number_text c m (codes "workers") MOST_THREADS s.workers 4 s p s.needs_workers (rw s.args refl) (omega arith) s.few_workers in
     number_is m words (codes "workers") text.0 r n are text.1 reads is
 
 pub readers_are : (c : Command) (m : ArgMatches) (words : List Text) (r : Option ℕ) (n : ℕ) → IsRunCommand c → IsParsedFrom c m
     → rows_of (found_of m) ≡ matches_of run_app words → IsNumberOf m (codes "readers") r → r ≡ Some n → n ≡ number_given (codes "readers") words
 readers_are c m words r n s p are reads is =
-    let text = number_text c m (codes "readers") MOST_THREADS s.readers 4 s p s.needs_readers (rw s.args refl) (omega arith) s.few_readers in
+    let text = number_text c m (codes "readers") MOST_THREADS s.readers 5 s p s.needs_readers (rw s.args refl) (omega arith) s.few_readers in
     number_is m words (codes "readers") text.0 r n are text.1 reads is
 
 pub nodes_are : (c : Command) (m : ArgMatches) (words : List Text) (r : Option ℕ) (n : ℕ) → IsRunCommand c → IsParsedFrom c m
     → rows_of (found_of m) ≡ matches_of run_app words → IsNumberOf m (codes "nodes") r → r ≡ Some n → n ≡ number_given (codes "nodes") words
 nodes_are c m words r n s p are reads is =
-    let text = number_text c m (codes "nodes") MOST_NODES s.nodes 5 s p s.needs_nodes (rw s.args refl) (omega arith) s.few_nodes in
+    let text = number_text c m (codes "nodes") MOST_NODES s.nodes 6 s p s.needs_nodes (rw s.args refl) (omega arith) s.few_nodes in
     number_is m words (codes "nodes") text.0 r n are text.1 reads is
 
 -- a plan by its three numbers
@@ -286,6 +305,10 @@ number_in_order words r name k word found at =
 pub tis_in_order : (words : List Text) → AreRunWords words → path_given (codes "tis") words ≡ word_at words 2
 tis_in_order words r = path_in_order words r (codes "tis") 2 r.tis refl (ap (λ l. word_at l 2) r.form)
 
+pub payees_in_order : (words : List Text) → AreRunWords words → path_if_given (codes "payees") words ≡ None
+unfolding path_if_given
+payees_in_order words r = ap (first_of (codes "payees")) (run_matches words r)
+
 pub cwr_in_order : (words : List Text) → AreRunWords words → path_given (codes "cwr") words ≡ word_at words 4
 cwr_in_order words r = path_in_order words r (codes "cwr") 4 r.cwr refl (ap (λ l. word_at l 4) r.form)
 
@@ -296,6 +319,7 @@ usage_in_order words r = path_in_order words r (codes "usage") 6 r.usage refl (a
 pub read_in_order : (words : List Text) (asked : RunWords) → AreRunWords words → AreReadFrom words asked → AreReadInOrder words asked
 read_in_order words asked r read = record {
   tis = read.tis ∙ tis_in_order words r;
+  payees = read.payees ∙ payees_in_order words r;
   cwr = read.cwr ∙ cwr_in_order words r;
   usage = read.usage ∙ usage_in_order words r;
   plan = same_plan asked.plan _ _ _ _ _ _ read.plan

@@ -1,7 +1,8 @@
 -- What is read of a command line, and what answers it.
-use Rattle.std.specs.Prelude.{ℕ, ◌≡◌, ◌≤◌, List, codes, drop, map, string_bytes, ⊤}
+use Rattle.std.specs.Prelude.{ℕ, ◌≡◌, ◌≤◌, List, None, codes, drop, map, string_bytes, ⊤}
+use Rattle.std.specs.Option.{option_map}
 use Rattle.line_split.specs.declared.TheConstants.{MOST_AMOUNT}
-use Rattle.royalty_program.specs.Asked.{AskForRun, IsDivision, IsRun, amount_of, number_given, number_in, pairs_of, path_given}
+use Rattle.royalty_program.specs.Asked.{AskForRun, IsDivision, IsRun, amount_of, number_given, number_in, pairs_of, path_given, path_if_given}
 use Rattle.pair_split.specs.Pair.{word_at}
 use Rattle.pair_split.specs.PairFault.{AreSound}
 use Rattle.pair_split.specs.Rows.{split_text}
@@ -28,6 +29,7 @@ IsDivisionOf words (Run asked) = ⊥
 -- the paths and the numbers are those that the options of a run are given
 pub record AreReadFrom (words : List (List ℕ)) (asked : RunWords) : Type 0 where
   pub tis : string_bytes asked.tis ≡ path_given (codes "tis") words
+  pub payees : option_map string_bytes asked.payees ≡ path_if_given (codes "payees") words
   pub cwr : string_bytes asked.cwr ≡ path_given (codes "cwr") words
   pub usage : string_bytes asked.usage ≡ path_given (codes "usage") words
   pub plan : asked.plan ≡ record {
@@ -39,6 +41,7 @@ pub record AreReadFrom (words : List (List ℕ)) (asked : RunWords) : Type 0 whe
 -- and in the plain form they are the words after the options
 pub record AreReadInOrder (words : List (List ℕ)) (asked : RunWords) : Type 0 where
   pub tis : string_bytes asked.tis ≡ word_at words 2
+  pub payees : option_map string_bytes asked.payees ≡ None
   pub cwr : string_bytes asked.cwr ≡ word_at words 4
   pub usage : string_bytes asked.usage ≡ word_at words 6
   pub plan : asked.plan ≡ record {
@@ -65,5 +68,5 @@ pub record IsAnswerTo (words : List (List ℕ)) (text : List ℕ) : Type 0 where
 pub record IsAnswered (holds : List ℕ → List ℕ → Type 0) (words : List (List ℕ)) (text : List ℕ) : Type 0 where
   pub division : IsDivision words → IsAnswerTo words text
   pub run : AskForRun words
-      → AreStatementsOver holds (path_given (codes "tis") (drop 1 words)) (path_given (codes "cwr") (drop 1 words)) (path_given (codes "usage") (drop 1 words)) text
-  pub in_order : IsRun words → AreStatementsOver holds (word_at words 3) (word_at words 5) (word_at words 7) text
+      → AreStatementsOver holds (path_given (codes "tis") (drop 1 words)) (path_if_given (codes "payees") (drop 1 words)) (path_given (codes "cwr") (drop 1 words)) (path_given (codes "usage") (drop 1 words)) text
+  pub in_order : IsRun words → AreStatementsOver holds (word_at words 3) None (word_at words 5) (word_at words 7) text

@@ -1,5 +1,5 @@
 -- What a command line asks for: a division in its plain form, with no options; or a run, its options in any order and form that clap takes.
-use Rattle.std.specs.Prelude.{ℕ, ◌≡◌, ◌≢◌, ◌⊎◌, ◌∷◌, List, [], All, drop, codes, slice_index, unwrap_or}
+use Rattle.std.specs.Prelude.{ℕ, ◌≡◌, ◌≢◌, ◌⊎◌, ◌∷◌, List, [], All, drop, codes, slice_index, unwrap_or, Option}
 use Rattle.std.specs.Str.Parse.{digits_value, without_leading_plus}
 use Rattle.clap.specs.Words.{HasKind, IsAmong, fault_of, first_of, matches_of, one_of}
 use Rattle.clap.specs.declared.error.Error.{Error}
@@ -31,6 +31,10 @@ pairs_of words = drop 3 words
 unfoldable pub path_given : (name : List ℕ) → List (List ℕ) → List ℕ
 path_given name words = unwrap_or (first_of name (matches_of run_app words)) []
 
+-- the path of an option that need not be there
+unfoldable pub path_if_given : (name : List ℕ) → List (List ℕ) → Option (List ℕ)
+path_if_given name words = first_of name (matches_of run_app words)
+
 unfoldable pub number_given : (name : List ℕ) → List (List ℕ) → ℕ
 number_given name words = number_in (unwrap_or (one_of name (matches_of run_app words)) [])
 
@@ -56,7 +60,7 @@ pub record AreRun (words : List (List ℕ)) : Type 0 where
   pub command : word_at words 1 ≡ codes "run"
   pub accepted : AreAccepted (drop 1 words)
 
--- The plain form of a run: the word `run`, and then its six options in this order, each with a value.
+-- The plain form of a run without a table of payees: the word `run`, and then its six other options in this order, each with a value.
 pub record AreRunWords (words : List (List ℕ)) : Type 0 where
   pub name : List ℕ
   pub tis : List ℕ

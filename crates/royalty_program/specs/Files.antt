@@ -1,5 +1,5 @@
 -- What a run answers over files. `holds path bytes` says that the file of a path has these bytes.
-use Rattle.std.specs.Prelude.{ℕ, ◌≤◌, List, length, ⊤}
+use Rattle.std.specs.Prelude.{ℕ, ◌≤◌, List, None, Option, Some, length, ⊤}
 use Rattle.std.specs.declared.io.ErrorKind.{ErrorKind}
 use Rattle.settle_run.specs.Settled.{AreStatementsOf, HaveNoFault, IsFaultOf}
 use Rattle.settle_run.specs.declared.fault.Fault.{Fault}
@@ -12,26 +12,34 @@ on_disk path bytes = length bytes ≤ 268435456
 abbrev pub for_any_error : List ℕ → ErrorKind → Type 0
 for_any_error path kind = ⊤
 
--- the bytes of the three files of a run
-pub record AreInputs (holds : List ℕ → List ℕ → Type 0) (tis cwr usage : List ℕ) : Type 0 where
+-- the file of a path has these bytes, where there is a path
+abbrev pub HoldsIfGiven : (List ℕ → List ℕ → Type 0) → Option (List ℕ) → Option (List ℕ) → Type 0
+HoldsIfGiven holds None None = ⊤
+HoldsIfGiven holds (Some path) (Some bytes) = holds path bytes
+HoldsIfGiven holds _ _ = ⊥
+
+-- the bytes of the files of a run
+pub record AreInputs (holds : List ℕ → List ℕ → Type 0) (tis : List ℕ) (payees : Option (List ℕ)) (cwr usage : List ℕ) : Type 0 where
   pub territories_file : List ℕ
+  pub payees_file : Option (List ℕ)
   pub registrations_file : List ℕ
   pub usage_file : List ℕ
   pub territories : holds tis territories_file
+  pub paid : HoldsIfGiven holds payees payees_file
   pub registrations : holds cwr registrations_file
   pub uses : holds usage usage_file
 
 -- the text is the statements of the files of these paths
-pub record AreStatementsOver (holds : List ℕ → List ℕ → Type 0) (tis cwr usage text : List ℕ) : Type 0 where
-  pub inputs : AreInputs holds tis cwr usage
-  pub statements : AreStatementsOf inputs.territories_file inputs.registrations_file inputs.usage_file text
+pub record AreStatementsOver (holds : List ℕ → List ℕ → Type 0) (tis : List ℕ) (payees : Option (List ℕ)) (cwr usage text : List ℕ) : Type 0 where
+  pub inputs : AreInputs holds tis payees cwr usage
+  pub statements : AreStatementsOf inputs.territories_file inputs.payees_file inputs.registrations_file inputs.usage_file text
 
 -- none of the files has a fault
-pub record HaveNoFaultOver (holds : List ℕ → List ℕ → Type 0) (tis cwr usage : List ℕ) : Type 0 where
-  pub inputs : AreInputs holds tis cwr usage
-  pub sound : HaveNoFault inputs.territories_file inputs.registrations_file inputs.usage_file
+pub record HaveNoFaultOver (holds : List ℕ → List ℕ → Type 0) (tis : List ℕ) (payees : Option (List ℕ)) (cwr usage : List ℕ) : Type 0 where
+  pub inputs : AreInputs holds tis payees cwr usage
+  pub sound : HaveNoFault inputs.territories_file inputs.payees_file inputs.registrations_file inputs.usage_file
 
 -- the fault is the first of the first of the files that has one
-pub record IsFaultOver (holds : List ℕ → List ℕ → Type 0) (tis cwr usage : List ℕ) (fault : Fault) : Type 0 where
-  pub inputs : AreInputs holds tis cwr usage
-  pub fault_of : IsFaultOf inputs.territories_file inputs.registrations_file inputs.usage_file fault
+pub record IsFaultOver (holds : List ℕ → List ℕ → Type 0) (tis : List ℕ) (payees : Option (List ℕ)) (cwr usage : List ℕ) (fault : Fault) : Type 0 where
+  pub inputs : AreInputs holds tis payees cwr usage
+  pub fault_of : IsFaultOf inputs.territories_file inputs.payees_file inputs.registrations_file inputs.usage_file fault

@@ -8,7 +8,7 @@ use Rattle.clap.specs.declared.builder.command.Command.{Command}
 use Rattle.clap.specs.declared.builder.command.Command.TheViews.{out-Command as fields_of}
 use Rattle.clap.specs.declared.builder.value_parser.ValueParser.TheVariants as vp
 use Rattle.split_run.specs.declared.TheConstants.{MOST_NODES, MOST_THREADS}
-use Rattle.royalty_program.specs.RequiredArg.{IsRequiredArg}
+use Rattle.royalty_program.specs.RequiredArg.{IsOptionalArg, IsRequiredArg}
 
 -- what a parse reads of an option with a file's path
 abbrev pub file_rule : List ℕ → Rule
@@ -17,6 +17,12 @@ file_rule name = record (new_rule name) {
   action = Some Set;
   value_names = 1;
   required = true;
+}
+
+-- of one that need not be there
+abbrev pub optional_rule : List ℕ → Rule
+optional_rule name = record (file_rule name) {
+  required = false;
 }
 
 -- of an option with a number from 1 to the most
@@ -28,20 +34,22 @@ number_rule name most = record (file_rule name) {
 -- and of the command
 abbrev pub run_app : App
 run_app =
-    with_rule (with_rule (with_rule (with_rule (with_rule (with_rule (new_app (codes "run"))
-    (file_rule (codes "tis"))) (file_rule (codes "cwr"))) (file_rule (codes "usage")))
+    with_rule (with_rule (with_rule (with_rule (with_rule (with_rule (with_rule (new_app (codes "run"))
+    (file_rule (codes "tis"))) (optional_rule (codes "payees"))) (file_rule (codes "cwr"))) (file_rule (codes "usage")))
     (number_rule (codes "workers") MOST_THREADS)) (number_rule (codes "readers") MOST_THREADS)) (number_rule (codes "nodes") MOST_NODES)
 
--- the command has six options: three paths, and three numbers, each up to its most
+-- the command has seven options: four paths, one of which need not be there, and three numbers, each up to its most
 pub record IsRunCommand (c : Command) : Type 0 where
   pub tis : Arg
+  pub payees : Arg
   pub cwr : Arg
   pub usage : Arg
   pub workers : Arg
   pub readers : Arg
   pub nodes : Arg
-  pub args : args_of c ≡ tis ∷ cwr ∷ usage ∷ workers ∷ readers ∷ nodes ∷ []
+  pub args : args_of c ≡ tis ∷ payees ∷ cwr ∷ usage ∷ workers ∷ readers ∷ nodes ∷ []
   pub needs_tis : IsRequiredArg (codes "tis") tis
+  pub may_have_payees : IsOptionalArg (codes "payees") payees
   pub needs_cwr : IsRequiredArg (codes "cwr") cwr
   pub needs_usage : IsRequiredArg (codes "usage") usage
   pub needs_workers : IsRequiredArg (codes "workers") workers

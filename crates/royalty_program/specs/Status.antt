@@ -6,11 +6,12 @@ use Rattle.clap.specs.declared.error.kind.ErrorKind.TheVariants as kinds
 use Rattle.std.specs.declared.io.ErrorKind as io
 use Rattle.std.specs.declared.io.ErrorKind.TheVariants as io_kind
 use Rattle.pair_split.specs.Pair.{word_at}
-use Rattle.royalty_program.specs.Asked.{AreAccepted, IsDivision, pairs_of, path_given}
+use Rattle.royalty_program.specs.Asked.{AreAccepted, IsDivision, pairs_of, path_given, path_if_given}
 use Rattle.pair_split.specs.PairFault.{IsFaultOf}
 use Rattle.pair_split.specs.PairFault as pair
 use Rattle.tis_tree.specs.TisRows as tis
 use Rattle.cwr_share.specs.CwrFile as cwr
+use Rattle.cwr_share.specs.PayeeTable as payees
 use Rattle.line_split.specs.UsageTable as usage
 use Rattle.royalty_program.specs.Files.{IsFaultOver}
 use Rattle.royalty_program.specs.declared.failure.Failure.{Failure}
@@ -42,6 +43,7 @@ text_of (Words error) = None
 text_of NotText = Some (codes "royalty_run: an argument is not UTF-8\n")
 text_of (Pairs f) = Some (fault_text (codes "pair") (pair.number_of f) [] (pair.place_of f))
 text_of (Input (input.Tis f)) = Some (fault_text (codes "tis") (tis.number_of_fault f) (codes "row ") (tis.place_of_fault f))
+text_of (Input (input.Payee f)) = Some (fault_text (codes "payee") (payees.number_of_fault f) (codes "row ") (payees.place_of_fault f))
 text_of (Input (input.Cwr f)) = Some (fault_text (codes "cwr") (cwr.number_of_fault f) (codes "line ") (cwr.place_of_fault f))
 text_of (Input (input.Usage f)) = Some (fault_text (codes "usage") (usage.number_of f) (codes "row ") (usage.place_of f))
 text_of (Input input.Room) = Some (codes "royalty_run: out of room\n")
@@ -72,27 +74,39 @@ IsOfFile refuses path failure = (kind : io.ErrorKind) × refuses (string_bytes p
 abbrev pub IsRead : (holds : List ℕ → List ℕ → Type 0) → List ℕ → Type 0
 IsRead holds path = (bytes : List ℕ) × holds path bytes
 
+-- so was that of a path that need not be there
+abbrev pub IsReadIfGiven : (holds : List ℕ → List ℕ → Type 0) → Option (List ℕ) → Type 0
+IsReadIfGiven holds None = ⊤
+IsReadIfGiven holds (Some path) = IsRead holds path
+
 -- it cannot be read, and that is no lack of memory
 abbrev pub IsUnread : (refuses : List ℕ → io.ErrorKind → Type 0) → List ℕ → Type 0
 IsUnread refuses path = (kind : io.ErrorKind) × refuses path kind × (kind ≢ io_kind.OutOfMemory)
 
--- it is the first of three that cannot be read: those before it were
-pub record IsFirstUnread (holds : List ℕ → List ℕ → Type 0) (refuses : List ℕ → io.ErrorKind → Type 0) (tis cwr usage path : List ℕ) : Type 0 where
+-- it is the first of those of a run, in their order, where those before it were read
+abbrev pub IsFirst : (holds : List ℕ → List ℕ → Type 0) → (tis : List ℕ) → (payees : Option (List ℕ)) → (cwr usage path : List ℕ) → Type 0
+IsFirst holds tis payees cwr usage path =
+    (path ≡ tis)
+    ⊎ (((payees ≡ Some path) × IsRead holds tis)
+    ⊎ (((path ≡ cwr) × IsRead holds tis × IsReadIfGiven holds payees) ⊎ ((path ≡ usage) × IsRead holds tis × IsReadIfGiven holds payees × IsRead holds cwr)))
+
+-- and it cannot be read
+pub record IsFirstUnread (holds : List ℕ → List ℕ → Type 0) (refuses : List ℕ → io.ErrorKind → Type 0) (tis : List ℕ) (payees : Option (List ℕ)) (cwr usage path : List ℕ) : Type 0 where
   pub unread : IsUnread refuses path
-  pub first : (path ≡ tis) ⊎ (((path ≡ cwr) × IsRead holds tis) ⊎ ((path ≡ usage) × IsRead holds tis × IsRead holds cwr))
+  pub first : IsFirst holds tis payees cwr usage path
 
 -- a run over the files of these paths fails for the first fault of the first of them that has one, for lack of memory, or for the first that cannot be read
-abbrev pub IsOfPaths : (holds : List ℕ → List ℕ → Type 0) (refuses : List ℕ → io.ErrorKind → Type 0) (tis cwr usage : List ℕ) → Failure → Type 0
-IsOfPaths holds refuses tis cwr usage (Input fault) = IsFaultOver holds tis cwr usage fault
-IsOfPaths holds refuses tis cwr usage Room = ⊤
-IsOfPaths holds refuses tis cwr usage (File name) = IsFirstUnread holds refuses tis cwr usage (string_bytes name)
-IsOfPaths holds refuses tis cwr usage _ = ⊥
+abbrev pub IsOfPaths : (holds : List ℕ → List ℕ → Type 0) (refuses : List ℕ → io.ErrorKind → Type 0) (tis : List ℕ) (payees : Option (List ℕ)) (cwr usage : List ℕ) → Failure → Type 0
+IsOfPaths holds refuses tis payees cwr usage (Input fault) = IsFaultOver holds tis payees cwr usage fault
+IsOfPaths holds refuses tis payees cwr usage Room = ⊤
+IsOfPaths holds refuses tis payees cwr usage (File name) = IsFirstUnread holds refuses tis payees cwr usage (string_bytes name)
+IsOfPaths holds refuses tis payees cwr usage _ = ⊥
 
 -- and the words of a run fail for that, or for themselves where clap does not accept them
 abbrev pub IsOfRun : (holds : List ℕ → List ℕ → Type 0) (refuses : List ℕ → io.ErrorKind → Type 0) → List (List ℕ) → Failure → Type 0
 IsOfRun holds refuses words (Words error) = ¬ AreAccepted words
 IsOfRun holds refuses words failure =
-    IsOfPaths holds refuses (path_given (codes "tis") words) (path_given (codes "cwr") words) (path_given (codes "usage") words) failure
+    IsOfPaths holds refuses (path_given (codes "tis") words) (path_if_given (codes "payees") words) (path_given (codes "cwr") words) (path_given (codes "usage") words) failure
 
 -- a division fails for its pairs, which then have that fault, for other words, or for lack of memory
 abbrev pub IsOfDivision : List (List ℕ) → Failure → Type 0

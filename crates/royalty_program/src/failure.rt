@@ -43,6 +43,9 @@ impl fmt::Display for Failure {
             Failure::Input(Fault::Tis(fault)) => {
                 write_fault(f, "tis", fault.number(), "row ", fault.place())
             }
+            Failure::Input(Fault::Payee(fault)) => {
+                write_fault(f, "payee", fault.number(), "row ", fault.place())
+            }
             Failure::Input(Fault::Cwr(fault)) => {
                 write_fault(f, "cwr", fault.number(), "line ", fault.place())
             }
@@ -101,7 +104,9 @@ impl From<Fault> for Failure {
     fn from(fault: Fault) -> Failure {
         match fault {
             Fault::Room => Failure::Room,
-            Fault::Tis(_) | Fault::Cwr(_) | Fault::Usage(_) => Failure::Input(fault),
+            Fault::Tis(_) | Fault::Payee(_) | Fault::Cwr(_) | Fault::Usage(_) => {
+                Failure::Input(fault)
+            }
         }
     }
 }

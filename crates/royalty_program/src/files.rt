@@ -2,9 +2,10 @@
 
 ghost use Rattle.std.specs.Io.KnownBytes.{Appends};
 ghost use Rattle.std.specs.IoError.{error_kind};
-ghost use Rattle.std.specs.Prelude.{◌≡◌, ◌<◌, ◌≤◌, ◌↔◌, ℕ, List, IfOk, IfErr, IfSome, IsTrue, OnOk, length, string_bytes};
+ghost use Rattle.std.specs.Prelude.{◌≡◌, ◌<◌, ◌≤◌, ◌↔◌, ℕ, List, Option, IfOk, IfErr, IfSome, IsSome, IsTrue, OnOk, length, string_bytes};
+ghost use Rattle.std.specs.Option.{option_map};
 ghost use Rattle.std.specs.declared.io.ErrorKind.{ErrorKind};
-ghost use Rattle.royalty_program.specs.Files.{AreStatementsOver, HaveNoFaultOver, for_any_error, on_disk};
+ghost use Rattle.royalty_program.specs.Files.{AreStatementsOver, HaveNoFaultOver, HoldsIfGiven, for_any_error, on_disk};
 ghost use Rattle.royalty_program.specs.Status.{IsOfFile, IsOfPaths, IsRefusal, failure_of_file};
 
 use crate::failure::Failure;
@@ -76,8 +77,8 @@ pub fn read_whole<S: Read + Drop>(alloc: Global, from: S, room: usize) -> io::Re
     Ok(bytes)
 }
 
-/// Prints the statements of a run over three files. All are read, in the order of the fields, before any
-/// is parsed.
+/// Prints the statements of a run over its files. All are read, in the order of the fields, before any is
+/// parsed.
 pub fn settle_files<R: Threads + Wait + Sync, S: Source, W: Write>(
     rt: &R,
     alloc: Global,
@@ -86,24 +87,42 @@ pub fn settle_files<R: Threads + Wait + Sync, S: Source, W: Write>(
     out: &mut W,
 ) -> Result<io::Result<()>, Failure>
     ensures statements { IfOk result (λ printed. OnOk printed ((text : List ℕ) × Appends (W.contents out.old) (W.contents out.new) text
-        × AreStatementsOver (S.holds files.now) (string_bytes asked.tis) (string_bytes asked.cwr) (string_bytes asked.usage) text)) }
-    ensures read { IfOk result (λ _. HaveNoFaultOver (S.holds files.now) (string_bytes asked.tis) (string_bytes asked.cwr) (string_bytes asked.usage)) }
+        × AreStatementsOver (S.holds files.now) (string_bytes asked.tis) (option_map string_bytes asked.payees) (string_bytes asked.cwr) (string_bytes asked.usage) text)) }
+    ensures read { IfOk result (λ _. HaveNoFaultOver (S.holds files.now) (string_bytes asked.tis) (option_map string_bytes asked.payees) (string_bytes asked.cwr) (string_bytes asked.usage)) }
     ensures failure { IfErr result IsRefusal }
-    ensures files { IfErr result (IsOfPaths (S.holds files.now) (S.refuses files.now) (string_bytes asked.tis) (string_bytes asked.cwr) (string_bytes asked.usage)) }
+    ensures files { IfErr result (IsOfPaths (S.holds files.now) (S.refuses files.now) (string_bytes asked.tis) (option_map string_bytes asked.payees) (string_bytes asked.cwr) (string_bytes asked.usage)) }
     ensures silent { IfErr result (λ _. out.new ≡ out.old) }
 {
     let RunWords {
         tis,
+        payees,
         cwr,
         usage,
         plan,
     } = asked;
     let tis = read_file(files, alloc, tis)?;
+    let payees = read_if_given(files, alloc, payees)?;
     let cwr = read_file(files, alloc, cwr)?;
     let usage = read_file(files, alloc, usage)?;
-    match settle_to(rt, alloc, tis, cwr, usage, plan, out) {
+    match settle_to(rt, alloc, tis, payees, cwr, usage, plan, out) {
         Ok(printed) => Ok(printed),
         Err(fault) => Err(Failure::from(fault)),
+    }
+}
+
+/// The bytes of the file of a path, where there is one.
+fn read_if_given<S: Source>(
+    files: &S,
+    alloc: Global,
+    path: Option<String>,
+) -> Result<Option<Vec<u8>>, Failure>
+    ensures bytes { IfOk result (λ bytes. HoldsIfGiven (S.holds files.now) (option_map string_bytes path) (option_map (λ bytes. bytes.items) bytes)) }
+    ensures failure { IfErr result (λ failure. IfSome path (λ path. IsOfFile (S.refuses files.now) path failure)) }
+    ensures given { IfErr result (λ failure. IsSome path) }
+{
+    match path {
+        Some(path) => Ok(Some(read_file(files, alloc, path)?)),
+        None => Ok(None),
     }
 }
 

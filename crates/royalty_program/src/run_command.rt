@@ -1,12 +1,13 @@
 //! The grammar of the command `run`, and what its words ask for.
 
-ghost use Rattle.std.specs.Prelude.{◌≡◌, IfOk, IfErr, Some, codes, map, string_bytes};
+ghost use Rattle.std.specs.Prelude.{◌≡◌, IfOk, IfErr, Some, codes, false, map, string_bytes};
+ghost use Rattle.std.specs.Option.{option_map};
 ghost use Rattle.clap.specs.declared.builder.value_parser.ValueParser.TheVariants as vp;
 ghost use Rattle.royalty_program.specs.Asked.{IsErrorOf};
 ghost use Rattle.royalty_program.specs.Answered.{AreReadFrom};
 ghost use Rattle.clap.specs.Words.{rule_of};
-ghost use Rattle.royalty_program.specs.RequiredArg.{IsRequiredArg};
-ghost use Rattle.royalty_program.specs.RunCommand.{IsRunCommand, file_rule};
+ghost use Rattle.royalty_program.specs.RequiredArg.{IsOptionalArg, IsRequiredArg};
+ghost use Rattle.royalty_program.specs.RunCommand.{IsRunCommand, file_rule, optional_rule};
 
 use clap::builder::ValueParser;
 use clap::{Arg, ArgAction, Command, Error, value_parser};
@@ -18,6 +19,8 @@ const RUN_HELP: &str = "\
 A file has at most 268435456 bytes. The tables are CSV with a header:
   territories  code,groups: a TIS numeric code, and the codes of its groups with spaces between
                them, each of an earlier row; 2136 is the world
+  payees       party,payee: who is paid what a party of the registrations claims; one without a
+               row is paid itself, and a payee is not looked up again
   usage lines  usage,work,territory,right,amount: a name, the submitter work number, a TIS numeric
                code, P (performing), M (mechanical) or S (synchronisation), and minor units, as cents,
                with a - before them where money is taken back
@@ -25,8 +28,8 @@ The registrations are a CWR 2.2 file: of NWR and REV records the submitter work 
 SPT and SWT records the party, the three collection shares, the mark I or E and the territory.
 Records of other types are skipped, and nothing checks that the file is CWR, or all of it.
 
-The answer is CSV too. A row L,party,usage,amount for each portion of a party, then its sum
-S,party,count,total; for each portion of the residue M,reason,usage,amount with the reason WORK,
+The answer is CSV too. A row L,payee,usage,amount for each portion of a payee, then its sum
+S,payee,count,total; for each portion of the residue M,reason,usage,amount with the reason WORK,
 LAND, OVER or OPEN, then T,,count,total; last R,,lines,amount.
 The numbers of workers, readers and nodes have no bearing on it. A row M,WORK is a usage line whose
 work has no registration: many of them say that the wrong file, or half of one, went in.
@@ -37,11 +40,13 @@ Example:
   royalty_run run --tis territories.csv --cwr works.cwr --usage usage.csv \\
     --workers 4 --readers 2 --nodes 16";
 
-/// The words of a run: the paths of its three files, and its plan.
+/// The words of a run: the paths of its files, and its plan.
 #[derive(Debug, Drop)]
 pub struct RunWords {
     /// The table of territories.
     pub tis: String,
+    /// The table of payees, where there is one.
+    pub payees: Option<String>,
     /// The registrations.
     pub cwr: String,
     /// The table of usage lines.
@@ -57,6 +62,7 @@ pub fn read_run(alloc: Global, words: &[String]) -> Result<RunWords, Error>
 {
     let matches = run_command(alloc)?.try_get_matches_from(words)?;
     let tis = String::from_str(alloc, matches.get_str("tis").unwrap())?;
+    let payees = kept(alloc, matches.get_str("payees"))?;
     let cwr = String::from_str(alloc, matches.get_str("cwr").unwrap())?;
     let usage = String::from_str(alloc, matches.get_str("usage").unwrap())?;
     let workers = matches.get_one::<u64>("workers").unwrap();
@@ -65,10 +71,21 @@ pub fn read_run(alloc: Global, words: &[String]) -> Result<RunWords, Error>
     let plan = Plan::new(workers, readers, nodes).unwrap();
     Ok(RunWords {
         tis,
+        payees,
         cwr,
         usage,
         plan,
     })
+}
+
+/// A text of its own, where there is one.
+fn kept(alloc: Global, text: Option<&str>) -> Result<Option<String>, AllocError>
+    ensures { IfOk result (λ kept. option_map string_bytes kept ≡ option_map (λ text. text.now) text.entry) }
+{
+    match text {
+        Some(text) => Ok(Some(String::from_str(alloc, text)?)),
+        None => Ok(None),
+    }
 }
 
 pub fn run_command<'a>(alloc: Global) -> Result<Command<'a>, AllocError>
@@ -76,9 +93,14 @@ pub fn run_command<'a>(alloc: Global) -> Result<Command<'a>, AllocError>
 {
     Command::new(alloc, "run")
         .bin_name("royalty_run run")?
-        .about("Make the statements of all parties from three files")
+        .about("Make the statements of all payees from three files or four")
         .after_help(RUN_HELP)
         .arg(file_arg(alloc, "tis", "The table of territories"))?
+        .arg(optional_file_arg(
+            alloc,
+            "payees",
+            "The table of payees, where parties are paid to other accounts",
+        ))?
         .arg(file_arg(alloc, "cwr", "The registrations of works"))?
         .arg(file_arg(alloc, "usage", "The usage lines"))?
         .arg(number_arg(
@@ -111,6 +133,18 @@ fn file_arg<'a>(alloc: Global, name: &'a str, help: &'a str) -> Arg<'a>
         .value_name("F")
         .help(help)
         .required(true)
+        .action(ArgAction::Set)
+}
+
+/// An option whose value is the path of a file, and which need not be there.
+fn optional_file_arg<'a>(alloc: Global, name: &'a str, help: &'a str) -> Arg<'a>
+    ensures optional { IsOptionalArg name.entry.now result }
+    ensures rule { rule_of result ≡ optional_rule name.entry.now }
+{
+    Arg::new(alloc, name)
+        .long(name)
+        .value_name("F")
+        .help(help)
         .action(ArgAction::Set)
 }
 

@@ -188,7 +188,7 @@ fn registration(alloc: Global, work: &str, first: u32, last: u32) -> Result<Stri
 }
 
 /// A registration of 256 parties, and one of the parties after these up to a number.
-fn two_registrations(alloc: Global, last: u32) -> Result<String, Fail> {
+pub fn two_registrations(alloc: Global, last: u32) -> Result<String, Fail> {
     let first = registration(alloc, "W1", 1, 256)?;
     joined(
         alloc,
@@ -521,7 +521,7 @@ fn says_what_is_wrong(rt: HostRuntime) -> Result<(), Fail> {
 5 Some(7) the party number of line 7 is blank or not printable
 6 Some(7) the work number of line 7 is blank or not printable
 7 Some(7) line 7 is the 257th share line of its registration
-8 None there are more than 511 parties
+8 None there are more than 511 payees
 9 None memory ran out
 "
     );

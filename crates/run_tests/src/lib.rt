@@ -12,6 +12,8 @@ mod line_split_tests;
 #[cfg(test)]
 mod pair_split_tests;
 #[cfg(test)]
+mod paid_tests;
+#[cfg(test)]
 mod payees_tests;
 #[cfg(test)]
 mod queue_core_tests;

@@ -2,9 +2,9 @@
 //! has little to follow in a test.
 
 use crate::run_threads_tests::plan_of;
-use settle_run::{Fault, settle, settle_to};
+use settle_run::{Fault, settle, settle_paid, settle_to};
 use small_run::{
-    NO_USES, SHORT, STATEMENTS, STATEMENTS_TAKEN_BACK, TERRITORIES, TWO_PARTIES, USES,
+    B_PAID_TO_A, NO_USES, SHORT, STATEMENTS, STATEMENTS_OF_ONE_PAYEE, STATEMENTS_TAKEN_BACK, TERRITORIES, THREE_PARTIES, TWO_PARTIES, USES,
     USES_TAKEN_BACK, equal_uses,
 };
 use split_run::Plan;
@@ -20,11 +20,18 @@ fn outcome<R: Threads + Wait + Sync>(
     rt: &R,
     alloc: Global,
     inputs: [&str; 3],
+    payees: Option<&str>,
     plan: Plan,
 ) -> Result<String, Fail> {
     let [tis, cwr, usage] = inputs;
     let (tis, cwr, usage) = (tis.as_bytes(), cwr.as_bytes(), usage.as_bytes());
-    told(alloc, settle(rt, alloc, tis, cwr, usage, plan))
+    match payees {
+        Some(payees) => {
+            let payees = payees.as_bytes();
+            told(alloc, settle_paid(rt, alloc, tis, payees, cwr, usage, plan))
+        }
+        None => told(alloc, settle(rt, alloc, tis, cwr, usage, plan)),
+    }
 }
 
 /// What a run that is given its inputs, and prints its statements to this output, comes to.
@@ -32,14 +39,19 @@ fn print_to<W: Write, R: Threads + Wait + Sync>(
     rt: &R,
     alloc: Global,
     inputs: [&str; 3],
+    payees: Option<&str>,
     plan: Plan,
     out: &mut W,
 ) -> Result<Result<io::Result<()>, Fault>, Fail> {
     let [tis, cwr, usage] = inputs;
     let tis = Vec::from_slice(alloc, tis.as_bytes())?;
+    let payees = match payees {
+        Some(payees) => Some(Vec::from_slice(alloc, payees.as_bytes())?),
+        None => None,
+    };
     let cwr = Vec::from_slice(alloc, cwr.as_bytes())?;
     let usage = Vec::from_slice(alloc, usage.as_bytes())?;
-    Ok(settle_to(rt, alloc, tis, cwr, usage, plan, out))
+    Ok(settle_to(rt, alloc, tis, payees, cwr, usage, plan, out))
 }
 
 /// The outcome of such a run.
@@ -47,10 +59,11 @@ fn printed_outcome<R: Threads + Wait + Sync>(
     rt: &R,
     alloc: Global,
     inputs: [&str; 3],
+    payees: Option<&str>,
     plan: Plan,
 ) -> Result<String, Fail> {
     let mut printed = Vec::new(alloc);
-    match print_to(rt, alloc, inputs, plan, &mut printed)? {
+    match print_to(rt, alloc, inputs, payees, plan, &mut printed)? {
         Ok(Ok(())) => told(alloc, Ok(printed)),
         Ok(Err(_)) => Err(Fail::new("memory refused a write")),
         Err(fault) if printed.is_empty() => told(alloc, Err(fault)),
@@ -75,12 +88,16 @@ fn assert_outcome_of<R: Threads + Wait + Sync + Abort>(
     alloc: Global,
     threads: (u64, u64, u64),
     inputs: [&str; 3],
+    payees: Option<&str>,
     expected: &str,
 ) -> Result<(), Fail> {
     let plan = plan_of(threads)?;
-    assert_eq!(rt; outcome(rt, alloc, inputs, plan)?.as_str(), expected);
     assert_eq!(rt;
-        printed_outcome(rt, alloc, inputs, plan)?.as_str(),
+        outcome(rt, alloc, inputs, payees, plan)?.as_str(),
+        expected
+    );
+    assert_eq!(rt;
+        printed_outcome(rt, alloc, inputs, payees, plan)?.as_str(),
         expected
     );
     Ok(())
@@ -93,7 +110,18 @@ fn assert_outcome<R: Threads + Wait + Sync + Abort>(
     inputs: [&str; 3],
     expected: &str,
 ) -> Result<(), Fail> {
-    assert_outcome_of(rt, alloc, (3, 1, 1), inputs, expected)
+    assert_outcome_of(rt, alloc, (3, 1, 1), inputs, None, expected)
+}
+
+/// The same with a table of payees.
+fn assert_paid<R: Threads + Wait + Sync + Abort>(
+    rt: &R,
+    alloc: Global,
+    payees: &str,
+    inputs: [&str; 3],
+    expected: &str,
+) -> Result<(), Fail> {
+    assert_outcome_of(rt, alloc, (3, 1, 1), inputs, Some(payees), expected)
 }
 
 /// Adds the statement of a party that has so much of each of so many lines.
@@ -153,7 +181,7 @@ fn assert_outcomes<R: Threads + Wait + Sync + Abort>(
     expected: &str,
 ) -> Result<(), Fail> {
     for threads in plans {
-        assert_outcome_of(rt, alloc, *threads, inputs, expected)?;
+        assert_outcome_of(rt, alloc, *threads, inputs, None, expected)?;
     }
     Ok(())
 }
@@ -205,6 +233,43 @@ fn prints_more_rows_than_a_wave_of_sheets_holds(rt: HostRuntime) -> Result<(), F
         10_000,
         &[(1, 1, 64), (2, 2, 64), (8, 8, 64)],
     )
+}
+
+#[test]
+fn pays_two_parties_to_one_account(rt: HostRuntime) -> Result<(), Fail> {
+    let inputs = [TERRITORIES, TWO_PARTIES, USES];
+    let alloc = rt.alloc();
+    assert_paid(&rt, alloc, B_PAID_TO_A, inputs, STATEMENTS_OF_ONE_PAYEE)?;
+    assert_paid(&rt, alloc, "party,payee\n", inputs, STATEMENTS)
+}
+
+/// Three parties with a third each. Divided among them, 100 is 34, 33 and 33; two of them paid to one account
+/// have 67 and not 66.
+#[test]
+fn adds_claims_before_it_divides(rt: HostRuntime) -> Result<(), Fail> {
+    let uses = "usage,work,territory,right,amount\nu,W1,276,P,100\n";
+    let rows = "\
+L,A,u,33
+S,A,1,33
+L,Z,u,67
+S,Z,1,67
+T,,0,0
+R,,1,100
+";
+    let inputs = [TERRITORIES, THREE_PARTIES, uses];
+    assert_paid(&rt, rt.alloc(), "party,payee\nB,Z\nC,Z\n", inputs, rows)
+}
+
+#[test]
+fn refuses_the_payees_after_the_territories(rt: HostRuntime) -> Result<(), Fail> {
+    let alloc = rt.alloc();
+    let fault = "5 Some(2) the payees: the party of row 2 has a row already";
+    let payees = "party,payee\nA,X\nA,Y\n";
+    assert_paid(&rt, alloc, payees, [TERRITORIES, SHORT, ""], fault)?;
+    let fault = "1 Some(0) the territories: row 0 is not code,groups";
+    assert_paid(&rt, alloc, payees, ["code\n", SHORT, ""], fault)?;
+    let fault = "2 Some(3) the registrations: line 3 is too short";
+    assert_paid(&rt, alloc, B_PAID_TO_A, [TERRITORIES, SHORT, ""], fault)
 }
 
 #[test]
@@ -339,7 +404,7 @@ fn assert_prints<R: Abort + Threads + Wait + Sync>(
         writes: 0,
         longest: 0,
     };
-    let Ok(printed) = print_to(rt, alloc, inputs, plan, &mut out)? else {
+    let Ok(printed) = print_to(rt, alloc, inputs, None, plan, &mut out)? else {
         return Err(Fail::new("a run is refused for its output"));
     };
     assert_kept(rt, &out, room, text, printed.is_ok());

@@ -3,7 +3,7 @@ use Rattle.std.specs.Prelude.{string_bytes}
 use Rattle.clap.proofs.TakesLemmas.{passed_up}
 use Rattle.clap.proofs.CallerLemmas.{some_of_text}
 use Rattle.royalty_program.specs.Asked.{IsErrorOf}
-use Rattle.royalty_program.proofs.RunLemmas.{error_is, has_cwr, has_tis, has_usage, memory_is, nodes_are, nodes_read, path_is, readers_are, readers_read, rows_are, same_plan, some_by, workers_are, workers_read}
+use Rattle.royalty_program.proofs.RunLemmas.{error_is, has_cwr, has_tis, has_usage, memory_is, nodes_are, nodes_read, path_if_is, path_is, readers_are, readers_read, rows_are, same_plan, some_by, workers_are, workers_read}
 use Rattle.royalty_program.proofs.run_command.read_run.Goals as goal
 
 pub returns-in_err-matches-clause-error : goal.returns-in_err-matches-clause-error
@@ -17,11 +17,11 @@ unwrap-requires c = some_of_text _ c.get_str.result _ c.get_str.ensures
     (has_tis c.in_ok-run_command.field-0 c.in_ok-matches.matches c.in_ok-run_command.ensures c.in_ok-matches.ensures.parsed)
 
 pub unwrap-requires-2 : goal.unwrap-requires-2
-unwrap-requires-2 c = some_of_text _ c.get_str-2.result _ c.get_str-2.ensures
+unwrap-requires-2 c = some_of_text _ c.get_str-3.result _ c.get_str-3.ensures
     (has_cwr c.in_ok-run_command.field-0 c.in_ok-matches.matches c.in_ok-run_command.ensures c.in_ok-matches.ensures.parsed)
 
 pub unwrap-requires-3 : goal.unwrap-requires-3
-unwrap-requires-3 c = some_of_text _ c.get_str-3.result _ c.get_str-3.ensures
+unwrap-requires-3 c = some_of_text _ c.get_str-4.result _ c.get_str-4.ensures
     (has_usage c.in_ok-run_command.field-0 c.in_ok-matches.matches c.in_ok-run_command.ensures c.in_ok-matches.ensures.parsed)
 
 pub returns-in_err-run_command-clause-error : goal.returns-in_err-run_command-clause-error
@@ -29,6 +29,9 @@ returns-in_err-run_command-clause-error c = memory_is (map string_bytes c.args.w
 
 pub returns-in_err-tis-clause-error : goal.returns-in_err-tis-clause-error
 returns-in_err-tis-clause-error c = memory_is (map string_bytes c.args.words.now) c.from_residual-in_err-tis.result c.from_residual-in_err-tis.ensures.1
+
+pub returns-in_err-payees-clause-error : goal.returns-in_err-payees-clause-error
+returns-in_err-payees-clause-error c = memory_is (map string_bytes c.args.words.now) c.from_residual-in_err-payees.result c.from_residual-in_err-payees.ensures.1
 
 pub returns-in_err-cwr-clause-error : goal.returns-in_err-cwr-clause-error
 returns-in_err-cwr-clause-error c = memory_is (map string_bytes c.args.words.now) c.from_residual-in_err-cwr.result c.from_residual-in_err-cwr.ensures.1
@@ -77,7 +80,8 @@ returns-clause-read c =
     let plan = (rw c.unwrap-plan.ensures at c.new.ensures.some).0 in
     record {
       tis = c.in_ok-tis.ensures.ok ∙ path_is m words (codes "tis") c.get_str.result c.unwrap.result rows c.get_str.ensures c.unwrap.ensures;
-      cwr = c.in_ok-cwr.ensures.ok ∙ path_is m words (codes "cwr") c.get_str-2.result c.unwrap-2.result rows c.get_str-2.ensures c.unwrap-2.ensures;
-      usage = c.in_ok-usage.ensures.ok ∙ path_is m words (codes "usage") c.get_str-3.result c.unwrap-3.result rows c.get_str-3.ensures c.unwrap-3.ensures;
+      payees = c.in_ok-payees.ensures ∙ path_if_is m words (codes "payees") c.get_str-2.result rows c.get_str-2.ensures;
+      cwr = c.in_ok-cwr.ensures.ok ∙ path_is m words (codes "cwr") c.get_str-3.result c.unwrap-2.result rows c.get_str-3.ensures c.unwrap-2.ensures;
+      usage = c.in_ok-usage.ensures.ok ∙ path_is m words (codes "usage") c.get_str-4.result c.unwrap-3.result rows c.get_str-4.ensures c.unwrap-3.ensures;
       plan = same_plan c.unwrap-plan.result _ _ _ _ _ _ plan workers readers nodes;
     }

@@ -39,6 +39,6 @@ alone_is_table payees_file rows alone empty = record {
 
 pub returns : goal.returns
 returns c = λ territories_file payees_file registrations_file usage_file text alone. (
-    as_well territories_file (Some payees_file) None registrations_file usage_file text (λ rows. none payees_file rows alone),
-    as_well territories_file None (Some payees_file) registrations_file usage_file text (λ rows. alone_is_table payees_file rows alone),
-  )
+  as_well territories_file (Some payees_file) None registrations_file usage_file text (λ rows. none payees_file rows alone),
+  as_well territories_file None (Some payees_file) registrations_file usage_file text (λ rows. alone_is_table payees_file rows alone),
+)
