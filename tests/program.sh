@@ -46,6 +46,11 @@ corrected=$(sed -e 's/^S,BIGSKY,.*/L,BIGSKY,RADIO-US-01,-29611\nS,BIGSKY,2,0/' \
     -e 's/^R,.*/R,,10,465261/' "$examples/statements.csv")
 check 'a line that is taken back' 0 "$corrected\n" '' \
     "$program" run --tis territories.csv --cwr works.cwr --usage corrected.csv "${plan[@]}"
+printf 'party,payee\nNOBODY,SOMEBODY\n' >payees.csv
+check 'payees of other parties' 0 "$(sed 's/\\/\\\\/g' "$examples/statements.csv")\n" '' "$program" run "${files[@]}" --payees payees.csv "${plan[@]}"
+printf 'party,payee\nRIVER,OKAFOR\nRIVER,BIGSKY\n' >payees.csv
+check 'a party with two payees' 1 '' 'royalty_run: payee fault 3 at row 2\n' "$program" run "${files[@]}" --payees payees.csv "${plan[@]}"
+check 'two tables of payees' 2 '' '*' "$program" run "${files[@]}" --payees payees.csv --payees payees.csv "${plan[@]}"
 check 'help' 0 '*' '' "$program" --help
 kit=$(rt version)
 check 'the version' 0 "royalty_run 0.1.0\nlogic ${kit##* logic }\n" '' "$program" --version

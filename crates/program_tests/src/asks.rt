@@ -5,7 +5,7 @@
 //! each line end.
 
 use crate::outputs::{Held, Narrow, Stopped};
-use cwr_share::CwrFault;
+use cwr_share::{CwrFault, PayeeFault};
 use line_split::LineFault;
 use pair_split::PairFault;
 use royalty_program::{Failure, program, words_of};
@@ -241,7 +241,9 @@ fn failure_named(alloc: Global, name: &str) -> Result<Failure, Fail> {
         "words that are no text" => failure_of_words(alloc, io::ErrorKind::InvalidData),
         "other words" => failure_of_words(alloc, io::ErrorKind::Other),
         "too many territories" => Ok(Failure::from(Fault::Tis(TisFault::Rows))),
-        "too many parties" => Ok(Failure::from(Fault::Cwr(CwrFault::Accounts))),
+        "too many payees" => Ok(Failure::from(Fault::Cwr(CwrFault::Accounts))),
+        "too many rows of payees" => Ok(Failure::from(Fault::Payee(PayeeFault::Rows))),
+        "the party of row 7" => Ok(Failure::from(Fault::Payee(PayeeFault::Twice(7)))),
         "too many lines" => Ok(Failure::from(Fault::Usage(LineFault::Lines))),
         "memory of a run" => Ok(Failure::from(Fault::Room)),
         _ => Err(Fail::new("no such failure")),

@@ -1,12 +1,12 @@
 //! The command `run`, over files that the tests make.
 //!
 //! A test gives rows of text, each a question and, after an arrow, its answer (`rows`, `asks`). In a question `@tis`,
-//! `@cwr` and `@usage` stand for the paths of its three files.
+//! `@cwr` and `@usage` stand for the paths of its three files, and `@payees` for that of a table in which B is paid to A.
 
 use crate::asks::{Ask, status_of};
 use crate::outputs::Measured;
 use crate::rows::{Asked, all_answered, assert_rows, plain};
-use small_run::{NO_USES, SHORT, TERRITORIES, TWO_PARTIES, USES};
+use small_run::{B_PAID_TO_A, NO_USES, SHORT, TERRITORIES, TWO_PARTIES, USES};
 use std::alloc::Global;
 use std::process::Abort;
 use std::rt::{Env, Files};
@@ -32,10 +32,11 @@ fn write_one<R: Files>(
     Ok(fs::write(rt, path.as_str(), text)?)
 }
 
-/// Makes the three files.
+/// Makes the files, of which the table of payees is always the same.
 fn write_all<R: Files>(rt: &R, alloc: Global, stem: &str, inputs: [&str; 3]) -> Result<(), Fail> {
     let [tis, cwr, usage] = inputs;
     write_one(rt, alloc, stem, "tis", tis)?;
+    write_one(rt, alloc, stem, "payees", B_PAID_TO_A)?;
     write_one(rt, alloc, stem, "cwr", cwr)?;
     write_one(rt, alloc, stem, "usage", usage)
 }
@@ -45,9 +46,10 @@ fn remove_one<R: Files>(rt: &R, alloc: Global, stem: &str, name: &str) -> Result
     Ok(fs::remove_file(rt, path.as_str())?)
 }
 
-/// Removes the three files.
+/// Removes the files.
 fn remove_all<R: Files>(rt: &R, alloc: Global, stem: &str) -> Result<(), Fail> {
     remove_one(rt, alloc, stem, "tis")?;
+    remove_one(rt, alloc, stem, "payees")?;
     remove_one(rt, alloc, stem, "cwr")?;
     remove_one(rt, alloc, stem, "usage")
 }
@@ -109,6 +111,38 @@ fn prints_the_statements_however_the_options_are_spelt(rt: HostRuntime) -> Resul
         "\
 r run --nodes 64 --readers 1 --workers 2 --usage @usage --cwr @cwr --tis @tis -> 0 [L,A,u1,60|S,A,1,60|L,B,u1,40|L,B,u2,20|S,B,2,60|M,OPEN,u2,30|M,WORK,u3,7|T,,2,37|R,,3,157|] []
 r run --usage=@usage --nodes=64 --tis=@tis --workers 2 --cwr @cwr --readers=1 -> 0 [L,A,u1,60|S,A,1,60|L,B,u1,40|L,B,u2,20|S,B,2,60|M,OPEN,u2,30|M,WORK,u3,7|T,,2,37|R,,3,157|] []
+",
+    )
+}
+
+#[test]
+fn pays_two_parties_to_one_account(rt: HostRuntime) -> Result<(), Fail> {
+    assert_rows_over(
+        &rt,
+        "paid",
+        [TERRITORIES, TWO_PARTIES, USES],
+        Ask::Whole,
+        "\
+r run --tis @tis --payees @payees --cwr @cwr --usage @usage --workers 2 --readers 1 --nodes 64 -> 0 [L,A,u1,100|L,A,u2,20|S,A,2,120|M,OPEN,u2,30|M,WORK,u3,7|T,,2,37|R,,3,157|] []
+r run --nodes 64 --readers 1 --workers 2 --usage @usage --cwr @cwr --tis @tis --payees=@payees -> 0 [L,A,u1,100|L,A,u2,20|S,A,2,120|M,OPEN,u2,30|M,WORK,u3,7|T,,2,37|R,,3,157|] []
+",
+    )
+}
+
+/// Payees are read after the territories and before the registrations, and so are their faults found.
+#[test]
+fn names_the_fault_of_payees(rt: HostRuntime) -> Result<(), Fail> {
+    assert_rows_over(
+        &rt,
+        "payees",
+        [TERRITORIES, SHORT, USES],
+        Ask::Whole,
+        "\
+r run --tis @tis --payees @usage --cwr @cwr --usage @usage --workers 2 --readers 1 --nodes 64 -> 1 [] [royalty_run: payee fault 1 at row 0|]
+r run --tis @usage --payees @usage --cwr @cwr --usage @usage --workers 2 --readers 1 --nodes 64 -> 1 [] [royalty_run: tis fault 1 at row 0|]
+r run --tis @tis --payees @payees --cwr @cwr --usage @usage --workers 2 --readers 1 --nodes 64 -> 1 [] [royalty_run: cwr fault 1 at line 3|]
+r run --tis @tis --payees absent --cwr missing --usage @usage --workers 2 --readers 1 --nodes 64 -> 4 [] [royalty_run: cannot read absent|]
+r run --tis gone --payees absent --cwr missing --usage @usage --workers 2 --readers 1 --nodes 64 -> 4 [] [royalty_run: cannot read gone|]
 ",
     )
 }
@@ -209,6 +243,8 @@ r run --tis a --cwr a --usage a --workers 9 --readers 1 --nodes 1 -> 2 [] [error
 r run --tis a --cwr a --usage a --workers 1 --readers 9 --nodes 1 -> 2 [] [error..]
 r run --tis a --cwr a --usage a --workers 1 --readers 1 --nodes 65 -> 2 [] [error..]
 r run --tis a --cwr a --usage a --workers 1 --readers 1 -> 2 [] [error..]
+r run --tis a --payees a --payees a --cwr a --usage a --workers 1 --readers 1 --nodes 1 -> 2 [] [error..]
+r run --tis a --payees --cwr a --usage a --workers 1 --readers 1 --nodes 1 -> 2 [] [error..]
 ",
     )
 }

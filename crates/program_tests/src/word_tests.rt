@@ -137,13 +137,15 @@ r run --help [table of faults in docs/FORMATS.md] -> 0 out
 r run --help [P (performing), M (mechanical) or S (synchronisation)] -> 0 out
 r run --help [with a - before them where money is taken back] -> 0 out
 r run --help [--tis <F>      The table of territories|] -> 0 out
+r run --help [--payees <F>   The table of payees, where parties are paid to other accounts|] -> 0 out
 r run --help [--cwr <F>      The registrations of works|] -> 0 out
 r run --help [--usage <F>    The usage lines|] -> 0 out
 r run --help [divide usage lines: 1 to 8|] -> 0 out
 r run --help [keep statements: 1 to 8|] -> 0 out
 r run --help [to an account at most: 1 to 64|] -> 0 out
-r run --help [L,party,usage,amount for each portion of a party] -> 0 out
-r run --help [then its sum|S,party,count,total] -> 0 out
+r run --help [L,payee,usage,amount for each portion of a payee] -> 0 out
+r run --help [then its sum|S,payee,count,total] -> 0 out
+r run --help [party,payee: who is paid what a party of the registrations claims] -> 0 out
 r run --help [of the residue M,reason,usage,amount] -> 0 out
 r run --help [then T,,count,total] -> 0 out
 r run --help [last R,,lines,amount] -> 0 out
@@ -277,7 +279,9 @@ memory of pairs -> royalty_run: out of room|
 words that are no text -> royalty_run: an argument is not UTF-8|
 other words -> royalty_run: out of room|
 too many territories -> royalty_run: tis fault 5|
-too many parties -> royalty_run: cwr fault 8|
+too many payees -> royalty_run: cwr fault 8|
+too many rows of payees -> royalty_run: payee fault 4|
+the party of row 7 -> royalty_run: payee fault 3 at row 7|
 too many lines -> royalty_run: usage fault 6|
 memory of a run -> royalty_run: out of room|
 ",

@@ -10,9 +10,9 @@ mod cwr_share_tests;
 #[cfg(test)]
 mod line_split_tests;
 #[cfg(test)]
-mod pair_split_tests;
-#[cfg(test)]
 mod paid_tests;
+#[cfg(test)]
+mod pair_split_tests;
 #[cfg(test)]
 mod payees_tests;
 #[cfg(test)]

@@ -153,17 +153,16 @@ fn accounts_of(alloc: Global, file: &str, table: &str) -> Result<Result<u16, Cwr
 #[test]
 fn payees_are_counted_and_not_parties(rt: HostRuntime) -> Result<(), Fail> {
     let alloc = rt.alloc();
-    let (all, more) = (two_registrations(alloc, 511)?, two_registrations(alloc, 512)?);
+    let (all, more) = (
+        two_registrations(alloc, 511)?,
+        two_registrations(alloc, 512)?,
+    );
     for (file, table, accounts) in [
         (&all, "party,payee\n", Ok(512)),
         (&more, "party,payee\n", Err(CwrFault::Accounts)),
         (&more, "party,payee\n000000512,000000001\n", Ok(512)),
         (&more, "party,payee\n000000512,Z\n", Err(CwrFault::Accounts)),
-        (
-            &more,
-            "party,payee\n000000511,Z\n000000512,Z\n",
-            Ok(512),
-        ),
+        (&more, "party,payee\n000000511,Z\n000000512,Z\n", Ok(512)),
     ] {
         assert!(rt; accounts_of(alloc, file.as_str(), table)? == accounts);
     }
@@ -183,7 +182,10 @@ fn name_of(alloc: Global, bytes: usize) -> Result<Vec<u8>, Fail> {
 fn a_payee_may_have_sixty_four_bytes(rt: HostRuntime) -> Result<(), Fail> {
     let alloc = rt.alloc();
     let name = name_of(alloc, MOST_NAME_BYTES)?;
-    let registry = paid(alloc, format!(in alloc; "A,{}", text_of(name.as_slice()))?.as_str())?;
+    let registry = paid(
+        alloc,
+        format!(in alloc; "A,{}", text_of(name.as_slice()))?.as_str(),
+    )?;
     assert!(rt; registry.account_of(name.as_slice()) == Some(4));
     assert!(rt; registry.party(4) == name.as_slice());
     assert!(rt; registry.account_of(b"A").is_none());

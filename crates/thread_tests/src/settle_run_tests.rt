@@ -4,8 +4,8 @@
 use crate::run_threads_tests::plan_of;
 use settle_run::{Fault, settle, settle_paid, settle_to};
 use small_run::{
-    B_PAID_TO_A, NO_USES, SHORT, STATEMENTS, STATEMENTS_OF_ONE_PAYEE, STATEMENTS_TAKEN_BACK, TERRITORIES, THREE_PARTIES, TWO_PARTIES, USES,
-    USES_TAKEN_BACK, equal_uses,
+    B_PAID_TO_A, NO_USES, SHORT, STATEMENTS, STATEMENTS_OF_ONE_PAYEE, STATEMENTS_TAKEN_BACK,
+    TERRITORIES, THREE_PARTIES, TWO_PARTIES, USES, USES_TAKEN_BACK, equal_uses,
 };
 use split_run::Plan;
 use std::alloc::Global;
