@@ -5,7 +5,7 @@
 
 use crate::cwr_share_tests::two_registrations;
 use crate::rows::{Ask, assert_rows, in_brackets, lines_of, text_of};
-use cwr_share::{CwrFault, MOST_NAME_BYTES, Payees, Registry};
+use cwr_share::{MOST_NAME_BYTES, Payees, Registry};
 use line_split::{Line, Right};
 use small_run::TERRITORIES;
 use std::alloc::Global;
@@ -29,9 +29,7 @@ SPT0000000000000010D              005000050000500I2136
 
 /// The registry of the four parties with these rows of payees.
 fn paid(alloc: Global, rows: &str) -> Result<Registry, Fail> {
-    let mut table = Vec::from_slice(alloc, b"party,payee\n")?;
-    table.extend_from_slice(lines_of(alloc, rows)?.as_slice())?;
-    let payees = Payees::read(alloc, table.as_slice())?;
+    let payees = Payees::read(alloc, table_of(alloc, rows)?.as_slice())?;
     Ok(Registry::paid(alloc, FOUR_PARTIES.as_bytes(), &payees)?)
 }
 
@@ -141,53 +139,66 @@ X,Z/D,A: ABCA---
     )
 }
 
-/// The outcome of a file with a table of payees: how many accounts there are, or the fault.
-fn accounts_of(alloc: Global, file: &str, table: &str) -> Result<Result<u16, CwrFault>, Fail> {
-    let payees = Payees::read(alloc, table.as_bytes())?;
+/// How many accounts a file has with these rows of payees, or the fault.
+fn accounts_of(alloc: Global, file: &str, rows: &[u8]) -> Result<String, Fail> {
+    let payees = Payees::read(alloc, rows)?;
     match Registry::paid(alloc, file.as_bytes(), &payees) {
-        Ok(registry) => Ok(Ok(registry.accounts())),
-        Err(fault) => Ok(Err(fault)),
+        Ok(registry) => Ok(format!(in alloc; "{}", registry.accounts())?),
+        Err(fault) => Ok(format!(in alloc; "{fault:?}")?),
+    }
+}
+
+/// A table of payees with these rows, which have slashes for their line ends.
+fn table_of(alloc: Global, rows: &str) -> Result<Vec<u8>, Fail> {
+    let mut table = Vec::from_slice(alloc, b"party,payee\n")?;
+    table.extend_from_slice(lines_of(alloc, rows)?.as_slice())?;
+    Ok(table)
+}
+
+/// How many accounts the rows of a test give to a file.
+#[derive(Drop)]
+struct AccountsOf<'a>(&'a str);
+
+impl Ask for AccountsOf<'_> {
+    fn answer(&self, alloc: Global, question: &str) -> Result<String, Fail> {
+        accounts_of(alloc, self.0, table_of(alloc, question)?.as_slice())
     }
 }
 
 #[test]
 fn payees_are_counted_and_not_parties(rt: HostRuntime) -> Result<(), Fail> {
     let alloc = rt.alloc();
-    let (all, more) = (
-        two_registrations(alloc, 511)?,
-        two_registrations(alloc, 512)?,
-    );
-    for (file, table, accounts) in [
-        (&all, "party,payee\n", Ok(512)),
-        (&more, "party,payee\n", Err(CwrFault::Accounts)),
-        (&more, "party,payee\n000000512,000000001\n", Ok(512)),
-        (&more, "party,payee\n000000512,Z\n", Err(CwrFault::Accounts)),
-        (&more, "party,payee\n000000511,Z\n000000512,Z\n", Ok(512)),
-    ] {
-        assert!(rt; accounts_of(alloc, file.as_str(), table)? == accounts);
-    }
-    Ok(())
+    let file = two_registrations(alloc, 512)?;
+    assert_rows(
+        &rt,
+        alloc,
+        &AccountsOf(file.as_str()),
+        "\
+: Accounts
+000000512,000000001: 512
+000000512,Z: Accounts
+000000511,Z/000000512,Z: 512
+",
+    )
 }
 
-/// A payee of so many bytes.
-fn name_of(alloc: Global, bytes: usize) -> Result<Vec<u8>, Fail> {
-    let mut name = Vec::new(alloc);
+/// A payee of so many bytes, the account that it has, and the account of the party that is paid to it.
+fn account_of_long(alloc: Global, bytes: usize) -> Result<String, Fail> {
+    let mut name = String::new(alloc);
     for _ in 0..bytes {
-        name.push(b'N')?;
+        name.push_str("N")?;
     }
-    Ok(name)
+    let registry = paid(alloc, format!(in alloc; "A,{name}")?.as_str())?;
+    let (own, party) = (
+        registry.account_of(name.as_bytes()),
+        registry.account_of(b"A"),
+    );
+    Ok(format!(in alloc; "{own:?} {party:?} {}", registry.accounts())?)
 }
 
 #[test]
 fn a_payee_may_have_sixty_four_bytes(rt: HostRuntime) -> Result<(), Fail> {
-    let alloc = rt.alloc();
-    let name = name_of(alloc, MOST_NAME_BYTES)?;
-    let registry = paid(
-        alloc,
-        format!(in alloc; "A,{}", text_of(name.as_slice()))?.as_str(),
-    )?;
-    assert!(rt; registry.account_of(name.as_slice()) == Some(4));
-    assert!(rt; registry.party(4) == name.as_slice());
-    assert!(rt; registry.account_of(b"A").is_none());
+    let found = account_of_long(rt.alloc(), MOST_NAME_BYTES)?;
+    assert_eq!(rt; found.as_str(), "Some(4) None 5");
     Ok(())
 }

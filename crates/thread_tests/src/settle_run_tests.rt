@@ -432,6 +432,6 @@ fn prints_by_the_sheet(rt: HostRuntime) -> Result<(), Fail> {
     let (alloc, plan) = (rt.alloc(), plan_of((1, 1, 1))?);
     let uses = uses(alloc, 12_000)?;
     let inputs = [TERRITORIES, TWO_PARTIES, uses.as_str()];
-    let text = outcome(&rt, alloc, inputs, plan)?;
+    let text = outcome(&rt, alloc, inputs, None, plan)?;
     assert_prints_to_any(&rt, alloc, inputs, plan, text.as_str())
 }
