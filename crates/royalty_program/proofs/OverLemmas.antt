@@ -1,13 +1,12 @@
 -- The statements of the files that a run names, by the words that name them.
-use Rattle.std.proofs.Common.{◌≡◌, ◌≢◌, ◌∙◌, ◌⊎◌, ◌+◌, ℕ, List, [], None, Option, Err, Ok, Result, codes, drop, inl, inr, refl, subst}
+use Rattle.std.proofs.Common.{◌≡◌, ◌≢◌, ◌∙◌, ◌⊎◌, ℕ, List, Option, Err, Ok, Result, codes, drop, inl, inr, refl, subst}
 use Rattle.std.specs.Option.{option_map}
 use Rattle.std.specs.Result.{IfErr, OnOk}
-use Rattle.std.proofs.lemmas.Grind.{get_or_after_one}
 use Rattle.std.specs.Prelude.{string_bytes}
 use Rattle.std.specs.declared.io.ErrorKind.{ErrorKind}
 use Rattle.pair_split.specs.Pair.{word_at}
 use Rattle.royalty_program.specs.Answered.{AreReadFrom}
-use Rattle.royalty_program.specs.Asked.{IsDivision, IsRun, path_given, path_if_given}
+use Rattle.royalty_program.specs.Asked.{AreRunWords, IsDivision, path_given, path_if_given}
 use Rattle.royalty_program.specs.Files.{AreStatementsOver}
 use Rattle.royalty_program.specs.Status.{FailFor, IsOfDivision, IsOfPaths, IsOfRun, IsRefusal, status_of}
 use Rattle.royalty_program.specs.declared.failure.Failure.{Failure}
@@ -30,19 +29,12 @@ pub over_given : (holds : List ℕ → List ℕ → Type 0) (words : List (List 
     → AreStatementsOver holds (path_given (codes "tis") words) (path_if_given (codes "payees") words) (path_given (codes "cwr") words) (path_given (codes "usage") words) text
 over_given holds words asked text read over = at_paths holds text _ _ _ _ _ _ _ _ read.tis read.payees read.cwr read.usage over
 
--- a word after the first
-word_on : (words : List (List ℕ)) (k : ℕ) → word_at (drop 1 words) k ≡ word_at words (1 + k)
-word_on words k = get_or_after_one words k []
-
--- and in the plain form by the words after the options
-pub over_in_order : (holds : List ℕ → List ℕ → Type 0) (words : List (List ℕ)) (asked : RunWords) (text : List ℕ) → IsRun words → AreReadFrom (drop 1 words) asked
+-- and in the plain form by the values after the options
+pub over_in_order : (holds : List ℕ → List ℕ → Type 0) (words : List (List ℕ)) (asked : RunWords) (text : List ℕ) (r : AreRunWords words) → AreReadFrom words asked
     → AreStatementsOver holds (string_bytes asked.tis) (option_map string_bytes asked.payees) (string_bytes asked.cwr) (string_bytes asked.usage) text
-    → AreStatementsOver holds (word_at words 3) None (word_at words 5) (word_at words 7) text
-over_in_order holds words asked text run read over = at_paths holds text _ _ _ _ _ _ _ _
-    (read.tis ∙ tis_in_order (drop 1 words) run.options ∙ word_on words 2)
-    (read.payees ∙ payees_in_order (drop 1 words) run.options)
-    (read.cwr ∙ cwr_in_order (drop 1 words) run.options ∙ word_on words 4)
-    (read.usage ∙ usage_in_order (drop 1 words) run.options ∙ word_on words 6) over
+    → AreStatementsOver holds r.tis r.payees r.cwr r.usage text
+over_in_order holds words asked text r read over = at_paths holds text _ _ _ _ _ _ _ _
+    (read.tis ∙ tis_in_order words r) (read.payees ∙ payees_in_order words r) (read.cwr ∙ cwr_in_order words r) (read.usage ∙ usage_in_order words r) over
 
 -- a run fails for the files that its options name
 pub fails_given : (holds : List ℕ → List ℕ → Type 0) (refuses : List ℕ → ErrorKind → Type 0) (words : List (List ℕ)) (asked : RunWords) → AreReadFrom words asked → (failure : Failure)

@@ -7,7 +7,7 @@ use Rattle.std.specs.Result.{IfErr, IsErrAnd}
 use Rattle.std.specs.Borrow.{Bor}
 use Rattle.std.proofs.lemmas.Slice.Eq.{bytes_eq-Decides}
 use Rattle.std.proofs.lemmas.List.Elements.{All-nil}
-use Rattle.clap.specs.Words.{AddsArg, App, HasKind, HasMatchesOf, IsAmong, IsParsedFrom, IsPlain, IsPlainArg, IsUnsignedIn, Kinds, NarrowsTo, Rule, SameRules, Text, app_of, args_of, fault_of, first_of, first_value, found_of, groups_of, is_simple, is_simple_and_free, kind_of, matches_of, new_app, one_of, one_text, rows_of, rule_of, with_rule}
+use Rattle.clap.specs.Words.{AddsArg, App, HasKind, HasMatchesOf, IsAmong, IsParsedFrom, IsPlain, IsPlainArg, IsUnsignedIn, Kinds, NarrowsTo, Row, Rule, SameRules, Text, app_of, args_of, fault_of, first_of, first_value, found_of, groups_of, is_simple, is_simple_and_free, kind_of, matches_of, new_app, one_of, one_text, rows_of, rule_of, with_rule}
 use Rattle.clap.specs.Built.{IsAuto}
 use Rattle.clap.specs.declared.builder.arg.Arg.{Arg}
 use Rattle.clap.specs.declared.builder.command.Command.{Command}
@@ -24,7 +24,6 @@ use Rattle.clap.proofs.CallerReads.{required_reads}
 use Rattle.clap.proofs.WalkLemmas.{first_value-rows, one_text-rows}
 use Rattle.split_run.specs.Plans.{Planned}
 use Rattle.split_run.specs.declared.TheConstants.{MOST_NODES, MOST_THREADS}
-use Rattle.pair_split.specs.Pair.{word_at}
 use Rattle.royalty_program.specs.Answered.{AreReadFrom, AreReadInOrder}
 use Rattle.royalty_program.specs.Asked.{AreAccepted, AreRunWords, AskForHelp, IsErrorOf, number_given, number_in, path_given, path_if_given}
 use Rattle.royalty_program.specs.declared.run_command.RunWords.{RunWords}
@@ -289,43 +288,73 @@ same_plan plan a b c x y z is e f g = rw (e, f, g) at is
 
 -- ---- the plain form
 
--- an option's path and number are the word after it
-path_in_order : (words : List Text) (r : AreRunWords words) (name : Text) (k : ℕ) (word : Text)
-    → first_of name (rows_6 r.tis r.cwr r.usage r.workers r.readers r.nodes) ≡ Some word → word_at words k ≡ word → path_given name words ≡ word_at words k
+-- the rows of the options in the plain form
+abbrev rows_in_order : (words : List Text) → AreRunWords words → List Row
+rows_in_order words r = rows_6 r.tis r.payees r.cwr r.usage r.workers r.readers r.nodes
+
+-- an option's path and number are the value after it
+path_in_order : (words : List Text) (r : AreRunWords words) (name word : Text) → first_of name (rows_in_order words r) ≡ Some word → path_given name words ≡ word
 unfolding path_given
-path_in_order words r name k word found at =
-    ap (λ (o : Option Text). unwrap_or o []) (ap (first_of name) (run_matches words r) ∙ found) ∙ sym at
+path_in_order words r name word found = ap (λ (o : Option Text). unwrap_or o []) (ap (first_of name) (run_matches words r) ∙ found)
 
-number_in_order : (words : List Text) (r : AreRunWords words) (name : Text) (k : ℕ) (word : Text)
-    → one_of name (rows_6 r.tis r.cwr r.usage r.workers r.readers r.nodes) ≡ Some word → word_at words k ≡ word → number_given name words ≡ number_in (word_at words k)
+number_in_order : (words : List Text) (r : AreRunWords words) (name word : Text) → one_of name (rows_in_order words r) ≡ Some word
+    → number_given name words ≡ number_in word
 unfolding number_given
-number_in_order words r name k word found at =
-    ap (λ (o : Option Text). number_in (unwrap_or o [])) (ap (one_of name) (run_matches words r) ∙ found) ∙ ap number_in (sym at)
+number_in_order words r name word found = ap (λ (o : Option Text). number_in (unwrap_or o [])) (ap (one_of name) (run_matches words r) ∙ found)
 
-pub tis_in_order : (words : List Text) → AreRunWords words → path_given (codes "tis") words ≡ word_at words 2
-tis_in_order words r = path_in_order words r (codes "tis") 2 r.tis refl (ap (λ l. word_at l 2) r.form)
+-- what is found of each option, with a table of payees and without
+first_tis : (tis : Text) (payees : Option Text) (cwr usage workers readers nodes : Text) → first_of (codes "tis") (rows_6 tis payees cwr usage workers readers nodes) ≡ Some tis
+first_tis tis None cwr usage workers readers nodes = refl
+first_tis tis (Some payees) cwr usage workers readers nodes = refl
 
-pub payees_in_order : (words : List Text) → AreRunWords words → path_if_given (codes "payees") words ≡ None
+first_payees : (tis : Text) (payees : Option Text) (cwr usage workers readers nodes : Text) → first_of (codes "payees") (rows_6 tis payees cwr usage workers readers nodes) ≡ payees
+first_payees tis None cwr usage workers readers nodes = refl
+first_payees tis (Some payees) cwr usage workers readers nodes = refl
+
+first_cwr : (tis : Text) (payees : Option Text) (cwr usage workers readers nodes : Text) → first_of (codes "cwr") (rows_6 tis payees cwr usage workers readers nodes) ≡ Some cwr
+first_cwr tis None cwr usage workers readers nodes = refl
+first_cwr tis (Some payees) cwr usage workers readers nodes = refl
+
+first_usage : (tis : Text) (payees : Option Text) (cwr usage workers readers nodes : Text) → first_of (codes "usage") (rows_6 tis payees cwr usage workers readers nodes) ≡ Some usage
+first_usage tis None cwr usage workers readers nodes = refl
+first_usage tis (Some payees) cwr usage workers readers nodes = refl
+
+one_workers : (tis : Text) (payees : Option Text) (cwr usage workers readers nodes : Text) → one_of (codes "workers") (rows_6 tis payees cwr usage workers readers nodes) ≡ Some workers
+one_workers tis None cwr usage workers readers nodes = refl
+one_workers tis (Some payees) cwr usage workers readers nodes = refl
+
+one_readers : (tis : Text) (payees : Option Text) (cwr usage workers readers nodes : Text) → one_of (codes "readers") (rows_6 tis payees cwr usage workers readers nodes) ≡ Some readers
+one_readers tis None cwr usage workers readers nodes = refl
+one_readers tis (Some payees) cwr usage workers readers nodes = refl
+
+one_nodes : (tis : Text) (payees : Option Text) (cwr usage workers readers nodes : Text) → one_of (codes "nodes") (rows_6 tis payees cwr usage workers readers nodes) ≡ Some nodes
+one_nodes tis None cwr usage workers readers nodes = refl
+one_nodes tis (Some payees) cwr usage workers readers nodes = refl
+
+pub tis_in_order : (words : List Text) (r : AreRunWords words) → path_given (codes "tis") words ≡ r.tis
+tis_in_order words r = path_in_order words r (codes "tis") r.tis (first_tis r.tis r.payees r.cwr r.usage r.workers r.readers r.nodes)
+
+pub payees_in_order : (words : List Text) (r : AreRunWords words) → path_if_given (codes "payees") words ≡ r.payees
 unfolding path_if_given
-payees_in_order words r = ap (first_of (codes "payees")) (run_matches words r)
+payees_in_order words r = ap (first_of (codes "payees")) (run_matches words r) ∙ first_payees r.tis r.payees r.cwr r.usage r.workers r.readers r.nodes
 
-pub cwr_in_order : (words : List Text) → AreRunWords words → path_given (codes "cwr") words ≡ word_at words 4
-cwr_in_order words r = path_in_order words r (codes "cwr") 4 r.cwr refl (ap (λ l. word_at l 4) r.form)
+pub cwr_in_order : (words : List Text) (r : AreRunWords words) → path_given (codes "cwr") words ≡ r.cwr
+cwr_in_order words r = path_in_order words r (codes "cwr") r.cwr (first_cwr r.tis r.payees r.cwr r.usage r.workers r.readers r.nodes)
 
-pub usage_in_order : (words : List Text) → AreRunWords words → path_given (codes "usage") words ≡ word_at words 6
-usage_in_order words r = path_in_order words r (codes "usage") 6 r.usage refl (ap (λ l. word_at l 6) r.form)
+pub usage_in_order : (words : List Text) (r : AreRunWords words) → path_given (codes "usage") words ≡ r.usage
+usage_in_order words r = path_in_order words r (codes "usage") r.usage (first_usage r.tis r.payees r.cwr r.usage r.workers r.readers r.nodes)
 
--- so what is read of the plain form are its words
-pub read_in_order : (words : List Text) (asked : RunWords) → AreRunWords words → AreReadFrom words asked → AreReadInOrder words asked
+-- so what is read of the plain form are its values
+pub read_in_order : (words : List Text) (asked : RunWords) (r : AreRunWords words) → AreReadFrom words asked → AreReadInOrder words r asked
 read_in_order words asked r read = record {
   tis = read.tis ∙ tis_in_order words r;
   payees = read.payees ∙ payees_in_order words r;
   cwr = read.cwr ∙ cwr_in_order words r;
   usage = read.usage ∙ usage_in_order words r;
   plan = same_plan asked.plan _ _ _ _ _ _ read.plan
-      (number_in_order words r (codes "workers") 8 r.workers refl (ap (λ l. word_at l 8) r.form))
-      (number_in_order words r (codes "readers") 10 r.readers refl (ap (λ l. word_at l 10) r.form))
-      (number_in_order words r (codes "nodes") 12 r.nodes refl (ap (λ l. word_at l 12) r.form));
+      (number_in_order words r (codes "workers") r.workers (one_workers r.tis r.payees r.cwr r.usage r.workers r.readers r.nodes))
+      (number_in_order words r (codes "readers") r.readers (one_readers r.tis r.payees r.cwr r.usage r.workers r.readers r.nodes))
+      (number_in_order words r (codes "nodes") r.nodes (one_nodes r.tis r.payees r.cwr r.usage r.workers r.readers r.nodes));
 }
 
 -- ---- the error of a parse that fails

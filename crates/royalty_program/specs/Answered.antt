@@ -1,9 +1,8 @@
 -- What is read of a command line, and what answers it.
-use Rattle.std.specs.Prelude.{ℕ, ◌≡◌, ◌≤◌, List, None, codes, drop, map, string_bytes, ⊤}
+use Rattle.std.specs.Prelude.{ℕ, ◌≡◌, ◌≤◌, List, codes, drop, map, string_bytes, ⊤}
 use Rattle.std.specs.Option.{option_map}
 use Rattle.line_split.specs.declared.TheConstants.{MOST_AMOUNT}
-use Rattle.royalty_program.specs.Asked.{AskForRun, IsDivision, IsRun, amount_of, number_given, number_in, pairs_of, path_given, path_if_given}
-use Rattle.pair_split.specs.Pair.{word_at}
+use Rattle.royalty_program.specs.Asked.{AreRunWords, AskForRun, IsDivision, IsRun, amount_of, number_given, number_in, pairs_of, path_given, path_if_given}
 use Rattle.pair_split.specs.PairFault.{AreSound}
 use Rattle.pair_split.specs.Rows.{split_text}
 use Rattle.royalty_program.specs.Files.{AreStatementsOver}
@@ -38,25 +37,25 @@ pub record AreReadFrom (words : List (List ℕ)) (asked : RunWords) : Type 0 whe
     nodes = number_given (codes "nodes") words;
   }
 
--- and in the plain form they are the words after the options
-pub record AreReadInOrder (words : List (List ℕ)) (asked : RunWords) : Type 0 where
-  pub tis : string_bytes asked.tis ≡ word_at words 2
-  pub payees : option_map string_bytes asked.payees ≡ None
-  pub cwr : string_bytes asked.cwr ≡ word_at words 4
-  pub usage : string_bytes asked.usage ≡ word_at words 6
+-- and in the plain form they are the values after the options
+pub record AreReadInOrder (words : List (List ℕ)) (run : AreRunWords words) (asked : RunWords) : Type 0 where
+  pub tis : string_bytes asked.tis ≡ run.tis
+  pub payees : option_map string_bytes asked.payees ≡ run.payees
+  pub cwr : string_bytes asked.cwr ≡ run.cwr
+  pub usage : string_bytes asked.usage ≡ run.usage
   pub plan : asked.plan ≡ record {
-    workers = number_in (word_at words 8);
-    readers = number_in (word_at words 10);
-    nodes = number_in (word_at words 12);
+    workers = number_in run.workers;
+    readers = number_in run.readers;
+    nodes = number_in run.nodes;
   }
 
 abbrev pub IsRunOf : List (List ℕ) → Asked → Type 0
 IsRunOf words (Division asked) = ⊥
 IsRunOf words (Run asked) = AreReadFrom (drop 1 words) asked
 
-abbrev pub IsRunInOrder : List (List ℕ) → Asked → Type 0
-IsRunInOrder words (Division asked) = ⊥
-IsRunInOrder words (Run asked) = AreReadInOrder (drop 1 words) asked
+abbrev pub IsRunInOrder : (words : List (List ℕ)) → AreRunWords (drop 1 words) → Asked → Type 0
+IsRunInOrder words run (Division asked) = ⊥
+IsRunInOrder words run (Run asked) = AreReadInOrder (drop 1 words) run asked
 
 -- the text answers the division that the words ask for, and nothing is wrong with them
 pub record IsAnswerTo (words : List (List ℕ)) (text : List ℕ) : Type 0 where
@@ -69,4 +68,4 @@ pub record IsAnswered (holds : List ℕ → List ℕ → Type 0) (words : List (
   pub division : IsDivision words → IsAnswerTo words text
   pub run : AskForRun words
       → AreStatementsOver holds (path_given (codes "tis") (drop 1 words)) (path_if_given (codes "payees") (drop 1 words)) (path_given (codes "cwr") (drop 1 words)) (path_given (codes "usage") (drop 1 words)) text
-  pub in_order : IsRun words → AreStatementsOver holds (word_at words 3) None (word_at words 5) (word_at words 7) text
+  pub in_order : (asked : IsRun words) → AreStatementsOver holds asked.options.tis asked.options.payees asked.options.cwr asked.options.usage text

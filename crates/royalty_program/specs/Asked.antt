@@ -1,5 +1,5 @@
 -- What a command line asks for: a division in its plain form, with no options; or a run, its options in any order and form that clap takes.
-use Rattle.std.specs.Prelude.{ℕ, ◌≡◌, ◌≢◌, ◌⊎◌, ◌∷◌, List, [], All, drop, codes, slice_index, unwrap_or, Option}
+use Rattle.std.specs.Prelude.{ℕ, ◌≡◌, ◌≢◌, ◌⊎◌, ◌∷◌, ◌++◌, List, [], All, IfSome, None, Some, drop, codes, slice_index, unwrap_or, Option}
 use Rattle.std.specs.Str.Parse.{digits_value, without_leading_plus}
 use Rattle.clap.specs.Words.{HasKind, IsAmong, fault_of, first_of, matches_of, one_of}
 use Rattle.clap.specs.declared.error.Error.{Error}
@@ -60,18 +60,25 @@ pub record AreRun (words : List (List ℕ)) : Type 0 where
   pub command : word_at words 1 ≡ codes "run"
   pub accepted : AreAccepted (drop 1 words)
 
--- The plain form of a run without a table of payees: the word `run`, and then its six other options in this order, each with a value.
+-- the option of a table of payees, where there is one
+abbrev pub payees_words : Option (List ℕ) → List (List ℕ)
+payees_words None = []
+payees_words (Some path) = codes "--payees" ∷ path ∷ []
+
+-- The plain form of a run: the word `run`, and then its options in this order, each with a value. That of the payees may be left out.
 pub record AreRunWords (words : List (List ℕ)) : Type 0 where
   pub name : List ℕ
   pub tis : List ℕ
+  pub payees : Option (List ℕ)
   pub cwr : List ℕ
   pub usage : List ℕ
   pub workers : List ℕ
   pub readers : List ℕ
   pub nodes : List ℕ
-  pub form : words ≡ name ∷ codes "--tis" ∷ tis ∷ codes "--cwr" ∷ cwr ∷ codes "--usage" ∷ usage
-      ∷ codes "--workers" ∷ workers ∷ codes "--readers" ∷ readers ∷ codes "--nodes" ∷ nodes ∷ []
+  pub form : words ≡ name ∷ codes "--tis" ∷ tis ∷ (payees_words payees ++ codes "--cwr" ∷ cwr ∷ codes "--usage" ∷ usage
+      ∷ codes "--workers" ∷ workers ∷ codes "--readers" ∷ readers ∷ codes "--nodes" ∷ nodes ∷ [])
   pub values : All IsValue (tis ∷ cwr ∷ usage ∷ workers ∷ readers ∷ nodes ∷ [])
+  pub payees_value : IfSome payees IsValue
 
 -- the program's own name, and the words of a run in their plain form
 pub record IsRun (words : List (List ℕ)) : Type 0 where

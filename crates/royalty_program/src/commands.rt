@@ -46,7 +46,7 @@ pub fn read_words(alloc: Global, words: &[String]) -> Result<Asked, Error>
     ensures in_range { IfOk result IsInRange }
     ensures division { IsDivision (map string_bytes words.now) → IfOk result (IsDivisionOf (map string_bytes words.now)) }
     ensures run { word_at (map string_bytes words.now) 1 ≡ codes "run" → IfOk result (IsRunOf (map string_bytes words.now)) }
-    ensures in_order { IsRun (map string_bytes words.now) → IfOk result (IsRunInOrder (map string_bytes words.now)) }
+    ensures in_order { (run : IsRun (map string_bytes words.now)) → IfOk result (IsRunInOrder (map string_bytes words.now) run.options) }
     ensures error { word_at (map string_bytes words.now) 1 ≡ codes "run" → IfErr result (IsErrorOf (drop 1 (map string_bytes words.now))) }
     ensures no_help { IsDivision (map string_bytes words.now) → IfErr result (λ error. (kind_of error ≢ kinds.DisplayHelp) × (kind_of error ≢ kinds.DisplayVersion)) }
 {

@@ -56,7 +56,7 @@ returns-in-Ok-Run-clause-answered g c =
       record {
         division = λ division. absurd (no_division division);
         run = λ run. over_given holds (drop 1 words) asked wrote.0 (read run.command) wrote.2;
-        in_order = λ run. over_in_order holds words asked wrote.0 run (read run.command) wrote.2;
+        in_order = λ run. over_in_order holds (drop 1 words) asked wrote.0 run.options (read run.command) wrote.2;
       },
     )) statements) c.settle_files.ensures.statements
 
