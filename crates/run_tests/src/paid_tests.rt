@@ -29,7 +29,8 @@ SPT0000000000000010D              005000050000500I2136
 
 /// The registry of the four parties with these rows of payees.
 fn paid(alloc: Global, rows: &str) -> Result<Registry, Fail> {
-    let payees = Payees::read(alloc, table_of(alloc, rows)?.as_slice())?;
+    let table = table_of(alloc, rows)?;
+    let payees = Payees::read(alloc, table.as_slice())?;
     Ok(Registry::paid(alloc, FOUR_PARTIES.as_bytes(), &payees)?)
 }
 
@@ -62,11 +63,13 @@ fn assert_none(is_none: bool) -> Result<(), Fail> {
 fn accounts_and_claims(alloc: Global, registry: &Registry) -> Result<String, Fail> {
     let mut text = String::new(alloc);
     for party in registry.parties() {
-        text.push_str(in_brackets(alloc, party.as_slice())?.as_str())?;
+        let payee = in_brackets(alloc, party.as_slice())?;
+        text.push_str(payee.as_str())?;
     }
     for land in [276, 840] {
+        let claims = claims_in(alloc, registry, land)?;
         text.push_str(" ")?;
-        text.push_str(claims_in(alloc, registry, land)?.as_str())?;
+        text.push_str(claims.as_str())?;
     }
     Ok(text)
 }
@@ -151,7 +154,8 @@ fn accounts_of(alloc: Global, file: &str, rows: &[u8]) -> Result<String, Fail> {
 /// A table of payees with these rows, which have slashes for their line ends.
 fn table_of(alloc: Global, rows: &str) -> Result<Vec<u8>, Fail> {
     let mut table = Vec::from_slice(alloc, b"party,payee\n")?;
-    table.extend_from_slice(lines_of(alloc, rows)?.as_slice())?;
+    let lines = lines_of(alloc, rows)?;
+    table.extend_from_slice(lines.as_slice())?;
     Ok(table)
 }
 
@@ -161,7 +165,8 @@ struct AccountsOf<'a>(&'a str);
 
 impl Ask for AccountsOf<'_> {
     fn answer(&self, alloc: Global, question: &str) -> Result<String, Fail> {
-        accounts_of(alloc, self.0, table_of(alloc, question)?.as_slice())
+        let table = table_of(alloc, question)?;
+        accounts_of(alloc, self.0, table.as_slice())
     }
 }
 
@@ -188,7 +193,8 @@ fn account_of_long(alloc: Global, bytes: usize) -> Result<String, Fail> {
     for _ in 0..bytes {
         name.push_str("N")?;
     }
-    let registry = paid(alloc, format!(in alloc; "A,{name}")?.as_str())?;
+    let rows = format!(in alloc; "A,{name}")?;
+    let registry = paid(alloc, rows.as_str())?;
     let (own, party) = (
         registry.account_of(name.as_bytes()),
         registry.account_of(b"A"),
