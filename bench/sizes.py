@@ -15,6 +15,7 @@ import sys
 import tempfile
 
 from bench import LAUNCHER, build_plain
+from compare import NAMES, words_of
 
 MOST_BYTES = 268_435_456
 USAGE = b"usage,work,territory,right,amount\n"
@@ -60,8 +61,14 @@ def parties(count):
                     for first in range(0, count, 256))
 
 
+def payees(count, width=9):
+    """So many rows of payees, each name of so many bytes. The first two are the parties of a work of two."""
+    name = lambda number: b"P%d" % number if number < 2 else b"%0*d" % (width, number)
+    return b"party,payee\n" + b"".join(name(n) + b",%0*d\n" % (width, n % 1000) for n in range(count))
+
+
 def cases():
-    """Name, the three files, and how it has to end: a status, and the beginning of a message."""
+    """Name, the three files, a table of payees where there is one, and how it has to end: a status, and the beginning of a message."""
     one, few = work_of(2), uses(3)
     quotes = b'"' + b'""' * 64 + b'"'
     yield "no lines, no works, no territories", b"code,groups\n", b"", USAGE, 0, b""
@@ -71,6 +78,13 @@ def cases():
     yield "257 share lines", tis(), work_of(257), few, 1, b"cwr fault 7 at line 259"
     yield "511 parties", tis(), parties(511), few, 0, b""
     yield "512 parties", tis(), parties(512), few, 1, b"cwr fault 8"
+    yield "512 parties of 511 payees", tis(), parties(512), few, b"party,payee\nP0,P1\n", 0, b""
+    yield "65536 payees", tis(), one, few, payees(65_536), 0, b""
+    yield "65536 payees, of the longest names", tis(), one, few, payees(65_536, 64), 0, b""
+    yield "65537 payees", tis(), one, few, payees(65_537), 1, b"payee fault 4"
+    yield "a payee of 65 bytes", tis(), one, few, payees(3, 65), 1, b"payee fault 2 at row 1"
+    yield "payees of the most bytes, one field", tis(), one, few, b"p" * MOST_BYTES, 1, b"payee fault 1 at row 0"
+    yield "payees of one byte more", tis(), one, few, b"p" * (MOST_BYTES + 1), 4, b"cannot read"
     yield "texts of 64 bytes", tis(), one, uses(3, b"u" * 64 + b"," + b"w" * 64 + b",2136,P,1\n"), 0, b""
     yield "a usage of 65 bytes", tis(), one, uses(1, b"u" * 65 + b",W1,2136,P,1\n"), 1, b"usage fault 2 at row 1"
     yield "the most amount", tis(), one, uses(3, b"u,W1,2136,P,1000000000000\n"), 0, b""
@@ -102,9 +116,7 @@ def largest():
 def run(program, paths, folder):
     """Wall time, peak memory in MB, status, message without the program's name, and the digest of what it printed."""
     out, err = (os.path.join(folder, name) for name in ("out", "err"))
-    words = [program, "run"]
-    for name, value in zip(("tis", "cwr", "usage", "workers", "readers", "nodes"), [*paths, *PLAN]):
-        words += [f"--{name}", str(value)]
+    words = words_of(program, paths, PLAN)
     done = subprocess.run([sys.executable, "-ISc", LAUNCHER, out, err, *words], stdout=subprocess.PIPE, text=True, check=True)
     wall, _, memory, status = map(float, done.stdout.split())
     with open(err, "rb") as f:
@@ -125,10 +137,10 @@ def main():
     program, plain = os.path.abspath(a.program), build_plain()
     wrong = count = 0
     with tempfile.TemporaryDirectory() as folder:
-        paths = [os.path.join(folder, name) for name in ("tis", "cwr", "usage")]
         for name, *files, status, message in largest() if a.largest else cases():
             if a.only not in name:
                 continue
+            paths = [os.path.join(folder, name) for name in NAMES[:len(files)]]
             for path, data in zip(paths, files):
                 with open(path, "wb") as f:
                     f.write(data)
