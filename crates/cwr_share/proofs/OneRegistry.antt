@@ -1,5 +1,5 @@
 -- A file and a table of payees have one registry: its works find the same share lines, and it has the same payees. And a file of registrations is refused for nothing but memory.
-use Rattle.std.proofs.Common.{◌≡◌, ◌∙◌, ◌∷◌, ◌++◌, ◌<◌, ◌≤◌, ◌+◌, ℕ, Bool, true, false, List, [], All, Contains, Some, count_by, length, map, slice_index_or, ap, ◌⊎◌, sym, subst, refl, inl, inr, arith, nat_eq}
+use Rattle.std.proofs.Common.{◌≡◌, ◌∙◌, ◌∷◌, ◌++◌, ◌<◌, ◌≤◌, ◌+◌, ◌↔◌, ℕ, Bool, true, false, List, [], All, Contains, Some, count_by, length, map, slice_index_or, ap, ◌⊎◌, sym, subst, refl, inl, inr, arith, nat_eq}
 use Rattle.std.specs.Cmp.{IsTotalOrder}
 use Rattle.std.specs.Cmp.Lexicographic.{nat_list_cmp_total, pointwise, slice_cmp}
 use Rattle.std.specs.Ordering.{nat_cmp}
@@ -187,19 +187,58 @@ one_payees rows lines registered other of other_of is other_is party = elim (has
           | inr later ↦ none later
         ])
 
+-- two tables that pay the parties in force alike have the same registrations, and are refused for the same
+module _ (rows others : List (List ℕ × List ℕ)) (lines : List (List ℕ)) (alike : (party : List ℕ) → IsPartyInForce lines party → payee_of rows party ≡ payee_of others party) where
+  alike_file : (registered : Registered) → IsRegistered registered → IsFileOf rows lines registered → IsFileOf others lines registered
+  alike_file registered is of = record {
+    sound = of.sound;
+    in_force = of.in_force;
+    paid = λ place d within.
+        let party = (slice_index_or registered.payees place d).0 in
+        let has : HasRow registered.payees party =
+        (place, omega (arith, within, length-map registered.payees (λ (row : List ℕ × List ℕ). row.0)), get_or-map (λ (row : List ℕ × List ℕ). row.0) registered.payees place d party within) in
+        of.paid place d within ∙ alike party (in_force_of_row rows lines registered of is party has);
+  }
+
+  alike_payee : (payee : List ℕ) → IsPayeeInForce rows lines payee → IsPayeeInForce others lines payee
+  alike_payee payee (work, shares, found, at) =
+      let (party, has, same) = contains_back party_of (payee_by rows) (payee_of rows) shares (λ place d within. refl) payee at in
+      let its = sym (alike party (work, shares, found, has)) ∙ same in
+      (work, shares, found, subst (Contains (map (payee_by others) shares)) its (contains_through party_of (payee_by others) (payee_of others) shares (λ place d within. refl) party has))
+
+  alike_fault : (fault : CwrFault) → IsFaultOf rows lines fault → IsFaultOf others lines fault
+  alike_fault Memory is = tt
+  alike_fault Accounts is = record {
+    sound = is.sound;
+    payees = is.payees;
+    rising = is.rising;
+    each = All-weaker (IsPayeeInForce rows lines) (IsPayeeInForce others lines) alike_payee is.payees is.each;
+    many = is.many;
+  }
+  alike_fault (Short n) is = is
+  alike_fault (Share n) is = is
+  alike_fault (Mark n) is = is
+  alike_fault (Land n) is = is
+  alike_fault (Party n) is = is
+  alike_fault (Work n) is = is
+  alike_fault (Many n) is = is
+
 -- a row of the table that names no party in force is not looked at
-pub unused_row : (before after : List (List ℕ × List ℕ)) (row : List ℕ × List ℕ) (lines : List (List ℕ)) (registered : Registered) → ¬ IsPartyInForce lines row.0 → IsRegistered registered
-    → IsFileOf (before ++ row ∷ after) lines registered → IsFileOf (before ++ after) lines registered
-unused_row before after row lines registered unused is of = record {
-  sound = of.sound;
-  in_force = of.in_force;
-  paid = λ place d within.
-      let party = (slice_index_or registered.payees place d).0 in
-      let has : HasRow registered.payees party =
-      (place, omega (arith, within, length-map registered.payees (λ (row : List ℕ × List ℕ). row.0)), get_or-map (λ (row : List ℕ × List ℕ). row.0) registered.payees place d party within) in
-      let other : ¬ (row.0 ≡ party) = λ same. unused (subst (IsPartyInForce lines) (sym same) (in_force_of_row (before ++ row ∷ after) lines registered of is party has)) in
-      of.paid place d within ∙ payee_of_others before after row party other;
-}
+module _ (before after : List (List ℕ × List ℕ)) (row : List ℕ × List ℕ) (lines : List (List ℕ)) (unused : ¬ IsPartyInForce lines row.0) where
+  without : (party : List ℕ) → IsPartyInForce lines party → payee_of (before ++ row ∷ after) party ≡ payee_of (before ++ after) party
+  without party in_force = payee_of_others before after row party (λ same. unused (subst (IsPartyInForce lines) (sym same) in_force))
+
+  pub unused_in_file : (registered : Registered) → IsRegistered registered → IsFileOf (before ++ row ∷ after) lines registered ↔ IsFileOf (before ++ after) lines registered
+  unused_in_file registered is = (
+    alike_file (before ++ row ∷ after) (before ++ after) lines without registered is,
+    alike_file (before ++ after) (before ++ row ∷ after) lines (λ party in_force. sym (without party in_force)) registered is,
+  )
+
+  pub unused_in_fault : (fault : CwrFault) → IsFaultOf (before ++ row ∷ after) lines fault ↔ IsFaultOf (before ++ after) lines fault
+  unused_in_fault fault = (
+    alike_fault (before ++ row ∷ after) (before ++ after) lines without fault,
+    alike_fault (before ++ after) (before ++ row ∷ after) lines (λ party in_force. sym (without party in_force)) fault,
+  )
 
 -- the first line of a registration that is as it has to be is not refused
 opening_stands : (line : List ℕ) (number : ℕ) (fault : CwrFault) → IsOpening line → ¬ IsFaultOfOpening line number fault

@@ -7,12 +7,13 @@ use Rattle.std.proofs.Math.Seq.{take-append_seam}
 use Rattle.std.proofs.lemmas.Bool.{cases_Bool, cases_lt, false_from_ne_true, false≢true}
 use Rattle.std.proofs.lemmas.Cmp.{nat_list_eq_equiv}
 use Rattle.std.proofs.lemmas.List.{append-nil, get_or_append_left, get_or_push, length_push, map-append, map_push, take-append-le}
-use Rattle.std.proofs.lemmas.List.Elements.{All-push, All-tail}
+use Rattle.std.proofs.lemmas.List.Elements.{All-cons, All-head, All-tail}
 use Rattle.std.proofs.lemmas.Option.{none-some}
 use Rattle.std.proofs.lemmas.Slice.Eq.{bytes_eq-Decides}
 use Rattle.arrayvec.specs.ArrayVec.{ArrayVec}
+use Rattle.indexmap.specs.IndexMap.{insert_entry}
 use Rattle.std.specs.Map.{lookup}
-use Rattle.cwr_share.specs.PayeeTable.{AreRows, HasNames, IsFaultOf, IsFaultOfRow, IsFirstFault, IsPayeeRow, IsTableOf, header, payee_row_of}
+use Rattle.cwr_share.specs.PayeeTable.{AreRows, IsFaultOf, IsFaultOfRow, IsFirstFault, IsPayeeRow, IsTableOf, header, payee_row_of}
 use Rattle.cwr_share.specs.Payees.{AreNames, HasRow, IsName, payee_of}
 use Rattle.cwr_share.specs.declared.payees.TheConstants.{MOST_NAME_BYTES, MOST_PAYEES}
 use Rattle.cwr_share.specs.declared.payee_fault.PayeeFault.{PayeeFault}
@@ -170,9 +171,26 @@ pub entry_added : (entries : List (ArrayVec ℕ × ArrayVec ℕ)) (party payee :
     → map as_row grown ≡ map as_row entries ++ (party.items, payee.items) ∷ []
 entry_added entries party payee grown is = ap (map as_row) is ∙ map_push as_row entries (party, payee)
 
--- the names of one more
-pub names_more : (payees : List (List ℕ × List ℕ)) (row : List (List ℕ)) → AreNames payees → HasNames row → AreNames (payees ++ payee_row_of row ∷ [])
-names_more payees row names has = All-push (λ row. IsName row.0 × IsName row.1) payees (payee_row_of row) names ((has.0.some, has.0.short), (has.1.some, has.1.short))
+-- a row with names in both of its columns
+abbrev are_names : List ℕ × List ℕ → Type 0
+are_names row = IsName row.0 × IsName row.1
+
+-- a table that takes a payee for a party, which may have a row, keeps names in both of its columns
+pub names_inserted : (entries : List (ArrayVec ℕ × ArrayVec ℕ)) (party payee : ArrayVec ℕ) → IsName party.items → IsName payee.items → AreNames (map as_row entries)
+    → AreNames (map as_row (insert_entry (λ (one other : ArrayVec ℕ). pointwise nat_eq one.items other.items) entries party payee))
+names_inserted [] party payee named paid names = All-cons are_names (as_row (party, payee)) [] (named, paid) names
+names_inserted (entry ∷ entries) party payee named paid names =
+    on (pointwise nat_eq party.items entry.0.items) refl (names_inserted entries party payee named paid (All-tail are_names (as_row entry) (map as_row entries) names))
+  where
+    on : (told : Bool) → pointwise nat_eq party.items entry.0.items ≡ told
+        → AreNames (map as_row (insert_entry (λ (one other : ArrayVec ℕ). pointwise nat_eq one.items other.items) entries party payee))
+        → AreNames (map as_row (insert_entry (λ (one other : ArrayVec ℕ). pointwise nat_eq one.items other.items) (entry ∷ entries) party payee))
+    on true its later =
+        let tail = All-tail are_names (as_row entry) (map as_row entries) names in
+        rw its (All-cons are_names (as_row (entry.0, payee)) (map as_row entries) ((All-head are_names (as_row entry) (map as_row entries) names).0, paid) tail)
+    on false other later =
+        rw other
+        (All-cons are_names (as_row entry) (map as_row (insert_entry (λ (one other : ArrayVec ℕ). pointwise nat_eq one.items other.items) entries party payee)) (All-head are_names (as_row entry) (map as_row entries) names) later)
 
 -- where a look-up finds nothing
 pub none_if_not : {X : Type 0} (found : Option X) → false ≡ is_some found → found ≡ None

@@ -27,7 +27,7 @@ pub const MOST_NAME_BYTES: usize = 64;
 /// The name of a party or of a payee, which lies in the value itself.
 type Name = ArrayVec<u8, MOST_NAME_BYTES>;
 
-/// A table of payees, at most 65,536. A party without a row is its own payee.
+/// A table of payees, at most 65,536 rows. A party without a row is its own payee.
 #[derive(Drop)]
 pub struct Payees {
     /// The payee of each party that has a row.
@@ -115,10 +115,9 @@ impl Payees {
         let Some(payee) = name(rows.field(1)) else {
             return Err(PayeeFault::Fields(number));
         };
-        if self.rows.contains_key(&party) {
+        if self.rows.insert(party, payee)?.is_some() {
             return Err(PayeeFault::Twice(number));
         }
-        self.rows.insert(party, payee)?;
         Ok(())
     }
 }
