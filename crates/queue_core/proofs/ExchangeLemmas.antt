@@ -52,7 +52,7 @@ module _ (ring : ℕ) (m : Mailbox) (holds : Holds ring m) (entry : Entry) (new 
 
   -- where it was not exchanged in before, it changes nothing of what is sent, nor of what is passed
   module _ (unsent : (q j : ℕ) → Of q j ≡ entry → is_among entry m.order ≡ false) where
-    same_linked : (q j : ℕ) → is_linked m' (Of q j) ≡ is_linked m (Of q j)
+    pub same_linked : (q j : ℕ) → is_linked m' (Of q j) ≡ is_linked m (Of q j)
     same_linked q j = elim (cases_Bool (is_same (Of q j) entry)) [
       | inl same ↦
           let is : Of q j ≡ entry = same_true (Of q j) entry same in

@@ -57,7 +57,7 @@ module _ (ring : ℕ) (m : Mailbox) (holds : Holds ring m) (p : ℕ) (item : Ite
   all : (count_own p m.order ≡ length (m.items p)) × ((j : ℕ) → is_in_flight m (Of p j) ≡ false)
   all = all_sent m p (holds.turns p) may.all_sent
 
-  same_sent : (q : ℕ) → sent m' q ≡ sent m q
+  pub same_sent : (q : ℕ) → sent m' q ≡ sent m q
   same_sent q = elim (cases_eq q p) [
     | inl same ↦ subst (λ (q : ℕ). sent m' q ≡ sent m q) (sym same) own
     | inr other ↦ ap (λ xs. map (λ placed. placed.1) (filter (λ placed. is_linked m (Of q placed.0)) (enumerate_from 0 xs))) (others q other)

@@ -9,3 +9,9 @@ pub mod Links
 pub mod Shows
 pub mod StepEvents
 pub mod Laws
+pub mod Pool
+pub mod Box
+pub mod Pooled
+pub mod PoolSteps
+pub mod PoolShows
+pub mod PoolLaws

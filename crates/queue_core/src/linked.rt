@@ -1,13 +1,14 @@
-//! The linked core: the words of a mailbox, and where its senders and its reader are, as a machine of atomic
-//! steps.
+//! A mailbox alone: a pool of one.
 
-ghost use Rattle.std.specs.Prelude.{◌≡◌, ◌+◌, ◌/◌, ◌<◌, ◌≤◌, IfOk, None, Some, length, slice_index_or, take, true};
-ghost use Rattle.queue_core.specs.declared.TheConstants.{MOST_NODES, MOST_SENDERS};
+ghost use Rattle.std.specs.Prelude.{◌≡◌, ◌+◌, ◌/◌, ◌<◌, ◌≤◌, IfOk, None, Some, length, map, slice_index_or, take, true};
+ghost use Rattle.queue_core.specs.declared.TheConstants.{MOST_NODES, MOST_POSTS, MOST_SENDERS};
 ghost use Rattle.queue_core.specs.declared.step.Step.TheVariants.{LoadNext};
 ghost use Rattle.queue_core.specs.declared.step.Stepped.TheVariants.{Moved, NotNow};
-ghost use Rattle.queue_core.specs.Linked.{IsLinked, is_held as held_at, item_of as item_in, node_at, opening_core, sender_at};
-ghost use Rattle.queue_core.specs.Steps.{Follows, stepped};
+ghost use Rattle.queue_core.specs.Linked.{item_of as item_in};
+ghost use Rattle.queue_core.specs.Pooled.{is_held_in, node_at, opening_pooled, reader_in, sender_at};
+ghost use Rattle.queue_core.specs.PoolSteps.{Follows, in_first, stepped};
 
+use crate::MOST_POSTS;
 use crate::item::{Item, Posted, Took};
 use crate::state::State;
 use crate::step::{Step, Stepped};
@@ -26,39 +27,14 @@ pub struct Core {
 }
 
 impl Model for Core {
-    ghost use Rattle.queue_core.specs.Linked.{IsLinked, Linked};
+    ghost use Rattle.std.specs.Prelude.{◌≡◌, length};
+    ghost use Rattle.queue_core.specs.Pooled.{IsPooled, Pooled};
 
-    ghost Value = { Linked };
+    ghost Value = { Pooled };
 
     ghost view = { λ core. core.state };
 
-    ghost invariant = { λ core. IsLinked core.state };
-}
-
-impl State {
-    /// Does a step, where it is due.
-    fn step(&mut self, step: Step) -> Stepped
-        requires { IsLinked self.old }
-        ensures moved { result ≡ Moved → stepped self.old step ≡ Some self.new }
-        ensures not_now { result ≡ NotNow → (stepped self.old step ≡ None) × (self.new ≡ self.old) }
-    {
-        match step {
-            Step::LoadTurn(p, line, amount) => self.load_turn(p, line, amount),
-            Step::EndLine(p) => self.end_line(p),
-            Step::StoreLine(p) => self.store_line(p),
-            Step::StoreAmount(p) => self.store_amount(p),
-            Step::StoreNull(p) => self.store_null(p),
-            Step::SwapHead(p) => self.swap_head(p),
-            Step::StoreLink(p) => self.store_link(p),
-            Step::LoadNext => self.load_next(),
-            Step::LoadHead => self.load_head(),
-            Step::StubNull => self.stub_null(),
-            Step::StubSwap => self.stub_swap(),
-            Step::StubLink => self.stub_link(),
-            Step::LoadLine(node) | Step::LoadAmount(node) => self.load_held(node),
-            Step::GiveBack(node) => self.give_back(node),
-        }
-    }
+    ghost invariant = { λ core. IsPooled core.state × (length core.state.heads ≡ 1) };
 }
 
 impl Core {
@@ -66,25 +42,25 @@ impl Core {
     pub fn open(alloc: Global, senders: u64, nodes: u64) -> Result<Core, AllocError>
         requires senders { (0 < senders) × (senders ≤ MOST_SENDERS) }
         requires nodes { (0 < nodes) × (nodes ≤ MOST_NODES) }
-        ensures { IfOk result (λ core. core ≡ opening_core senders nodes) }
+        ensures { IfOk result (λ core. core ≡ opening_pooled senders 1 nodes MOST_POSTS) }
     {
-        let state = State::open(alloc, senders, nodes)?;
+        let state = State::open(alloc, senders, 1, nodes, MOST_POSTS)?;
         Ok(Core { state })
     }
 
     /// Does a step, where it is due.
     pub fn step(&mut self, step: Step) -> Stepped
-        ensures moved { result ≡ Moved → stepped self.old step ≡ Some self.new }
-        ensures not_now { result ≡ NotNow → (stepped self.old step ≡ None) × (self.new ≡ self.old) }
+        ensures moved { result ≡ Moved → stepped self.old (in_first step) ≡ Some self.new }
+        ensures not_now { result ≡ NotNow → (stepped self.old (in_first step) ≡ None) × (self.new ≡ self.old) }
     {
-        self.state.step(step)
+        self.state.step_in(0, step)
     }
 
     /// Does the steps in order, up to the first that is not due, and answers how many it did.
     pub fn replay(&mut self, steps: &[Step]) -> usize
         ensures count { result ≤ length steps.now }
-        ensures moved { Follows (take result steps.now) self.old self.new }
-        ensures stopped { result < length steps.now → stepped self.new (slice_index_or steps.now result LoadNext) ≡ None }
+        ensures moved { Follows (map in_first (take result steps.now)) self.old self.new }
+        ensures stopped { result < length steps.now → stepped self.new (in_first (slice_index_or steps.now result LoadNext)) ≡ None }
     {
         let mut done = 0;
         for step in steps {
@@ -98,9 +74,9 @@ impl Core {
 
     /// What the last finished take answered: the node that is held, or that there was none.
     pub fn last_take(&self) -> Option<Took<u64>>
-        ensures { result ≡ self.now.reader.last }
+        ensures { result ≡ (reader_in self.now 0).last }
     {
-        self.state.reader().last
+        self.state.reader(0).last
     }
 
     /// What the last finished call of a sender answered; none where there is no such sender.
@@ -112,14 +88,14 @@ impl Core {
 
     /// Whether the reader holds the node.
     pub fn is_held(&self, node: u64) -> bool
-        ensures { result ≡ held_at self.now node }
+        ensures { result ≡ is_held_in self.now 0 node }
     {
-        self.state.is_held(node)
+        self.state.is_held(0, node)
     }
 
     /// The item of a node that is held, and the number of its sender.
     pub fn item(&self, node: u64) -> (u64, Item)
-        requires { held_at self.now node ≡ true }
+        requires { is_held_in self.now 0 node ≡ true }
         ensures { result ≡ (node / (self.now.ring + 1), item_in (node_at self.now node).line (node_at self.now node).amount) }
     {
         let words = self.state.node(node);
@@ -134,7 +110,7 @@ impl Core {
 /// held.
 impl fmt::Display for Core {
     fn fmt<W: fmt::Write>(&self, f: &mut fmt::Formatter<W>) -> fmt::Result {
-        let head = self.state.head();
+        let head = self.state.head(0);
         write!(f, "head {head}\n")?;
         for (place, node) in self.state.nodes.iter().enumerate() {
             let Node {

@@ -1,7 +1,8 @@
 //! A sender: where it is in its call, and what it has sent.
 
 ghost use Rattle.std.specs.Prelude.{◌≡◌, ◌+◌, ◌<◌, ◌^◌};
-ghost use Rattle.queue_core.specs.Steps.{after_sent, amount_due, is_at_rest, line_due, link_due, null_due, swap_due};
+ghost use Rattle.queue_core.specs.PoolSteps.{after_sent};
+ghost use Rattle.queue_core.specs.Steps.{amount_due, is_at_rest, line_due, link_due, null_due, swap_due};
 
 use crate::item::{Item, Posted};
 
@@ -93,21 +94,33 @@ pub struct Sender {
     pub last: Option<Posted>,
 }
 
-impl Sender {
+/// A sender of a pool.
+#[derive(Clone, Copy, Debug, PartialEq, Eq)]
+pub struct Caller {
+    pub point: SenderPoint,
+    /// The mailbox of its call; at rest it means nothing.
+    pub mailbox: u64,
+    /// How many posts it has sent, over all mailboxes.
+    pub count: u64,
+    /// What its last finished call answered.
+    pub last: Option<Posted>,
+}
+
+impl Caller {
     /// The sender when its item is sent.
-    pub(crate) fn sent(self, item: Item) -> Sender
+    pub(crate) fn sent(self, item: Item) -> Caller
         requires { self.count + 1 < 2 ^ 64 }
         ensures { result ≡ after_sent item self }
     {
-        let (count, ended) = match item {
-            Item::Post { .. } => (self.count + 1, self.ended),
-            Item::End => (self.count, true),
+        let count = match item {
+            Item::Post { .. } => self.count + 1,
+            Item::End => self.count,
         };
-        Sender {
+        Caller {
             point: SenderPoint::Rest,
             count,
-            ended,
             last: Some(Posted::Sent),
+            ..self
         }
     }
 }

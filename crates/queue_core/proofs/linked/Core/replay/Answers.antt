@@ -1,18 +1,19 @@
 -- A step that is done is one more of those that lead on.
-use Rattle.std.proofs.Common.{◌≡◌, ◌+◌, ◌<◌, ℕ, List, Some, arith, length, get_or, refl, subst, sym, take}
-use Rattle.std.proofs.lemmas.List.{take_more}
+use Rattle.std.proofs.Common.{◌≡◌, ◌∙◌, ◌+◌, ◌<◌, ℕ, List, Some, ap, arith, length, get_or, map, refl, subst, sym, take}
+use Rattle.std.proofs.lemmas.List.{map_push, take_more}
 use Rattle.queue_core.specs.declared.step.Step.{Step}
-use Rattle.queue_core.specs.Linked.{Linked}
-use Rattle.queue_core.specs.Steps.{Follows, stepped}
-use Rattle.queue_core.specs.Steps.Follows.{none, more}
+use Rattle.queue_core.specs.Pooled.{Pooled}
+use Rattle.queue_core.specs.PoolSteps.{Follows, in_first, stepped}
+use Rattle.queue_core.specs.PoolSteps.Follows.{none, more}
 use Rattle.queue_core.proofs.linked.Core.replay.Goals as goal
 
-one_more : (steps : List Step) (d : Step) (l m n : Linked) (done at : ℕ) → done ≡ at → at < length steps
-    → Follows (take done steps) l m → stepped m (get_or steps at d) ≡ Some n → Follows (take (done + 1) steps) l n
-one_more steps d l m n done at same lt so_far due =
+one_more : (steps : List Step) (d : Step) (c m n : Pooled) (done at : ℕ) → done ≡ at → at < length steps
+    → Follows (map in_first (take done steps)) c m → stepped m (in_first (get_or steps at d)) ≡ Some n → Follows (map in_first (take (done + 1) steps)) c n
+one_more steps d c m n done at same lt so_far due =
     let within : done < length steps = omega arith in
-    let here = subst (λ k. stepped m (get_or steps k d) ≡ Some n) (sym same) due in
-    subst (λ xs. Follows xs l n) (sym (take_more steps done d within)) (more (take done steps) l m n (get_or steps done d) so_far here)
+    let here = subst (λ k. stepped m (in_first (get_or steps k d)) ≡ Some n) (sym same) due in
+    subst (λ xs. Follows xs c n) (sym (ap (map in_first) (take_more steps done d within) ∙ map_push in_first (take done steps) (get_or steps done d)))
+    (more (map in_first (take done steps)) c m n (in_first (get_or steps done d)) so_far here)
 
 pub loop-step-init : goal.loop-step-init
 loop-step-init c = (refl, none c.args.self.now)
