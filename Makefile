@@ -10,7 +10,7 @@ help:
 	@echo 'make sizes    run both at each limit and one beyond it, print times and peak memory; a minute, 2 GB of memory'
 	@echo 'make refuse   run the program with each allocation, thread, read and write refused in turn, and each call as make test does; a minute once both are built'
 	@echo 'make bench    run both on a million usage lines, print times and peak memory; and a mailbox alone'
-	@echo 'make explore  go through every state of a small mailbox, with the model in Python'
+	@echo 'make explore  go through every state of a small mailbox and of a small pool, with the model in Python, and find each wrong one out; a minute'
 	@echo 'make help     this list'
 	@echo 'compare, fuzz, sizes, refuse and bench build and prove the program first, unless they are given one: make bench PROGRAM=out/royalty_run'
 	@echo 'All but explore need the command rt of the Rattle kit on the path; compare, fuzz, sizes, bench and explore also'
@@ -66,3 +66,5 @@ bench:
 
 explore:
 	python3 model/explore.py 2 1 1
+	python3 model/explore.py 1 1 2 --mailboxes 2
+	python3 model/explore.py 1 1 2 --mailboxes 2 --wrong all

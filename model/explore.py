@@ -1,17 +1,19 @@
 #!/usr/bin/env python3
-"""The linked mailbox (words, program points and steps) beside the abstract mailbox (lists, and links in flight), executable.
+"""The linked mailboxes (words, program points and steps) beside the abstract ones (lists, and links in flight), executable.
 
 It says once more, in another language, what the definitions of crates/queue_core/specs say, under the same names: Mailbox.antt
 and Events.antt, Linked.antt and Steps.antt, the relation between the two in Chain.antt, Links.antt and Shows.antt, and in
-StepEvents.antt which event each step is. A failed check names the clause. Nothing here is proved, and the proofs do not rest on it.
+StepEvents.antt which event each step is. It says it for a pool, as Pool.antt, Pooled.antt, PoolSteps.antt, Box.antt, PoolShows.antt and
+PoolLaws.antt do: several mailboxes over one table of nodes, where a sender has one ring for all of them. A mailbox alone is a pool of
+one. A failed check names the clause. Nothing here is proved, and the proofs do not rest on it.
 
-explore.py SENDERS NODES POSTS [MOST] [--wrong NAME]
-    visits every state that any interleaving reaches, with at most POSTS posts and an end mark a sender, and checks in each the whole relation
-    between the two, the order of what is received and the held nodes, and of each step that its event is the one that event_of names, and may
-    happen; stops at MOST states
-explore.py --vectors COUNT SEED [--long]
-    prints random schedules with what each step answers, for a test of the product's own core; long ones have three senders that go
-    round their rings several times
+explore.py SENDERS NODES POSTS [MOST] [--mailboxes COUNT] [--ends COUNT] [--wrong NAME]
+    visits every state that any interleaving reaches, with at most POSTS posts a sender, in whichever mailboxes, and an end mark in each or,
+    with --ends, in at most COUNT, and checks in each state the whole relation between the two, the order of what is received, that no node is in two mailboxes, and the held
+    nodes, and of each step that its event is the one that event_in names, and may happen; stops at MOST states
+explore.py --vectors COUNT SEED [--mailboxes MOST] [--long]
+    prints random schedules with what each step answers, of one mailbox or of two to MOST, for a test of the product's own core; long ones
+    have three senders that go round their rings several times
 
 Wrong cores, each of which the exploration finds out, no_turn only where a sender posts twice; --wrong all tries each of them, and 1 1 2 is enough:
     no_successor   the tail is returned without a successor
@@ -20,6 +22,11 @@ Wrong cores, each of which the exploration finds out, no_turn only where a sende
     stub_twice     the stub is exchanged in after a node that is not the last, and so while it is still left
     no_turn        a node is filled without a look at its turn
     given_in_take  a node is given back inside the take that returns it
+Wrong pools, with --mailboxes 2:
+    own_turn       the turn of a node is compared with the posts of one mailbox, and not of all
+    second_call    a sender in a call in one mailbox begins one in another
+    other_reader   a reader gives back what the reader of another mailbox holds
+    ended_in_all   an end mark in one mailbox ends the sender in all of them
 """
 import random
 import sys
@@ -28,8 +35,10 @@ from collections import deque, namedtuple
 REST, LINE, AMOUNT, NULL, SWAP, LINK, SECOND, STUBHEAD, NODEHEAD, LAST = "Rest Line Amount Null Swap Link Second StubHead NodeHead Last".split()
 END, STUB = ("End",), "Stub"
 WRONGS = "no_successor link_first stub_left stub_twice no_turn given_in_take".split()
+WRONG_POOLS = "own_turn second_call other_reader ended_in_all".split()
 WRONG = None
 LONG = False
+ENDS = 64
 
 # ---- the abstract mailbox: Mailbox.antt, Events.antt, Received.antt
 
@@ -170,17 +179,52 @@ def received_in_order(ring, m):
         if any(slot_at(ring, m, p, j) == slot_at(ring, m, p, k) for j in range(k + 1, len(items_of(m, p)))):
             yield "held_alone"
 
+# ---- the pool: an abstract mailbox each, and the posts of each sender over all of them in the order of filling, as mailbox and place there
+
+Pool = namedtuple("Pool", "boxes posts")
+
+
+def opening_pool(W, B):
+    return Pool((opening(W),) * B, ((),) * W)
+
+
+def is_given(q, p, at):
+    return (p, at[1]) in q.boxes[at[0]].given
+
+
+def may_in(ring, q, b, event):
+    """yields what stands against the event in a mailbox of a pool, or would stand against it in a mailbox alone"""
+    if event[0] == "Fill":
+        p, item = event[1:]
+        if any(sent(m, p) != list(items_of(m, p)) for m in q.boxes):
+            yield "MayFillIn.all_sent"
+        before = len(q.posts[p]) - ring
+        if item != END and before >= 0 and not is_given(q, p, q.posts[p][before]):
+            yield "MayFillIn.free"
+    yield from may(ring, q.boxes[b], event)
+
+
+def after_in(b, event, q):
+    posts = q.posts
+    if event[0] == "Fill" and event[2] != END:
+        p = event[1]
+        posts = put(posts, p, posts[p] + ((b, len(items_of(q.boxes[b], p))),))
+    return Pool(put(q.boxes, b, after(event, q.boxes[b])), posts)
+
 # ---- the linked core: Linked.antt, Steps.antt. What the last calls answered is left out, since no step looks at it.
 
+# point and mailbox are of the sender's call; at rest its mailbox is 0. holders has the mailbox whose reader holds a node, or None.
 Node = namedtuple("Node", "next turn line amount")
-Sender = namedtuple("Sender", "point count ended")
+Sender = namedtuple("Sender", "point mailbox count ended")
 Reader = namedtuple("Reader", "point tail")
-Linked = namedtuple("Linked", "ring head nodes held senders reader")
+Linked = namedtuple("Linked", "ring heads nodes holders senders readers")
 
 
-def opening_core(W, N):
-    stub = W * (N + 1)
-    return Linked(N, stub + 1, (Node(0, 0, 0, 0),) * (stub + 1), (False,) * (stub + 1), (Sender((REST,), 0, False),) * W, Reader((REST,), stub))
+def opening_core(W, B, N):
+    stubs = range(W * (N + B), W * (N + B) + B)
+    return Linked(
+        N, tuple(stub + 1 for stub in stubs), (Node(0, 0, 0, 0),) * stubs.stop, (None,) * stubs.stop,
+        (Sender((REST,), 0, 0, (False,) * B),) * W, tuple(Reader((REST,), stub) for stub in stubs))
 
 
 def line_word(item):
@@ -193,31 +237,36 @@ def amount_word(item):
 
 
 def first_node(l, p):
-    return p * (l.ring + 1)
+    return p * (l.ring + len(l.heads))
 
 
-def stub_of(l):
-    return len(l.nodes) - 1
+def stub_in(l, b):
+    return first_node(l, len(l.senders)) + b
 
 
 def node_at(l, n):
     return l.nodes[n] if n < len(l.nodes) else Node(0, 0, 0, 0)
 
 
-def node_of(l, p, item):
-    return first_node(l, p) + (l.ring if item == END else l.senders[p].count % l.ring)
+def point_in(l, b, p):
+    """where a sender is, as a mailbox sees it: at rest, but in the one of its call"""
+    return l.senders[p].point if p < len(l.senders) and l.senders[p].mailbox == b else (REST,)
+
+
+def node_of(l, b, p, item):
+    return first_node(l, p) + (l.ring + b if item == END else l.senders[p].count % l.ring)
 
 
 def is_free(l, p, item):
-    return l.nodes[node_of(l, p, item)].turn == l.senders[p].count // l.ring
+    return l.nodes[node_of(l, 0, p, item)].turn == l.senders[p].count // l.ring
 
 
-def has_next(l):
-    return l.nodes[l.reader.tail].next != 0
+def has_next(l, b):
+    return l.nodes[l.readers[b].tail].next != 0
 
 
-def is_last(l):
-    return l.head == l.reader.tail + 1
+def is_last(l, b):
+    return l.heads[b] == l.readers[b].tail + 1
 
 
 def with_node(l, n, **words):
@@ -228,13 +277,17 @@ def with_sender(l, p, **what):
     return l._replace(senders=put(l.senders, p, l.senders[p]._replace(**what)))
 
 
-def with_reader(l, *point, **what):
-    return l._replace(reader=l.reader._replace(point=point, **what))
+def with_head(l, b, head):
+    return l._replace(heads=put(l.heads, b, head))
 
 
-def takes(l):
-    tail = l.reader.tail
-    n = with_reader(l, REST, tail=l.nodes[tail].next - 1)._replace(held=put(l.held, tail, True))
+def with_reader(l, b, *point, **what):
+    return l._replace(readers=put(l.readers, b, l.readers[b]._replace(point=point, **what)))
+
+
+def takes(l, b):
+    tail = l.readers[b].tail
+    n = with_reader(l, b, REST, tail=l.nodes[tail].next - 1)._replace(holders=put(l.holders, tail, b))
     return with_node(n, tail, turn=l.nodes[tail].turn + 1) if WRONG == "given_in_take" else n
 
 
@@ -244,88 +297,115 @@ def post(p, k):
     return ("Post", place + 1, (100 + place) * (-1) ** (p + k))
 
 
-def steps(l, m, posts):
-    """yields each step that is due, the core that it leaves, the event that it is, and what it answers"""
-    for p, sender in enumerate(l.senders):
-        kind, *due = sender.point
-        if kind == REST and not sender.ended:
-            item = post(p, sender.count)
-            if sender.count < posts:
-                if is_free(l, p, item) or WRONG == "no_turn":
-                    yield ("LoadTurn", p, *item[1:]), with_sender(l, p, point=(LINE, item)), ("Fill", p, item), None
-                else:
-                    yield ("LoadTurn", p, *item[1:]), l, None, "Full"
-            n = with_node(l, node_of(l, p, END), line=line_word(END))
-            yield ("EndLine", p), with_sender(n, p, point=(AMOUNT, END)), ("Fill", p, END), None
-        if not due:
-            continue
-        item, node = due[0], node_of(l, p, due[0])
-        if kind == LINE:
-            yield ("StoreLine", p), with_sender(with_node(l, node, line=line_word(item)), p, point=(AMOUNT, item)), None, None
-        elif kind == AMOUNT:
-            yield ("StoreAmount", p), with_sender(with_node(l, node, amount=amount_word(item)), p, point=(NULL, item)), None, None
-        elif kind == NULL:
-            yield ("StoreNull", p), with_sender(with_node(l, node, next=0), p, point=(SWAP, item)), None, None
-        elif kind == SWAP and WRONG == "link_first" and len(due) == 1:
-            yield ("LinkFirst", p), with_sender(with_node(l, l.head - 1, next=node + 1), p, point=(SWAP, item, l.head - 1)), None, None
-        elif kind == SWAP:
-            yield ("SwapHead", p), with_sender(l, p, point=(LINK, item, l.head - 1))._replace(head=node + 1), ("Exchange", p), None
-        elif kind == LINK:
-            n = with_node(l, due[1], next=node + 1)
-            n = with_sender(n, p, point=(REST,), count=sender.count + (item != END), ended=sender.ended or item == END)
-            yield ("StoreLink", p), n, ("Link", p), "Sent"
-    (kind, *due), tail, stub = l.reader.point, l.reader.tail, stub_of(l)
-    if kind == REST and tail == stub:
-        if has_next(l):
-            yield ("LoadNext",), with_reader(l, SECOND, tail=l.nodes[tail].next - 1), ("Pass",), None
-        else:
-            yield ("LoadNext",), with_reader(l, STUBHEAD), None, None
-    elif kind in (REST, SECOND) and tail != stub:
-        if has_next(l):
-            yield ("LoadNext",), takes(l), ("Pass",), f"Held({tail})"
-        elif WRONG == "no_successor":
-            yield ("LoadNext",), with_reader(l, REST)._replace(held=put(l.held, tail, True)), ("Pass",), f"Held({tail})"
-        else:
-            yield ("LoadNext",), with_reader(l, NODEHEAD), None, None
-    elif kind == LAST:
-        if has_next(l):
-            yield ("LoadNext",), takes(l), ("Pass",), f"Held({tail})"
-        else:
-            yield ("LoadNext",), with_reader(l, REST), None, "Busy"
-    elif kind == STUBHEAD:
-        if WRONG == "stub_left" and not is_last(l):
-            yield ("LoadHead",), with_reader(l, NULL), None, None
-        else:
-            yield ("LoadHead",), with_reader(l, REST), None, "Empty" if is_last(l) else "Busy"
-    elif kind == NODEHEAD:
-        if is_last(l) or WRONG == "stub_twice":
-            yield ("LoadHead",), with_reader(l, NULL), None, None
-        else:
-            yield ("LoadHead",), with_reader(l, REST), None, "Busy"
+def finds_free(l, q, b, p, item):
+    """what a sender finds that looks at its next ring node"""
+    if WRONG == "own_turn":
+        own = sum(1 for at in q.posts[p] if at[0] == b)
+        return l.nodes[node_of(l, b, p, item)].turn == own // l.ring
+    return is_free(l, p, item) or WRONG == "no_turn"
+
+
+def begins(l, b, p):
+    """whether a call of a sender may begin in a mailbox"""
+    sender = l.senders[p]
+    at_rest = sender.point[0] == REST or WRONG == "second_call" and sender.mailbox != b
+    return at_rest and not sender.ended[b]
+
+
+def sender_steps(l, q, b, p, posts):
+    sender = l.senders[p]
+    if begins(l, b, p):
+        item = post(p, sender.count)
+        if sender.count < posts:
+            if finds_free(l, q, b, p, item):
+                yield ("LoadTurn", p, *item[1:]), with_sender(l, p, point=(LINE, item), mailbox=b), ("Fill", p, item), None
+            else:
+                yield ("LoadTurn", p, *item[1:]), l, None, "Full"
+    if begins(l, b, p) and sum(sender.ended) < ENDS:
+        n = with_node(l, node_of(l, b, p, END), line=line_word(END))
+        yield ("EndLine", p), with_sender(n, p, point=(AMOUNT, END), mailbox=b), ("Fill", p, END), None
+    kind, *due = point_in(l, b, p)
+    if not due:
+        return
+    item, node = due[0], node_of(l, b, p, due[0])
+    if kind == LINE:
+        yield ("StoreLine", p), with_sender(with_node(l, node, line=line_word(item)), p, point=(AMOUNT, item)), None, None
+    elif kind == AMOUNT:
+        yield ("StoreAmount", p), with_sender(with_node(l, node, amount=amount_word(item)), p, point=(NULL, item)), None, None
     elif kind == NULL:
-        yield ("StubNull",), with_reader(with_node(l, stub, next=0), SWAP), None, None
+        yield ("StoreNull", p), with_sender(with_node(l, node, next=0), p, point=(SWAP, item)), None, None
+    elif kind == SWAP and WRONG == "link_first" and len(due) == 1:
+        yield ("LinkFirst", p), with_sender(with_node(l, l.heads[b] - 1, next=node + 1), p, point=(SWAP, item, l.heads[b] - 1)), None, None
     elif kind == SWAP:
-        yield ("StubSwap",), with_reader(l, LINK, l.head - 1)._replace(head=stub + 1), ("StubIn",), None
+        yield ("SwapHead", p), with_head(with_sender(l, p, point=(LINK, item, l.heads[b] - 1)), b, node + 1), ("Exchange", p), None
     elif kind == LINK:
-        yield ("StubLink",), with_reader(with_node(l, due[0], next=stub + 1), LAST), ("StubLink",), None
+        n = with_node(l, due[1], next=node + 1)
+        ended = (True,) * len(l.heads) if WRONG == "ended_in_all" else put(sender.ended, b, True)
+        n = with_sender(n, p, point=(REST,), mailbox=0, count=sender.count + (item != END), ended=ended if item == END else sender.ended)
+        yield ("StoreLink", p), n, ("Link", p), "Sent"
+
+
+def reader_steps(l, q, b):
+    (kind, *due), tail, stub = l.readers[b].point, l.readers[b].tail, stub_in(l, b)
+    if kind == REST and tail == stub:
+        if has_next(l, b):
+            yield ("LoadNext",), with_reader(l, b, SECOND, tail=l.nodes[tail].next - 1), ("Pass",), None
+        else:
+            yield ("LoadNext",), with_reader(l, b, STUBHEAD), None, None
+    elif kind in (REST, SECOND) and tail != stub:
+        if has_next(l, b):
+            yield ("LoadNext",), takes(l, b), ("Pass",), f"Held({tail})"
+        elif WRONG == "no_successor":
+            yield ("LoadNext",), with_reader(l, b, REST)._replace(holders=put(l.holders, tail, b)), ("Pass",), f"Held({tail})"
+        else:
+            yield ("LoadNext",), with_reader(l, b, NODEHEAD), None, None
+    elif kind == LAST:
+        if has_next(l, b):
+            yield ("LoadNext",), takes(l, b), ("Pass",), f"Held({tail})"
+        else:
+            yield ("LoadNext",), with_reader(l, b, REST), None, "Busy"
+    elif kind == STUBHEAD:
+        if WRONG == "stub_left" and not is_last(l, b):
+            yield ("LoadHead",), with_reader(l, b, NULL), None, None
+        else:
+            yield ("LoadHead",), with_reader(l, b, REST), None, "Empty" if is_last(l, b) else "Busy"
+    elif kind == NODEHEAD:
+        if is_last(l, b) or WRONG == "stub_twice":
+            yield ("LoadHead",), with_reader(l, b, NULL), None, None
+        else:
+            yield ("LoadHead",), with_reader(l, b, REST), None, "Busy"
+    elif kind == NULL:
+        yield ("StubNull",), with_reader(with_node(l, stub, next=0), b, SWAP), None, None
+    elif kind == SWAP:
+        yield ("StubSwap",), with_head(with_reader(l, b, LINK, l.heads[b] - 1), b, stub + 1), ("StubIn",), None
+    elif kind == LINK:
+        yield ("StubLink",), with_reader(with_node(l, due[0], next=stub + 1), b, LAST), ("StubLink",), None
     if kind == REST:
-        for n in range(len(l.nodes)):
-            if l.held[n]:
-                # it gives back the last entry that stands in the node: event_of names the first, and the two have to be one
-                entries = [e for e in held_entries(m) if node_for(l, m, e) == n]
+        for n, holder in enumerate(l.holders):
+            if holder == b or holder is not None and WRONG == "other_reader":
+                # it gives back the last entry that stands in the node: event_in names the first, and the two have to be one
+                entries = [e for e in held_entries(q.boxes[b]) if node_in(l, q, b, e) == n]
                 event = ("GiveBack", *entries[-1]) if entries else None
                 yield ("LoadLine", n), l, None, None
                 yield ("LoadAmount", n), l, None, None
-                yield ("GiveBack", n), with_node(l, n, turn=l.nodes[n].turn + 1)._replace(held=put(l.held, n, False)), event, None
+                yield ("GiveBack", n), with_node(l, n, turn=l.nodes[n].turn + 1)._replace(holders=put(l.holders, n, None)), event, None
+
+
+def steps_in(l, q, b, posts):
+    """yields each step that is due in a mailbox, the core that it leaves, the event that it is, and what it answers"""
+    for p in range(len(l.senders)):
+        yield from sender_steps(l, q, b, p, posts)
+    yield from reader_steps(l, q, b)
 
 # ---- which event each step is: StepEvents.antt
 
 
-def held_in(l, m, n):
-    return [e for e in passed_entries(m) if node_for(l, m, e) == n and e not in m.given]
+def held_in(l, q, b, n):
+    m = q.boxes[b]
+    return [e for e in passed_entries(m) if node_in(l, q, b, e) == n and e not in m.given]
 
 
-def event_of(l, m, step):
+def event_in(l, q, b, step):
     what, *of = step
     if what == "LoadTurn":
         p, line, amount = of
@@ -337,13 +417,13 @@ def event_of(l, m, step):
     if what == "StoreLink":
         return ("Link", *of)
     if what == "LoadNext":
-        return ("Pass",) if has_next(l) else None
+        return ("Pass",) if has_next(l, b) else None
     if what == "StubSwap":
         return ("StubIn",)
     if what == "StubLink":
         return ("StubLink",)
     if what == "GiveBack":
-        held = held_in(l, m, *of)
+        held = held_in(l, q, b, *of)
         return ("GiveBack", *held[0]) if held and held[0] != STUB else None
     return None
 
@@ -442,27 +522,33 @@ def show_links(k, m):
     yield from is_tail_at(k, m, k.point)
 
 
-def node_for(l, m, e):
-    return stub_of(l) if e == STUB else first_node(l, e[0]) + slot_at(l.ring, m, *e)
+def place_of(ring, posts, b, item, k):
+    """the place of an item among its sender's nodes: a post goes round the ring by its number, an end mark has the node of its mailbox"""
+    return ring + b if item == END else posts.index((b, k)) % ring
 
 
-def links_of(l, m):
+def node_in(l, q, b, e):
+    if e == STUB:
+        return stub_in(l, b)
+    p, k = e
+    return first_node(l, p) + place_of(l.ring, q.posts[p], b, item_at(q.boxes[b], p, k), k)
+
+
+def links_in(l, q, b):
     return Links(
-        node=lambda e: node_for(l, m, e), next=lambda n: node_at(l, n).next, head=l.head, tail=l.reader.tail,
-        points=lambda p: l.senders[p].point if p < len(l.senders) else (REST,), point=l.reader.point)
+        node=lambda e: node_in(l, q, b, e), next=lambda n: node_at(l, n).next, head=l.heads[b], tail=l.readers[b].tail,
+        points=lambda p: point_in(l, b, p), point=l.readers[b].point)
 
 
-def shows_linked(l, m):
-    yield from show_links(links_of(l, m), m)
+def shows_linked(l, q, b):
+    m = q.boxes[b]
+    yield from show_links(links_in(l, q, b), m)
     for p, sender in enumerate(l.senders):
-        all_sent = sent(m, p)
-        if sender.count != sum(1 for item in all_sent if item != END):
-            yield "counted.count"
-        if sender.ended != (END in all_sent):
+        if sender.ended[b] != (END in sent(m, p)):
             yield "counted.ended"
     if any(m.items[len(l.senders):]):
         yield "no_others: somebody who is no sender has filled"
-    if {node_for(l, m, e) for e in held_entries(m)} != {n for n, held in enumerate(l.held) if held}:
+    if {node_in(l, q, b, e) for e in held_entries(m)} != {n for n, holder in enumerate(l.holders) if holder == b}:
         yield "held: the nodes that are held are not those of the entries that are"
 
 
@@ -471,48 +557,72 @@ def holds_item(l, n, item):
     return (node.line, node.amount) == (line_word(item), amount_word(item))
 
 
-def shows_items(l, m):
-    for p, sender in enumerate(l.senders):
-        kind, n = sender.point[0], node_for(l, m, (p, last_of(m, p)))
-        if kind == AMOUNT and node_at(l, n).line != line_word(sender.point[1]):
+def shows_items(l, q, b):
+    m = q.boxes[b]
+    for p in range(len(l.senders)):
+        kind, *due = point_in(l, b, p)
+        if kind not in (AMOUNT, NULL, SWAP):
+            continue
+        n = node_in(l, q, b, (p, last_of(m, p)))
+        if kind == AMOUNT and node_at(l, n).line != line_word(due[0]):
             yield "items.stored: line"
-        if kind in (NULL, SWAP) and not holds_item(l, n, sender.point[1]):
+        if kind in (NULL, SWAP) and not holds_item(l, n, due[0]):
             yield "items.stored: line and amount"
     for e in m.order:
-        if e != STUB and e not in m.given and not holds_item(l, node_for(l, m, e), item_at(m, *e)):
+        if e != STUB and e not in m.given and not holds_item(l, node_in(l, q, b, e), item_at(m, *e)):
             yield "items.kept: the words of an entry that is not given back"
 
 
-def shows_turns(l, m):
-    given = [node_for(l, m, e) for e in m.given]
+def shows_counts(l, q):
+    for p, sender in enumerate(l.senders):
+        if sender.count != sum(1 for m in q.boxes for item in sent(m, p) if item != END):
+            yield "counted.count"
+
+
+def shows_turns(l, q):
+    given = [node_in(l, q, b, e) for b, m in enumerate(q.boxes) for e in m.given]
     for n, node in enumerate(l.nodes):
         if node.turn != given.count(n):
             yield "turns: a turn is not how often the node was given back"
 
 
-def shows(l, m):
-    yield from shows_linked(l, m)
-    yield from shows_items(l, m)
-    yield from shows_turns(l, m)
+def shows(l, q):
+    for b in range(len(q.boxes)):
+        yield from shows_linked(l, q, b)
+        yield from shows_items(l, q, b)
+    yield from shows_counts(l, q)
+    yield from shows_turns(l, q)
 
 
-def tells(l, m):
-    """what the laws say of the loads of a core that shows the mailbox: LoadTurnTells, LoadHeadTells, HeldTells, GiveBackTells"""
-    left = left_entries(m)
+def standing(m):
+    """an entry stands in its node from when it is filled until it is given back; the stub always does"""
+    return [STUB] + [(p, k) for p, items in enumerate(m.items) for k in range(len(items)) if (p, k) not in m.given]
+
+
+def are_apart(l, q):
+    nodes = [node_in(l, q, b, e) for b, m in enumerate(q.boxes) for e in standing(m)]
+    if len(set(nodes)) < len(nodes):
+        yield "a node has two entries at a time"
+
+
+def tells(l, q):
+    """what the laws say of the loads of a core that shows the mailboxes: PoolLoadTurnTells, PoolHeadTells, PoolHeldTells, PoolGiveBackTells"""
     for p, sender in enumerate(l.senders):
-        if sender.point == (REST,) and not sender.ended:
-            item = post(p, sender.count)
-            stood = [(p, k) for k in range(len(items_of(m, p))) if node_for(l, m, (p, k)) == node_of(l, p, item)]
-            if is_free(l, p, item) != all(e in m.given for e in stood):
-                yield "LoadTurnTells: a node is found free that was not given back, or the other way round"
-    if l.reader.tail == stub_of(l) and is_last(l) and left != (STUB,):
-        yield "LoadHeadTells: something else than the stub is left"
-    for e in held_entries(m):
-        n = node_for(l, m, e)
-        if not holds_item(l, n, item_at(m, *e)):
-            yield "HeldTells: the words of a node that is held"
-        if any(node_for(l, m, other) == n for other in left):
-            yield "GiveBackTells: an entry that is left stands in a node that is held"
+        if sender.point == (REST,) and not all(sender.ended):
+            node = node_of(l, 0, p, post(p, sender.count))
+            stood = [at for at in q.posts[p] if node_in(l, q, at[0], (p, at[1])) == node]
+            if is_free(l, p, post(p, sender.count)) != all(is_given(q, p, at) for at in stood):
+                yield "PoolLoadTurnTells: a node is found free that was not given back, or the other way round"
+    for b, m in enumerate(q.boxes):
+        left = left_entries(m)
+        if l.readers[b].tail == stub_in(l, b) and is_last(l, b) and left != (STUB,):
+            yield "PoolHeadTells: something else than the stub is left"
+        for e in held_entries(m):
+            n = node_in(l, q, b, e)
+            if not holds_item(l, n, item_at(m, *e)):
+                yield "PoolHeldTells: the words of a node that is held"
+            if any(node_in(l, q, d, other) == n for d, at in enumerate(q.boxes) for other in left_entries(at)):
+                yield "PoolGiveBackTells: an entry that is left stands in a node that is held"
 
 # ---- exploration
 
@@ -530,65 +640,77 @@ def shown(step):
     return step[0] + (f"({','.join(str(n) for n in step[1:])})" if step[1:] else "")
 
 
-def led_to(l, m, step, event):
-    """the mailbox after the step: its event may happen, and is the one that event_of names"""
+def led_to(l, q, b, step, event):
+    """the mailboxes after the step: its event may happen, and is the one that event_in names"""
     if event:
-        check(may(l.ring, m, event), step)
-    if event != event_of(l, m, step):
-        raise Refused(f"at {shown(step)}: the event is {event}, and event_of names {event_of(l, m, step)}")
-    return after(event, m) if event else m
+        check(may_in(l.ring, q, b, event), step)
+    if event != event_in(l, q, b, step):
+        raise Refused(f"at {shown(step)}: the event is {event}, and event_in names {event_in(l, q, b, step)}")
+    return after_in(b, event, q) if event else q
 
 
-def explore(W, N, K, most=3_000_000):
-    start = opening_core(W, N), opening(W)
+def explore(W, B, N, K, most=3_000_000):
+    start = opening_core(W, B, N), opening_pool(W, B)
     check(shows(*start), ("opening",))
     seen = {start}
     todo = deque([start])
     made = 0
     answers = {}
     while todo:
-        l, m = todo.popleft()
-        for step, l2, event, note in steps(l, m, K):
-            made += 1
-            if note:
-                key = note.split("(")[0]
-                answers[key] = answers.get(key, 0) + 1
-                if note == "Empty" and any(got_of(m, p) != sent(m, p) for p in range(W)):
-                    raise Refused(f"at {shown(step)}: Empty though a sender is not wholly received")
-            x = (l2, led_to(l, m, step, event))
-            if x not in seen:
-                check(shows(*x), step)
-                check(received_in_order(N, x[1]), step)
-                check(tells(*x), step)
-                seen.add(x)
-                todo.append(x)
-                if len(seen) > most:
-                    return f"stopped at {most} states, {made} steps, answers {answers}: relation holds in each so far"
-    return f"senders {W}, nodes {N}, posts {K}: {len(seen)} states, {made} steps, answers {answers}: relation holds in each"
+        l, q = todo.popleft()
+        for b in range(B):
+            for step, l2, event, note in steps_in(l, q, b, K):
+                made += 1
+                if note:
+                    key = note.split("(")[0]
+                    answers[key] = answers.get(key, 0) + 1
+                    if note == "Empty" and any(got_of(q.boxes[b], p) != sent(q.boxes[b], p) for p in range(W)):
+                        raise Refused(f"at {shown(step)}: Empty though a sender is not wholly received")
+                x = (l2, led_to(l, q, b, step, event))
+                if x not in seen:
+                    check(shows(*x), step)
+                    check(received_in_order(N, x[1].boxes[b]), step)
+                    check(are_apart(*x), step)
+                    check(tells(*x), step)
+                    seen.add(x)
+                    todo.append(x)
+                    if len(seen) > most:
+                        return f"stopped at {most} states, {made} steps, answers {answers}: relation holds in each so far"
+    ends = "" if ENDS >= B else f", end marks {ENDS}"
+    return f"senders {W}, mailboxes {B}, nodes {N}, posts {K}{ends}: {len(seen)} states, {made} steps, answers {answers}: relation holds in each"
 
 STEPS = ["LoadTurn", "StoreLine", "EndLine", "StoreAmount", "StoreNull", "SwapHead", "StoreLink"]
 
 
-def vectors(count, seed):
-    """Each schedule: a head 'core SENDERS NODES', its steps with 'moved' or 'not', and after each step that finished a call what the call
-    answered; last the words head, and next, turn, line, amount of each node."""
+def picked(rng, l, due):
+    """a step that is due, or once in eight times any step of anybody, in any mailbox"""
+    if rng.random() >= 0.12:
+        b, (step, *_) = rng.choice(due)
+        return b, step
+    W, B = len(l.senders), len(l.heads)
+    b = rng.randint(0, B) if B > 1 else 0
+    p, n = rng.randint(0, W), rng.randint(0, len(l.nodes))
+    return b, rng.choice([(rng.choice(STEPS), p), ("LoadNext",), ("LoadHead",), ("StubNull",), ("StubSwap",), ("StubLink",), ("GiveBack", n)])
+
+
+def vectors(count, seed, most_mailboxes):
+    """Each schedule: a head 'core SENDERS NODES' or 'pool SENDERS MAILBOXES NODES', its steps, those of a pool 'in' a mailbox, with 'moved' or
+    'not', and after each step that finished a call what the call answered; last the words head, of each mailbox, and next, turn, line, amount
+    of each node."""
     rng = random.Random(seed)
     posts = 25 if LONG else 6
     for _ in range(count):
         W, N = 3 if LONG else rng.randint(1, 3), rng.randint(1, 3)
-        l, m = opening_core(W, N), opening(W)
-        print(f"core {W} {N}")
-        for _ in range(800 if LONG else rng.randint(5, 120)):
-            due = [x for x in steps(l, m, posts) if x[0][0] not in ("LoadLine", "LoadAmount")]
-            picks = [x for x in due if not LONG or x[0][0] != "EndLine" or l.senders[x[0][1]].count == posts]
+        B = 1 if most_mailboxes == 1 else rng.randint(2, most_mailboxes)
+        l, q = opening_core(W, B, N), opening_pool(W, B)
+        print(f"core {W} {N}" if B == 1 else f"pool {W} {B} {N}")
+        for _ in range(800 * B if LONG else rng.randint(5, 120 * B)):
+            due = [(b, x) for b in range(B) for x in steps_in(l, q, b, posts) if x[0][0] not in ("LoadLine", "LoadAmount")]
+            picks = [(b, x) for b, x in due if not LONG or x[0][0] != "EndLine" or l.senders[x[0][1]].count == posts]
             if not picks:
                 break
-            if rng.random() < 0.12:
-                p, n = rng.randint(0, W), rng.randint(0, len(l.nodes))
-                step = rng.choice([(rng.choice(STEPS), p), ("LoadNext",), ("LoadHead",), ("StubNull",), ("StubSwap",), ("StubLink",), ("GiveBack", n)])
-            else:
-                step = rng.choice(picks)[0]
-            if LONG and step[0] == "EndLine" and step not in [x[0] for x in picks]:
+            b, step = picked(rng, l, picks)
+            if LONG and step[0] == "EndLine" and (b, step) not in [(c, x[0]) for c, x in picks]:
                 continue
             if step[0] == "LoadTurn":
                 p = step[1]
@@ -596,44 +718,57 @@ def vectors(count, seed):
                 step = ("LoadTurn", p, *post(p, count_of)[1:])
                 if p < W and count_of >= posts:
                     continue
-            found = [x for x in due if x[0] == step]
+            found = [x for c, x in due if (c, x[0]) == (b, step)]
+            where = f"{shown(step)} in {b}" if B > 1 else shown(step)
             if not found:
-                print(f"{shown(step)} not")
+                print(f"{where} not")
                 continue
             _, l2, event, note = found[0]
-            l, m = l2, led_to(l, m, step, event)
-            print(f"{shown(step)} moved" + (f" {note}" if note else ""))
-        print(f"head {l.head}")
+            l, q = l2, led_to(l, q, b, step, event)
+            print(f"{where} moved" + (f" {note}" if note else ""))
+        for head in l.heads:
+            print(f"head {head}")
         for n, node in enumerate(l.nodes):
-            print(f"node {n} {node.next} {node.turn} {node.line} {node.amount}" + (" held" if l.held[n] else ""))
+            held = "" if l.holders[n] is None else f" held by {l.holders[n]}" if B > 1 else " held"
+            print(f"node {n} {node.next} {node.turn} {node.line} {node.amount}{held}")
         print()
 
 
 def main(words):
-    global LONG, WRONG
-    name = None
+    global ENDS, LONG, WRONG
+    name, mailboxes = None, 1
     if "--wrong" in words:
         at = words.index("--wrong")
         name = words[at + 1]
         del words[at:at + 2]
+    if "--mailboxes" in words:
+        at = words.index("--mailboxes")
+        mailboxes = int(words[at + 1])
+        del words[at:at + 2]
+    if "--ends" in words:
+        at = words.index("--ends")
+        ENDS = int(words[at + 1])
+        del words[at:at + 2]
     if "--long" in words:
         LONG = True
         words.remove("--long")
-    if not words or name not in (None, "all", *WRONGS):
+    wrongs = WRONGS if mailboxes == 1 else WRONGS + WRONG_POOLS
+    if not words or name not in (None, "all", *wrongs):
         sys.exit(__doc__)
     if words[0] == "--vectors":
         WRONG = name
-        vectors(int(words[1]), int(words[2]))
+        vectors(int(words[1]), int(words[2]), mailboxes)
         return
     found_out = []
-    for WRONG in WRONGS if name == "all" else [name]:
+    for WRONG in wrongs if name == "all" else [name]:
         head = f"{WRONG}: " if WRONG else ""
+        W, N, K, *most = (int(w) for w in words[:4])
         try:
-            print(head + explore(*(int(w) for w in words[:4])))
+            print(head + explore(W, mailboxes, N, K, *most))
         except Refused as broken:
             print(f"{head}{'found out' if WRONG else 'refused'} {broken}")
             found_out.append(WRONG)
-    sys.exit(found_out != WRONGS if name == "all" else len(found_out))
+    sys.exit(found_out != wrongs if name == "all" else len(found_out))
 
 
 if __name__ == "__main__":

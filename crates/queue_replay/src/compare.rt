@@ -1,14 +1,51 @@
 //! A core beside the answers that a schedule gives.
 
 use crate::parse;
-use queue_core::{Core, Posted, Step, Stepped, Took};
+use queue_core::{Core, PoolCore, PoolStep, Posted, Step, Stepped, Took};
 use std::alloc::{AllocError, Global};
 use std::fmt;
+
+/// What a schedule is replayed on.
+#[derive(Drop)]
+enum Machine {
+    Mailbox(Core),
+    Pool(PoolCore),
+}
+
+impl Machine {
+    fn step(&mut self, mailbox: u64, step: Step) -> Stepped {
+        match self {
+            Machine::Mailbox(core) => core.step(step),
+            Machine::Pool(core) => core.step(PoolStep { mailbox, step }),
+        }
+    }
+
+    fn last_call(&self, p: u64) -> Option<Posted> {
+        match self {
+            Machine::Mailbox(core) => core.last_call(p),
+            Machine::Pool(core) => core.last_call(p),
+        }
+    }
+
+    fn last_take(&self, mailbox: u64) -> Option<Took<u64>> {
+        match self {
+            Machine::Mailbox(core) => core.last_take(),
+            Machine::Pool(core) => core.last_take(mailbox),
+        }
+    }
+
+    fn words(&self, alloc: Global) -> Result<String, AllocError> {
+        match self {
+            Machine::Mailbox(core) => format!(in alloc; "{core}"),
+            Machine::Pool(core) => format!(in alloc; "{core}"),
+        }
+    }
+}
 
 /// How far the answers agree.
 #[derive(Drop)]
 pub struct Comparison {
-    core: Option<Core>,
+    machine: Option<Machine>,
     /// The words that the schedule ends with, so far.
     words: String,
     schedules: u64,
@@ -21,7 +58,7 @@ pub struct Comparison {
 impl Comparison {
     pub fn new(alloc: Global) -> Comparison {
         Comparison {
-            core: None,
+            machine: None,
             words: String::new(alloc),
             schedules: 0,
             steps: 0,
@@ -39,6 +76,9 @@ impl Comparison {
         self.lines = self.lines.saturating_add(1);
         if let Some(numbers) = line.strip_prefix("core ") {
             return self.open(alloc, numbers);
+        }
+        if let Some(numbers) = line.strip_prefix("pool ") {
+            return self.open_pool(alloc, numbers);
         }
         if line.is_empty() {
             return self.end(alloc);
@@ -61,40 +101,61 @@ impl Comparison {
 
     fn open(&mut self, alloc: Global, numbers: &str) -> Result<(), AllocError> {
         let (senders, nodes) = numbers.split_once(' ').unwrap_or(("", ""));
-        let senders = senders.parse().unwrap_or(1);
-        let nodes = nodes.parse().unwrap_or(1);
+        let senders = senders.parse().unwrap_or(0);
+        let nodes = nodes.parse().unwrap_or(0);
         if !(1..=8).contains(&senders) || !(1..=64).contains(&nodes) {
             self.note(false);
             return Ok(());
         }
         self.words.clear();
-        self.core = Some(Core::open(alloc, senders, nodes)?);
+        self.machine = Some(Machine::Mailbox(Core::open(alloc, senders, nodes)?));
+        Ok(())
+    }
+
+    fn open_pool(&mut self, alloc: Global, numbers: &str) -> Result<(), AllocError> {
+        let (senders, rest) = numbers.split_once(' ').unwrap_or(("", ""));
+        let (mailboxes, nodes) = rest.split_once(' ').unwrap_or(("", ""));
+        let senders = senders.parse().unwrap_or(0);
+        let mailboxes = mailboxes.parse().unwrap_or(0);
+        let nodes = nodes.parse().unwrap_or(0);
+        if !(1..=8).contains(&senders)
+            || !(1..=16_384).contains(&mailboxes)
+            || !(1..=64).contains(&nodes)
+        {
+            self.note(false);
+            return Ok(());
+        }
+        self.words.clear();
+        self.machine = Some(Machine::Pool(PoolCore::open(alloc, senders, mailboxes, nodes)?));
         Ok(())
     }
 
     /// The end of a schedule: every word has to be as it says.
     fn end(&mut self, alloc: Global) -> Result<(), AllocError> {
-        let agrees = match &self.core {
-            Some(core) => format!(in alloc; "{core}")?.as_str() == self.words.as_str(),
+        let agrees = match &self.machine {
+            Some(machine) => machine.words(alloc)?.as_str() == self.words.as_str(),
             None => false,
         };
         self.note(agrees);
         self.schedules = self.schedules.saturating_add(1);
-        self.core = None;
+        self.machine = None;
         Ok(())
     }
 
     /// Whether the core answers a step as the line says.
     fn is_answered(&mut self, line: &str) -> bool {
         let (name, answer) = line.split_once(' ').unwrap_or((line, ""));
+        let Some((mailbox, answer)) = parse::mailbox(answer) else {
+            return false;
+        };
         let Some(step) = parse::step(name) else {
             return false;
         };
-        let Some(core) = self.core.as_mut() else {
+        let Some(machine) = self.machine.as_mut() else {
             return false;
         };
         let (moved, note) = answer.split_once(' ').unwrap_or((answer, ""));
-        let stepped = core.step(step);
+        let stepped = machine.step(mailbox, step);
         if stepped
             != (if moved == "moved" {
                 Stepped::Moved
@@ -104,12 +165,12 @@ impl Comparison {
         {
             return false;
         }
-        note.is_empty() || is_noted(core, step, note)
+        note.is_empty() || is_noted(machine, mailbox, step, note)
     }
 }
 
 /// Whether the call that a step finished answered this.
-fn is_noted(core: &Core, step: Step, note: &str) -> bool {
+fn is_noted(machine: &Machine, mailbox: u64, step: Step, note: &str) -> bool {
     match parse::sender(step) {
         Some(p) => {
             let posted = if note == "Sent" {
@@ -117,9 +178,9 @@ fn is_noted(core: &Core, step: Step, note: &str) -> bool {
             } else {
                 Posted::Full
             };
-            core.last_call(p) == Some(posted)
+            machine.last_call(p) == Some(posted)
         }
-        None => core.last_take() == took(note),
+        None => machine.last_take(mailbox) == took(note),
     }
 }
 

@@ -1,8 +1,9 @@
-//! Replays schedules of the linked core, as a model of it in another language answered them, and compares
-//! each answer and, at the end of a schedule, every word.
+//! Replays schedules of mailboxes and of pools, as a model of them in another language answered them, and
+//! compares each answer and, at the end of a schedule, every word.
 //!
-//! A schedule is `core SENDERS NODES`, then its steps, each with `moved` or `not` and what a call that it
-//! finished answered; then the words; then a blank line.
+//! A schedule is `core SENDERS NODES` or `pool SENDERS MAILBOXES NODES`, then its steps, those of a pool `in` a
+//! mailbox, each with `moved` or `not` and what a call that it finished answered; then the words; then a blank
+//! line.
 #![tactic(auto)]
 
 mod compare;

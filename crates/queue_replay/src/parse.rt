@@ -13,6 +13,17 @@ fn numbers(text: &str) -> (u64, u64, i64) {
     )
 }
 
+/// The mailbox of a text like `in 1 moved`, and the rest of it; mailbox 0 where it has none.
+pub fn mailbox(text: &str) -> Option<(u64, &str)> {
+    match text.strip_prefix("in ") {
+        Some(rest) => {
+            let (mailbox, answer) = rest.split_once(' ')?;
+            Some((mailbox.parse().ok()?, answer))
+        }
+        None => Some((0, text)),
+    }
+}
+
 /// The step of a text like `LoadTurn(0,5,-10)` or `LoadNext`.
 pub fn step(text: &str) -> Option<Step> {
     let (name, rest) = text.split_once('(').unwrap_or((text, ""));
