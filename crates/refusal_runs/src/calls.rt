@@ -7,7 +7,7 @@ use line_split::{ClaimFault, Claims, LineFault, MOST_CLAIMS, Portions, Reason, U
 use mail_box::{LaneMail, LinkMail, Mail, ShyMail};
 use pair_split::{PairFault, split_words};
 use payee_book::{Book, Journal};
-use queue_core::Core;
+use queue_core::{Core, PoolCore};
 use settle_run::{Fault, settle, settle_paid};
 use small_run::{B_PAID_TO_A, STATEMENTS, TERRITORIES, TWO_PARTIES, USES};
 use split_run::{NoGate, Plan, RunFault, run, run_cut};
@@ -44,6 +44,7 @@ pub fn make_calls<R: Threads + Wait + Sync, W: Write>(
     tell("Book::text", text(rt, alloc), out)?;
     tell("Draw::open", draw(alloc), out)?;
     tell("Core::open", core(alloc), out)?;
+    tell("PoolCore::open", pool_core(alloc), out)?;
     tell("LinkMail::open", senders(alloc, &LinkMail), out)?;
     tell("LaneMail::open", senders(alloc, &LaneMail), out)?;
     tell("ShyMail::open", senders(alloc, &ShyMail(LinkMail)), out)?;
@@ -215,6 +216,11 @@ fn draw(alloc: Global) -> Answer {
 
 fn core(alloc: Global) -> Answer {
     let _core = Core::open(alloc, 2, 1).ok()?;
+    Some(1)
+}
+
+fn pool_core(alloc: Global) -> Answer {
+    let _core = PoolCore::open(alloc, 2, 3, 1).ok()?;
     Some(1)
 }
 

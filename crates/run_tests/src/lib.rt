@@ -16,6 +16,8 @@ mod pair_split_tests;
 #[cfg(test)]
 mod payees_tests;
 #[cfg(test)]
+mod pool_core_tests;
+#[cfg(test)]
 mod queue_core_tests;
 #[cfg(test)]
 mod rows;
