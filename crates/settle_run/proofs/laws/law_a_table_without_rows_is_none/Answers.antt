@@ -1,6 +1,6 @@
-use Rattle.std.proofs.Common.{◌≡◌, ◌∙◌, ◌∷◌, ℕ, List, None, Option, Some, [], arith, refl, subst, sym}
+use Rattle.std.proofs.Common.{◌≡◌, ◌∙◌, ◌∷◌, ℕ, List, None, Option, Some, [], arith, refl}
 use Rattle.csv_table.specs.Table.{rows_of}
-use Rattle.cwr_share.specs.PayeeTable.{IsTableOf, header}
+use Rattle.cwr_share.specs.PayeeTable.{header}
 use Rattle.settle_run.specs.Settled.{ArePayees, AreStatementsOf}
 use Rattle.settle_run.proofs.laws.law_a_table_without_rows_is_none.Goals as goal
 

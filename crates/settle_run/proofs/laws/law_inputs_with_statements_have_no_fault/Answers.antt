@@ -1,4 +1,4 @@
-use Rattle.std.proofs.Common.{◌≡◌, ℕ, List, None, Option, Some, refl, subst, sym, ◌∙◌}
+use Rattle.std.proofs.Common.{◌≡◌, ℕ, List, None, Option, Some, refl, subst}
 use Rattle.csv_table.specs.Table.{rows_of}
 use Rattle.cwr_share.proofs.OnePayees as payees
 use Rattle.cwr_share.proofs.OneRegistry as registrations
@@ -6,7 +6,7 @@ use Rattle.cwr_share.specs.CwrFile.{IsFaultOf as IsFaultOfFile}
 use Rattle.cwr_share.specs.Lines.{lines_of}
 use Rattle.line_split.proofs.OneTable as uses
 use Rattle.tis_tree.proofs.OneTable as territories
-use Rattle.settle_run.specs.Settled.{ArePayees, HaveNoFault, IsFaultOf}
+use Rattle.settle_run.specs.Settled.{HaveNoFault, IsFaultOf}
 use Rattle.settle_run.specs.declared.fault.Fault.{Fault}
 use Rattle.settle_run.specs.declared.fault.Fault.TheVariants.{Tis, Cwr, Usage, Room, Payee}
 use Rattle.settle_run.proofs.OneText.{one_list}
