@@ -1,11 +1,10 @@
 #!/usr/bin/env python3
 """The linked mailboxes (words, program points and steps) beside the abstract ones (lists, and links in flight), executable.
 
-It says once more, in another language, what the definitions of crates/queue_core/specs say, under the same names: Mailbox.antt
-and Events.antt, Linked.antt and Steps.antt, the relation between the two in Chain.antt, Links.antt and Shows.antt, and in
-StepEvents.antt which event each step is. It says it for a pool, as Pool.antt, Pooled.antt, PoolSteps.antt, Box.antt, PoolShows.antt and
-PoolLaws.antt do: several mailboxes over one table of nodes, where a sender has one ring for all of them. A mailbox alone is a pool of
-one. A failed check names the clause. Nothing here is proved, and the proofs do not rest on it.
+It says once more, in another language, what the definitions of crates/queue_core/specs say, under the same names: Mailbox.antt,
+Events.antt and Pool.antt, Pooled.antt and PoolSteps.antt, the relation between the two in Chain.antt, Links.antt, Box.antt and PoolShows.antt,
+and in PoolLaws.antt which event each step is. There are several mailboxes over one table of nodes, where a sender has one ring for all of them.
+A mailbox alone is a pool of one. A failed check names the clause. Nothing here is proved, and the proofs do not rest on it.
 
 explore.py SENDERS NODES POSTS [MOST] [--mailboxes COUNT] [--ends COUNT] [--wrong NAME]
     visits every state that any interleaving reaches, with at most POSTS posts a sender, in whichever mailboxes, and an end mark in each or,
@@ -170,7 +169,7 @@ def received_in_order(ring, m):
     for p in range(len(m.items)):
         all_sent, got = sent(m, p), got_of(m, p)
         if all_sent[:len(got)] != got:
-            yield "in_order: what is received of a sender is not the first of what it sent"
+            yield "in_order: what is received of a sender is not the first part of what it sent"
         if END in all_sent[:-1]:
             yield "end_is_last"
         if END in got and got != all_sent:
@@ -211,18 +210,18 @@ def after_in(b, event, q):
         posts = put(posts, p, posts[p] + ((b, len(items_of(q.boxes[b], p))),))
     return Pool(put(q.boxes, b, after(event, q.boxes[b])), posts)
 
-# ---- the linked core: Linked.antt, Steps.antt. What the last calls answered is left out, since no step looks at it.
+# ---- the core of a pool: Pooled.antt, PoolSteps.antt. What the last calls answered is left out, since no step looks at it.
 
 # point and mailbox are of the sender's call; at rest its mailbox is 0. holders has the mailbox whose reader holds a node, or None.
 Node = namedtuple("Node", "next turn line amount")
 Sender = namedtuple("Sender", "point mailbox count ended")
 Reader = namedtuple("Reader", "point tail")
-Linked = namedtuple("Linked", "ring heads nodes holders senders readers")
+Pooled = namedtuple("Pooled", "ring heads nodes holders senders readers")
 
 
-def opening_core(W, B, N):
+def opening_pooled(W, B, N):
     stubs = range(W * (N + B), W * (N + B) + B)
-    return Linked(
+    return Pooled(
         N, tuple(stub + 1 for stub in stubs), (Node(0, 0, 0, 0),) * stubs.stop, (None,) * stubs.stop,
         (Sender((REST,), 0, 0, (False,) * B),) * W, tuple(Reader((REST,), stub) for stub in stubs))
 
@@ -397,7 +396,7 @@ def steps_in(l, q, b, posts):
         yield from sender_steps(l, q, b, p, posts)
     yield from reader_steps(l, q, b)
 
-# ---- which event each step is: StepEvents.antt
+# ---- which event each step is: PoolLaws.antt
 
 
 def held_in(l, q, b, n):
@@ -427,7 +426,7 @@ def event_in(l, q, b, step):
         return ("GiveBack", *held[0]) if held and held[0] != STUB else None
     return None
 
-# ---- the relation: Chain.antt, Links.antt, Shows.antt. Each part yields the clauses that do not hold.
+# ---- the relation: Chain.antt, Links.antt, Box.antt, PoolShows.antt. Each part yields the clauses that do not hold.
 
 Links = namedtuple("Links", "node next head tail points point")
 
@@ -650,7 +649,7 @@ def led_to(l, q, b, step, event):
 
 
 def explore(W, B, N, K, most=3_000_000):
-    start = opening_core(W, B, N), opening_pool(W, B)
+    start = opening_pooled(W, B, N), opening_pool(W, B)
     check(shows(*start), ("opening",))
     seen = {start}
     todo = deque([start])
@@ -702,7 +701,7 @@ def vectors(count, seed, most_mailboxes):
     for _ in range(count):
         W, N = 3 if LONG else rng.randint(1, 3), rng.randint(1, 3)
         B = 1 if most_mailboxes == 1 else rng.randint(2, most_mailboxes)
-        l, q = opening_core(W, B, N), opening_pool(W, B)
+        l, q = opening_pooled(W, B, N), opening_pool(W, B)
         print(f"core {W} {N}" if B == 1 else f"pool {W} {B} {N}")
         for _ in range(800 * B if LONG else rng.randint(5, 120 * B)):
             due = [(b, x) for b in range(B) for x in steps_in(l, q, b, posts) if x[0][0] not in ("LoadLine", "LoadAmount")]

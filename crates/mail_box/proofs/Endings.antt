@@ -5,7 +5,7 @@ use Rattle.queue_core.specs.declared.item.Item.{Item}
 use Rattle.queue_core.specs.declared.item.Item.TheVariants.{End}
 use Rattle.queue_core.specs.Items.{is_end}
 use Rattle.mail_box.specs.Endings.{HasEnd, IsClosed}
-use Rattle.mail_box.specs.Mails.{IsFirstOf}
+use Rattle.queue_core.specs.Items.{IsFirstOf}
 
 or_left : (a b : Bool) → (a || b) ≡ false → a ≡ false
 or_left true b e = e

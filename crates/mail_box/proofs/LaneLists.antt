@@ -13,7 +13,9 @@ use Rattle.crossbeam_queue.specs.declared.array_queue.Slotted.{Slotted}
 use Rattle.crossbeam_queue.specs.Passes.{IsPassOf, IsSamePass, Pass, ruled_capacity, view}
 use Rattle.mail_box.specs.declared.lane.Log.{Log}
 use Rattle.mail_box.specs.declared.lane_mail.Lanes.{Lanes}
-use Rattle.mail_box.specs.Mails.{Begins, IsFirstOf, IsWhole, MatchTook, ReceiverView, SenderView, opened_receiver, opened_sender, put_at, with_item, with_sender}
+use Rattle.queue_core.specs.Items.{IsFirstOf}
+use Rattle.queue_core.specs.Matches.{MatchTook}
+use Rattle.mail_box.specs.Mails.{Begins, IsWhole, ReceiverView, SenderView, opened_receiver, opened_sender, put_at, with_item, with_sender}
 use Rattle.mail_box.specs.Lanes.{AreOpened, AreSeated, BeginsLane, MayTake, log}
 use Rattle.mail_box.specs.LaneViews.{IsWholeAmong, got_by, known_by, receiver_at}
 

@@ -8,7 +8,7 @@ use Rattle.queue_core.specs.declared.item.Item.{Item}
 use Rattle.crossbeam_queue.specs.Fifo.{Pushes, Pops, Forks, Merges, Learns}
 use Rattle.crossbeam_queue.proofs.Lists.{at_set, at_snoc}
 use Rattle.mail_box.specs.declared.lane.Log.{Log}
-use Rattle.mail_box.specs.Mails.{IsFirstOf, IsInRange}
+use Rattle.queue_core.specs.Items.{IsFirstOf, IsInRange}
 use Rattle.mail_box.specs.Lanes.{BeginsLane, Fits, Relays, log}
 
 -- what one list begins is its first part

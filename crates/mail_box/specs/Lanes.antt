@@ -7,7 +7,7 @@ use Rattle.crossbeam_queue.specs.declared.array_queue.Doing.{Doing}
 use Rattle.crossbeam_queue.specs.declared.array_queue.Slotted.{Slotted}
 use Rattle.crossbeam_queue.specs.Passes.{IsPassOf, Pass, ruled_capacity, view}
 use Rattle.mail_box.specs.declared.lane.Log.{Log}
-use Rattle.mail_box.specs.Mails.{IsFirstOf, IsInRange}
+use Rattle.queue_core.specs.Items.{IsFirstOf, IsInRange}
 
 abbrev pub log : Bool → Bool → List Item → List Item → Log
 log sends takes sent got = record { sends = sends; takes = takes; sent = sent; got = got }

@@ -1,9 +1,4 @@
 pub mod Mails
-pub mod LinkSeats
-pub mod LinkRule
-pub mod LinkSteps
-pub mod LinkCalls
-pub mod LinkRest
 pub mod LinkViews
 pub mod Endings
 pub mod Lanes

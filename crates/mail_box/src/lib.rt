@@ -8,8 +8,6 @@
 mod lane;
 mod lane_mail;
 mod link_mail;
-mod link_seats;
-mod link_steps;
 mod mail;
 mod receiving;
 mod shy_mail;

@@ -17,7 +17,7 @@ use Rattle.queue_core.specs.Mailbox.{IsHeld, Mailbox, is_among, is_linked, is_sa
 use Rattle.queue_core.specs.Events.{after}
 use Rattle.queue_core.specs.Events.Event.{Pass, StubIn, StubLink}
 use Rattle.queue_core.specs.Chain.{entry_at}
-use Rattle.queue_core.specs.Linked.{link_to, null}
+use Rattle.queue_core.specs.StoredWords.{link_to, null}
 use Rattle.queue_core.specs.Links.{IsAtHand, IsOwedByReader, IsTailAt, Links, ShowLinks, is_in_flight, last_of}
 use Rattle.queue_core.specs.Box.{Box, HasStored, IsStanding, ShowsBox}
 use Rattle.queue_core.proofs.BoxFrame.{fresh_stands, left_stands}
@@ -64,10 +64,6 @@ module _ (ring : ℕ) (m : Mailbox) (holds : Holds ring m) (x : Box) (shows : Sh
     stored = λ q low. stored_still x (looked point) refl refl _ (k.points q) (shows.stored q low);
     kept = λ q j among not_given. let has = shows.kept q j among not_given in (has.0, has.1);
   }
-
-  left_apart : (i j : ℕ) → i < length left → j < length left → k.node (entry_at left i) ≡ k.node (entry_at left j) → entry_at left i ≡ entry_at left j
-  left_apart i j i_low j_low same =
-      apart (entry_at left i) (entry_at left j) (left_stands ring m holds (entry_at left i) (read_among left i Stub i_low)) (left_stands ring m holds (entry_at left j) (read_among left j Stub j_low)) same
 
   -- where the tail is the stub, the first that is left is it
   pub first_stub : k.tail ≡ k.node Stub → entry_at left 0 ≡ Stub

@@ -1,7 +1,7 @@
--- Lists of entries: what is among them, and those of one sender. And lists of items.
-use Rattle.std.proofs.Common.{◌≡◌, ◌∙◌, ◌≤◌, ◌<◌, ◌+◌, ◌-◌, ◌++◌, ◌∷◌, ◌⊎◌, [], ℕ, Bool, true, false, List, Option, zero, suc, filter, length, take, drop, map, get_or, ap, sym, refl, subst, inl, inr, arith, not}
-use Rattle.std.specs.Prelude.{◌==◌, slice_index_or}
-use Rattle.std.specs.List.{enumerate_from, filter_map, list_any, range_with_len, AllByRecursion, IsDistinct}
+-- Lists of entries: what is among them, and those of one sender.
+use Rattle.std.proofs.Common.{◌≡◌, ◌∙◌, ◌≤◌, ◌<◌, ◌+◌, ◌-◌, ◌++◌, ◌∷◌, ◌⊎◌, [], ℕ, Bool, true, false, List, Option, zero, suc, filter, length, take, drop, map, get_or, ap, sym, refl, subst, inl, inr, arith}
+use Rattle.std.specs.Prelude.{◌==◌}
+use Rattle.std.specs.List.{enumerate_from, filter_map, list_any, range_with_len}
 use Rattle.std.proofs.lemmas.Bool.{and_from, and_parts, cases_Bool, cases_lt, eq-eqb, eqb-true, false≢true, or_cases, or_left, or_parts, or_right, false_from_ne_true}
 use Rattle.std.proofs.lemmas.List.{append-nil, get_or-take, length-append, length-take-le, take-append-drop, take_all, take_at}
 use Rattle.std.proofs.lemmas.List.Elements.{filter-append}
@@ -14,7 +14,6 @@ use Rattle.queue_core.specs.declared.item.Item.{Item}
 use Rattle.queue_core.specs.declared.item.Item.TheVariants.{End}
 use Rattle.queue_core.specs.Mailbox.{Mailbox, is_among, is_same, item_at, received_at}
 use Rattle.queue_core.specs.Events.{is_of}
-use Rattle.queue_core.specs.Items.{is_end}
 use Rattle.queue_core.specs.Chain.{entry_at}
 
 -- entries that the test finds the same are the same
@@ -242,17 +241,6 @@ first_kept keep e (x ∷ xs) among keeps = elim (cases_Bool (keep x)) [
   ]
 ]
 
--- as many entries pass two tests that agree on them
-pub same_many : (f g : Entry → Bool) (es : List Entry) → ((e : Entry) → is_among e es ≡ true → f e ≡ g e) → length (filter f es) ≡ length (filter g es)
-same_many f g [] same = refl
-same_many f g (e ∷ es) same =
-    let rest : length (filter f es) ≡ length (filter g es) = same_many f g es (λ x among. same x (or_right (is_same x e) (is_among x es) among)) in
-    let first : f e ≡ g e = same e (or_left (is_same e e) (is_among e es) (same_self e)) in
-    elim (cases_Bool (g e)) [
-      | inl kept ↦ rw (first, kept) (ap suc rest)
-      | inr left ↦ rw (first, left) rest
-    ]
-
 -- two maps that agree on some entries give the same
 pub same_received : {X : Type 0} (f g : Entry → Option X) (xs : List Entry) → ((e : Entry) → is_among e xs ≡ true → f e ≡ g e) → filter_map f xs ≡ filter_map g xs
 same_received f g [] same = refl
@@ -272,38 +260,3 @@ pub alone : (xs : List Entry) → length xs ≡ 1 → entry_at xs 0 ≡ Stub →
 alone [] size is = absurd (omega (arith, size))
 alone (x ∷ []) size is = ap (λ e. e ∷ []) is
 alone (x ∷ y ∷ xs) size is = absurd (omega (arith, size))
-
--- where none is there twice, one more that is not among them is not either
-pub once_push : (xs : List Entry) (y : Entry) → IsDistinct is_same xs → is_among y xs ≡ false → IsDistinct is_same (xs ++ y ∷ [])
-unfolding IsDistinct
-once_push [] y once new = (tt, tt)
-once_push (x ∷ xs) y once new = (
-  apart xs once.0 (false_from_ne_true (is_same x y) (λ same. false≢true (sym new ∙ or_left (is_same y x) (is_among y xs) (turned same)))),
-  once_push xs y once.1 (false_from_ne_true (is_among y xs) (λ among. false≢true (sym new ∙ or_right (is_same y x) (is_among y xs) among))),
-)
-  where
-    turned : is_same x y ≡ true → is_same y x ≡ true
-    turned same = subst (λ e. is_same e x ≡ true) (same_true x y same) (same_self x)
-
-    apart : (xs : List Entry) → AllByRecursion (λ z. is_same x z ≡ false) xs → is_same x y ≡ false → AllByRecursion (λ z. is_same x z ≡ false) (xs ++ y ∷ [])
-    apart [] all last = (last, tt)
-    apart (z ∷ zs) all last = (all.0, apart zs all.1 last)
-
--- ---- lists of items
-
--- where no item is an end mark, all are posts
-pub all_posts : (xs : List Item) → ((k : ℕ) → k < length xs → is_end (slice_index_or xs k End) ≡ false) → length (filter (λ item. not (is_end item)) xs) ≡ length xs
-all_posts [] none = refl
-all_posts (x ∷ xs) none =
-    let rest : length (filter (λ item. not (is_end item)) xs) ≡ length xs = all_posts xs (λ k within. none (suc k) (omega (arith, within))) in
-    let first : is_end x ≡ false = none 0 (omega arith) in
-    rw first (ap suc rest)
-
--- where all but the last are posts
-pub most_posts : (xs : List Item) → ((k : ℕ) → k + 1 < length xs → is_end (slice_index_or xs k End) ≡ false) → length xs ≤ length (filter (λ item. not (is_end item)) xs) + 1
-most_posts [] posts = omega arith
-most_posts (x ∷ []) posts = omega arith
-most_posts (x ∷ y ∷ ys) posts =
-    let rest : length (y ∷ ys) ≤ length (filter (λ item. not (is_end item)) (y ∷ ys)) + 1 = most_posts (y ∷ ys) (λ k within. posts (suc k) (omega (arith, within))) in
-    let first : is_end x ≡ false = posts 0 (omega arith) in
-    rw first (omega (arith, rest))

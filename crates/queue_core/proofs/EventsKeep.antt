@@ -14,9 +14,8 @@ use Rattle.queue_core.specs.Mailbox.{IsHeld, Mailbox, is_among, is_same, left_en
 use Rattle.queue_core.specs.Events.{Event, Leads, May, MayExchange, MayFill, MayPass, after, exchanged, is_of, slot_of}
 use Rattle.queue_core.specs.Events.Event.{Fill, Exchange, Link, Pass, GiveBack, StubIn, StubLink}
 use Rattle.queue_core.specs.Events.Leads.{none, more}
-use Rattle.queue_core.proofs.Entries.{among_first, among_kept, among_last, among_more, among_push, among_rest, count_own, fewer_kept, head_among, in_turn, none_kept, own, own_other, own_push, same_true, turn_among, once_push}
+use Rattle.queue_core.proofs.Entries.{among_first, among_kept, among_last, among_more, among_push, among_rest, count_own, fewer_kept, head_among, in_turn, none_kept, own, own_other, own_push, same_true, turn_among}
 use Rattle.queue_core.proofs.MailboxHolds.{Holds, InSlots, InTurn, IsPassed, all_sent, opening_holds, slot_in}
-use Rattle.std.specs.List.{IsDistinct}
 
 -- Entries of a sender stay in turn where its own stay and no more of them fly.
 same_turn : (p filled : ℕ) (order order' in_flight in_flight' : List Entry) → own p order' ≡ own p order → ((k : ℕ) → is_among (Of p k) in_flight' ≡ true → is_among (Of p k) in_flight ≡ true)
@@ -364,18 +363,3 @@ event_keeps ring m StubLink may holds = stub_link_keeps ring m holds
 pub holds_after : (ring : ℕ) (events : List Event) (m : Mailbox) → Leads ring events m → Holds ring m
 holds_after ring events m none = opening_holds ring
 holds_after ring _ _ (more events m event leads may) = event_keeps ring m event may (holds_after ring events m leads)
-
--- nothing is given back twice
-pub given_once : (ring : ℕ) (events : List Event) (m : Mailbox) → Leads ring events m → IsDistinct is_same m.given
-unfolding IsDistinct
-given_once ring events m none = tt
-given_once ring _ _ (more events m event leads may) = go event may (given_once ring events m leads)
-  where
-    go : (event : Event) → May ring m event → IsDistinct is_same m.given → IsDistinct is_same (after event m).given
-    go (Fill p item) may once = once
-    go (Exchange p) may once = once
-    go (Link p) may once = once
-    go Pass may once = once
-    go (GiveBack p k) may once = once_push m.given (Of p k) once may.kept
-    go StubIn may once = once
-    go StubLink may once = once

@@ -7,7 +7,6 @@ use Rattle.std.proofs.lemmas.List.{get_or_append_left, get_or_push, length_push}
 use Rattle.queue_core.specs.declared.entry.Entry.{Entry}
 use Rattle.queue_core.specs.declared.entry.Entry.TheVariants.{Of, Stub}
 use Rattle.queue_core.specs.declared.item.Item.{Item}
-use Rattle.queue_core.specs.declared.sender.Sender.{Sender}
 use Rattle.queue_core.specs.declared.sender.SenderPoint.{SenderPoint}
 use Rattle.queue_core.specs.declared.sender.SenderPoint.TheVariants as sends
 use Rattle.queue_core.specs.declared.reader.ReaderPoint.{ReaderPoint}
@@ -16,9 +15,8 @@ use Rattle.queue_core.specs.Mailbox.{IsHeld, Mailbox, is_among, is_linked, is_sa
 use Rattle.queue_core.specs.Events.{MayExchange, after, exchanged}
 use Rattle.queue_core.specs.Events.Event.{Exchange, StubIn}
 use Rattle.queue_core.specs.Chain.{IsChain, entry_at}
-use Rattle.queue_core.specs.Linked.{link_to, null}
+use Rattle.queue_core.specs.StoredWords.{link_to, null}
 use Rattle.queue_core.specs.Links.{AreExchanged, ComesAfter, IsAtHand, IsFilled, IsOwedByReader, IsOwedBySender, IsSending, IsTailAt, Links, ShowLinks, is_in_flight, last_of}
-use Rattle.queue_core.specs.Shows.{IsCounted}
 use Rattle.queue_core.proofs.ChainLemmas.{push}
 use Rattle.queue_core.proofs.Entries.{among_last, among_more, read_among, same_self, same_true, among_other}
 use Rattle.queue_core.proofs.EventsKeep.{left_more, not_left, same_passed}
@@ -66,9 +64,6 @@ module _ (ring : ℕ) (m : Mailbox) (holds : Holds ring m) (entry : Entry) (new 
 
     pub same_sent : (q : ℕ) → sent m' q ≡ sent m q
     same_sent q = λ i. map (λ placed. placed.1) (filter (λ placed. same_linked q placed.0 i) (enumerate_from 0 (m.items q)))
-
-    pub counted_kept : (q : ℕ) (sender : Sender) → IsCounted m q sender → IsCounted m' q sender
-    counted_kept q sender was = record { count = rw (same_sent q) was.count; ended = rw (same_sent q) was.ended }
 
   pub held_kept : (q j : ℕ) → (IsHeld m q j → IsHeld m' q j) × (IsHeld m' q j → IsHeld m q j)
   held_kept q j =

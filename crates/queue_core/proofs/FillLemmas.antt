@@ -1,31 +1,26 @@
--- A sender that may fill an item has filled it: what is kept, and what the links and the senders' counts show of it.
-use Rattle.std.proofs.Common.{◌≡◌, ◌∙◌, ◌≤◌, ◌<◌, ◌+◌, ◌-◌, ◌++◌, ◌∷◌, [], ℕ, true, false, List, filter, length, take, map, refl, ap, sym, subst, inl, inr, arith, get_or-set_other, get_or-set_same}
+-- A sender that may fill an item has filled it: what is kept, and what the links show of it.
+use Rattle.std.proofs.Common.{◌≡◌, ◌∙◌, ◌<◌, ◌+◌, ◌++◌, ◌∷◌, [], ℕ, true, false, List, filter, length, take, map, refl, ap, sym, subst, inl, inr, arith}
 use Rattle.std.specs.Prelude.{slice_index_or}
 use Rattle.std.specs.List.{enumerate_from}
 use Rattle.std.proofs.lemmas.Bool.{cases_eq, false_from_ne_true}
-use Rattle.std.proofs.lemmas.List.{length-set, take-append-le, take_all}
+use Rattle.std.proofs.lemmas.List.{take-append-le, take_all}
 use Rattle.queue_core.specs.declared.entry.Entry.{Entry}
 use Rattle.queue_core.specs.declared.entry.Entry.TheVariants.{Of, Stub}
 use Rattle.queue_core.specs.declared.item.Item.{Item}
 use Rattle.queue_core.specs.declared.item.Item.TheVariants.{End}
-use Rattle.queue_core.specs.declared.sender.Sender.{Sender}
 use Rattle.queue_core.specs.declared.sender.SenderPoint.{SenderPoint}
 use Rattle.queue_core.specs.declared.sender.SenderPoint.TheVariants as sends
 use Rattle.queue_core.specs.declared.reader.ReaderPoint.{ReaderPoint}
 use Rattle.queue_core.specs.declared.reader.ReaderPoint.TheVariants as reads
-use Rattle.queue_core.specs.Mailbox.{Mailbox, is_among, is_linked, item_at, left_entries, passed_entries, sent}
-use Rattle.queue_core.specs.Events.{MayExchange, MayFill, after, slot_of}
+use Rattle.queue_core.specs.Mailbox.{Mailbox, is_among, is_linked, item_at, left_entries, sent}
+use Rattle.queue_core.specs.Events.{MayExchange, MayFill, after}
 use Rattle.queue_core.specs.Events.Event.{Fill}
 use Rattle.queue_core.specs.Chain.{IsChain, entry_at}
-use Rattle.queue_core.specs.Linked.{Linked, first_node, sender_at, with_point}
 use Rattle.queue_core.specs.Links.{ComesAfter, IsAtHand, IsFilled, IsOwedByReader, IsOwedBySender, IsSending, IsTailAt, Links, ShowLinks, is_in_flight, last_of}
-use Rattle.queue_core.specs.Shows.{IsCounted, ShowsLinked, links_of, node_for}
 use Rattle.queue_core.proofs.ChainLemmas.{renumber}
-use Rattle.queue_core.proofs.Entries.{among_first, among_rest, count_own, read_among, turn_among}
+use Rattle.queue_core.proofs.Entries.{among_rest, count_own, read_among, turn_among}
 use Rattle.queue_core.proofs.EventsKeep.{fill_keeps, its_items, long, new_item, old_item, other_items}
-use Rattle.queue_core.proofs.ItemLemmas.{AreKept, HasSameWords, OthersStored, holds_still, stored_still}
 use Rattle.queue_core.proofs.MailboxHolds.{Holds, all_sent, item_within, sent_linked}
-use Rattle.queue_core.proofs.StepLemmas.{each_sender}
 
 module _ (ring : ℕ) (m : Mailbox) (holds : Holds ring m) (p : ℕ) (item : Item) (may : MayFill ring m p item) where
   abbrev m' : Mailbox
@@ -70,9 +65,6 @@ module _ (ring : ℕ) (m : Mailbox) (holds : Holds ring m) (p : ℕ) (item : Ite
           sent_linked m' p (holds'.turns p) all.1
           ∙ (ap (take count) (its p refl) ∙ (take-append-le count (m.items p) (item ∷ []) (omega (arith, all.0)) ∙ (take_all count (m.items p) (omega (arith, all.0)) ∙ sym may.all_sent)))
 
-  pub counted_kept : (q : ℕ) (sender : Sender) → IsCounted m q sender → IsCounted m' q sender
-  counted_kept q sender was = record { count = rw (same_sent q) was.count; ended = rw (same_sent q) was.ended }
-
   -- ---- the sender that has filled it
 
   more : length (m'.items p) ≡ length (m.items p) + 1
@@ -98,9 +90,6 @@ module _ (ring : ℕ) (m : Mailbox) (holds : Holds ring m) (p : ℕ) (item : Ite
   module _ (k : Links) where
     pub at_line : IsSending k m' p (sends.Line item)
     at_line = record { in_flight = all.1; at_hand = filled }
-
-    pub at_amount : IsSending k m' p (sends.Amount item)
-    at_amount = record { in_flight = all.1; at_hand = filled }
 
   -- ---- the links
 
@@ -171,85 +160,3 @@ module _ (ring : ℕ) (m : Mailbox) (holds : Holds ring m) (p : ℕ) (item : Ite
       ];
       reader = record { in_flight = owed_reader k.point shows.reader.in_flight; at_tail = tail_at k.point shows.reader.at_tail };
     }
-
--- ---- the nodes of a core
-
-module _ (l : Linked) (m : Mailbox) (holds : Holds l.ring m) (p : ℕ) (item : Item) (may : MayFill l.ring m p item) where
-  abbrev filled_box : Mailbox
-  filled_box = after (Fill p item) m
-
-  -- an entry whose item was there stands where it stood
-  node_old : (q j : ℕ) → (q ≡ p → j < length (m.items p)) → node_for l filled_box (Of q j) ≡ node_for l m (Of q j)
-  node_old q j old = ap (λ i. first_node l q + slot_of l.ring i j) (item_kept l.ring m holds p item may q j old)
-
-  -- and so does one that was exchanged in
-  node_placed : (q j : ℕ) → is_among (Of q j) m.order ≡ true → node_for l filled_box (Of q j) ≡ node_for l m (Of q j)
-  node_placed q j among = node_old q j (placed l.ring m holds p item may q j among)
-
-  -- one that is held
-  node_held : (q j : ℕ) → is_among (Of q j) (passed_entries m) ≡ true → node_for l filled_box (Of q j) ≡ node_for l m (Of q j)
-  node_held q j passed = node_placed q j (among_first (Of q j) m.passed m.order passed)
-
-  -- one that was given back
-  pub given_old : (e : Entry) → is_among e m.given ≡ true → node_for l filled_box e ≡ node_for l m e
-  given_old (Of q j) given = node_held q j (holds.reader.given_passed q j given)
-  given_old Stub given = refl
-
-  -- every item that is kept is kept
-  pub fill_kept : AreKept l m → AreKept l filled_box
-  fill_kept kept q j among keeps =
-      let words : HasSameWords l l (node_for l m (Of q j)) = record { line = refl; amount = refl } in
-      holds_still l l _ _ _ _ words (node_placed q j among) (item_placed l.ring m holds p item may q j among) (kept q j among keeps)
-
-  -- and so is what other senders have stored
-  pub fill_others : OthersStored l m p → OthersStored l filled_box p
-  fill_others stored q other low =
-      let words : HasSameWords l l (node_for l m (Of q (last_of m q))) = record { line = refl; amount = refl } in
-      let here : node_for l filled_box (Of q (last_of filled_box q)) ≡ node_for l m (Of q (last_of m q))
-      = ap (λ (xs : List Item). first_node l q + slot_of l.ring (slice_index_or xs (length xs - 1) End) (length xs - 1)) (other_items l.ring m holds p item may q other) in
-      stored_still l l m filled_box q here words (sender_at l q).point (stored q other low)
-
--- ---- the core
-
--- A sender is at the store of the first word of what it may fill, or of the second.
-module _ (l : Linked) (m : Mailbox) (holds : Holds l.ring m) (shows : ShowsLinked l m) (p : ℕ) (in_table : p < length l.senders) (item : Item) (may : MayFill l.ring m p item)
-    (point : SenderPoint) (at : (k : Links) → IsSending k (after (Fill p item) m) p point) where
-  abbrev l' : Linked
-  l' = with_point p point l
-
-  abbrev box : Mailbox
-  box = filled_box l m holds p item may
-
-  own_sender : sender_at l' p ≡ record (sender_at l p) { point = point }
-  own_sender = get_or-set_same l.senders p _ _ in_table
-
-  other_sender : (q : ℕ) → ¬ (q ≡ p) → sender_at l' q ≡ sender_at l q
-  other_sender q other = get_or-set_other l.senders p q _ _ other
-
-  many : length l'.senders ≡ length l.senders
-  many = length-set l.senders p (record (sender_at l p) { point = point })
-
-  links : ShowLinks (links_of l' box) box
-  links =
-      filled_links l.ring m holds p item may (links_of l m) shows.links (node_for l' box) (links_of l' box).points refl (node_old l m holds p item may)
-      (λ q other. ap (λ (s : Sender). s.point) (other_sender q other))
-      (subst (λ (s : Sender). IsSending (links_of l' box) box p s.point) (sym own_sender) (at (links_of l' box)))
-
-  counted : (q : ℕ) → q < length l'.senders → IsCounted box q (sender_at l' q)
-  counted q low =
-      each_sender l p (record (sender_at l p) { point = point }) (λ q s. q < length l.senders → IsCounted box q s)
-      (λ _ _. let was = counted_kept l.ring m holds p item may p (sender_at l p) (shows.counted p in_table) in record { count = was.count; ended = was.ended })
-      (λ q other within. counted_kept l.ring m holds p item may q (sender_at l q) (shows.counted q within)) q (λ _. in_table) (omega (arith, low, many))
-
-  pub fill_shows : ShowsLinked l' box
-  fill_shows = record {
-    links = links;
-    counted = counted;
-    no_others = λ q past.
-        let far : length l.senders ≤ q = omega (arith, past, many) in
-        other_items l.ring m holds p item may q (λ same. omega (arith, far, same, in_table)) ∙ shows.no_others q far;
-    held = λ n. (
-      λ held. let found = (shows.held n).0 held in (found.0, found.1, record { passed = found.2.passed; kept = found.2.kept }, node_held l m holds p item may found.0 found.1 found.2.passed ∙ found.3),
-      λ found. (shows.held n).1 (found.0, found.1, record { passed = found.2.passed; kept = found.2.kept }, sym (node_held l m holds p item may found.0 found.1 found.2.passed) ∙ found.3),
-    );
-  }

@@ -9,7 +9,7 @@ use Rattle.queue_core.specs.declared.reader.ReaderPoint.{ReaderPoint}
 use Rattle.queue_core.specs.declared.reader.ReaderPoint.TheVariants as reads
 use Rattle.queue_core.specs.Mailbox.{Mailbox, is_among, left_entries}
 use Rattle.queue_core.specs.Chain.{IsChain, entry_at}
-use Rattle.queue_core.specs.Linked.{link_to}
+use Rattle.queue_core.specs.StoredWords.{link_to}
 use Rattle.queue_core.specs.Links.{ComesAfter, IsAtHand, IsOwedByReader, IsOwedBySender, IsSending, IsTailAt, Links, ShowLinks, is_in_flight, last_of}
 use Rattle.queue_core.proofs.ChainLemmas.{link, same_place}
 

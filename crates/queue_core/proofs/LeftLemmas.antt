@@ -1,15 +1,15 @@
--- The entries that are left: which of a sender's they are, that they have slots of their own, and that those in flight are among them.
-use Rattle.std.proofs.Common.{◌≡◌, ◌∙◌, ◌≤◌, ◌<◌, ◌+◌, ◌-◌, ◌++◌, [], ℕ, true, false, List, zero, suc, length, take, drop, map, ap, sym, refl, inl, inr, arith}
+-- The entries that are left: which of a sender's they are, and that where none of them is left all that it sent is received.
+use Rattle.std.proofs.Common.{◌≡◌, ◌∙◌, ◌≤◌, ◌+◌, ◌-◌, ◌++◌, [], ℕ, true, false, List, zero, suc, length, take, drop, map, ap, sym, refl, arith}
 use Rattle.std.specs.List.{range_with_len}
-use Rattle.std.proofs.lemmas.Bool.{false_from_ne_true, false≢true}
+use Rattle.std.proofs.lemmas.Bool.{false_from_ne_true}
 use Rattle.std.proofs.lemmas.List.{drop_at, length-append, take-append-drop}
 use Rattle.std.proofs.lemmas.List.Elements.{filter-append}
 use Rattle.queue_core.specs.declared.entry.Entry.{Entry}
 use Rattle.queue_core.specs.declared.entry.Entry.TheVariants.{Of}
 use Rattle.queue_core.specs.Mailbox.{Mailbox, got_of, is_among, left_entries, passed_entries, sent}
 use Rattle.queue_core.specs.Events.{is_of}
-use Rattle.queue_core.proofs.Entries.{among_cases, among_numbered, among_own, among_turn, count_own, first_turn, own, turn_among}
-use Rattle.queue_core.proofs.MailboxHolds.{Holds, has_sent, passed_sent, slot_in}
+use Rattle.queue_core.proofs.Entries.{among_numbered, among_own, among_turn, count_own, first_turn, own}
+use Rattle.queue_core.proofs.MailboxHolds.{Holds, has_sent, passed_sent}
 use Rattle.queue_core.proofs.ReceivedLemmas.{got_first}
 
 -- consecutive places without the first ones
@@ -42,31 +42,13 @@ module _ (ring : ℕ) (m : Mailbox) (holds : Holds ring m) (p : ℕ) where
       ∙ ap (λ a. map (Of p) (range_with_len a (count_own p m.order - passed_count))) first))
 
   module _ (k : ℕ) where
-    -- an entry that is left is not passed, and the other way round
+    -- an entry that is left is not passed
     pub left_unpassed : is_among (Of p k) (left_entries m) ≡ true → is_among (Of p k) (passed_entries m) ≡ false
     left_unpassed left =
         let later : passed_count ≤ k = (among_numbered p k passed_count (count_own p m.order - passed_count) (ap (is_among (Of p k)) (sym left_turn) ∙ (among_own p k (left_entries m) ∙ left))).0 in
         false_from_ne_true (is_among (Of p k) (passed_entries m)) (λ passed.
         let under = among_turn p k (passed_entries m) (first_turn p m.passed m.order (holds.turns p).one_by_one) passed in
         absurd (omega (arith, later, under)))
-
-    pub unpassed_left : is_among (Of p k) m.order ≡ true → is_among (Of p k) (passed_entries m) ≡ false → is_among (Of p k) (left_entries m) ≡ true
-    unpassed_left among unpassed = elim (among_cases (Of p k) (passed_entries m) (left_entries m) (ap (is_among (Of p k)) (take-append-drop m.passed m.order) ∙ among)) [
-      | inl passed ↦ absurd (false≢true (sym unpassed ∙ passed))
-      | inr left ↦ left
-    ]
-
-    -- an entry in flight is left
-    pub flies_left : is_among (Of p k) m.in_flight ≡ true → is_among (Of p k) (left_entries m) ≡ true
-    flies_left flies =
-        let last = (holds.turns p).last_flies k flies in
-        unpassed_left (turn_among p k m.order (holds.turns p).one_by_one (omega (arith, last.0)))
-        (false_from_ne_true (is_among (Of p k) (passed_entries m)) (λ passed. false≢true (sym (holds.reader.landed p k passed) ∙ flies)))
-
-    -- no item that is left shares its slot with one that was filled later
-    pub left_alone : (j : ℕ) → is_among (Of p k) (left_entries m) ≡ true → k < j → j < length (m.items p) → ¬ (slot_in ring (m.items p) j ≡ slot_in ring (m.items p) k)
-    left_alone j left before within same =
-        false≢true (sym (left_unpassed left) ∙ holds.reader.given_passed p k ((holds.slots p).given_first k j before within same))
 
   -- where nothing of a sender is left, all that it sent is received
   pub all_received : own p (left_entries m) ≡ [] → got_of m p ≡ sent m p

@@ -11,7 +11,7 @@ use Rattle.queue_core.specs.Mailbox.{Mailbox, left_entries}
 use Rattle.queue_core.specs.Events.{MayPass, after}
 use Rattle.queue_core.specs.Events.Event.{Pass}
 use Rattle.queue_core.specs.Chain.{IsChain, entry_at}
-use Rattle.queue_core.specs.Linked.{link_to, null}
+use Rattle.queue_core.specs.StoredWords.{link_to, null}
 use Rattle.queue_core.specs.Links.{ComesAfter, IsOwedByReader, IsOwedBySender, IsTailAt, Links, ShowLinks, is_in_flight, last_of}
 use Rattle.queue_core.proofs.ChainLemmas.{pass}
 

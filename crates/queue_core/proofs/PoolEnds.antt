@@ -8,13 +8,13 @@ use Rattle.queue_core.specs.declared.sender.SenderPoint.TheVariants as sends
 use Rattle.queue_core.specs.declared.step.Step.TheVariants as step
 use Rattle.queue_core.specs.Events.{Event}
 use Rattle.queue_core.specs.Events.Event.{Fill}
-use Rattle.queue_core.specs.Linked.{line_word}
+use Rattle.queue_core.specs.PoolSteps.{is_at_rest}
+use Rattle.queue_core.specs.StoredWords.{line_word}
 use Rattle.queue_core.specs.Pool.{MayFillIn, Pool, PoolLeads, after_in}
 use Rattle.queue_core.specs.Pool.PoolLeads.{more as pool_more}
 use Rattle.queue_core.specs.Pooled.{IsPooled, Pooled, has_ended_in, node_at, node_of, sender_at, with_node, with_point}
 use Rattle.queue_core.specs.PoolShows.{ShowsPool}
 use Rattle.queue_core.specs.PoolLaws.{PoolStepShows}
-use Rattle.queue_core.specs.Steps.{is_at_rest}
 use Rattle.queue_core.proofs.PooledKept.{keeps_point}
 use Rattle.queue_core.proofs.PoolFill.{fill_shows, going_low}
 use Rattle.queue_core.proofs.PoolFree.{all_sent, not_ended}
@@ -22,8 +22,7 @@ use Rattle.queue_core.proofs.PoolFresh.{point_own}
 use Rattle.queue_core.proofs.PoolKept.{holds_in}
 use Rattle.queue_core.proofs.PoolPosts.{posts_after}
 use Rattle.queue_core.proofs.PoolStores.{line_stored}
-use Rattle.queue_core.proofs.StepLemmas.{passed}
-use Rattle.queue_core.proofs.StepsKeep.{rest_is}
+use Rattle.queue_core.proofs.StepLemmas.{passed, rest_is}
 
 module _ (c : Pooled) (ok : IsPooled c) (events : List (ℕ × Event)) (q : Pool) (leads : PoolLeads c.ring events q) (shows : ShowsPool c q) (b p : ℕ) (low : b < length c.heads)
     (sender_low : p < length c.senders) (rest : (sender_at c p).point ≡ sends.Rest) (going : has_ended_in c b p ≡ false) where

@@ -19,10 +19,9 @@ use Rattle.queue_core.specs.Events.Leads.{more as leads_more}
 use Rattle.queue_core.specs.Box.{ShowsBox}
 use Rattle.queue_core.specs.Pool.{MayFillIn, Pool, PoolLeads, after_in, events_in, post_at}
 use Rattle.queue_core.specs.Pooled.{IsPooled, Pooled, end_place, first_node, has_ended_in, node_at, point_in, sender_at, with_point, with_sender}
-use Rattle.queue_core.specs.PoolSteps.{is_free}
+use Rattle.queue_core.specs.PoolSteps.{is_at_rest, is_free}
 use Rattle.queue_core.specs.PoolShows.{ShowsPool, ShowsSender, box_in, count_below, node_in, number_in, place_of, times_end_given}
 use Rattle.queue_core.specs.PoolLaws.{PoolStepShows, ShowsAfterIn}
-use Rattle.queue_core.specs.Steps.{is_at_rest}
 use Rattle.queue_core.proofs.BoxFill.{fill_box, filled}
 use Rattle.queue_core.proofs.BoxFrame.{box_stays}
 use Rattle.queue_core.proofs.CountLemmas.{count_same}
@@ -32,8 +31,7 @@ use Rattle.queue_core.proofs.MailboxHolds.{Holds, item_within}
 use Rattle.queue_core.proofs.PoolFree.{free_tells}
 use Rattle.queue_core.proofs.PoolNodes.{number_is, place_end, place_post}
 use Rattle.queue_core.proofs.PoolPosts.{PostsHold, at_new, at_old, box_leads, box_other, box_own, fill_alone, fills_long, fills_old, fills_other, long, posts_after, posts_event, same_field}
-use Rattle.queue_core.proofs.StepLemmas.{passed}
-use Rattle.queue_core.proofs.StepsKeep.{rest_is}
+use Rattle.queue_core.proofs.StepLemmas.{passed, rest_is}
 
 -- ---- a sender's posts, with what it has filled
 

@@ -9,18 +9,17 @@ use Rattle.queue_core.specs.declared.reader.ReaderPoint.{ReaderPoint}
 use Rattle.queue_core.specs.declared.reader.ReaderPoint.TheVariants as reads
 use Rattle.queue_core.specs.declared.step.Step.TheVariants as step
 use Rattle.queue_core.specs.declared.words.Node.{Node}
-use Rattle.queue_core.specs.Linked.{empty_node}
+use Rattle.queue_core.specs.StoredWords.{empty_node}
 use Rattle.queue_core.specs.Mailbox.{IsHeld, Mailbox, is_among, is_same, passed_entries}
 use Rattle.queue_core.specs.Events.{Event, Leads, after}
 use Rattle.queue_core.specs.Events.Event.{GiveBack}
 use Rattle.queue_core.specs.Events.Leads.{more as leads_more}
-use Rattle.queue_core.specs.StepEvents.{gives_back}
 use Rattle.queue_core.specs.Box.{IsStanding, ShowsBox}
 use Rattle.queue_core.specs.Pool.{Pool, PoolLeads, after_in, events_in}
 use Rattle.queue_core.specs.Pooled.{IsPooled, Pooled, is_held_in, is_mailbox, node_at, reader_in, stub_in}
 use Rattle.queue_core.specs.PoolSteps.{may_use}
 use Rattle.queue_core.specs.PoolShows.{ShowsPool, box_in, node_in, place_of}
-use Rattle.queue_core.specs.PoolLaws.{PoolStepShows, ShowsAfterIn, held_in}
+use Rattle.queue_core.specs.PoolLaws.{PoolStepShows, ShowsAfterIn, gives_back, held_in}
 use Rattle.queue_core.proofs.BoxFrame.{box_stays}
 use Rattle.queue_core.proofs.BoxGive.{give_box, given}
 use Rattle.queue_core.proofs.Entries.{among_first, among_kept, first_kept, kept_passes, same_self}
@@ -29,6 +28,7 @@ use Rattle.queue_core.proofs.MailboxHolds.{Holds, item_within}
 use Rattle.queue_core.proofs.PoolNodes.{before_stubs, no_others, nodes_apart}
 use Rattle.queue_core.proofs.PoolPosts.{PostsHold, box_leads, box_other, box_own, posts_after, same_field}
 use Rattle.queue_core.proofs.PoolTurns.{after_give, give_turns}
+use Rattle.queue_core.proofs.PooledKept.{field_kept}
 use Rattle.queue_core.proofs.StepLemmas.{passed}
 
 used_held : (point : ReaderPoint) (b n : ℕ) (c : Pooled) → may_use point b n c ≡ true → is_held_in c b n ≡ true
@@ -104,10 +104,7 @@ module _ (c : Pooled) (ok : IsPooled c) (events : List (ℕ × Event)) (q : Pool
 
     -- words but the turn are as they were
     word : (f : Node → ℕ) → f turned ≡ f (node_at c node) → (a : ℕ) → f (node_at n a) ≡ f (node_at c a)
-    word f same a = elim (cases_eq a node) [
-      | inl here ↦ subst (λ (a : ℕ). f (node_at n a) ≡ f (node_at c a)) (sym here) (ap f (get_or-set_same c.nodes node turned empty_node node_low) ∙ same)
-      | inr there ↦ ap f (get_or-set_other c.nodes node a turned empty_node there)
-    ]
+    word = field_kept c node turned node_low
 
     free_now : (d : ℕ) → is_held_in n d node ≡ false
     free_now d = ap (is_mailbox d) (get_or-set_same c.holders node None None (omega (arith, node_low, ok.holders)))

@@ -17,7 +17,7 @@ use Rattle.queue_core.specs.Events.{Event, Leads, MayLink, after}
 use Rattle.queue_core.specs.Events.Event.{Link}
 use Rattle.queue_core.specs.Events.Leads.{more as leads_more}
 use Rattle.queue_core.specs.Chain.{entry_at}
-use Rattle.queue_core.specs.Linked.{empty_node, link_to}
+use Rattle.queue_core.specs.StoredWords.{empty_node, link_to}
 use Rattle.queue_core.specs.Links.{is_in_flight, last_of}
 use Rattle.queue_core.specs.Box.{Box, IsStanding, ShowsBox}
 use Rattle.queue_core.specs.Pool.{Pool, PoolLeads, after_in, events_in, post_at}
@@ -31,13 +31,11 @@ use Rattle.queue_core.proofs.CountLemmas.{count_one_more, count_same}
 use Rattle.queue_core.proofs.EventsKeep.{holds_after}
 use Rattle.queue_core.proofs.MailboxHolds.{Holds}
 use Rattle.queue_core.proofs.PoolNodes.{before_stubs, no_others, nodes_apart, number_is}
-use Rattle.queue_core.proofs.PooledKept.{sender_within}
+use Rattle.queue_core.proofs.PooledKept.{field_kept, sender_within}
 use Rattle.queue_core.proofs.PoolFresh.{fresh_node, point_else, point_other, point_own, senders_same}
 use Rattle.queue_core.proofs.PoolStepsKeep.{call_in}
 use Rattle.queue_core.proofs.PoolPosts.{PostsHold, box_leads, box_other, box_own, posts_after, same_field}
-use Rattle.queue_core.proofs.PoolSent.{posts_sent}
-use Rattle.queue_core.proofs.StepLemmas.{mapped}
-use Rattle.queue_core.proofs.StepsKeep.{link_is}
+use Rattle.queue_core.proofs.StepLemmas.{link_is, mapped}
 
 -- each sender and mailbox has a place of its own
 end_places : (mailboxes d b s p : ℕ) → d < mailboxes → b < mailboxes → s * mailboxes + d ≡ p * mailboxes + b → (s ≡ p) × (d ≡ b)
@@ -153,10 +151,7 @@ module _ (c : Pooled) (ok : IsPooled c) (events : List (ℕ × Event)) (q : Pool
 
   -- words but its next are as they were
   word : (f : Node → ℕ) → f node' ≡ f (node_at c before) → (a : ℕ) → f (node_at n a) ≡ f (node_at c a)
-  word f same a = elim (cases_eq a before) [
-    | inl here ↦ subst (λ (a : ℕ). f (node_at n a) ≡ f (node_at c a)) (sym here) (ap f (get_or-set_same c.nodes before node' empty_node before_low) ∙ same)
-    | inr there ↦ ap f (get_or-set_other c.nodes before a node' empty_node there)
-  ]
+  word = field_kept c before node' before_low
 
   next_else : (a : ℕ) → ¬ (a ≡ before) → (node_at n a).next ≡ (node_at c a).next
   next_else a other = ap (λ (z : Node). z.next) (get_or-set_other c.nodes before a node' empty_node other)
@@ -191,12 +186,6 @@ module _ (c : Pooled) (ok : IsPooled c) (events : List (ℕ × Event)) (q : Pool
 
     was : is_sent q p (post_at q p found.0) ≡ false
     was = rw found.2 linked_was
-
-    is_last : found.0 + 1 ≡ length (q.posts p)
-    is_last = elim (cases_lt (found.0 + 1) (length (q.posts p))) [
-      | inl before ↦ absurd (false≢true (sym was ∙ posts_sent c.ring ok.some_nodes events q leads p found.0 before))
-      | inr past ↦ omega (arith, past, found.1)
-    ]
 
     sent_more : count_below (λ j. is_sent q' p (post_at q p j)) (length (q.posts p)) ≡ count_below (λ j. is_sent q p (post_at q p j)) (length (q.posts p)) + 1
     sent_more = count_one_more (λ j. is_sent q p (post_at q p j)) (λ j. is_sent q' p (post_at q p j)) found.0 (length (q.posts p)) found.1 was (rw found.2 linked_now) (λ j below other.

@@ -5,7 +5,7 @@ use Rattle.std.proofs.lemmas.List.{length-replicate}
 use Rattle.std.proofs.lemmas.List.Elements.{All-replicate}
 use Rattle.std.proofs.lemmas.List.FromFn.{get_or-map-range_with_len, length-map-range_with_len}
 use Rattle.queue_core.specs.declared.TheConstants.{MOST_MAILBOXES, MOST_NODES, MOST_POOL_POSTS, MOST_SENDERS}
-use Rattle.queue_core.specs.Linked.{empty_node, link_to}
+use Rattle.queue_core.specs.StoredWords.{empty_node, link_to}
 use Rattle.queue_core.specs.Pooled.{IsHolder, IsPooled, Pooled, new_caller, new_reader, opening_pooled}
 use Rattle.queue_core.proofs.PooledKept.{IsCaller, IsHead, IsNext, IsReading}
 

@@ -16,7 +16,7 @@ use Rattle.queue_core.specs.Mailbox.{Mailbox, is_among, left_entries}
 use Rattle.queue_core.specs.Events.{Event, MayPass, after}
 use Rattle.queue_core.specs.Events.Event.{Pass, StubIn, StubLink}
 use Rattle.queue_core.specs.Chain.{entry_at}
-use Rattle.queue_core.specs.Linked.{empty_node, link_to, null}
+use Rattle.queue_core.specs.StoredWords.{empty_node, link_to, null}
 use Rattle.queue_core.specs.Links.{IsOwedByReader, IsTailAt, is_in_flight}
 use Rattle.queue_core.specs.Box.{Box, IsStanding, ShowsBox}
 use Rattle.queue_core.specs.Pool.{MayIn, Pool, PoolLeads, after_in}
@@ -29,7 +29,7 @@ use Rattle.queue_core.proofs.BoxReads.{before_entry, before_is, before_stands, i
 use Rattle.queue_core.proofs.Entries.{among_first, read_among}
 use Rattle.queue_core.proofs.MailboxHolds.{Holds, item_within}
 use Rattle.queue_core.proofs.PassLemmas.{may_pass}
-use Rattle.queue_core.proofs.PooledKept.{reader_keeps, stub_within}
+use Rattle.queue_core.proofs.PooledKept.{field_kept, reader_keeps, stub_within}
 use Rattle.queue_core.proofs.PoolKept.{Stays, apart_here, event_same, here, holds_in, kept_shows, same_pool}
 use Rattle.queue_core.proofs.PoolNodes.{apart_in}
 use Rattle.queue_core.proofs.PoolPosts.{box_own}
@@ -109,17 +109,17 @@ module _ (c : Pooled) (ok : IsPooled c) (events : List (ℕ × Event)) (q : Pool
     abbrev nulled_core : Pooled
     nulled_core = goes_to b reads.Swap (with_node (stub_in c b) nulled_node c)
 
+    stub_low : stub_in c b < length c.nodes
+    stub_low = omega (arith, stub_within c ok b low)
+
     null_word : node_at nulled_core (stub_in c b) ≡ nulled_node
-    null_word = get_or-set_same c.nodes (stub_in c b) nulled_node empty_node (omega (arith, stub_within c ok b low))
+    null_word = get_or-set_same c.nodes (stub_in c b) nulled_node empty_node stub_low
 
     null_words : (a : ℕ) → ¬ (a ≡ stub_in c b) → node_at nulled_core a ≡ node_at c a
     null_words a other = get_or-set_other c.nodes (stub_in c b) a nulled_node empty_node other
 
     null_same : (f : Node → ℕ) → f nulled_node ≡ f (node_at c (stub_in c b)) → (a : ℕ) → f (node_at nulled_core a) ≡ f (node_at c a)
-    null_same f same a = elim (cases_eq a (stub_in c b)) [
-      | inl is ↦ subst (λ a. f (node_at nulled_core a) ≡ f (node_at c a)) (sym is) (ap f null_word ∙ same)
-      | inr other ↦ ap f (null_words a other)
-    ]
+    null_same = field_kept c (stub_in c b) nulled_node stub_low
 
     null_own : reader_in nulled_core b ≡ record reader { point = reads.Swap }
     null_own = moved_own reads.Swap reader.last
@@ -207,10 +207,7 @@ module _ (c : Pooled) (ok : IsPooled c) (events : List (ℕ × Event)) (q : Pool
     link_words a other = get_or-set_other c.nodes before a link_node empty_node other
 
     link_same : (f : Node → ℕ) → f link_node ≡ f (node_at c before) → (a : ℕ) → f (node_at link_core a) ≡ f (node_at c a)
-    link_same f same a = elim (cases_eq a before) [
-      | inl is ↦ subst (λ a. f (node_at link_core a) ≡ f (node_at c a)) (sym is) (ap f link_word ∙ same)
-      | inr other ↦ ap f (link_words a other)
-    ]
+    link_same = field_kept c before link_node before_low
 
     link_own : reader_in link_core b ≡ record reader { point = reads.Last }
     link_own = moved_own reads.Last reader.last

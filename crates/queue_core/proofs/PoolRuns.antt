@@ -17,7 +17,7 @@ use Rattle.queue_core.specs.declared.step.PoolStep.{PoolStep}
 use Rattle.queue_core.specs.Mailbox.{left_entries, opening}
 use Rattle.queue_core.specs.Events.{Event}
 use Rattle.queue_core.specs.Chain.{IsChain}
-use Rattle.queue_core.specs.Linked.{empty_node, link_to}
+use Rattle.queue_core.specs.StoredWords.{empty_node, link_to}
 use Rattle.queue_core.specs.Links.{IsAtHand, IsOwedByReader, IsOwedBySender, IsSending, IsTailAt, is_in_flight}
 use Rattle.queue_core.specs.Box.{HasStored, ShowsBox}
 use Rattle.queue_core.specs.Pool.{MayIn, Pool, PoolLeads, after_in, opening_pool}

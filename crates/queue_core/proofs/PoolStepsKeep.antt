@@ -20,12 +20,11 @@ use Rattle.queue_core.specs.declared.step.Step.TheVariants as step
 use Rattle.queue_core.specs.declared.step.Stepped.{Stepped}
 use Rattle.queue_core.specs.declared.step.Stepped.TheVariants.{Moved, NotNow}
 use Rattle.queue_core.specs.Items.{is_end}
-use Rattle.queue_core.specs.Linked.{link_to, null}
+use Rattle.queue_core.specs.StoredWords.{link_to, null}
 use Rattle.queue_core.specs.Pooled.{IsInHand, IsPoint, IsPooled, IsReaderPoint, Pooled, head_in, node_at, node_of, point_in, reader_in, sender_at, stub_in, with_node, with_point, with_sender}
 use Rattle.queue_core.specs.PoolSteps.{after_sent, answers, end_line, give_back, goes_to, has_next, head_at, is_at_stub, is_last, load_held, load_turn, next_at, passes, stepped_in, store_amount, store_line, store_link, store_null, stub_link_at, stub_null_at, stub_swap_at, swap_head, takes}
 use Rattle.queue_core.proofs.PooledKept.{head_keeps, keeps_ends, keeps_head, keeps_holder, keeps_node, keeps_point, keeps_reader, keeps_sender, next_within, node_within, reader_keeps, sender_keeps, sender_within, stub_within}
-use Rattle.queue_core.proofs.StepLemmas.{chosen, chosen_some, mapped, passed, some_is}
-use Rattle.queue_core.proofs.StepsKeep.{amount_is, line_is, link_is, null_is, swap_is}
+use Rattle.queue_core.proofs.StepLemmas.{amount_is, chosen, chosen_some, line_is, link_is, mapped, null_is, passed, some_is, swap_is}
 
 -- a sender that a mailbox sees in a call is in a call there
 pub call_in : (c : Pooled) (b p : ℕ) (pt : SenderPoint) → pt ≢ sends.Rest → point_in c b p ≡ pt → ((sender_at c p).mailbox ≡ b) × ((sender_at c p).point ≡ pt)

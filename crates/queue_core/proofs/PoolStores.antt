@@ -1,6 +1,6 @@
 -- StoreLine, StoreAmount and StoreNull in a pool: a word of the node of an item that is not exchanged in.
-use Rattle.std.proofs.Common.{◌≡◌, ◌∙◌, ◌<◌, ◌≢◌, ℕ, List, false, length, ap, sym, refl, subst, inl, inr, arith, get_or-set_other, get_or-set_same}
-use Rattle.std.proofs.lemmas.Bool.{and_left, cases_eq}
+use Rattle.std.proofs.Common.{◌≡◌, ◌∙◌, ◌<◌, ◌≢◌, ℕ, List, false, length, ap, sym, refl, subst, arith, get_or-set_other, get_or-set_same}
+use Rattle.std.proofs.lemmas.Bool.{and_left}
 use Rattle.queue_core.specs.declared.entry.Entry.TheVariants.{Of}
 use Rattle.queue_core.specs.declared.item.Item.{Item}
 use Rattle.queue_core.specs.declared.words.Node.{Node}
@@ -10,7 +10,7 @@ use Rattle.queue_core.specs.declared.sender.SenderPoint.TheVariants as sends
 use Rattle.queue_core.specs.declared.step.Step.TheVariants as step
 use Rattle.queue_core.specs.Mailbox.{Mailbox, is_among}
 use Rattle.queue_core.specs.Events.{Event}
-use Rattle.queue_core.specs.Linked.{amount_word, empty_node, line_word, null}
+use Rattle.queue_core.specs.StoredWords.{amount_word, empty_node, line_word, null}
 use Rattle.queue_core.specs.Links.{IsAtHand, IsFilled, IsOwedBySender, IsSending, is_in_flight, last_of}
 use Rattle.queue_core.specs.Box.{HasStored, IsStanding}
 use Rattle.queue_core.specs.Pool.{Pool, PoolLeads}
@@ -19,12 +19,11 @@ use Rattle.queue_core.specs.PoolShows.{ShowsPool, box_in, links_in, node_in}
 use Rattle.queue_core.specs.PoolLaws.{PoolStepShows}
 use Rattle.queue_core.proofs.BoxFrame.{fresh_stands}
 use Rattle.queue_core.proofs.BoxStore.{store_box}
-use Rattle.queue_core.proofs.PooledKept.{node_within, sender_within}
+use Rattle.queue_core.proofs.PooledKept.{field_kept, node_within, sender_within}
 use Rattle.queue_core.proofs.PoolFresh.{each_same, fresh_node, point_else, point_other, point_own, senders_same}
 use Rattle.queue_core.proofs.PoolKept.{Stays, apart_here, here, holds_in, kept_shows, same_pool}
 use Rattle.queue_core.proofs.PoolStepsKeep.{call_in}
-use Rattle.queue_core.proofs.StepLemmas.{mapped}
-use Rattle.queue_core.proofs.StepsKeep.{amount_is, line_is, null_is}
+use Rattle.queue_core.proofs.StepLemmas.{amount_is, line_is, mapped, null_is}
 
 module _ (c : Pooled) (ok : IsPooled c) (events : List (ℕ × Event)) (q : Pool) (leads : PoolLeads c.ring events q) (shows : ShowsPool c q) (b : ℕ) (low : b < length c.heads) (p : ℕ) (item : Item) (pt : SenderPoint)
     (busy : pt ≢ sends.Rest) (at : point_in c b p ≡ pt) (filled : IsFilled (q.boxes b) p item) (landed : (j : ℕ) → is_in_flight (q.boxes b) (Of p j) ≡ false) where
@@ -56,20 +55,17 @@ module _ (c : Pooled) (ok : IsPooled c) (events : List (ℕ × Event)) (q : Pool
     abbrev n : Pooled
     n = with_point b p next_point table
 
+    node_low : node < length c.nodes
+    node_low = omega (arith, node_within c ok b low p item sender_low)
+
     word_there : node_at n node ≡ written
-    word_there = get_or-set_same c.nodes node written empty_node (omega (arith, node_within c ok b low p item sender_low))
+    word_there = get_or-set_same c.nodes node written empty_node node_low
 
     pub word_here : node_at n (node_in c q b (Of p (last_of m p))) ≡ written
     word_here = subst (λ a. node_at n a ≡ written) node_is word_there
 
     pub words : (a : ℕ) → ¬ (a ≡ node_in c q b (Of p (last_of m p))) → node_at n a ≡ node_at c a
     words a other = get_or-set_other c.nodes node a written empty_node (λ is. other (is ∙ node_is))
-
-    turns : (a : ℕ) → (node_at n a).turn ≡ (node_at c a).turn
-    turns a = elim (cases_eq a node) [
-      | inl is ↦ subst (λ a. (node_at n a).turn ≡ (node_at c a).turn) (sym is) (ap (λ (z : Node). z.turn) word_there ∙ turn)
-      | inr other ↦ ap (λ (z : Node). z.turn) (get_or-set_other c.nodes node a written empty_node other)
-    ]
 
     pub stays : Stays c n b
     stays = record {
@@ -82,7 +78,7 @@ module _ (c : Pooled) (ok : IsPooled c) (events : List (ℕ × Event)) (q : Pool
       points = point_else c b p sender_low sender refl call.0;
       held = λ d in_range other a. refl;
       counts = each_same c b p sender_low sender (λ (s : Caller). s.count) refl;
-      turns = turns;
+      turns = field_kept c node written node_low (λ z. z.turn) turn;
     }
 
     -- The sender owes no link at the point that it comes to.

@@ -11,7 +11,7 @@ use Rattle.queue_core.specs.declared.step.Step.TheVariants as step
 use Rattle.queue_core.specs.Mailbox.{Mailbox, is_among}
 use Rattle.queue_core.specs.Events.{Event, MayExchange, after}
 use Rattle.queue_core.specs.Events.Event.{Exchange}
-use Rattle.queue_core.specs.Linked.{link_to}
+use Rattle.queue_core.specs.StoredWords.{link_to}
 use Rattle.queue_core.specs.Links.{IsAtHand, last_of}
 use Rattle.queue_core.specs.Box.{ShowsBox}
 use Rattle.queue_core.specs.Pool.{Pool, PoolLeads, after_in}
@@ -27,8 +27,7 @@ use Rattle.queue_core.proofs.PoolFresh.{each_same, fresh_node, point_else, point
 use Rattle.queue_core.proofs.PoolKept.{Stays, apart_here, event_same, here, holds_in, kept_shows}
 use Rattle.queue_core.proofs.PoolPosts.{box_own}
 use Rattle.queue_core.proofs.PoolStepsKeep.{call_in}
-use Rattle.queue_core.proofs.StepLemmas.{mapped}
-use Rattle.queue_core.proofs.StepsKeep.{swap_is}
+use Rattle.queue_core.proofs.StepLemmas.{mapped, swap_is}
 
 module _ (c : Pooled) (ok : IsPooled c) (events : List (ℕ × Event)) (q : Pool) (leads : PoolLeads c.ring events q) (shows : ShowsPool c q) (b p : ℕ) (low : b < length c.heads) (item : Item) (at : point_in c b p ≡ sends.Swap item) where
   abbrev m : Mailbox

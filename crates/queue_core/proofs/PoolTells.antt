@@ -3,7 +3,7 @@ use Rattle.std.proofs.Common.{◌≡◌, ◌∙◌, true, sym}
 use Rattle.std.proofs.lemmas.Bool.{eqb-true, false≢true}
 use Rattle.queue_core.specs.declared.entry.Entry.TheVariants.{Of}
 use Rattle.queue_core.specs.Mailbox.{is_among, left_entries}
-use Rattle.queue_core.specs.Linked.{link_to}
+use Rattle.queue_core.specs.StoredWords.{link_to}
 use Rattle.queue_core.specs.Box.{IsStanding}
 use Rattle.queue_core.specs.Pooled.{head_in, reader_in}
 use Rattle.queue_core.specs.PoolShows.{box_in}

@@ -8,7 +8,7 @@ use Rattle.queue_core.specs.declared.item.Item.{Item}
 use Rattle.queue_core.specs.declared.item.Item.TheVariants.{End}
 use Rattle.queue_core.specs.declared.words.Node.{Node}
 use Rattle.queue_core.specs.Items.{is_end}
-use Rattle.queue_core.specs.Linked.{empty_node}
+use Rattle.queue_core.specs.StoredWords.{empty_node}
 use Rattle.queue_core.specs.Mailbox.{IsHeld, Mailbox, is_among, is_linked, item_at}
 use Rattle.queue_core.specs.Events.{Event}
 use Rattle.queue_core.specs.Events.Event.{GiveBack}
@@ -20,7 +20,7 @@ use Rattle.queue_core.proofs.CountLemmas.{count_less, count_none, count_one_more
 use Rattle.queue_core.proofs.Entries.{among_first, among_last, among_other}
 use Rattle.queue_core.proofs.Generations.{same_block}
 use Rattle.queue_core.proofs.MailboxHolds.{Holds, item_within}
-use Rattle.queue_core.proofs.PoolNodes.{before_stubs, in_table, no_others, number_is, place_end, place_low, place_post}
+use Rattle.queue_core.proofs.PoolNodes.{before_stubs, no_others, number_is, place_end, place_low, place_post}
 use Rattle.queue_core.proofs.PooledKept.{sender_keeps}
 use Rattle.queue_core.proofs.PoolPosts.{PostsHold, box_leads, box_other, box_own, posts_after}
 
@@ -54,9 +54,6 @@ module _ (c : Pooled) (ok : IsPooled c) (q : Pool) (h : (p : ℕ) → PostsHold 
 
   abbrev place : ℕ
   place = place_of c.ring (q.posts p) b (item_at m p k) k
-
-  sender_low : p < length c.senders
-  sender_low = in_table c ok q h holds (no_others c q shows) b p k (filled, held.kept)
 
   node_low : node < length c.nodes
   node_low = let under = before_stubs c ok q h holds (no_others c q shows) b p k low (filled, held.kept) in omega (arith, under, ok.nodes)

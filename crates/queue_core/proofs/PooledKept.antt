@@ -1,7 +1,7 @@
 -- What a core of a pool keeps to, whatever a step writes in it, and what is read of it.
-use Rattle.std.proofs.Common.{◌≡◌, ◌∙◌, ◌+◌, ◌*◌, ◌<◌, ◌≤◌, ◌%◌, ◌≢◌, ℕ, Bool, List, Option, length, ⊎_elim, All, ap, refl, sym, subst, arith}
+use Rattle.std.proofs.Common.{◌≡◌, ◌∙◌, ◌+◌, ◌*◌, ◌<◌, ◌≤◌, ◌%◌, ◌≢◌, ℕ, Bool, List, Option, length, ⊎_elim, All, ap, refl, sym, subst, inl, inr, arith, get_or-set_other, get_or-set_same}
 use Rattle.std.specs.Prelude.{slice_index_or}
-use Rattle.std.proofs.lemmas.Bool.{cases_lt}
+use Rattle.std.proofs.lemmas.Bool.{cases_eq, cases_lt}
 use Rattle.std.proofs.lemmas.List.{get_or_past, length-set}
 use Rattle.std.proofs.lemmas.List.Elements.{All-get_or, All-set}
 use Rattle.std.proofs.lemmas.Nat.{mul-add-lt}
@@ -12,7 +12,7 @@ use Rattle.queue_core.specs.declared.sender.Caller.{Caller}
 use Rattle.queue_core.specs.declared.sender.SenderPoint.{SenderPoint}
 use Rattle.queue_core.specs.declared.sender.SenderPoint.TheVariants as sends
 use Rattle.queue_core.specs.declared.reader.Reader.{Reader}
-use Rattle.queue_core.specs.Linked.{empty_node, link_to}
+use Rattle.queue_core.specs.StoredWords.{empty_node, link_to}
 use Rattle.queue_core.specs.Items.{is_end}
 use Rattle.queue_core.specs.PoolSteps.{ends}
 use Rattle.queue_core.proofs.StepLemmas.{chosen}
@@ -41,6 +41,13 @@ IsCaller c sender = (sender.mailbox < length c.heads) × (sender.count ≤ c.mos
 
 abbrev pub IsReading : Pooled → Reader → Type 0
 IsReading c reader = (reader.tail < length c.nodes) × IsReaderPoint (length c.nodes) reader.point
+
+-- Where a node is written, each of its words that is the same again is as it was, and so is every word of all other nodes.
+pub field_kept : (c : Pooled) (n : ℕ) (node : Node) → n < length c.nodes → (f : Node → ℕ) → f node ≡ f (node_at c n) → (a : ℕ) → f (node_at (with_node n node c) a) ≡ f (node_at c a)
+field_kept c n node low f same a = elim (cases_eq a n) [
+  | inl here ↦ subst (λ (a : ℕ). f (node_at (with_node n node c) a) ≡ f (node_at c a)) (sym here) (ap f (get_or-set_same c.nodes n node empty_node low) ∙ same)
+  | inr other ↦ ap f (get_or-set_other c.nodes n a node empty_node other)
+]
 
 module _ (c : Pooled) (ok : IsPooled c) where
   keeps : (n : Pooled) → HasSizes c n → All (IsHead c) n.heads → All (IsNext c) n.nodes → All (IsHolder (length c.heads)) n.holders → All (IsCaller c) n.senders → All (IsReading c) n.readers → IsPooled n

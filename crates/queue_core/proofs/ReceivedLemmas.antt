@@ -1,4 +1,4 @@
--- What was received of a sender is the first of what it sent.
+-- What was received of a sender is the first part of what it sent.
 use Rattle.std.proofs.Common.{[], ◌≡◌, ◌∙◌, ◌≤◌, ◌<◌, ◌+◌, ◌++◌, ℕ, true, length, take, drop, map, ap, sym, arith}
 use Rattle.std.specs.Prelude.{slice_index_or}
 use Rattle.std.proofs.lemmas.Bool.{false≢true}
@@ -19,7 +19,7 @@ module _ (ring : ℕ) (m : Mailbox) (holds : Holds ring m) where
       received_own m p (passed_entries m)
       ∙ (ap (map (item_of m)) (first_turn p m.passed m.order (holds.turns p).one_by_one) ∙ items_in_turn m p (count_own p (passed_entries m)) some)
 
-  -- it is the first of what it sent
+  -- it is the first part of what it sent
   pub got_prefix : (p : ℕ) → IsPrefix (got_of m p) (sent m p)
   got_prefix p =
       let turns = holds.turns p in

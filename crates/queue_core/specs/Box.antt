@@ -8,7 +8,7 @@ use Rattle.queue_core.specs.declared.sender.SenderPoint.{SenderPoint}
 use Rattle.queue_core.specs.declared.sender.SenderPoint.TheVariants as sends
 use Rattle.queue_core.specs.Items.{is_end}
 use Rattle.queue_core.specs.Mailbox.{IsHeld, Mailbox, is_among, item_at, sent}
-use Rattle.queue_core.specs.Linked.{amount_word, line_word}
+use Rattle.queue_core.specs.StoredWords.{amount_word, line_word}
 use Rattle.queue_core.specs.Links.{Links, ShowLinks, last_of}
 
 -- what a mailbox reads of its table

@@ -2,7 +2,7 @@
 use Rattle.std.specs.Prelude.{ℕ, ◌≡◌, ◌<◌, ◌+◌, ◌-◌, Bool, false, List, AllPairs, length, slice_index_or, if◌then◌else◌}
 use Rattle.queue_core.specs.declared.entry.Entry.{Entry}
 use Rattle.queue_core.specs.declared.entry.Entry.TheVariants.{Stub}
-use Rattle.queue_core.specs.Linked.{link_to, null}
+use Rattle.queue_core.specs.StoredWords.{link_to, null}
 
 -- the entry at a place
 abbrev pub entry_at : List Entry → ℕ → Entry

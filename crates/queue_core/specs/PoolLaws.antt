@@ -1,5 +1,5 @@
--- What each step does to the pool that a core shows.
-use Rattle.std.specs.Prelude.{ℕ, ℤ, ◌≡◌, ◌<◌, ◌≤◌, ◌==◌, ◌&&◌, ◌+◌, ◌*◌, ◌↔◌, List, [], ◌∷◌, Option, None, Some, true, false, not, length, if◌then◌else◌}
+-- What each step does to the pool that a core shows: it is an event that may happen in its mailbox, or none, and what comes of it is shown.
+use Rattle.std.specs.Prelude.{ℕ, ℤ, ◌≡◌, ◌<◌, ◌≤◌, ◌==◌, ◌&&◌, ◌+◌, ◌*◌, ◌↔◌, List, [], ◌∷◌, Option, None, Some, true, false, not, length, map, if◌then◌else◌}
 use Rattle.std.specs.List.{filter}
 use Rattle.queue_core.specs.declared.entry.Entry.{Entry}
 use Rattle.queue_core.specs.declared.entry.Entry.TheVariants.{Of, Stub}
@@ -8,23 +8,28 @@ use Rattle.queue_core.specs.declared.sender.SenderPoint.TheVariants as sends
 use Rattle.queue_core.specs.declared.step.Step.{Step}
 use Rattle.queue_core.specs.declared.step.Step.TheVariants as step
 use Rattle.queue_core.specs.declared.step.PoolStep.{PoolStep}
-use Rattle.queue_core.specs.declared.TheConstants.{MOST_MAILBOXES, MOST_NODES, MOST_POOL_POSTS, MOST_SENDERS}
+use Rattle.queue_core.specs.declared.TheConstants.{MOST_MAILBOXES, MOST_NODES, MOST_POOL_POSTS, MOST_POSTS, MOST_SENDERS}
 use Rattle.queue_core.specs.Received.{IsReceivedInOrder}
 use Rattle.queue_core.specs.Mailbox.{IsHeld, is_among, item_at, left_entries, passed_entries}
 use Rattle.queue_core.specs.Box.{HoldsItem}
-use Rattle.queue_core.specs.Events.{Event, slot_at}
-use Rattle.queue_core.specs.Events.Event.{Fill, Exchange, Link, Pass, StubIn, StubLink}
-use Rattle.queue_core.specs.StepEvents.{gives_back}
-use Rattle.queue_core.specs.Pool.{MayFillIn, MayIn, Pool, PoolLeads, after_in, opening_pool}
+use Rattle.queue_core.specs.Events.{Event, Leads, slot_at}
+use Rattle.queue_core.specs.Events.Event.{Fill, Exchange, Link, Pass, GiveBack, StubIn, StubLink}
+use Rattle.queue_core.specs.Pool.{MayFillIn, MayIn, Pool, PoolLeads, after_in, events_in, opening_pool}
 use Rattle.queue_core.specs.Pooled.{IsPooled, Pooled, has_ended_in, node_of, opening_pooled, reader_in, sender_at, stub_in}
-use Rattle.queue_core.specs.PoolSteps.{Follows, has_next, is_free, is_last, stepped, stepped_in}
+use Rattle.queue_core.specs.PoolSteps.{Follows, has_next, in_first, is_free, is_last, stepped, stepped_in}
 use Rattle.queue_core.specs.PoolShows.{ShowsPool, box_in, node_in}
 
 -- the entry that the reader of a mailbox holds in a node
 abbrev pub held_in : Pooled → Pool → (b n : ℕ) → List Entry
 held_in c q b n = filter (λ entry. (node_in c q b entry == n) && not (is_among entry (q.boxes b).given)) (passed_entries (q.boxes b))
 
--- the event of a step, in the mailbox of the step
+-- the event of giving back the first of the entries, which is a sender's
+abbrev pub gives_back : List Entry → Option Event
+gives_back [] = None
+gives_back (Of p k ∷ entries) = Some (GiveBack p k)
+gives_back (Stub ∷ entries) = None
+
+-- the event of a step, in the mailbox of the step: a load that finds nothing new, or a store in a node that is not exchanged in, is none
 abbrev pub event_in : Pooled → Pool → (b : ℕ) → Step → Option Event
 event_in c q b (step.LoadTurn p line amount) = if is_free c b p (Post line amount) then Some (Fill p (Post line amount)) else None
 event_in c q b (step.StoreLine p) = None
@@ -99,3 +104,9 @@ abbrev pub AllPoolRunsShow : Type 0
 AllPoolRunsShow = (senders mailboxes ring most : ℕ) → 0 < senders → senders ≤ MOST_SENDERS → 0 < mailboxes → mailboxes ≤ MOST_MAILBOXES → 0 < ring → ring ≤ MOST_NODES → most ≤ MOST_POOL_POSTS
     → (steps : List PoolStep) (c : Pooled) → Follows steps (opening_pooled senders mailboxes ring most) c
     → (q : Pool) × PoolLeads ring (pool_events_along steps (opening_pooled senders mailboxes ring most) opening_pool) q × ShowsPool c q × IsPooled c × ((b : ℕ) → IsReceivedInOrder ring (q.boxes b))
+
+-- A mailbox alone is a pool of one. Whatever steps are made in it from the opening on: their events lead to it by the rule of a mailbox alone, the core shows it and is one of those that the laws speak of, and it is received in order.
+abbrev pub AllRunsShow : Type 0
+AllRunsShow = (senders ring : ℕ) → 0 < senders → senders ≤ MOST_SENDERS → 0 < ring → ring ≤ MOST_NODES
+    → (steps : List Step) (c : Pooled) → Follows (map in_first steps) (opening_pooled senders 1 ring MOST_POSTS) c
+    → (q : Pool) × Leads ring (events_in 0 (pool_events_along (map in_first steps) (opening_pooled senders 1 ring MOST_POSTS) opening_pool)) (q.boxes 0) × ShowsPool c q × IsPooled c × IsReceivedInOrder ring (q.boxes 0)

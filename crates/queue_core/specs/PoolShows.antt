@@ -1,4 +1,4 @@
--- How the core of a pool shows the pool: each mailbox by its links, and what is common to all by counts over all of them.
+-- How the core of a pool shows the pool: each mailbox by its box, which is what it reads of the core, and what is common to all by counts over all of them.
 use Rattle.std.specs.Prelude.{ℕ, ◌≡◌, ◌<◌, ◌≤◌, ◌==◌, ◌+◌, ◌%◌, ◌&&◌, Bool, List, [], ◌∷◌, length, zero, suc, if◌then◌else◌}
 use Rattle.queue_core.specs.declared.entry.Entry.{Entry}
 use Rattle.queue_core.specs.declared.entry.Entry.TheVariants.{Of, Stub}

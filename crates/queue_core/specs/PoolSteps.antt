@@ -1,11 +1,12 @@
--- The table of steps of a pool's core: those of a mailbox, at the mailbox that is named. A sender in a call in another mailbox makes none in this one.
-use Rattle.std.specs.Prelude.{ℕ, ℤ, unsigned_abs, ◌≡◌, ◌++◌, ◌∷◌, [], List, length, ◌==◌, ◌+◌, ◌-◌, ◌/◌, ◌&&◌, ◌^◌, ◌%◌, Bool, false, not, nat_lt, nat_le, Option, None, Some, option_map, if◌then◌else◌}
+-- The table of steps of a pool's core: where each is due, in the mailbox that is named, and what it leaves. A step that is not due has no outcome, and a sender in a call in another mailbox makes none in this one.
+use Rattle.std.specs.Prelude.{ℕ, ℤ, unsigned_abs, ◌≡◌, ◌++◌, ◌∷◌, [], List, length, ◌==◌, ◌+◌, ◌-◌, ◌/◌, ◌&&◌, ◌^◌, ◌%◌, Bool, true, false, not, nat_lt, nat_le, Option, None, Some, option_map, if◌then◌else◌}
 use Rattle.queue_core.specs.declared.TheConstants.{MOST_AMOUNT, MOST_POSTS}
 use Rattle.queue_core.specs.declared.item.Item.{Item}
 use Rattle.queue_core.specs.declared.item.Item.TheVariants.{Post, End}
 use Rattle.queue_core.specs.declared.item.Posted.TheVariants.{Sent, Full}
 use Rattle.queue_core.specs.declared.item.Took.{Took}
 use Rattle.queue_core.specs.declared.item.Took.TheVariants as took
+use Rattle.queue_core.specs.declared.sender.SenderPoint.{SenderPoint}
 use Rattle.queue_core.specs.declared.sender.SenderPoint.TheVariants as sends
 use Rattle.queue_core.specs.declared.sender.Caller.{Caller}
 use Rattle.queue_core.specs.declared.reader.ReaderPoint.{ReaderPoint}
@@ -14,11 +15,37 @@ use Rattle.queue_core.specs.declared.step.Step.{Step}
 use Rattle.queue_core.specs.declared.step.Step.TheVariants as step
 use Rattle.queue_core.specs.declared.step.PoolStep.{PoolStep}
 use Rattle.queue_core.specs.Items.{is_end}
-use Rattle.queue_core.specs.Linked.{amount_word, line_word, link_to, null}
-use Rattle.queue_core.specs.Steps.{amount_due, is_at_rest, line_due, link_due, null_due, swap_due}
+use Rattle.queue_core.specs.StoredWords.{amount_word, line_word, link_to, null}
 use Rattle.queue_core.specs.Pooled.{Pooled, has_ended_in, head_in, is_held_in, node_at, node_of, point_in, reader_in, sender_at, stub_in, with_end, with_head, with_holder, with_node, with_point, with_reader, with_sender}
 
 -- ---- the steps of a sender
+
+abbrev pub is_at_rest : SenderPoint → Bool
+is_at_rest sends.Rest = true
+is_at_rest _ = false
+
+-- the item of the store that is due
+abbrev pub line_due : SenderPoint → Option Item
+line_due (sends.Line item) = Some item
+line_due _ = None
+
+abbrev pub amount_due : SenderPoint → Option Item
+amount_due (sends.Amount item) = Some item
+amount_due _ = None
+
+abbrev pub null_due : SenderPoint → Option Item
+null_due (sends.Null item) = Some item
+null_due _ = None
+
+-- the item whose exchange is due
+abbrev pub swap_due : SenderPoint → Option Item
+swap_due (sends.Swap item) = Some item
+swap_due _ = None
+
+-- the item whose link is due, and the node that gets it
+abbrev pub link_due : SenderPoint → Option (Item × ℕ)
+link_due (sends.Link item before) = Some (item, before)
+link_due _ = None
 
 -- whether the node of an item was given back as often as its sender has gone round
 abbrev pub is_free : Pooled → (b p : ℕ) → Item → Bool

@@ -1,4 +1,4 @@
--- The core of a pool: one table of nodes for several mailboxes, with a head, a stub and a reader for each of them.
+-- The core of a pool: the words of several mailboxes, and the program points of their senders and readers, after Vyukov's intrusive queue of many producers and one consumer. They have one table of nodes, with a head, a stub and a reader for each mailbox.
 use Rattle.std.specs.Prelude.{ℕ, unsigned_abs, ◌≡◌, ◌<◌, ◌≤◌, ◌==◌, ◌+◌, ◌*◌, ◌%◌, Bool, false, true, List, All, Option, length, map, None, Some, replicate, slice_index_or, slice_set, ⊤, if◌then◌else◌}
 use Rattle.std.specs.List.{range_with_len}
 use Rattle.queue_core.specs.declared.TheConstants.{MOST_AMOUNT, MOST_MAILBOXES, MOST_NODES, MOST_POOL_POSTS, MOST_POSTS, MOST_SENDERS}
@@ -11,7 +11,7 @@ use Rattle.queue_core.specs.declared.sender.SenderPoint.TheVariants as sends
 use Rattle.queue_core.specs.declared.reader.Reader.{Reader}
 use Rattle.queue_core.specs.declared.reader.ReaderPoint.{ReaderPoint}
 use Rattle.queue_core.specs.declared.reader.ReaderPoint.TheVariants as reads
-use Rattle.queue_core.specs.Linked.{empty_node, link_to}
+use Rattle.queue_core.specs.StoredWords.{empty_node, link_to}
 
 pub record Pooled : Type 0 where
   -- how many ring nodes a sender has, and how many posts it may fill, for all mailboxes

@@ -11,7 +11,7 @@ abbrev pub IsPrefix : List Item → List Item → Type 0
 IsPrefix part whole = (rest : List Item) × (whole ≡ part ++ rest)
 
 pub record IsReceivedInOrder (ring : ℕ) (m : Mailbox) : Type 0 where
-  -- what was received of a sender is the first of what it sent, in order and once
+  -- what was received of a sender is the first part of what it sent, in order and once
   pub in_order : (p : ℕ) → IsPrefix (got_of m p) (sent m p)
   -- an end mark is sent once, and last
   pub end_is_last : (p k : ℕ) → k < length (sent m p) → is_end (slice_index_or (sent m p) k End) ≡ true → k + 1 ≡ length (sent m p)

@@ -4,7 +4,7 @@ ghost use Rattle.std.specs.Prelude.{◌≡◌, ◌+◌, ◌/◌, ◌<◌, ◌≤
 ghost use Rattle.queue_core.specs.declared.TheConstants.{MOST_NODES, MOST_POSTS, MOST_SENDERS};
 ghost use Rattle.queue_core.specs.declared.step.Step.TheVariants.{LoadNext};
 ghost use Rattle.queue_core.specs.declared.step.Stepped.TheVariants.{Moved, NotNow};
-ghost use Rattle.queue_core.specs.Linked.{item_of as item_in};
+ghost use Rattle.queue_core.specs.StoredWords.{item_of as item_in};
 ghost use Rattle.queue_core.specs.Pooled.{is_held_in, node_at, opening_pooled, reader_in, sender_at};
 ghost use Rattle.queue_core.specs.PoolSteps.{Follows, in_first, stepped};
 

@@ -6,7 +6,7 @@ ghost use Rattle.queue_core.specs.declared.TheConstants.{MOST_MAILBOXES, MOST_NO
 ghost use Rattle.queue_core.specs.declared.step.PoolStep.{PoolStep};
 ghost use Rattle.queue_core.specs.declared.step.Step.TheVariants.{LoadNext};
 ghost use Rattle.queue_core.specs.declared.step.Stepped.TheVariants.{Moved, NotNow};
-ghost use Rattle.queue_core.specs.Linked.{item_of as item_in};
+ghost use Rattle.queue_core.specs.StoredWords.{item_of as item_in};
 ghost use Rattle.queue_core.specs.Pooled.{IsPooled, holder_of, node_at, nodes_of_each, opening_pooled, reader_in, sender_at};
 ghost use Rattle.queue_core.specs.PoolSteps.{Follows, stepped, stepped_in};
 

@@ -1,8 +1,7 @@
 //! A sender: where it is in its call, and what it has sent.
 
 ghost use Rattle.std.specs.Prelude.{◌≡◌, ◌+◌, ◌<◌, ◌^◌};
-ghost use Rattle.queue_core.specs.PoolSteps.{after_sent};
-ghost use Rattle.queue_core.specs.Steps.{amount_due, is_at_rest, line_due, link_due, null_due, swap_due};
+ghost use Rattle.queue_core.specs.PoolSteps.{after_sent, amount_due, is_at_rest, line_due, link_due, null_due, swap_due};
 
 use crate::item::{Item, Posted};
 
@@ -83,18 +82,6 @@ impl SenderPoint {
 }
 
 /// A sender.
-#[derive(Clone, Copy, Debug, PartialEq, Eq)]
-pub struct Sender {
-    pub point: SenderPoint,
-    /// How many posts it has sent.
-    pub count: u64,
-    /// Whether it has sent its end mark.
-    pub ended: bool,
-    /// What its last finished call answered.
-    pub last: Option<Posted>,
-}
-
-/// A sender of a pool.
 #[derive(Clone, Copy, Debug, PartialEq, Eq)]
 pub struct Caller {
     pub point: SenderPoint,

@@ -7,7 +7,7 @@ use Rattle.queue_core.specs.declared.item.Item.{Item}
 use Rattle.queue_core.specs.declared.item.Item.TheVariants.{End, Post}
 use Rattle.queue_core.specs.Items.{is_end}
 use Rattle.mail_box.specs.Endings.{HasEnd, IsClosed}
-use Rattle.mail_box.specs.Mails.{IsFirstOf}
+use Rattle.queue_core.specs.Items.{IsFirstOf}
 use Rattle.mail_box.proofs.Endings.{all_received}
 use Rattle.block_draw.specs.Drawn.{sum_below}
 use Rattle.split_run.specs.Reading.{ends_among}

@@ -1,5 +1,5 @@
-use Rattle.queue_core.proofs.AllRuns.{all_runs_show}
+use Rattle.queue_core.proofs.PoolOne.{all_runs}
 use Rattle.queue_core.proofs.laws.law_all_runs.Goals as goal
 
 pub returns : goal.returns
-returns c = all_runs_show
+returns c = all_runs

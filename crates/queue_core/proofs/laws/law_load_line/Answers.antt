@@ -1,6 +1,9 @@
-use Rattle.queue_core.specs.declared.step.Step.TheVariants as step
-use Rattle.queue_core.proofs.StepLaws.{step_shows, held_tells}
+use Rattle.queue_core.proofs.PoolReads.{pool_load_line}
+use Rattle.queue_core.proofs.PoolTells.{held_tells}
 use Rattle.queue_core.proofs.laws.law_load_line.Goals as goal
 
-pub returns : goal.returns
-returns c = record { shows = λ n. step_shows (step.LoadLine n); tells = held_tells }
+pub returns-clause-shows : goal.returns-clause-shows
+returns-clause-shows c = pool_load_line
+
+pub returns-clause-tells : goal.returns-clause-tells
+returns-clause-tells c = held_tells

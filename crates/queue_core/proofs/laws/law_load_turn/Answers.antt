@@ -1,7 +1,9 @@
-use Rattle.queue_core.specs.declared.step.Step.TheVariants as step
-use Rattle.queue_core.proofs.StepLaws.{step_shows}
-use Rattle.queue_core.proofs.TurnTells.{turn_tells}
+use Rattle.queue_core.proofs.PoolFill.{pool_load_turn}
+use Rattle.queue_core.proofs.PoolFree.{free_tells}
 use Rattle.queue_core.proofs.laws.law_load_turn.Goals as goal
 
-pub returns : goal.returns
-returns c = record { shows = λ p line amount. step_shows (step.LoadTurn p line amount); tells = turn_tells }
+pub returns-clause-shows : goal.returns-clause-shows
+returns-clause-shows c = pool_load_turn
+
+pub returns-clause-tells : goal.returns-clause-tells
+returns-clause-tells c = free_tells

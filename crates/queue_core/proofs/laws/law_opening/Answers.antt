@@ -1,5 +1,5 @@
-use Rattle.queue_core.proofs.OpeningLemmas.{opening_shows}
+use Rattle.queue_core.proofs.PoolRuns.{pool_opening}
 use Rattle.queue_core.proofs.laws.law_opening.Goals as goal
 
 pub returns : goal.returns
-returns c = opening_shows
+returns c = pool_opening

@@ -1,6 +1,5 @@
-use Rattle.queue_core.specs.declared.step.Step.TheVariants as step
-use Rattle.queue_core.proofs.StepLaws.{step_shows}
+use Rattle.queue_core.proofs.PoolStores.{pool_store_amount}
 use Rattle.queue_core.proofs.laws.law_store_amount.Goals as goal
 
 pub returns : goal.returns
-returns c = λ p. step_shows (step.StoreAmount p)
+returns c = pool_store_amount

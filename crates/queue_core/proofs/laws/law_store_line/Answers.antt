@@ -1,6 +1,5 @@
-use Rattle.queue_core.specs.declared.step.Step.TheVariants as step
-use Rattle.queue_core.proofs.StepLaws.{step_shows}
+use Rattle.queue_core.proofs.PoolStores.{pool_store_line}
 use Rattle.queue_core.proofs.laws.law_store_line.Goals as goal
 
 pub returns : goal.returns
-returns c = λ p. step_shows (step.StoreLine p)
+returns c = pool_store_line

@@ -1,6 +1,5 @@
-use Rattle.queue_core.specs.declared.step.Step.TheVariants as step
-use Rattle.queue_core.proofs.StepLaws.{step_shows}
+use Rattle.queue_core.proofs.PoolReads.{pool_stub_link}
 use Rattle.queue_core.proofs.laws.law_stub_link.Goals as goal
 
 pub returns : goal.returns
-returns c = step_shows step.StubLink
+returns c = pool_stub_link

@@ -1,6 +1,5 @@
-use Rattle.queue_core.specs.declared.step.Step.TheVariants as step
-use Rattle.queue_core.proofs.StepLaws.{step_shows}
+use Rattle.queue_core.proofs.PoolReads.{pool_stub_null}
 use Rattle.queue_core.proofs.laws.law_stub_null.Goals as goal
 
 pub returns : goal.returns
-returns c = step_shows step.StubNull
+returns c = pool_stub_null

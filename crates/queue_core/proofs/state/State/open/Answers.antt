@@ -5,7 +5,7 @@ use Rattle.std.proofs.lemmas.List.FromFn.{map-range_with_len_more}
 use Rattle.queue_core.specs.declared.reader.Reader.{Reader}
 use Rattle.queue_core.specs.declared.sender.Caller.{Caller}
 use Rattle.queue_core.specs.declared.words.Node.{Node}
-use Rattle.queue_core.specs.Linked.{empty_node, link_to}
+use Rattle.queue_core.specs.StoredWords.{empty_node, link_to}
 use Rattle.queue_core.specs.Pooled.{new_caller, new_reader, opening_pooled}
 use Rattle.queue_core.proofs.state.State.open.Goals as goal
 

@@ -1,7 +1,7 @@
 -- The heads and the readers so far are those of the first mailboxes.
 use Rattle.std.proofs.Common.{◌≡◌, ◌+◌, ◌*◌, map}
 use Rattle.std.specs.List.{range_with_len}
-use Rattle.queue_core.specs.Linked.{link_to}
+use Rattle.queue_core.specs.StoredWords.{link_to}
 use Rattle.queue_core.specs.Pooled.{new_reader}
 use Rattle.queue_core.proofs.state.State.open.Given as goal
 

@@ -1,7 +1,0 @@
-use Rattle.mail_box.proofs.LinkCalls.{gives_slot}
-use Rattle.mail_box.proofs.link_steps.give_slot.Goals as goal
-
-pub load-requires : goal.load-requires
-load-requires c =
-    let seat = c.args.seat.now in
-    (c.requires.seat, c.requires.words, gives_slot c.args.board.now.shared.key c.args.board.now.shared.table_id.slots seat.id seat.me c.requires.at)

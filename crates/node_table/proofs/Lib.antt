@@ -1,0 +1,16 @@
+pub mod Words
+pub mod Owned
+pub mod Senders
+pub mod Sends
+pub mod SendCalls
+pub mod Readers
+pub mod TakenIn
+pub mod Holdings
+pub mod ReaderSteps
+pub mod Next
+pub mod ReadCalls
+pub mod Joins
+pub mod Looks
+pub mod Opening
+pub mod Sending
+pub mod SeatLists

@@ -1,0 +1,79 @@
+-- What a step of a reader at a table of nodes asks of its caller, from where the seat is.
+use Rattle.std.proofs.Common.{◌≡◌, ◌∙◌, ◌+◌, ◌%◌, ◌^◌, ℕ, [], refl, subst, sym}
+use mathlib.Core.Option.{none}
+use Rattle.atomic_table.specs.Table.{Me, Allows, step}
+use Rattle.queue_core.specs.declared.reader.ReaderPoint.{ReaderPoint}
+use Rattle.queue_core.specs.declared.reader.ReaderPoint.TheVariants as reads
+use Rattle.queue_core.specs.StoredWords.{null}
+use Rattle.node_table.specs.declared.seats.Known.{Known}
+use Rattle.node_table.specs.declared.seats.Known.TheVariants.{Reads}
+use Rattle.node_table.specs.declared.seats.Posting.{Posting}
+use Rattle.node_table.specs.declared.seats.ReaderSeat.{ReaderSeat}
+use Rattle.node_table.specs.declared.seats.Shape.{Shape}
+use Rattle.node_table.specs.Layout.{IsTableOf, amount_word_of, head_word, line_word_of, next_word, stub_of, turn_word}
+use Rattle.node_table.specs.Rule.{KeepsNodes}
+use Rattle.node_table.specs.Asks.{HasAtHand, IsReading, reader_in}
+use Rattle.node_table.specs.Tells.{LoadsHead, LoadsNext, tells_give_back, tells_load_amount, tells_load_head, tells_load_line, tells_load_next, tells_stub_link, tells_stub_null, tells_stub_swap}
+use Rattle.node_table.proofs.ReaderSteps.{amount_loads, head_loads, line_loads, next_loads, stub_links, stub_nulls, stub_swaps, turn_adds}
+
+module _ (shape key : Shape) (words : ℕ) (table : IsTableOf shape key words) (slots id : ℕ) (me : Me Posting Known) where
+  abbrev v : ReaderSeat
+  v = reader_in me.0
+
+  -- what is so of a reader at the table of a shape, and of two numbers that it knows, is so of the seat at the table of the key
+  of_table : (P : Shape → Me Posting Known → ℕ → ℕ → Type 0) → me ≡ (Reads v, []) → (i j m n : ℕ) → i ≡ j → m ≡ n → P shape (Reads v, []) i m → P key me j n
+  of_table P is i j m n first second p = subst (λ (x : Shape × Me Posting Known × ℕ × ℕ). P x.0 x.1 x.2 x.3) (λ t. (sym table.key_is t, sym is t, first t, second t)) p
+
+  module _ (mailbox tail : ℕ) where
+    -- the tail, as the caller knows it
+    pub loads_next : IsReading LoadsNext shape mailbox tail me → Allows (KeepsNodes key) slots id me (next_word shape tail) (λ n. n) (tells_load_next (step slots (next_word shape tail) 0 0 none) me)
+    loads_next at =
+        of_table (λ k x t _. Allows (KeepsNodes k) slots id x (next_word shape t) (λ n. n) (tells_load_next (step slots (next_word shape t) 0 0 none) x)) at.is_reader _ tail 0 0 at.tail_is refl
+        (next_loads shape slots id v at.at)
+
+    -- the head
+    pub loads_head : IsReading LoadsHead shape mailbox tail me → Allows (KeepsNodes key) slots id me (head_word mailbox) (λ n. n) (tells_load_head (step slots (head_word mailbox) 0 0 none) me)
+    loads_head at =
+        of_table (λ k x b _. Allows (KeepsNodes k) slots id x (head_word b) (λ n. n) (tells_load_head (step slots (head_word b) 0 0 none) x)) at.is_reader _ mailbox 0 0 at.mailbox_is refl
+        (head_loads shape slots id v at.at)
+
+    module _ (stub : ℕ) (stub_is : stub ≡ stub_of shape mailbox) where
+      -- the stub, by what the reader knows
+      known_stub : (At : ReaderPoint → Type 0) → IsReading At shape mailbox tail me → stub_of v.shape v.mailbox ≡ stub
+      known_stub At at = (λ i. stub_of (at.shape_is i) (at.mailbox_is i)) ∙ sym stub_is
+
+      -- the stub is emptied, exchanged in and linked
+      pub nulls_stub : IsReading (λ point. point ≡ reads.Null) shape mailbox tail me
+          → Allows (KeepsNodes key) slots id me (next_word shape stub) (λ _. null) (λ _. tells_stub_null (step slots (next_word shape stub) null 0 none) me null)
+      nulls_stub at =
+          of_table (λ k x n _. Allows (KeepsNodes k) slots id x (next_word shape n) (λ _. null) (λ _. tells_stub_null (step slots (next_word shape n) null 0 none) x null)) at.is_reader _ stub 0 0 (known_stub _ at) refl
+          (stub_nulls shape slots id v at.at)
+
+      pub swaps_stub : IsReading (λ point. point ≡ reads.Swap) shape mailbox tail me
+          → Allows (KeepsNodes key) slots id me (head_word mailbox) (λ _. stub + 1) (tells_stub_swap (step slots (head_word mailbox) (stub + 1) 0 none) me)
+      swaps_stub at =
+          of_table (λ k x b n. Allows (KeepsNodes k) slots id x (head_word b) (λ _. n + 1) (tells_stub_swap (step slots (head_word b) (n + 1) 0 none) x)) at.is_reader _ mailbox _ stub at.mailbox_is (known_stub _ at)
+          (stub_swaps shape slots id v at.at)
+
+      pub links_stub : (before : ℕ) → IsReading (λ point. point ≡ reads.Link before) shape mailbox tail me
+          → Allows (KeepsNodes key) slots id me (next_word shape before) (λ _. stub + 1) (λ _. tells_stub_link (step slots (next_word shape before) (stub + 1) 0 none) me (stub + 1))
+      links_stub before at =
+          of_table (λ k x n _. Allows (KeepsNodes k) slots id x (next_word shape before) (λ _. n + 1) (λ _. tells_stub_link (step slots (next_word shape before) (n + 1) 0 none) x (n + 1))) at.is_reader _ stub 0 0 (known_stub _ at) refl
+          (stub_links shape slots id v before at.at)
+
+  -- what is at hand
+  module _ (node : ℕ) (at : HasAtHand shape node me) where
+    pub loads_line : Allows (KeepsNodes key) slots id me (line_word_of shape node) (λ n. n) (tells_load_line (step slots (line_word_of shape node) 0 0 none) me)
+    loads_line =
+        of_table (λ k x n _. Allows (KeepsNodes k) slots id x (line_word_of shape n) (λ j. j) (tells_load_line (step slots (line_word_of shape n) 0 0 none) x)) at.is_reader _ node 0 0 at.node_is refl
+        (line_loads shape slots id v at.holding at.hand at.rest)
+
+    pub loads_amount : Allows (KeepsNodes key) slots id me (amount_word_of shape node) (λ n. n) (tells_load_amount (step slots (amount_word_of shape node) 0 0 none) me)
+    loads_amount =
+        of_table (λ k x n _. Allows (KeepsNodes k) slots id x (amount_word_of shape n) (λ j. j) (tells_load_amount (step slots (amount_word_of shape n) 0 0 none) x)) at.is_reader _ node 0 0 at.node_is refl
+        (amount_loads shape slots id v at.holding at.hand at.rest)
+
+    pub adds_turn : Allows (KeepsNodes key) slots id me (turn_word shape node) (λ n. (n + 1) % 2 ^ 64) (tells_give_back (step slots (turn_word shape node) 1 0 none) me)
+    adds_turn =
+        of_table (λ k x n _. Allows (KeepsNodes k) slots id x (turn_word shape n) (λ j. (j + 1) % 2 ^ 64) (tells_give_back (step slots (turn_word shape n) 1 0 none) x)) at.is_reader _ node 0 0 at.node_is refl
+        (turn_adds shape slots id v at.holding at.hand at.rest)

@@ -1,0 +1,9 @@
+use Rattle.std.proofs.Common.{arith}
+use Rattle.node_table.proofs.Joins.{hands}
+use Rattle.node_table.proofs.steps.hand_out.Goals as goal
+
+pub split_seat-requires : goal.split_seat-requires
+split_seat-requires c =
+    let nodes = c.args.nodes.now in
+    let reader = c.args.reader.now in
+    (c.requires.seat, omega (arith, nodes.table.wide), hands nodes.board.shared.key reader.id reader.me c.requires.at)

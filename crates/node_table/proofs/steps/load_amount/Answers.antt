@@ -1,0 +1,12 @@
+use Rattle.std.proofs.Common.{arith}
+use Rattle.node_table.proofs.ReadCalls.{loads_amount}
+use Rattle.node_table.proofs.steps.load_amount.Goals as goal
+
+pub load-requires : goal.load-requires
+load-requires c =
+    let nodes = c.args.nodes.now in
+    let seat = c.args.seat.now in (
+      c.requires.seat,
+      omega (arith, nodes.table.wide, c.requires.node),
+      loads_amount nodes.shape nodes.board.shared.key nodes.board.shared.table_id.words nodes.table nodes.board.shared.table_id.slots seat.id seat.me c.args.node c.requires.at,
+    )

@@ -1,0 +1,9 @@
+use Rattle.std.proofs.Common.{arith}
+use Rattle.node_table.proofs.Looks.{looks_again}
+use Rattle.node_table.proofs.steps.look_again.Goals as goal
+
+pub load-requires : goal.load-requires
+load-requires c =
+    let nodes = c.args.nodes.now in
+    let seat = c.args.seat.now in
+    (c.requires.seat, omega (arith, nodes.table.wide), looks_again nodes.board.shared.key nodes.board.shared.table_id.slots seat.id seat.me c.requires.at)

@@ -1,0 +1,13 @@
+use Rattle.std.proofs.Common.{arith}
+use Rattle.node_table.proofs.ReadCalls.{swaps_stub}
+use Rattle.node_table.proofs.steps.stub_swap.Goals as goal
+
+pub swap-requires : goal.swap-requires
+swap-requires c =
+    let nodes = c.args.nodes.now in
+    let seat = c.args.seat.now in
+    let at = c.requires.at in (
+      c.requires.seat,
+      omega (arith, nodes.table.wide, c.requires.there),
+      swaps_stub nodes.shape nodes.board.shared.key nodes.board.shared.table_id.words nodes.table nodes.board.shared.table_id.slots seat.id seat.me c.args.mailbox at.0 c.args.stub c.requires.stub at.1,
+    )

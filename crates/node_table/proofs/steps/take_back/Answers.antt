@@ -1,0 +1,14 @@
+use Rattle.std.proofs.Common.{ap, arith}
+use Rattle.atomic_table.specs.Table.{Me}
+use Rattle.node_table.specs.declared.seats.Known.{Known}
+use Rattle.node_table.specs.declared.seats.Posting.{Posting}
+use Rattle.node_table.proofs.Joins.{gets_back}
+use Rattle.node_table.proofs.steps.take_back.Goals as goal
+
+pub join_seat-requires : goal.join_seat-requires
+join_seat-requires c =
+    let nodes = c.args.nodes.now in
+    let reader = c.args.reader.now in
+    let other = c.args.held in
+    let at = c.requires.at in
+    (c.requires.seat.0, c.requires.seat.1, ap (λ (x : Me Posting Known). x.1) at.held, omega (arith, nodes.table.wide), gets_back nodes.board.shared.key reader.id reader.me other.id other.me at)

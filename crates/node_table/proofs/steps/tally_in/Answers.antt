@@ -1,0 +1,14 @@
+use Rattle.std.proofs.Common.{ap, arith}
+use Rattle.atomic_table.specs.Table.{Me}
+use Rattle.node_table.specs.declared.seats.Known.{Known}
+use Rattle.node_table.specs.declared.seats.Posting.{Posting}
+use Rattle.node_table.proofs.Joins.{counts_in}
+use Rattle.node_table.proofs.steps.tally_in.Goals as goal
+
+pub join_seat-requires : goal.join_seat-requires
+join_seat-requires c =
+    let nodes = c.args.nodes.now in
+    let tally = c.args.tally.now in
+    let other = c.args.sender in
+    let at = c.requires.at in
+    (c.requires.seat.0, c.requires.seat.1, ap (λ (x : Me Posting Known). x.1) at.sender.is, omega (arith, nodes.table.wide), counts_in nodes.board.shared.key tally.id tally.me other.id other.me at)

@@ -1,0 +1,7 @@
+pub mod Layout
+pub mod Seats
+pub mod Rule
+pub mod Tells
+pub mod Asks
+pub mod Calls
+pub mod Views

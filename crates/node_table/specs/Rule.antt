@@ -1,0 +1,55 @@
+-- The rule of a table of nodes: some pairs of mailbox and event lead to a pool that a core shows, and the words and what each seat knows are that core's. A step adds one pair at most: the event of its kind, in its mailbox (`event_in`).
+use Rattle.std.specs.Prelude.{ℕ, ◌≡◌, ◌<◌, All, List, [], length, slice_index}
+use mathlib.Core.Option.{some}
+use lib.ListN.{get_elem?}
+use Rattle.atomic_table.specs.Table.{State}
+use Rattle.queue_core.specs.Events.{Event}
+use Rattle.queue_core.specs.Pool.{Pool, PoolLeads}
+use Rattle.queue_core.specs.Pooled.{IsPooled, Pooled, head_in, node_at}
+use Rattle.queue_core.specs.PoolShows.{ShowsPool}
+use Rattle.node_table.specs.declared.seats.Known.{Known}
+use Rattle.node_table.specs.declared.seats.Known.TheVariants.{Tallies}
+use Rattle.node_table.specs.declared.seats.Posting.{Posting}
+use Rattle.node_table.specs.declared.seats.Shape.{Shape}
+use Rattle.node_table.specs.declared.seats.TallySeat.{TallySeat}
+use Rattle.node_table.specs.Layout.{amount_word_of, head_word, line_word_of, next_word, turn_word}
+use Rattle.queue_core.specs.Items.{IsInRange}
+use Rattle.node_table.specs.Seats.{Owned, Has, HasShape, IsSeat}
+
+-- the words are those of the core
+pub record AreWords (shape : Shape) (c : Pooled) (words : List ℕ) : Type 0 where
+  pub wide : length words ≡ next_word shape (length c.nodes)
+  pub head : (b : ℕ) → b < length c.heads → slice_index words (head_word b) ≡ head_in c b
+  pub next : (n : ℕ) → n < length c.nodes → slice_index words (next_word shape n) ≡ (node_at c n).next
+  pub turn : (n : ℕ) → n < length c.nodes → slice_index words (turn_word shape n) ≡ (node_at c n).turn
+  pub line : (n : ℕ) → n < length c.nodes → slice_index words (line_word_of shape n) ≡ (node_at c n).line
+  pub amount : (n : ℕ) → n < length c.nodes → slice_index words (amount_word_of shape n) ≡ (node_at c n).amount
+
+-- A core shows what events lead to, and all items are within the limits.
+pub record IsNodeMail (shape : Shape) (events : List (ℕ × Event)) (q : Pool) (c : Pooled) : Type 0 where
+  pub fits : HasShape shape c
+  pub pooled : IsPooled c
+  pub leads : PoolLeads c.ring events q
+  pub shows : ShowsPool c q
+  pub ranged : (b p : ℕ) → All IsInRange ((q.boxes b).items p)
+
+-- no two seats have the same part, or the holding of one node
+abbrev pub AreApart : List Known → Type 0
+AreApart views = (i j : ℕ) (v w : Known) (thing : Owned) → get_elem? views i ≡ some v → get_elem? views j ≡ some w → ¬ (i ≡ j) → Has v thing → ¬ Has w thing
+
+pub record KeepsNodes (shape : Shape) (s : State Posting Known) : Type 0 where
+  pub events : List (ℕ × Event)
+  pub pool : Pool
+  pub core : Pooled
+  pub mail : IsNodeMail shape events pool core
+  pub words : AreWords shape core s.words
+  pub seats : (seat : ℕ) (v : Known) → get_elem? s.views seat ≡ some v → IsSeat core pool s.homes v
+  pub apart : AreApart s.views
+
+-- a tally that has dealt so many seats
+abbrev pub opened_tally : Shape → (dealt : ℕ) → TallySeat
+opened_tally shape dealt = record { shape = shape; dealt = dealt; gathered = []; taken_in = [] }
+
+-- what the first seat knows when the table is made: it is the tally's
+abbrev pub nodes_opened : Shape → Known
+nodes_opened shape = Tallies (opened_tally shape 0)

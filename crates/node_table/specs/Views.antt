@@ -1,0 +1,82 @@
+-- How a clause sees the ends of a table of nodes.
+use Rattle.std.specs.Prelude.{◌≡◌, ◌<◌, ◌++◌, ◌∷◌, List, [], false}
+use Rattle.atomic_table.specs.Seated.{TableId}
+use Rattle.queue_core.specs.declared.entry.Entry.{Entry}
+use Rattle.queue_core.specs.declared.entry.Entry.TheVariants.{Of}
+use Rattle.queue_core.specs.Mailbox.{is_among}
+use Rattle.node_table.specs.declared.nodes.NodeHeld.{NodeHeld}
+use Rattle.node_table.specs.declared.nodes.NodeReader.{NodeReader}
+use Rattle.node_table.specs.declared.nodes.NodeSender.{NodeSender}
+use Rattle.node_table.specs.declared.nodes.NodeTally.{NodeTally}
+use Rattle.node_table.specs.declared.seats.Holding.{Holding}
+use Rattle.node_table.specs.declared.seats.ReaderSeat.{ReaderSeat}
+use Rattle.node_table.specs.declared.seats.SenderSeat.{SenderSeat}
+use Rattle.node_table.specs.declared.seats.Shape.{Shape}
+use Rattle.node_table.specs.declared.seats.TallySeat.{TallySeat}
+use Rattle.node_table.specs.Asks.{holding_in, reader_in, sender_in, tally_in}
+use Rattle.queue_core.specs.Items.{IsInRange}
+use Rattle.node_table.specs.Seats.{own_entries}
+use Rattle.node_table.specs.Tells.{BeginsAt, IsHeldAt}
+
+-- a table, and its shape
+pub record Name : Type 0 where
+  pub table : TableId
+  pub shape : Shape
+
+-- what each end knows, and the table that it is of
+abbrev pub sender_of : NodeSender → SenderSeat
+sender_of s = sender_in s.seat.me.0
+
+abbrev pub table_of_sender : NodeSender → Name
+table_of_sender s = record { table = s.seat.table_id; shape = (sender_of s).shape }
+
+abbrev pub reader_of : NodeReader → ReaderSeat
+reader_of r = reader_in r.seat.me.0
+
+abbrev pub table_of_reader : NodeReader → Name
+table_of_reader r = record { table = r.seat.table_id; shape = (reader_of r).shape }
+
+abbrev pub holding_of : NodeHeld → Holding
+holding_of h = holding_in h.note.me.0
+
+abbrev pub table_of_held : NodeHeld → Name
+table_of_held h = record { table = h.note.table_id; shape = (holding_of h).shape }
+
+abbrev pub tally_of : NodeTally → TallySeat
+tally_of t = tally_in t.seat.me.0
+
+abbrev pub table_of_tally : NodeTally → Name
+table_of_tally t = record { table = t.seat.table_id; shape = (tally_of t).shape }
+
+-- ---- what a reader has taken
+
+-- the entries of senders that were taken, in order; those of them that were not given back are held
+abbrev pub taken_by : ReaderSeat → List Entry
+taken_by v = own_entries v.passed
+
+abbrev pub entry_of : Holding → Entry
+entry_of h = Of h.sender h.place
+
+-- The reader has taken an item that it had not taken before, and holds it. All else is as it was.
+pub record HasTaken (h : Holding) (v w : ReaderSeat) : Type 0 where
+  pub shape : w.shape ≡ v.shape
+  pub mailbox : w.mailbox ≡ v.mailbox
+  pub of_mailbox : h.mailbox ≡ v.mailbox
+  pub of_sender : h.sender < v.shape.senders
+  pub ranged : IsInRange h.item
+  pub fresh : is_among (entry_of h) (taken_by v) ≡ false
+  pub taken : taken_by w ≡ taken_by v ++ entry_of h ∷ []
+  pub given : w.given ≡ v.given
+  pub held : IsHeldAt w h
+  pub got : w.got ≡ v.got ++ (h.sender, h.item) ∷ []
+  pub taken_in : w.taken_in ≡ v.taken_in
+  pub begins : BeginsAt w
+
+-- What the reader has taken, given back, received and taken in is as it was.
+pub record HasSame (v w : ReaderSeat) : Type 0 where
+  pub shape : w.shape ≡ v.shape
+  pub mailbox : w.mailbox ≡ v.mailbox
+  pub taken : taken_by w ≡ taken_by v
+  pub given : w.given ≡ v.given
+  pub got : w.got ≡ v.got
+  pub taken_in : w.taken_in ≡ v.taken_in

@@ -1,0 +1,559 @@
+//! The atomic steps at a table of nodes. Each kind of step is a type with one thin function that makes it; its contract
+//! says what the seat knows then.
+ghost use Rattle.std.specs.Prelude.{◌≡◌, ◌<◌, ◌≤◌, ◌+◌, ◌%◌, ◌∷◌, ℕ, [], None, Some, false};
+ghost use Rattle.queue_core.specs.declared.item.Item.{Item as AnItem};
+ghost use Rattle.queue_core.specs.declared.item.Item.TheVariants.{End, Post};
+ghost use Rattle.queue_core.specs.declared.reader.ReaderPoint.TheVariants as reads;
+ghost use Rattle.queue_core.specs.declared.sender.SenderPoint.TheVariants as sends;
+ghost use Rattle.queue_core.specs.StoredWords.{amount_word, line_word};
+ghost use Rattle.node_table.specs.declared.seats.Holding.{Holding as AHolding};
+ghost use Rattle.node_table.specs.declared.seats.Known.TheVariants.{Gone, Reads, Sends};
+ghost use Rattle.node_table.specs.Layout.{IsTableOf, first_of, nodes_in, stub_of};
+ghost use Rattle.node_table.specs.Rule.{KeepsNodes, nodes_opened};
+ghost use Rattle.node_table.specs.Asks.{HasAtHand, IsDealing, IsEnding, IsGathering, IsHandingOut, IsPosting, IsReading, IsResting, IsSending, IsSlotless, IsTakingBack, IsTakingIn, IsTally, IsTallying, IsUnread, after_look, after_swap_on, reader_in, sender_in, tally_in};
+ghost use Rattle.node_table.specs.Tells.{BeginsAt, HasLoadedHead, HasLoadedNext, IsHeldAt, LoadsHead, LoadsNext, TallyBegins, after_amount_at, after_deal, after_give, after_hand, after_line_at, after_link_at, after_null_at, dealt, filling, gathered, hand_of, in_slot, new_reader_seat, new_sender, posting, reading_at, taken_back, taken_in, tallied};
+ghost use Rattle.node_table.specs.Tells.{tells_begin_reading, tells_give_back, tells_give_slot, tells_load_amount, tells_load_head, tells_load_line, tells_load_next, tells_load_turn, tells_look, tells_store_amount, tells_store_line, tells_store_link, tells_store_null, tells_stub_link, tells_stub_null, tells_stub_swap, tells_swap_head, tells_take_slot, tells_tally};
+
+use crate::seats::{Known, Posting, Shape};
+use atomic_table::{Join, Play, Seat, Split, Table, TableRule};
+use queue_core::{Item, NULL};
+use std::alloc::Global;
+
+/// The rule of the table.
+pub struct Linking;
+
+impl TableRule<Posting, Known, Shape> for Linking {
+    ghost holds = { KeepsNodes };
+
+    ghost first = { nodes_opened };
+}
+
+/// The tally deals a seat.
+struct DealSeat;
+
+impl Split<Known> for DealSeat {
+    ghost left = { after_deal };
+
+    ghost right = { dealt };
+}
+
+/// What a reader has at hand gets a seat of its own.
+struct HandOut;
+
+impl Split<Known> for HandOut {
+    ghost left = { after_hand };
+
+    ghost right = { hand_of };
+}
+
+struct TakeBack;
+
+impl Join<Known> for TakeBack {
+    ghost both = { taken_back };
+
+    ghost spent = { Gone };
+}
+
+/// A reader takes a sender in.
+struct TakeIn;
+
+impl Join<Known> for TakeIn {
+    ghost both = { taken_in };
+
+    ghost spent = { Gone };
+}
+
+/// The tally gathers a reader.
+struct GatherReader;
+
+impl Join<Known> for GatherReader {
+    ghost both = { gathered };
+
+    ghost spent = { Gone };
+}
+
+/// The tally takes a sender in.
+struct TallyIn;
+
+impl Join<Known> for TallyIn {
+    ghost both = { tallied };
+
+    ghost spent = { Gone };
+}
+
+/// A sender takes the slot in which it lays what it is to fill.
+struct TakeSlot;
+
+impl Play<Posting, Known> for TakeSlot {
+    ghost then = { tells_take_slot };
+}
+
+struct GiveSlot;
+
+impl Play<Posting, Known> for GiveSlot {
+    ghost then = { tells_give_slot };
+}
+
+struct BeginReading;
+
+impl Play<Posting, Known> for BeginReading {
+    ghost then = { tells_begin_reading };
+}
+
+struct LoadTurn;
+
+impl Play<Posting, Known> for LoadTurn {
+    ghost then = { tells_load_turn };
+}
+
+struct StoreLine;
+
+impl Play<Posting, Known> for StoreLine {
+    ghost then = { tells_store_line };
+}
+
+struct StoreAmount;
+
+impl Play<Posting, Known> for StoreAmount {
+    ghost then = { tells_store_amount };
+}
+
+struct StoreNull;
+
+impl Play<Posting, Known> for StoreNull {
+    ghost then = { tells_store_null };
+}
+
+struct SwapHead;
+
+impl Play<Posting, Known> for SwapHead {
+    ghost then = { tells_swap_head };
+}
+
+struct StoreLink;
+
+impl Play<Posting, Known> for StoreLink {
+    ghost then = { tells_store_link };
+}
+
+struct LoadNext;
+
+impl Play<Posting, Known> for LoadNext {
+    ghost then = { tells_load_next };
+}
+
+struct LoadHead;
+
+impl Play<Posting, Known> for LoadHead {
+    ghost then = { tells_load_head };
+}
+
+struct StubNull;
+
+impl Play<Posting, Known> for StubNull {
+    ghost then = { tells_stub_null };
+}
+
+struct StubSwap;
+
+impl Play<Posting, Known> for StubSwap {
+    ghost then = { tells_stub_swap };
+}
+
+struct StubLink;
+
+impl Play<Posting, Known> for StubLink {
+    ghost then = { tells_stub_link };
+}
+
+struct Look;
+
+impl Play<Posting, Known> for Look {
+    ghost then = { tells_look };
+}
+
+struct LoadLine;
+
+impl Play<Posting, Known> for LoadLine {
+    ghost then = { tells_load_line };
+}
+
+struct LoadAmount;
+
+impl Play<Posting, Known> for LoadAmount {
+    ghost then = { tells_load_amount };
+}
+
+struct GiveBack;
+
+impl Play<Posting, Known> for GiveBack {
+    ghost then = { tells_give_back };
+}
+
+/// The tally looks at a word that nobody writes.
+struct TallyLook;
+
+impl Play<Posting, Known> for TallyLook {
+    ghost then = { tells_tally };
+}
+
+pub type Board = Table<Posting, Known, Shape, Linking, Global>;
+
+pub type NodeSeat = Seat<Posting, Known>;
+
+/// A table of nodes, and its shape.
+#[derive(Drop)]
+pub struct Nodes {
+    pub(crate) board: Board,
+    pub(crate) shape: Shape,
+    ghost table: { IsTableOf shape board.shared.key board.shared.table_id.words },
+}
+
+/// The first node of a sender: its ring nodes come first, then those of its end marks.
+pub fn first_of(shape: &Shape, number: u64) -> u64
+    requires { (number < 10000) × (shape.now.mailboxes < 100000) × (shape.now.ring < 10000) }
+    ensures { result ≡ first_of shape.now number }
+{
+    number * (shape.ring + shape.mailboxes)
+}
+
+/// The stub of a mailbox.
+pub fn stub_of(shape: &Shape, mailbox: u64) -> u64
+    requires { (mailbox < 100000) × (shape.now.senders < 10000) × (shape.now.mailboxes < 100000) × (shape.now.ring < 10000) }
+    ensures { result ≡ stub_of shape.now mailbox }
+{
+    first_of(shape, shape.senders) + mailbox
+}
+
+/// The tally deals the next seat: the senders come first, then the readers.
+pub fn deal_seat(nodes: &Nodes, tally: &mut NodeSeat) -> NodeSeat
+    requires seat { tally.old.table_id ≡ nodes.now.board.shared.table_id }
+    requires at { IsDealing tally.old.me }
+    ensures same { (tally.new.table_id ≡ tally.old.table_id) × (result.table_id ≡ tally.old.table_id) }
+    ensures dealt { (tally.new.me ≡ (after_deal tally.old.me.0, [])) × (result.me ≡ (dealt tally.old.me.0, [])) }
+{
+    nodes.board.shared.split_seat::<DealSeat>(tally)
+}
+
+/// What a reader has at hand gets a seat of its own.
+pub fn hand_out(nodes: &Nodes, reader: &mut NodeSeat) -> NodeSeat
+    requires seat { reader.old.table_id ≡ nodes.now.board.shared.table_id }
+    requires at { IsHandingOut reader.old.me }
+    ensures same { (reader.new.table_id ≡ reader.old.table_id) × (result.table_id ≡ reader.old.table_id) }
+    ensures handed { (reader.new.me ≡ (after_hand reader.old.me.0, [])) × (result.me ≡ (hand_of reader.old.me.0, [])) }
+{
+    nodes.board.shared.split_seat::<HandOut>(reader)
+}
+
+/// A reader takes back what was handed out.
+pub fn take_back(nodes: &Nodes, reader: &mut NodeSeat, held: NodeSeat)
+    requires seat { (reader.old.table_id ≡ nodes.now.board.shared.table_id) × (held.table_id ≡ nodes.now.board.shared.table_id) }
+    requires at { IsTakingBack reader.old.me held.me }
+    ensures same { reader.new.table_id ≡ reader.old.table_id }
+    ensures taken { reader.new.me ≡ (taken_back reader.old.me.0 held.me.0, []) }
+{
+    nodes.board.shared.join_seat::<TakeBack>(reader, held);
+}
+
+/// A reader takes a sender in.
+pub fn take_in(nodes: &Nodes, reader: &mut NodeSeat, sender: NodeSeat)
+    requires seat { (reader.old.table_id ≡ nodes.now.board.shared.table_id) × (sender.table_id ≡ nodes.now.board.shared.table_id) }
+    requires at { IsTakingIn reader.old.me sender.me }
+    ensures same { reader.new.table_id ≡ reader.old.table_id }
+    ensures taken { reader.new.me ≡ (taken_in reader.old.me.0 sender.me.0, []) }
+{
+    nodes.board.shared.join_seat::<TakeIn>(reader, sender);
+}
+
+/// The tally gathers a reader: what that received is known to the tally.
+pub fn gather(nodes: &Nodes, tally: &mut NodeSeat, reader: NodeSeat)
+    requires seat { (tally.old.table_id ≡ nodes.now.board.shared.table_id) × (reader.table_id ≡ nodes.now.board.shared.table_id) }
+    requires at { IsGathering tally.old.me reader.me }
+    ensures same { tally.new.table_id ≡ tally.old.table_id }
+    ensures taken { tally.new.me ≡ (gathered tally.old.me.0 reader.me.0, []) }
+{
+    nodes.board.shared.join_seat::<GatherReader>(tally, reader);
+}
+
+/// The tally takes a sender in: what the sender sent in each mailbox is known to the tally.
+pub fn tally_in(nodes: &Nodes, tally: &mut NodeSeat, sender: NodeSeat)
+    requires seat { (tally.old.table_id ≡ nodes.now.board.shared.table_id) × (sender.table_id ≡ nodes.now.board.shared.table_id) }
+    requires at { IsTallying tally.old.me sender.me }
+    ensures same { tally.new.table_id ≡ tally.old.table_id }
+    ensures taken { tally.new.me ≡ (tallied tally.old.me.0 sender.me.0, []) }
+{
+    nodes.board.shared.join_seat::<TallyIn>(tally, sender);
+}
+
+/// A sender begins, and takes its slot.
+pub fn take_slot(nodes: &Nodes, seat: &mut NodeSeat, number: u64)
+    requires seat { seat.old.table_id ≡ nodes.now.board.shared.table_id }
+    requires at { IsSlotless nodes.now.shape number seat.old.me }
+    ensures same { seat.new.table_id ≡ seat.old.table_id }
+    ensures told { seat.new.me ≡ (Sends (new_sender nodes.now.shape number), (number, in_slot seat.new.me.1) ∷ []) }
+{
+    nodes.board.shared.load::<TakeSlot>(seat, 0);
+}
+
+/// The reader of a mailbox begins.
+pub fn begin_reading(nodes: &Nodes, seat: &mut NodeSeat, mailbox: u64)
+    requires seat { seat.old.table_id ≡ nodes.now.board.shared.table_id }
+    requires at { IsUnread nodes.now.shape mailbox seat.old.me }
+    ensures same { seat.new.table_id ≡ seat.old.table_id }
+    ensures told { seat.new.me ≡ (Reads (new_reader_seat nodes.now.shape mailbox), []) }
+{
+    nodes.board.shared.load::<BeginReading>(seat, 0);
+}
+
+/// A sender lays a post into its slot, and loads the turn of its next ring node. Answers whether that node is free; if so
+/// the post is filled by this step.
+pub fn load_turn(
+    nodes: &Nodes,
+    seat: &mut NodeSeat,
+    number: u64,
+    count: u64,
+    mailbox: u64,
+    line: u64,
+    amount: i64,
+) -> bool
+    requires seat { seat.old.table_id ≡ nodes.now.board.shared.table_id }
+    requires number { number < nodes.now.shape.senders }
+    requires at { IsPosting nodes.now.shape number count mailbox line amount seat.old.me }
+    ensures same { seat.new.table_id ≡ seat.old.table_id }
+    ensures told { seat.new.me ≡ (Sends (after_look result (posting mailbox (Post line amount)) (sender_in seat.old.me.0)), (number, posting mailbox (Post line amount)) ∷ []) }
+    ensures full { result ≡ false → nodes.now.shape.ring ≤ count }
+{
+    nodes.board.shared.exchange(
+        seat,
+        number as usize,
+        Posting {
+            mailbox,
+            item: Item::Post { line, amount },
+        },
+    );
+    let node = first_of(&nodes.shape, number) + count % nodes.shape.ring;
+    let word = 4 * node as usize + (nodes.shape.mailboxes as usize + 32);
+    nodes.board.shared.load::<LoadTurn>(seat, word) == count / nodes.shape.ring
+}
+
+/// It stores the line of its item.
+pub fn store_line(nodes: &Nodes, seat: &mut NodeSeat, node: u64, line: u64)
+    requires seat { seat.old.table_id ≡ nodes.now.board.shared.table_id }
+    requires node { node < nodes_in nodes.now.shape }
+    requires small { line < 10000000 }
+    requires at { (mailbox : ℕ) × (item : AnItem) × IsSending nodes.now.shape (sends.Line item) mailbox item node seat.old.me × (line_word item ≡ line + 1) }
+    ensures same { seat.new.table_id ≡ seat.old.table_id }
+    ensures told { seat.new.me ≡ (Sends (after_line_at (sender_in seat.old.me.0).caller.point (in_slot seat.old.me.1) (sender_in seat.old.me.0)), seat.old.me.1) }
+{
+    let word = 4 * node as usize + (nodes.shape.mailboxes as usize + 33);
+    nodes.board.shared.store::<StoreLine>(seat, word, line + 1);
+}
+
+/// It lays an end mark into its slot, and stores its line: by that it is filled.
+pub fn end_line(nodes: &Nodes, seat: &mut NodeSeat, number: u64, mailbox: u64)
+    requires seat { seat.old.table_id ≡ nodes.now.board.shared.table_id }
+    requires number { number < nodes.now.shape.senders }
+    requires at { IsEnding nodes.now.shape number mailbox seat.old.me }
+    ensures same { seat.new.table_id ≡ seat.old.table_id }
+    ensures told { seat.new.me ≡ (Sends (filling (sends.Amount End) (posting mailbox End) (sender_in seat.old.me.0)), (number, posting mailbox End) ∷ []) }
+{
+    nodes.board.shared.exchange(
+        seat,
+        number as usize,
+        Posting {
+            mailbox,
+            item: Item::End,
+        },
+    );
+    let node = first_of(&nodes.shape, number) + (nodes.shape.ring + mailbox);
+    let word = 4 * node as usize + (nodes.shape.mailboxes as usize + 33);
+    nodes.board.shared.store::<StoreLine>(seat, word, 0);
+}
+
+/// It stores the word of its item's amount.
+pub fn store_amount(nodes: &Nodes, seat: &mut NodeSeat, node: u64, amount: u64)
+    requires seat { seat.old.table_id ≡ nodes.now.board.shared.table_id }
+    requires node { node < nodes_in nodes.now.shape }
+    requires at { (mailbox : ℕ) × (item : AnItem) × IsSending nodes.now.shape (sends.Amount item) mailbox item node seat.old.me × (amount_word item ≡ amount) }
+    ensures same { seat.new.table_id ≡ seat.old.table_id }
+    ensures told { seat.new.me ≡ (Sends (after_amount_at (sender_in seat.old.me.0).caller.point (sender_in seat.old.me.0)), seat.old.me.1) }
+{
+    let word = 4 * node as usize + (nodes.shape.mailboxes as usize + 34);
+    nodes.board.shared.store::<StoreAmount>(seat, word, amount);
+}
+
+/// It stores null as the next of its node.
+pub fn store_null(nodes: &Nodes, seat: &mut NodeSeat, node: u64)
+    requires seat { seat.old.table_id ≡ nodes.now.board.shared.table_id }
+    requires node { node < nodes_in nodes.now.shape }
+    requires at { (mailbox : ℕ) × (item : AnItem) × IsSending nodes.now.shape (sends.Null item) mailbox item node seat.old.me }
+    ensures same { seat.new.table_id ≡ seat.old.table_id }
+    ensures told { seat.new.me ≡ (Sends (after_null_at (sender_in seat.old.me.0).caller.point (sender_in seat.old.me.0)), seat.old.me.1) }
+{
+    let word = 4 * node as usize + (nodes.shape.mailboxes as usize + 31);
+    nodes.board.shared.store::<StoreNull>(seat, word, NULL);
+}
+
+/// It exchanges the head of the mailbox for its node. What was the head is the node that gets the link.
+pub fn swap_head(nodes: &Nodes, seat: &mut NodeSeat, mailbox: u64, node: u64) -> u64
+    requires seat { seat.old.table_id ≡ nodes.now.board.shared.table_id }
+    requires node { node < nodes_in nodes.now.shape }
+    requires at { (item : AnItem) × IsSending nodes.now.shape (sends.Swap item) mailbox item node seat.old.me }
+    ensures same { seat.new.table_id ≡ seat.old.table_id }
+    ensures told { seat.new.me ≡ (Sends (after_swap_on (sender_in seat.old.me.0).caller.point result (sender_in seat.old.me.0)), seat.old.me.1) }
+    ensures before { result < nodes_in nodes.now.shape }
+{
+    let word = mailbox as usize + 16;
+    nodes.board.shared.swap::<SwapHead>(seat, word, node + 1) - 1
+}
+
+/// It stores its node as the next of the node that was the head.
+pub fn store_link(nodes: &Nodes, seat: &mut NodeSeat, before: u64, node: u64)
+    requires seat { seat.old.table_id ≡ nodes.now.board.shared.table_id }
+    requires nodes { (node < nodes_in nodes.now.shape) × (before < nodes_in nodes.now.shape) }
+    requires at { (mailbox : ℕ) × (item : AnItem) × IsSending nodes.now.shape (sends.Link item before) mailbox item node seat.old.me }
+    ensures same { seat.new.table_id ≡ seat.old.table_id }
+    ensures told { seat.new.me ≡ (Sends (after_link_at (sender_in seat.old.me.0).caller.point (sender_in seat.old.me.0)), seat.old.me.1) }
+{
+    let word = 4 * before as usize + (nodes.shape.mailboxes as usize + 31);
+    nodes.board.shared.store::<StoreLink>(seat, word, node + 1);
+}
+
+/// A sender in no call gives its slot back.
+pub fn give_slot(nodes: &Nodes, seat: &mut NodeSeat)
+    requires seat { seat.old.table_id ≡ nodes.now.board.shared.table_id }
+    requires at { IsResting seat.old.me }
+    ensures same { seat.new.table_id ≡ seat.old.table_id }
+    ensures told { seat.new.me ≡ (Sends (sender_in seat.old.me.0), []) }
+{
+    nodes.board.shared.load::<GiveSlot>(seat, 0);
+}
+
+/// The reader loads the next of its tail.
+pub fn load_next(nodes: &Nodes, seat: &mut NodeSeat, tail: u64) -> u64
+    requires seat { seat.old.table_id ≡ nodes.now.board.shared.table_id }
+    requires tail { tail < nodes_in nodes.now.shape }
+    requires at { (mailbox : ℕ) × IsReading LoadsNext nodes.now.shape mailbox tail seat.old.me }
+    requires free { (reader_in seat.old.me.0).at_hand ≡ None }
+    ensures same { seat.new.table_id ≡ seat.old.table_id }
+    ensures reads { seat.new.me ≡ (Reads (reader_in seat.new.me.0), []) }
+    ensures told { HasLoadedNext result (reader_in seat.old.me.0) (reader_in seat.new.me.0) }
+{
+    let word = 4 * tail as usize + (nodes.shape.mailboxes as usize + 31);
+    nodes.board.shared.load::<LoadNext>(seat, word)
+}
+
+/// It loads the head of its mailbox.
+pub fn load_head(nodes: &Nodes, seat: &mut NodeSeat, mailbox: u64) -> u64
+    requires seat { seat.old.table_id ≡ nodes.now.board.shared.table_id }
+    requires there { mailbox < nodes.now.shape.mailboxes }
+    requires at { (tail : ℕ) × IsReading LoadsHead nodes.now.shape mailbox tail seat.old.me }
+    ensures same { seat.new.table_id ≡ seat.old.table_id }
+    ensures reads { seat.new.me ≡ (Reads (reader_in seat.new.me.0), []) }
+    ensures told { HasLoadedHead result (reader_in seat.old.me.0) (reader_in seat.new.me.0) }
+{
+    let word = mailbox as usize + 16;
+    nodes.board.shared.load::<LoadHead>(seat, word)
+}
+
+/// It stores null as the stub's next.
+pub fn stub_null(nodes: &Nodes, seat: &mut NodeSeat, mailbox: u64, stub: u64)
+    requires seat { seat.old.table_id ≡ nodes.now.board.shared.table_id }
+    requires there { mailbox < nodes.now.shape.mailboxes }
+    requires stub { stub ≡ stub_of nodes.now.shape mailbox }
+    requires at { (tail : ℕ) × IsReading (λ point. point ≡ reads.Null) nodes.now.shape mailbox tail seat.old.me }
+    ensures same { seat.new.table_id ≡ seat.old.table_id }
+    ensures told { seat.new.me ≡ (Reads (reading_at reads.Swap (reader_in seat.old.me.0)), []) }
+{
+    let word = 4 * stub as usize + (nodes.shape.mailboxes as usize + 31);
+    nodes.board.shared.store::<StubNull>(seat, word, NULL);
+}
+
+/// It exchanges the head of its mailbox for the stub. What was the head is the node that gets the link.
+pub fn stub_swap(nodes: &Nodes, seat: &mut NodeSeat, mailbox: u64, stub: u64) -> u64
+    requires seat { seat.old.table_id ≡ nodes.now.board.shared.table_id }
+    requires there { mailbox < nodes.now.shape.mailboxes }
+    requires stub { stub ≡ stub_of nodes.now.shape mailbox }
+    requires at { (tail : ℕ) × IsReading (λ point. point ≡ reads.Swap) nodes.now.shape mailbox tail seat.old.me }
+    ensures same { seat.new.table_id ≡ seat.old.table_id }
+    ensures told { seat.new.me ≡ (Reads (reading_at (reads.Link result) (reader_in seat.old.me.0)), []) }
+    ensures before { result < nodes_in nodes.now.shape }
+{
+    let word = mailbox as usize + 16;
+    nodes.board.shared.swap::<StubSwap>(seat, word, stub + 1) - 1
+}
+
+/// It stores the stub as the next of the node that was the head.
+pub fn stub_link(nodes: &Nodes, seat: &mut NodeSeat, mailbox: u64, before: u64, stub: u64)
+    requires seat { seat.old.table_id ≡ nodes.now.board.shared.table_id }
+    requires before { before < nodes_in nodes.now.shape }
+    requires there { mailbox < nodes.now.shape.mailboxes }
+    requires stub { stub ≡ stub_of nodes.now.shape mailbox }
+    requires at { (tail : ℕ) × IsReading (λ point. point ≡ reads.Link before) nodes.now.shape mailbox tail seat.old.me }
+    ensures same { seat.new.table_id ≡ seat.old.table_id }
+    ensures told { seat.new.me ≡ (Reads (reading_at reads.Last (reader_in seat.old.me.0)), []) }
+{
+    let word = 4 * before as usize + (nodes.shape.mailboxes as usize + 31);
+    nodes.board.shared.store::<StubLink>(seat, word, stub + 1);
+}
+
+/// It loads the line of what it has at hand.
+pub fn load_line(nodes: &Nodes, seat: &mut NodeSeat, node: u64) -> u64
+    requires seat { seat.old.table_id ≡ nodes.now.board.shared.table_id }
+    requires node { node < nodes_in nodes.now.shape }
+    requires at { HasAtHand nodes.now.shape node seat.old.me }
+    ensures same { seat.new.table_id ≡ seat.old.table_id }
+    ensures told { seat.new.me ≡ seat.old.me }
+    ensures found { (h : AHolding) → (reader_in seat.old.me.0).at_hand ≡ Some h → result ≡ line_word h.item }
+{
+    let word = 4 * node as usize + (nodes.shape.mailboxes as usize + 33);
+    nodes.board.shared.load::<LoadLine>(seat, word)
+}
+
+/// It loads the amount.
+pub fn load_amount(nodes: &Nodes, seat: &mut NodeSeat, node: u64) -> u64
+    requires seat { seat.old.table_id ≡ nodes.now.board.shared.table_id }
+    requires node { node < nodes_in nodes.now.shape }
+    requires at { HasAtHand nodes.now.shape node seat.old.me }
+    ensures same { seat.new.table_id ≡ seat.old.table_id }
+    ensures told { seat.new.me ≡ seat.old.me }
+    ensures found { (h : AHolding) → (reader_in seat.old.me.0).at_hand ≡ Some h → result ≡ amount_word h.item }
+{
+    let word = 4 * node as usize + (nodes.shape.mailboxes as usize + 34);
+    nodes.board.shared.load::<LoadAmount>(seat, word)
+}
+
+/// It gives back what it has at hand, which is held: one more turn of its node.
+pub fn give_back(nodes: &Nodes, seat: &mut NodeSeat, node: u64)
+    requires seat { seat.old.table_id ≡ nodes.now.board.shared.table_id }
+    requires node { node < nodes_in nodes.now.shape }
+    requires at { HasAtHand nodes.now.shape node seat.old.me }
+    ensures same { seat.new.table_id ≡ seat.old.table_id }
+    ensures told { seat.new.me ≡ (Reads (after_give (reader_in seat.old.me.0).at_hand (reader_in seat.old.me.0)), []) }
+    ensures held { (h : AHolding) → (reader_in seat.old.me.0).at_hand ≡ Some h → IsHeldAt (reader_in seat.old.me.0) h }
+{
+    let word = 4 * node as usize + (nodes.shape.mailboxes as usize + 32);
+    nodes.board.shared.fetch_add::<GiveBack>(seat, word, 1);
+}
+
+/// It looks at a word that nobody writes: what it received of each sender that it took in is the first part of what the sender sent.
+pub fn look_again(nodes: &Nodes, seat: &mut NodeSeat)
+    requires seat { seat.old.table_id ≡ nodes.now.board.shared.table_id }
+    requires at { seat.old.me ≡ (Reads (reader_in seat.old.me.0), []) }
+    ensures same { seat.new.table_id ≡ seat.old.table_id }
+    ensures told { seat.new.me ≡ seat.old.me }
+    ensures begins { BeginsAt (reader_in seat.old.me.0) }
+{
+    nodes.board.shared.load::<Look>(seat, 0);
+}
+
+/// The tally looks at a word that nobody writes: what each gathered reader received of each sender that was taken in is the first part of what the sender sent there.
+pub fn tally_look(nodes: &Nodes, seat: &mut NodeSeat)
+    requires seat { seat.old.table_id ≡ nodes.now.board.shared.table_id }
+    requires at { IsTally seat.old.me }
+    ensures same { seat.new.table_id ≡ seat.old.table_id }
+    ensures told { seat.new.me ≡ seat.old.me }
+    ensures begins { TallyBegins (tally_in seat.old.me.0) }
+{
+    nodes.board.shared.load::<TallyLook>(seat, 0);
+}

@@ -1,5 +1,0 @@
-use Rattle.queue_core.proofs.PoolRuns.{pool_opening}
-use Rattle.queue_core.proofs.laws.law_pool_opening.Goals as goal
-
-pub returns : goal.returns
-returns c = pool_opening

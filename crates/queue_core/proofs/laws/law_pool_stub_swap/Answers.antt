@@ -1,5 +1,0 @@
-use Rattle.queue_core.proofs.PoolReads.{pool_stub_swap}
-use Rattle.queue_core.proofs.laws.law_pool_stub_swap.Goals as goal
-
-pub returns : goal.returns
-returns c = pool_stub_swap
