@@ -7,17 +7,17 @@ use std::sync::atomic::{AtomicU64, Ordering::SeqCst};
 
 #[derive(Default)]
 #[repr(C, align(32))]
-struct Node {
+pub struct Node {
     /// The number of the next node, from 1; 0 is none.
-    next: AtomicU64,
-    turn: AtomicU64,
+    pub next: AtomicU64,
+    pub turn: AtomicU64,
     /// The number of the line, from 1; 0 is an end mark.
-    line: AtomicU64,
-    amount: AtomicU64,
+    pub line: AtomicU64,
+    pub amount: AtomicU64,
 }
 
 #[repr(align(64))]
-struct Head(AtomicU64);
+pub struct Head(pub AtomicU64);
 
 pub struct Table {
     senders: usize,
@@ -92,8 +92,9 @@ impl Sender<'_> {
     }
 }
 
+/// Puts a node in behind the others.
 #[inline]
-fn link(head: &AtomicU64, nodes: &[Node], node: usize) {
+pub fn link(head: &AtomicU64, nodes: &[Node], node: usize) {
     nodes[node].next.store(0, SeqCst);
     let before = head.swap(node as u64 + 1, SeqCst);
     nodes[before as usize - 1].next.store(node as u64 + 1, SeqCst);
@@ -106,10 +107,10 @@ pub enum Took {
 }
 
 pub struct Receiver<'a> {
-    head: &'a AtomicU64,
-    nodes: &'a [Node],
-    stub: usize,
-    tail: usize,
+    pub head: &'a AtomicU64,
+    pub nodes: &'a [Node],
+    pub stub: usize,
+    pub tail: usize,
 }
 
 impl Receiver<'_> {

@@ -7,13 +7,27 @@ use std::alloc::{AllocError, Global};
 use std::thread::{Threads, join};
 
 /// How often a thread may find nothing to do before it gives up.
-const MOST_TURNS: u64 = 10_000_000_000;
+pub const MOST_TURNS: u64 = 10_000_000_000;
 
-/// What came.
-#[derive(Clone, Copy, Drop)]
+/// What came: how many posts, what their amounts come to, and how many end marks.
+#[derive(Clone, Copy, Default)]
 pub struct Came {
     pub posts: u64,
     pub total: i64,
+    pub ended: u64,
+}
+
+impl Came {
+    /// Counts an item.
+    pub fn count(&mut self, item: Item) {
+        match item {
+            Item::Post { amount, .. } => {
+                self.posts = self.posts.wrapping_add(1);
+                self.total = self.total.wrapping_add(amount);
+            }
+            Item::End => self.ended = self.ended.wrapping_add(1),
+        }
+    }
 }
 
 /// Sends a post, once there is a node for it. False: none came, or the sender may not post.
@@ -45,11 +59,10 @@ fn send_all(mut sender: LinkSender, posts: u64) {
 
 /// Takes until so many senders have ended.
 fn take_all(mut receiver: LinkReceiver, senders: u64) -> Came {
-    let mut came = Came { posts: 0, total: 0 };
-    let mut ended = 0u64;
+    let mut came = Came::default();
     let turn = Backoff::new();
     for _ in 0..MOST_TURNS {
-        if ended == senders {
+        if came.ended == senders {
             break;
         }
         let Took::Held(held) = LinkMail::take(&mut receiver) else {
@@ -59,13 +72,7 @@ fn take_all(mut receiver: LinkReceiver, senders: u64) -> Came {
         turn.reset();
         let (_, item) = LinkMail::read(&mut receiver, &held);
         LinkMail::give_back(&mut receiver, held);
-        match item {
-            Item::Post { amount, .. } => {
-                came.posts = came.posts.wrapping_add(1);
-                came.total = came.total.wrapping_add(amount);
-            }
-            Item::End => ended = ended.wrapping_add(1),
-        }
+        came.count(item);
     }
     came
 }

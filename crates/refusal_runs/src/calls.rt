@@ -7,6 +7,7 @@ use line_split::{ClaimFault, Claims, LineFault, MOST_CLAIMS, Portions, Reason, U
 use mail_box::{LaneMail, LinkMail, Mail, ShyMail};
 use pair_split::{PairFault, split_words};
 use payee_book::{Book, Journal};
+use pool_box::{Pool, PoolMail};
 use queue_core::{Core, PoolCore};
 use settle_run::{Fault, settle, settle_paid};
 use small_run::{B_PAID_TO_A, STATEMENTS, TERRITORIES, TWO_PARTIES, USES};
@@ -48,6 +49,7 @@ pub fn make_calls<R: Threads + Wait + Sync, W: Write>(
     tell("LinkMail::open", senders(alloc, &LinkMail), out)?;
     tell("LaneMail::open", senders(alloc, &LaneMail), out)?;
     tell("ShyMail::open", senders(alloc, &ShyMail(LinkMail)), out)?;
+    tell("PoolMail::open", receivers(alloc, &PoolMail), out)?;
     tell("run", total(rt, alloc, None), out)?;
     tell("run_cut", total(rt, alloc, Some(4)), out)?;
     tell("run_cut of a thread", total(rt, alloc, Some(2)), out)?;
@@ -227,6 +229,11 @@ fn pool_core(alloc: Global) -> Answer {
 fn senders<M: Mail>(alloc: Global, mail: &M) -> Answer {
     let (senders, _receiver) = mail.open(alloc, 2, 1, 5).ok()?;
     Some(senders.len() as u64)
+}
+
+fn receivers<P: Pool>(alloc: Global, pool: &P) -> Answer {
+    let (_senders, receivers, _tally) = pool.open(alloc, 2, 3, 1, 5).ok()?;
+    Some(receivers.len() as u64)
 }
 
 /// What a run pays to the first party; where a number is given the thread with that number counts as refused.

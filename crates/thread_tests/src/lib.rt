@@ -16,6 +16,12 @@ mod mail_rows;
 #[cfg(test)]
 mod payee_book_tests;
 #[cfg(test)]
+mod pool_mail_tests;
+#[cfg(test)]
+mod pool_rows;
+#[cfg(test)]
+mod pool_threads_tests;
+#[cfg(test)]
 mod run_threads_tests;
 #[cfg(test)]
 mod settle_run_tests;

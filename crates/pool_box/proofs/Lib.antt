@@ -1,0 +1,3 @@
+pub mod PoolEnds
+pub mod PoolBegins
+pub mod PoolOpened

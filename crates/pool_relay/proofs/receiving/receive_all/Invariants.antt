@@ -1,0 +1,13 @@
+use Rattle.std.specs.Prelude.{◌≡◌, true}
+use Rattle.pool_relay.specs.Postings.{HasEnd}
+use Rattle.pool_relay.proofs.receiving.receive_all.Given as goal
+
+abbrev pub invariant-loop : goal.invariant-loop
+invariant-loop g l =
+    let now = g.P.Pool.receiver l.receiver in
+    let was = g.P.Pool.receiver l.initial.receiver in
+    (now.pool ≡ was.pool)
+    × (now.mailbox ≡ was.mailbox)
+    × (now.senders ≡ was.senders)
+    × (l.first_ended ≡ true → HasEnd (now.got 0))
+    × (l.second_ended ≡ true → HasEnd (now.got 1))
