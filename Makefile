@@ -9,7 +9,7 @@ help:
 	@echo 'make fuzz     the same on 100000 damaged inputs; some ten minutes on four cores'
 	@echo 'make sizes    run both at each limit and one beyond it, print times and peak memory; a minute, 2 GB of memory'
 	@echo 'make refuse   run the program with each allocation, thread, read and write refused in turn, and each call as make test does; a minute once both are built'
-	@echo 'make bench    run both on a million usage lines, print times and peak memory; and a mailbox alone'
+	@echo 'make bench    run both on a million usage lines, print times and peak memory; and a mailbox alone and pools'
 	@echo 'make explore  go through every state of a small mailbox and of a small pool, with the model in Python, and find each wrong one out; a minute'
 	@echo 'make help     this list'
 	@echo 'compare, fuzz, sizes, refuse and bench build and prove the program first, unless they are given one: make bench PROGRAM=out/royalty_run'
