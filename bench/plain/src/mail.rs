@@ -21,25 +21,38 @@ fn send_all(mut sender: Sender, posts: u64) {
     sender.end();
 }
 
-fn take_all(mut receiver: Receiver, senders: usize) -> (u64, i64) {
-    let (mut posts, mut total, mut ended) = (0, 0, 0);
-    let mut turn = Backoff::new();
-    while ended < senders {
-        let Took::Held(node) = receiver.take() else {
-            turn.wait();
-            continue;
-        };
-        turn.reset();
+/// What came: how many posts, what their amounts come to, and how many end marks.
+#[derive(Default)]
+struct Came {
+    posts: u64,
+    total: i64,
+    ended: usize,
+}
+
+impl Came {
+    /// Takes an item, reads it and gives it back. False where there is none.
+    #[inline]
+    fn take_from(&mut self, receiver: &mut Receiver) -> bool {
+        let Took::Held(node) = receiver.take() else { return false };
         match receiver.read(node) {
             Some((_, amount)) => {
-                posts += 1;
-                total += amount;
+                self.posts += 1;
+                self.total += amount;
             }
-            None => ended += 1,
+            None => self.ended += 1,
         }
         receiver.give_back(node);
+        true
     }
-    (posts, total)
+}
+
+fn take_all(mut receiver: Receiver, senders: usize) -> Came {
+    let mut came = Came::default();
+    let mut turn = Backoff::new();
+    while came.ended < senders {
+        if came.take_from(&mut receiver) { turn.reset() } else { turn.wait() }
+    }
+    came
 }
 
 /// How many items a reader takes of a mailbox before it goes on to the next.
@@ -57,31 +70,25 @@ fn send_around(mut sender: pool::Sender, mailboxes: usize, posts: u64) {
     }
 }
 
-fn take_around(mut receivers: Vec<Receiver>, senders: usize) -> (u64, i64) {
-    let (mut posts, mut total, mut ended) = (0, 0, 0);
+fn take_around(mut receivers: Vec<Receiver>, senders: usize) -> Came {
+    let mut came = Came::default();
     let mut turn = Backoff::new();
-    while ended < senders * receivers.len() {
+    while came.ended < senders * receivers.len() {
         let mut took = false;
         for receiver in &mut receivers {
             for _ in 0..MOST_ITEMS {
-                let Took::Held(node) = receiver.take() else { break };
-                took = true;
-                match receiver.read(node) {
-                    Some((_, amount)) => {
-                        posts += 1;
-                        total += amount;
-                    }
-                    None => ended += 1,
+                if !came.take_from(receiver) {
+                    break;
                 }
-                receiver.give_back(node);
+                took = true;
             }
         }
         if took { turn.reset() } else { turn.wait() }
     }
-    (posts, total)
+    came
 }
 
-fn one_mailbox(senders: usize, nodes: usize, posts: u64) -> (u64, i64) {
+fn one_mailbox(senders: usize, nodes: usize, posts: u64) -> Came {
     let table = Table::open(1, senders, nodes);
     thread::scope(|scope| {
         for number in 0..senders {
@@ -92,7 +99,7 @@ fn one_mailbox(senders: usize, nodes: usize, posts: u64) -> (u64, i64) {
     })
 }
 
-fn a_pool(senders: usize, readers: usize, mailboxes: usize, nodes: usize, posts: u64) -> (u64, i64) {
+fn a_pool(senders: usize, readers: usize, mailboxes: usize, nodes: usize, posts: u64) -> Came {
     let pool = Pool::open(mailboxes, senders, nodes);
     thread::scope(|scope| {
         for number in 0..senders {
@@ -105,7 +112,11 @@ fn a_pool(senders: usize, readers: usize, mailboxes: usize, nodes: usize, posts:
                 scope.spawn(move || take_around(receivers, senders))
             })
             .collect();
-        readers.into_iter().map(|reader| reader.join().unwrap()).fold((0, 0), |a, b| (a.0 + b.0, a.1 + b.1))
+        readers.into_iter().map(|reader| reader.join().unwrap()).fold(Came::default(), |a, b| Came {
+            posts: a.posts + b.posts,
+            total: a.total + b.total,
+            ended: a.ended + b.ended,
+        })
     })
 }
 
@@ -117,14 +128,14 @@ fn main() -> ExitCode {
             None => (false, line.as_str()),
         };
         let numbers: Vec<u64> = words.split(' ').filter_map(|word| word.parse().ok()).collect();
-        let (came, total) = match (is_pool, &numbers[..]) {
+        let came = match (is_pool, &numbers[..]) {
             (false, &[senders @ 1..=2, nodes @ 1..=64, posts @ 0..=1_000_000]) => one_mailbox(senders as usize, nodes as usize, posts),
             (true, &[senders @ 1..=2, readers @ 1..=2, mailboxes @ 1..=16_384, nodes @ 1..=64, posts @ 0..=1_000_000]) => {
                 a_pool(senders as usize, readers as usize, mailboxes as usize, nodes as usize, posts)
             }
             _ => return ExitCode::FAILURE,
         };
-        println!("{line}: {came} posts, {total}");
+        println!("{line}: {} posts, {}", came.posts, came.total);
     }
     ExitCode::SUCCESS
 }
