@@ -19,7 +19,7 @@ use std::process::ExitCode;
 use std::sync::atomic::AtomicU8;
 use std::time::{Duration, Instant};
 
-const ACCOUNTS: usize = 512;
+const ACCOUNTS: usize = 16_384;
 
 const LARGEST_FILE: u64 = 268_435_456;
 

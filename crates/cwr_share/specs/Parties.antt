@@ -62,7 +62,7 @@ pub record AreAccountsOf (rows : List (List ℕ × List ℕ)) (lists : List (Lis
   pub paid : All (λ party. IsAccountOf payees (payee_of rows party.0) party.1) parties
   pub ordered : IsNonDecreasingBy (λ party. party.1) parties
 
--- the lists have more than 511 payees
+-- the lists have more than 16,383 payees
 abbrev pub HasMany : List (List ℕ × List ℕ) → List (List ShareLine) → Type 0
 HasMany rows lists = (payees : List (List ℕ)) × IsStrictlySortedBy (slice_cmp nat_cmp) payees × All (IsAmong (payee_by rows) lists) payees × (MOST_ACCOUNTS < length payees)
 
@@ -70,6 +70,6 @@ HasMany rows lists = (payees : List (List ℕ)) × IsStrictlySortedBy (slice_cmp
 abbrev pub IsPayeeFound : List (List ℕ × List ℕ) → List (List ℕ × List ShareLine) → List ℕ → Type 0
 IsPayeeFound rows works payee = (work : List ℕ) × (lines : List ShareLine) × (find_work work works ≡ Some lines) × Contains (map (payee_by rows) lines) payee
 
--- the works have more than 511 payees
+-- the works have more than 16,383 payees
 abbrev pub HasManyFound : List (List ℕ × List ℕ) → List (List ℕ × List ShareLine) → Type 0
 HasManyFound rows works = (payees : List (List ℕ)) × IsStrictlySortedBy (slice_cmp nat_cmp) payees × All (IsPayeeFound rows works) payees × (MOST_ACCOUNTS < length payees)

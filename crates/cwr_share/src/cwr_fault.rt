@@ -30,8 +30,8 @@ pub enum CwrFault {
     /// The registration has 256 share lines before this one.
     #[error("line {0} is the 257th share line of its registration")]
     Many(u64),
-    /// The parties of the registrations in force are paid to more than 511 accounts.
-    #[error("there are more than 511 payees")]
+    /// The parties of the registrations in force are paid to more than 16,383 accounts.
+    #[error("there are more than 16383 payees")]
     Accounts,
     /// Memory ran out.
     #[error("memory ran out")]

@@ -33,4 +33,4 @@ pub use registry::{Registry, Work};
 pub const MOST_SHARES: usize = 256;
 
 /// The most accounts that the payees of all registrations in force have.
-pub const MOST_ACCOUNTS: usize = 511;
+pub const MOST_ACCOUNTS: usize = 16_383;

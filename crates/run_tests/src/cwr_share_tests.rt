@@ -187,14 +187,18 @@ fn registration(alloc: Global, work: &str, first: u32, last: u32) -> Result<Stri
     Ok(text)
 }
 
-/// A registration of 256 parties, and one of the parties after these up to a number.
-pub fn two_registrations(alloc: Global, last: u32) -> Result<String, Fail> {
-    let first = registration(alloc, "W1", 1, 256)?;
-    joined(
-        alloc,
-        first.as_str(),
-        registration(alloc, "W2", 257, last)?.as_str(),
-    )
+/// So many registrations of 256 parties each, and one of so many more: each party is in one of them.
+pub fn many_parties(alloc: Global, full: u16, more: u16) -> Result<String, Fail> {
+    let mut text = String::new(alloc);
+    for number in 0..full {
+        let work = format!(in alloc; "W{number}")?;
+        let before = u32::from(number) * 256;
+        text.push_str(registration(alloc, work.as_str(), before + 1, before + 256)?.as_str())?;
+    }
+    let before = u32::from(full) * 256;
+    let last = registration(alloc, "LAST", before + 1, before + u32::from(more))?;
+    text.push_str(last.as_str())?;
+    Ok(text)
 }
 
 /// Registrations of so many works, with one party.
@@ -463,9 +467,11 @@ fn answers_every_prefix(rt: HostRuntime) -> Result<(), Fail> {
 #[test]
 fn takes_the_most_parties(rt: HostRuntime) -> Result<(), Fail> {
     let alloc = rt.alloc();
-    let file = two_registrations(alloc, 511)?;
-    assert_outcome(&rt, alloc, file.as_bytes(), "accounts 512, works 2")?;
-    let last = "000000511: 511 of 000000511\n";
+    let file = many_parties(alloc, 1, 256)?;
+    assert_outcome(&rt, alloc, file.as_bytes(), "accounts 513, works 2")?;
+    let file = many_parties(alloc, 63, 255)?;
+    assert_outcome(&rt, alloc, file.as_bytes(), "accounts 16384, works 64")?;
+    let last = "000016383: 16383 of 000016383\n";
     assert_rows(&rt, alloc, &Asked::Account(file.as_str()), last)
 }
 
@@ -490,15 +496,15 @@ W301,276,S: Some(Work) []
 #[test]
 fn refuses_too_many_parties(rt: HostRuntime) -> Result<(), Fail> {
     let alloc = rt.alloc();
-    let file = two_registrations(alloc, 512)?;
+    let file = many_parties(alloc, 63, 256)?;
     assert_outcome(&rt, alloc, file.as_bytes(), "Accounts")?;
     // those of a registration that is replaced have no account
     let file = joined(
         alloc,
         file.as_str(),
-        registration(alloc, "W2", 1, 0)?.as_str(),
+        registration(alloc, "LAST", 1, 0)?.as_str(),
     )?;
-    assert_outcome(&rt, alloc, file.as_bytes(), "accounts 257, works 2")
+    assert_outcome(&rt, alloc, file.as_bytes(), "accounts 16129, works 64")
 }
 
 #[test]
@@ -521,7 +527,7 @@ fn says_what_is_wrong(rt: HostRuntime) -> Result<(), Fail> {
 5 Some(7) the party number of line 7 is blank or not printable
 6 Some(7) the work number of line 7 is blank or not printable
 7 Some(7) line 7 is the 257th share line of its registration
-8 None there are more than 511 payees
+8 None there are more than 16383 payees
 9 None memory ran out
 "
     );

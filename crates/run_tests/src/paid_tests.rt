@@ -3,7 +3,7 @@
 //! A test gives rows of text, each a question and, after a colon, its answer (`rows`). A question has the rows of a
 //! table of payees, with slashes for their line ends.
 
-use crate::cwr_share_tests::two_registrations;
+use crate::cwr_share_tests::many_parties;
 use crate::rows::{Ask, assert_rows, in_brackets, lines_of, text_of};
 use cwr_share::{MOST_NAME_BYTES, Payees, Registry};
 use line_split::{Line, Right};
@@ -173,16 +173,16 @@ impl Ask for AccountsOf<'_> {
 #[test]
 fn payees_are_counted_and_not_parties(rt: HostRuntime) -> Result<(), Fail> {
     let alloc = rt.alloc();
-    let file = two_registrations(alloc, 512)?;
+    let file = many_parties(alloc, 63, 256)?;
     assert_rows(
         &rt,
         alloc,
         &AccountsOf(file.as_str()),
         "\
 : Accounts
-000000512,000000001: 512
-000000512,Z: Accounts
-000000511,Z/000000512,Z: 512
+000016384,000000001: 16384
+000016384,Z: Accounts
+000016383,Z/000016384,Z: 16384
 ",
     )
 }
