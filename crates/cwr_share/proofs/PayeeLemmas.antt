@@ -6,16 +6,15 @@ use Rattle.std.specs.Cmp.Lexicographic.{pointwise}
 use Rattle.std.proofs.Math.Seq.{take-append_seam}
 use Rattle.std.proofs.lemmas.Bool.{cases_Bool, cases_lt, false_from_ne_true, false≢true}
 use Rattle.std.proofs.lemmas.Cmp.{nat_list_eq_equiv}
-use Rattle.std.proofs.lemmas.List.{append-nil, get_or_append_left, get_or_push, length_push, map-append, map_push, take-append-le}
+use Rattle.std.proofs.lemmas.List.{append-nil, get_or_append_left, get_or_push, length_push, map-append, take-append-le}
 use Rattle.std.proofs.lemmas.List.Elements.{All-cons, All-head, All-tail}
 use Rattle.std.proofs.lemmas.Option.{none-some}
 use Rattle.std.proofs.lemmas.Slice.Eq.{bytes_eq-Decides}
-use Rattle.arrayvec.specs.ArrayVec.{ArrayVec}
 use Rattle.indexmap.specs.IndexMap.{insert_entry}
 use Rattle.std.specs.Map.{lookup}
 use Rattle.cwr_share.specs.PayeeTable.{AreRows, IsFaultOf, IsFaultOfRow, IsFirstFault, IsPayeeRow, IsTableOf, header, payee_row_of}
 use Rattle.cwr_share.specs.Payees.{AreNames, HasRow, IsName, payee_of}
-use Rattle.cwr_share.specs.declared.payees.TheConstants.{MOST_NAME_BYTES, MOST_PAYEES}
+use Rattle.cwr_share.specs.declared.payees.TheConstants.{MOST_PAYEES}
 use Rattle.cwr_share.specs.declared.payee_fault.PayeeFault.{PayeeFault}
 use Rattle.cwr_share.specs.declared.payee_fault.PayeeFault.TheVariants.{Csv, Fields, Twice, Rows, Memory}
 use Rattle.cwr_share.proofs.CompiledLemmas.{contains_cases, contains_later}
@@ -85,112 +84,88 @@ walked_fault rows left row number payees (Twice n) walked refused = first_fault 
 walked_fault rows left row number payees Rows walked refused = first_fault rows left row number payees Rows walked refused
 walked_fault rows left row number payees Memory walked refused = tt
 
--- a row as the table keeps it
-abbrev pub as_row : ArrayVec ℕ × ArrayVec ℕ → List ℕ × List ℕ
-as_row entry = (entry.0.items, entry.1.items)
-
 -- what a look-up finds is the payee of the row of the party, and nothing where it has no row
-pub looked_up : (entries : List (ArrayVec ℕ × ArrayVec ℕ)) (party : List ℕ)
-    → option_map (λ payee. payee.items) (lookup (λ other. pointwise nat_eq party other.items) entries) ≡ option_map (λ row. row.1) (find (λ row. pointwise nat_eq row.0 party) (map as_row entries))
+pub looked_up : (payees : List (List ℕ × List ℕ)) (party : List ℕ)
+    → lookup (λ other. pointwise nat_eq party other) payees ≡ option_map (λ row. row.1) (find (λ row. pointwise nat_eq row.0 party) payees)
 looked_up [] party = refl
-looked_up (entry ∷ entries) party =
-    let turned = nat_list_eq_equiv.symm entry.0.items party in
-    elim (cases_Bool (pointwise nat_eq party entry.0.items)) [
+looked_up (row ∷ payees) party =
+    let turned = nat_list_eq_equiv.symm row.0 party in
+    elim (cases_Bool (pointwise nat_eq party row.0)) [
       | inl its ↦ rw (turned, its) refl
-      | inr other ↦ rw (turned, other) (looked_up entries party)
+      | inr other ↦ rw (turned, other) (looked_up payees party)
     ]
 
 -- so a party that is found is paid to the payee that is found
-pub paid_as_found : (entries : List (ArrayVec ℕ × ArrayVec ℕ)) (party : List ℕ) (payee : ArrayVec ℕ)
-    → Some payee ≡ lookup (λ other. pointwise nat_eq party other.items) entries → payee.items ≡ payee_of (map as_row entries) party
-paid_as_found entries party payee found = on (find (λ row. pointwise nat_eq row.0 party) (map as_row entries)) (ap (option_map (λ (payee : ArrayVec ℕ). payee.items)) found ∙ looked_up entries party)
+pub paid_as_found : (payees : List (List ℕ × List ℕ)) (party payee : List ℕ)
+    → Some payee ≡ lookup (λ other. pointwise nat_eq party other) payees → payee ≡ payee_of payees party
+paid_as_found payees party payee found = on (find (λ row. pointwise nat_eq row.0 party) payees) (found ∙ looked_up payees party)
   where
-    on : (row : Option (List ℕ × List ℕ)) → Some payee.items ≡ option_map (λ row. row.1) row → payee.items ≡ option_map_or (λ row. row.1) row party
+    on : (row : Option (List ℕ × List ℕ)) → Some payee ≡ option_map (λ row. row.1) row → payee ≡ option_map_or (λ row. row.1) row party
     on (Some row) is = cc
     on None is = cc
 
 -- and one that is not found is paid itself
-pub paid_itself : (entries : List (ArrayVec ℕ × ArrayVec ℕ)) (party : List ℕ)
-    → None ≡ lookup (λ other. pointwise nat_eq party other.items) entries → party ≡ payee_of (map as_row entries) party
-paid_itself entries party found = on (find (λ row. pointwise nat_eq row.0 party) (map as_row entries)) (ap (option_map (λ (payee : ArrayVec ℕ). payee.items)) found ∙ looked_up entries party)
+pub paid_itself : (payees : List (List ℕ × List ℕ)) (party : List ℕ)
+    → None ≡ lookup (λ other. pointwise nat_eq party other) payees → party ≡ payee_of payees party
+paid_itself payees party found = on (find (λ row. pointwise nat_eq row.0 party) payees) (found ∙ looked_up payees party)
   where
     on : (row : Option (List ℕ × List ℕ)) → None ≡ option_map (λ row. row.1) row → party ≡ option_map_or (λ row. row.1) row party
     on None is = refl
     on (Some row) is = cc
 
--- a party longer than any in a table has no row
-pub paid_too_long : (payees : List (List ℕ × List ℕ)) (party : List ℕ) → AreNames payees → MOST_NAME_BYTES < length party → party ≡ payee_of payees party
-paid_too_long [] party names long = refl
-paid_too_long (row ∷ payees) party names long =
-    elim (cases_Bool (pointwise nat_eq row.0 party)) [
-      | inl its ↦
-          let short = (names 0 row (omega arith)).0.1 in
-          absurd (omega (arith, short, long, ap (λ (text : List ℕ). length text) ((bytes_eq-Decides row.0 party).0 its)))
-      | inr other ↦ rw other (paid_too_long payees party (All-tail (λ row. IsName row.0 × IsName row.1) row payees names) long)
-    ]
-
--- a payee that is found has a name
-pub paid_named : (entries : List (ArrayVec ℕ × ArrayVec ℕ)) (party : List ℕ) (payee : ArrayVec ℕ)
-    → Some payee ≡ lookup (λ other. pointwise nat_eq party other.items) entries → AreNames (map as_row entries) → 0 < length payee.items
-paid_named [] party payee found names = absurd (none-some payee (sym found))
-paid_named (entry ∷ entries) party payee found names = on (pointwise nat_eq party entry.0.items) refl (paid_named entries party payee)
-  where
-    on : (told : Bool) → pointwise nat_eq party entry.0.items ≡ told
-        → (Some payee ≡ lookup (λ other. pointwise nat_eq party other.items) entries → AreNames (map as_row entries) → 0 < length payee.items) → 0 < length payee.items
-    on true its later =
-        let same : Some payee ≡ Some entry.1 = rw its at found in
-        let is : payee ≡ entry.1 = cc in
-        subst (λ (p : ArrayVec ℕ). 0 < length p.items) (sym is) (names 0 (as_row entry) (omega arith)).1.0
-    on false other later = later (rw other at found) (All-tail (λ row. IsName row.0 × IsName row.1) (as_row entry) (map as_row entries) names)
-
--- whether a party has a row, by what a look-up of it finds
-pub row_if_some : (entries : List (ArrayVec ℕ × ArrayVec ℕ)) (party : List ℕ)
-    → is_some (lookup (λ other. pointwise nat_eq party other.items) entries) ≡ true → HasRow (map as_row entries) party
-row_if_some [] party found = absurd (false≢true found)
-row_if_some (entry ∷ entries) party found =
-    elim (cases_Bool (pointwise nat_eq party entry.0.items)) [
-      | inl its ↦ (0, omega arith, sym ((bytes_eq-Decides party entry.0.items).0 its))
-      | inr other ↦ contains_later entry.0.items party (map (λ row. row.0) (map as_row entries)) (row_if_some entries party (rw other at found))
-    ]
-
-pub no_row_if_none : (entries : List (ArrayVec ℕ × ArrayVec ℕ)) (party : List ℕ)
-    → is_some (lookup (λ other. pointwise nat_eq party other.items) entries) ≡ false → ¬ HasRow (map as_row entries) party
-no_row_if_none [] party found (k, within, is) = absurd (omega (arith, within))
-no_row_if_none (entry ∷ entries) party found there =
-    elim (cases_Bool (pointwise nat_eq party entry.0.items)) [
-      | inl its ↦ absurd (false≢true (sym (rw its at found)))
-      | inr other ↦
-          elim (contains_cases entry.0.items party (map (λ row. row.0) (map as_row entries)) there) [
-            | inl is ↦ absurd (false≢true (sym other ∙ (bytes_eq-Decides party entry.0.items).1 (sym is)))
-            | inr later ↦ no_row_if_none entries party (rw other at found) later
-          ]
-    ]
-
--- a new row goes last
-pub entry_added : (entries : List (ArrayVec ℕ × ArrayVec ℕ)) (party payee : ArrayVec ℕ) (grown : List (ArrayVec ℕ × ArrayVec ℕ)) → grown ≡ entries ++ (party, payee) ∷ []
-    → map as_row grown ≡ map as_row entries ++ (party.items, payee.items) ∷ []
-entry_added entries party payee grown is = ap (map as_row) is ∙ map_push as_row entries (party, payee)
-
 -- a row with names in both of its columns
 abbrev are_names : List ℕ × List ℕ → Type 0
 are_names row = IsName row.0 × IsName row.1
 
--- a table that takes a payee for a party, which may have a row, keeps names in both of its columns
-pub names_inserted : (entries : List (ArrayVec ℕ × ArrayVec ℕ)) (party payee : ArrayVec ℕ) → IsName party.items → IsName payee.items → AreNames (map as_row entries)
-    → AreNames (map as_row (insert_entry (λ (one other : ArrayVec ℕ). pointwise nat_eq one.items other.items) entries party payee))
-names_inserted [] party payee named paid names = All-cons are_names (as_row (party, payee)) [] (named, paid) names
-names_inserted (entry ∷ entries) party payee named paid names =
-    on (pointwise nat_eq party.items entry.0.items) refl (names_inserted entries party payee named paid (All-tail are_names (as_row entry) (map as_row entries) names))
+-- a payee that is found has a name
+pub paid_named : (payees : List (List ℕ × List ℕ)) (party payee : List ℕ)
+    → Some payee ≡ lookup (λ other. pointwise nat_eq party other) payees → AreNames payees → 0 < length payee
+paid_named [] party payee found names = absurd (none-some payee (sym found))
+paid_named (row ∷ payees) party payee found names = on (pointwise nat_eq party row.0) refl (paid_named payees party payee)
   where
-    on : (told : Bool) → pointwise nat_eq party.items entry.0.items ≡ told
-        → AreNames (map as_row (insert_entry (λ (one other : ArrayVec ℕ). pointwise nat_eq one.items other.items) entries party payee))
-        → AreNames (map as_row (insert_entry (λ (one other : ArrayVec ℕ). pointwise nat_eq one.items other.items) (entry ∷ entries) party payee))
+    on : (told : Bool) → pointwise nat_eq party row.0 ≡ told
+        → (Some payee ≡ lookup (λ other. pointwise nat_eq party other) payees → AreNames payees → 0 < length payee) → 0 < length payee
     on true its later =
-        let tail = All-tail are_names (as_row entry) (map as_row entries) names in
-        rw its (All-cons are_names (as_row (entry.0, payee)) (map as_row entries) ((All-head are_names (as_row entry) (map as_row entries) names).0, paid) tail)
-    on false other later =
-        rw other
-        (All-cons are_names (as_row entry) (map as_row (insert_entry (λ (one other : ArrayVec ℕ). pointwise nat_eq one.items other.items) entries party payee)) (All-head are_names (as_row entry) (map as_row entries) names) later)
+        let same : Some payee ≡ Some row.1 = rw its at found in
+        let is : payee ≡ row.1 = cc in
+        subst (λ (text : List ℕ). 0 < length text) (sym is) (All-head are_names row payees names).1.0
+    on false other later = later (rw other at found) (All-tail are_names row payees names)
+
+-- whether a party has a row, by what a look-up of it finds
+pub row_if_some : (payees : List (List ℕ × List ℕ)) (party : List ℕ)
+    → is_some (lookup (λ other. pointwise nat_eq party other) payees) ≡ true → HasRow payees party
+row_if_some [] party found = absurd (false≢true found)
+row_if_some (row ∷ payees) party found =
+    elim (cases_Bool (pointwise nat_eq party row.0)) [
+      | inl its ↦ (0, omega arith, sym ((bytes_eq-Decides party row.0).0 its))
+      | inr other ↦ contains_later row.0 party (map (λ row. row.0) payees) (row_if_some payees party (rw other at found))
+    ]
+
+pub no_row_if_none : (payees : List (List ℕ × List ℕ)) (party : List ℕ)
+    → is_some (lookup (λ other. pointwise nat_eq party other) payees) ≡ false → ¬ HasRow payees party
+no_row_if_none [] party found (k, within, is) = absurd (omega (arith, within))
+no_row_if_none (row ∷ payees) party found there =
+    elim (cases_Bool (pointwise nat_eq party row.0)) [
+      | inl its ↦ absurd (false≢true (sym (rw its at found)))
+      | inr other ↦
+          elim (contains_cases row.0 party (map (λ row. row.0) payees) there) [
+            | inl is ↦ absurd (false≢true (sym other ∙ (bytes_eq-Decides party row.0).1 (sym is)))
+            | inr later ↦ no_row_if_none payees party (rw other at found) later
+          ]
+    ]
+
+-- a table that takes a payee for a party, which may have a row, keeps names in both of its columns
+pub names_inserted : (payees : List (List ℕ × List ℕ)) (party payee : List ℕ) → IsName party → IsName payee → AreNames payees
+    → AreNames (insert_entry (pointwise nat_eq) payees party payee)
+names_inserted [] party payee named paid names = All-cons are_names (party, payee) [] (named, paid) names
+names_inserted (row ∷ payees) party payee named paid names =
+    on (pointwise nat_eq party row.0) refl (names_inserted payees party payee named paid (All-tail are_names row payees names))
+  where
+    on : (told : Bool) → pointwise nat_eq party row.0 ≡ told
+        → AreNames (insert_entry (pointwise nat_eq) payees party payee)
+        → AreNames (insert_entry (pointwise nat_eq) (row ∷ payees) party payee)
+    on true its later = rw its (All-cons are_names (row.0, payee) payees ((All-head are_names row payees names).0, paid) (All-tail are_names row payees names))
+    on false other later = rw other (All-cons are_names row (insert_entry (pointwise nat_eq) payees party payee) (All-head are_names row payees names) later)
 
 -- where a look-up finds nothing
 pub none_if_not : {X : Type 0} (found : Option X) → false ≡ is_some found → found ≡ None

@@ -12,6 +12,7 @@ mod cwr_fault;
 pub mod fields;
 pub mod laws;
 mod lines;
+mod name;
 mod numbers;
 mod parties;
 mod payee_fault;

@@ -9,9 +9,8 @@ ghost use Rattle.cwr_share.specs.Payees.{AreNames, payee_of};
 ghost use Rattle.cwr_share.specs.declared.payees.TheConstants.{MOST_NAME_BYTES};
 
 use crate::PayeeFault;
-use crate::numbers::{in_place, in_place_if_short};
+use crate::name::{Name, Sought};
 use crate::share_line::trimmed;
-use arrayvec::ArrayVec;
 use csv_table::Rows;
 use csv_table::forms::is_printable;
 use indexmap::IndexMap;
@@ -24,9 +23,6 @@ pub const MOST_PAYEES: usize = 65_536;
 /// The most bytes of a party and of a payee in a table of payees.
 pub const MOST_NAME_BYTES: usize = 64;
 
-/// The name of a party or of a payee, which lies in the value itself.
-type Name = ArrayVec<u8, MOST_NAME_BYTES>;
-
 /// A table of payees, at most 65,536 rows. A party without a row is its own payee.
 #[derive(Drop)]
 pub struct Payees {
@@ -35,14 +31,14 @@ pub struct Payees {
 }
 
 impl Model for Payees {
-    ghost use Rattle.std.specs.Prelude.{ℕ, List, map};
+    ghost use Rattle.std.specs.Prelude.{ℕ, List};
     ghost use Rattle.cwr_share.specs.Payees.{AreNames};
 
     ghost Value = { List (List ℕ × List ℕ) };
 
-    ghost view = { λ p. map (λ row. (row.0.items, row.1.items)) p.rows.entries };
+    ghost view = { λ p. p.rows.entries };
 
-    ghost invariant = { λ p. AreNames (map (λ row. (row.0.items, row.1.items)) p.rows.entries) };
+    ghost invariant = { λ p. AreNames p.rows.entries };
 }
 
 impl Payees {
@@ -70,7 +66,7 @@ impl Payees {
             if !rows.next()? {
                 return Ok(payees);
             }
-            payees.add_row(number, &rows)?;
+            payees.add_row(alloc, number, &rows)?;
         }
         if rows.next()? {
             return Err(PayeeFault::Rows);
@@ -83,11 +79,8 @@ impl Payees {
         ensures payee { result.now ≡ payee_of self.now party.now }
         ensures named { 0 < length party.now → 0 < length result.now }
     {
-        match in_place_if_short(party) {
-            Some(name) => match self.rows.get(&name) {
-                Some(payee) => payee.as_slice(),
-                None => party,
-            },
+        match self.rows.get(Sought(party)) {
+            Some(payee) => payee.as_slice(),
             None => party,
         }
     }
@@ -101,7 +94,7 @@ impl Payees {
     }
 
     /// Adds the row at hand, which has this number.
-    fn add_row(&mut self, number: u64, rows: &Rows<'_>) -> Result<(), PayeeFault>
+    fn add_row(&mut self, alloc: Global, number: u64, rows: &Rows<'_>) -> Result<(), PayeeFault>
         requires { number ≤ MOST_PAYEES }
         ensures added { OnOk result (IsPayeeRow self.old rows.now.row × (self.new ≡ self.old ++ payee_row_of rows.now.row ∷ [])) }
         ensures fault { IfErr result (IsFaultOfRow self.old number rows.now.row) }
@@ -115,6 +108,7 @@ impl Payees {
         let Some(payee) = name(rows.field(1)) else {
             return Err(PayeeFault::Fields(number));
         };
+        let (party, payee) = (Name::of(alloc, party)?, Name::of(alloc, payee)?);
         if self.rows.insert(party, payee)?.is_some() {
             return Err(PayeeFault::Twice(number));
         }
@@ -123,13 +117,13 @@ impl Payees {
 }
 
 /// The name that a field writes, where it is one.
-fn name(field: &[u8]) -> Option<Name>
-    ensures some { IfSome result (λ name. IsPrintable MOST_NAME_BYTES (trimmed_text field.now) × (name.items ≡ trimmed_text field.now)) }
+fn name(field: &[u8]) -> Option<&[u8]>
+    ensures some { IfSome result (λ name. IsPrintable MOST_NAME_BYTES (trimmed_text field.now) × (name.now ≡ trimmed_text field.now)) }
     ensures none { IfNone result (¬ IsPrintable MOST_NAME_BYTES (trimmed_text field.now)) }
 {
     let text = trimmed(field);
     if is_printable(text, MOST_NAME_BYTES) {
-        Some(in_place(text))
+        Some(text)
     } else {
         None
     }

@@ -1,60 +1,59 @@
-use Rattle.std.proofs.Common.{◌≡◌, ◌∙◌, ℕ, List, is_some, map, ap, arith, refl, subst, sym}
+use Rattle.std.proofs.Common.{◌≡◌, ◌∙◌, ℕ, List, is_some, ap, arith, refl, subst, sym}
 use Rattle.indexmap.proofs.CallerLemmas.{insert_entry-new}
 use Rattle.indexmap.specs.IndexMap.{insert_entry}
 use Rattle.std.specs.Prelude.{nat_eq}
 use Rattle.std.specs.Cmp.Lexicographic.{pointwise}
-use Rattle.arrayvec.specs.ArrayVec.{ArrayVec}
 use Rattle.csv_table.specs.Forms.{IsPrintable}
 use Rattle.cwr_share.specs.PayeeTable.{party_field}
 use Rattle.cwr_share.specs.Payees.{AreNames, HasRow, IsName}
 use Rattle.cwr_share.specs.declared.payees.TheConstants.{MOST_NAME_BYTES}
-use Rattle.cwr_share.proofs.PayeeLemmas.{as_row, entry_added, names_inserted, no_row_if_none, none_if_not, row_if_some}
+use Rattle.cwr_share.proofs.PayeeLemmas.{names_inserted, no_row_if_none, none_if_not, row_if_some}
 use Rattle.cwr_share.proofs.payees.Payees.add_row.Goals as goal
 
 -- what a field names is a name
-is_name : (name : ArrayVec ℕ) (field : List ℕ) → IsPrintable MOST_NAME_BYTES field × (name.items ≡ field) → IsName name.items
-is_name name field read = subst IsName (sym read.1) (read.0.some, read.0.short)
+is_name : (name text field : List ℕ) → name ≡ text → IsPrintable MOST_NAME_BYTES field × (text ≡ field) → IsName name
+is_name name text field of read = subst IsName (sym (of ∙ read.1)) (read.0.some, read.0.short)
 
 -- the table keeps names, whether the party had a row or not
-put_in : (entries grown : List (ArrayVec ℕ × ArrayVec ℕ)) (party payee : ArrayVec ℕ) → grown ≡ insert_entry (λ (one other : ArrayVec ℕ). pointwise nat_eq one.items other.items) entries party payee
-    → IsName party.items → IsName payee.items → AreNames (map as_row entries) → AreNames (map as_row grown)
-put_in entries grown party payee is of to names = subst (λ (l : List (ArrayVec ℕ × ArrayVec ℕ)). AreNames (map as_row l)) (sym is) (names_inserted entries party payee of to names)
+put_in : (payees grown : List (List ℕ × List ℕ)) (party payee : List ℕ) → grown ≡ insert_entry (pointwise nat_eq) payees party payee
+    → IsName party → IsName payee → AreNames payees → AreNames grown
+put_in payees grown party payee is of to names = subst AreNames (sym is) (names_inserted payees party payee of to names)
 
 pub invariant_of-self-then-is_some : goal.invariant_of-self-then-is_some
 invariant_of-self-then-is_some c =
-    put_in c.self.inside.rows.entries c.insert.new.self.entries c.in-Some.party c.in-Some-name.payee c.in_ok-insert.ensures.entries
-    (is_name _ _ (rw c.field.ensures at c.in-Some.ensures.some)) (is_name _ _ (rw c.field-2.ensures at c.in-Some-name.ensures.some)) c.self.invariant
+    put_in c.self.inside.rows.entries c.insert.new.self.entries c.in_ok-party.party c.in_ok-payee.payee c.in_ok-insert.ensures.entries
+    (is_name _ _ _ c.in_ok-party.ensures (rw c.field.ensures at c.in-Some.ensures.some)) (is_name _ _ _ c.in_ok-payee.ensures (rw c.field-2.ensures at c.in-Some-name.ensures.some)) c.self.invariant
 
 pub invariant_of-self-2 : goal.invariant_of-self-2
 invariant_of-self-2 c =
-    put_in c.self.inside.rows.entries c.insert.new.self.entries c.in-Some.party c.in-Some-name.payee c.in_ok-insert.ensures.entries
-    (is_name _ _ (rw c.field.ensures at c.in-Some.ensures.some)) (is_name _ _ (rw c.field-2.ensures at c.in-Some-name.ensures.some)) c.self.invariant
+    put_in c.self.inside.rows.entries c.insert.new.self.entries c.in_ok-party.party c.in_ok-payee.payee c.in_ok-insert.ensures.entries
+    (is_name _ _ _ c.in_ok-party.ensures (rw c.field.ensures at c.in-Some.ensures.some)) (is_name _ _ _ c.in_ok-payee.ensures (rw c.field-2.ensures at c.in-Some-name.ensures.some)) c.self.invariant
 
 pub returns-then-is_some-clause-fault : goal.returns-then-is_some-clause-fault
 returns-then-is_some-clause-fault c =
     let party = rw c.field.ensures at c.in-Some.ensures.some in
     let payee = rw c.field-2.ensures at c.in-Some-name.ensures.some in
-    let there = row_if_some c.self.inside.rows.entries c.in-Some.party.items (ap is_some (sym c.in_ok-insert.ensures.old) ∙ sym c.is_some.ensures ∙ c.if-is_some.true) in (
+    let there = row_if_some c.self.inside.rows.entries c.in_ok-party.party (ap is_some (sym c.in_ok-insert.ensures.old) ∙ sym c.is_some.ensures ∙ c.if-is_some.true) in (
       refl,
       c.requires,
       omega (arith, c.len.ensures, c.if-len-ne2.false),
       (party.0, payee.0),
-      subst (λ (payees : List (List ℕ × List ℕ)). HasRow payees (party_field c.args.rows.now.row)) c.self.view_is (subst (HasRow (map as_row c.self.inside.rows.entries)) party.1 there),
+      subst (λ (payees : List (List ℕ × List ℕ)). HasRow payees (party_field c.args.rows.now.row)) c.self.view_is
+          (subst (HasRow c.self.inside.rows.entries) (c.in_ok-party.ensures ∙ party.1) there),
     )
 
 pub returns-clause-added : goal.returns-clause-added
 returns-clause-added c =
-    let entries = c.self.inside.rows.entries in
     let party = rw c.field.ensures at c.in-Some.ensures.some in
     let payee = rw c.field-2.ensures at c.in-Some-name.ensures.some in
     let nothing = ap is_some (sym c.in_ok-insert.ensures.old) ∙ sym c.is_some.ensures ∙ c.if-is_some.false in
-    let new = insert_entry-new (λ (one other : ArrayVec ℕ). pointwise nat_eq one.items other.items) c.self.inside.rows c.in-Some.party c.in-Some-name.payee (none_if_not _ (sym nothing)) in (
+    let new = insert_entry-new (pointwise nat_eq) c.self.inside.rows c.in_ok-party.party c.in_ok-payee.payee (none_if_not _ (sym nothing)) in (
       record {
         whole = omega (arith, c.len.ensures, c.if-len-ne2.false);
         names = (party.0, payee.0);
         new =
             subst (λ (payees : List (List ℕ × List ℕ)). ¬ HasRow payees (party_field c.args.rows.now.row)) c.self.view_is
-            (subst (λ (text : List ℕ). ¬ HasRow (map as_row entries) text) party.1 (no_row_if_none entries c.in-Some.party.items nothing));
+            (subst (λ (text : List ℕ). ¬ HasRow c.self.inside.rows.entries text) (c.in_ok-party.ensures ∙ party.1) (no_row_if_none c.self.inside.rows.entries c.in_ok-party.party nothing));
       },
-      entry_added entries c.in-Some.party c.in-Some-name.payee c.insert.new.self.entries (c.in_ok-insert.ensures.entries ∙ new) ∙ rw (c.self.view_is, party.1, payee.1) refl,
+      c.in_ok-insert.ensures.entries ∙ new ∙ rw (c.self.view_is, c.in_ok-party.ensures, c.in_ok-payee.ensures, party.1, payee.1) refl,
     )
