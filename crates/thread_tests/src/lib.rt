@@ -16,11 +16,15 @@ mod mail_rows;
 #[cfg(test)]
 mod payee_book_tests;
 #[cfg(test)]
+mod pool_calls_tests;
+#[cfg(test)]
 mod pool_mail_tests;
 #[cfg(test)]
 mod pool_rows;
 #[cfg(test)]
 mod pool_threads_tests;
+#[cfg(test)]
+mod posters;
 #[cfg(test)]
 mod run_threads_tests;
 #[cfg(test)]

@@ -1,27 +1,25 @@
 //! A pool of linked nodes between threads: what each sender sends to a mailbox is received there once and in order,
 //! however often its nodes are used again.
 
-ghost use Rattle.std.specs.Prelude.{◌≡◌, ◌+◌, ◌<◌, ◌≤◌, All, IfOk, unsigned_abs, vec_items, vec_len};
-ghost use Rattle.pool_box.specs.PoolViews.{sender_of};
+ghost use Rattle.std.specs.Prelude.{◌<◌, ◌≤◌, unsigned_abs};
 
-use pool_box::{Item, PoolMail, PoolReceiver, PoolSender, Posted, Took};
+use crate::posters::{Poster, open_posters};
+use pool_box::{Item, PoolMail, PoolReceiver, Posted, Took};
 use std::alloc::{AllocError, Global};
 use std::process::Abort;
 use std::test::Fail;
 use std::thread;
-use std::thread::{Threads, join};
-
-/// How many posts each of four senders sends to each of five mailboxes: six million in all, with 1, 2 and 64 nodes.
-const POSTS: u64 = 100_000;
+use std::thread::{Threads, join, map_vec};
 
 /// How often a thread may find nothing to do before its test fails.
 const MOST_TURNS: u64 = 1_000_000_000;
 
-/// A sender to five mailboxes.
-#[derive(Drop)]
-struct Poster {
-    sender: PoolSender,
-    ghost of_five: { (sender_of sender).mailboxes ≡ 5 },
+/// What is to come to each mailbox: so many posts of each of so many senders.
+#[derive(Clone, Copy)]
+struct Load {
+    senders: u64,
+    mailboxes: u64,
+    posts: u64,
 }
 
 /// A mailbox, and how many items have come there of each sender.
@@ -33,10 +31,11 @@ struct Inbox {
 }
 
 /// The mailbox of a sender's line.
-fn mailbox_of(sender: u64, line: u64) -> u64
-    ensures { result < 5 }
+fn mailbox_of(sender: u64, line: u64, mailboxes: u64) -> u64
+    requires { 0 < mailboxes }
+    ensures { result < mailboxes }
 {
-    (sender % 5 + line % 5) % 5
+    (sender % 8 + line % 1_000_000) % mailboxes
 }
 
 /// The amount of a sender's post.
@@ -47,14 +46,20 @@ fn amount_of(sender: u64, line: u64) -> i64
     if line % 2 == 0 { size } else { -size }
 }
 
-/// Sends a post, once there is a node for it.
-fn send(rt: &impl Abort, poster: &mut Poster, line: u64) {
+/// Sends a post, if there is a node for it.
+fn try_post(rt: &impl Abort, poster: &mut Poster, line: u64, lines: u64) -> Posted {
     let number = PoolMail::number(&poster.sender);
-    let (mailbox, amount) = (mailbox_of(number, line), amount_of(number, line));
+    let mailbox = mailbox_of(number, line, poster.mailboxes);
+    assert!(rt; line < lines && lines <= 1_000_000);
+    assert_eq!(rt; PoolMail::left(&poster.sender), lines - line);
+    assert!(rt; !PoolMail::ended(&poster.sender, mailbox));
+    PoolMail::try_send(&mut poster.sender, mailbox, line, amount_of(number, line))
+}
+
+/// Sends a post, once there is a node for it.
+fn send(rt: &impl Abort, poster: &mut Poster, line: u64, lines: u64) {
     for _ in 0..MOST_TURNS {
-        assert!(rt; line < 5 * POSTS && PoolMail::left(&poster.sender) == 5 * POSTS - line);
-        assert!(rt; !PoolMail::ended(&poster.sender, mailbox));
-        if PoolMail::try_send(&mut poster.sender, mailbox, line, amount) == Posted::Sent {
+        if try_post(rt, poster, line, lines) == Posted::Sent {
             return;
         }
         thread::yield_now();
@@ -63,96 +68,82 @@ fn send(rt: &impl Abort, poster: &mut Poster, line: u64) {
 }
 
 /// Sends an end mark.
-fn end(rt: &impl Abort, poster: &mut Poster, mailbox: u64)
-    requires { mailbox < 5 }
-{
-    assert!(rt; !PoolMail::ended(&poster.sender, mailbox));
+fn end(rt: &impl Abort, poster: &mut Poster, mailbox: u64) {
+    assert!(rt; mailbox < poster.mailboxes && !PoolMail::ended(&poster.sender, mailbox));
     PoolMail::end(&mut poster.sender, mailbox);
 }
 
 /// Sends all posts of a sender, and its end marks.
-fn send_all(rt: &impl Abort, mut poster: Poster) {
-    for line in 0..5 * POSTS {
-        send(rt, &mut poster, line);
+fn send_all(rt: &impl Abort, mut poster: Poster, lines: u64) {
+    for line in 0..lines {
+        send(rt, &mut poster, line, lines);
     }
     assert_eq!(rt; PoolMail::left(&poster.sender), 0);
-    for mailbox in 0..5 {
+    for mailbox in 0..poster.mailboxes {
         end(rt, &mut poster, mailbox);
     }
 }
 
 /// Asserts that an item is the next of its sender in a mailbox.
-fn assert_next(rt: &impl Abort, inbox: &mut Inbox, sender: u64, item: Item) {
-    assert!(rt; sender < 4, "no sender has the item");
+fn assert_next(rt: &impl Abort, inbox: &mut Inbox, load: Load, sender: u64, item: Item) {
+    assert!(rt;
+        sender < load.senders && sender < 4,
+        "no sender has the item"
+    );
+    assert!(rt; load.mailboxes > 0);
     let place = inbox.come[sender as usize];
-    assert!(rt; place <= POSTS, "the end mark is the last");
+    assert!(rt; place <= load.posts, "the end mark is the last");
     match item {
         Item::Post { line, amount } => {
-            assert!(rt; place < POSTS && line / 5 == place && amount == amount_of(sender, line));
-            assert_eq!(rt; mailbox_of(sender, line), inbox.mailbox);
+            assert!(rt; place < load.posts && line / load.mailboxes == place);
+            assert_eq!(rt; amount, amount_of(sender, line));
+            assert_eq!(rt; mailbox_of(sender, line, load.mailboxes), inbox.mailbox);
         }
-        Item::End => assert_eq!(rt; place, POSTS),
+        Item::End => assert_eq!(rt; place, load.posts),
     }
-    inbox.come[sender as usize] = place + 1;
+    inbox.come[sender as usize] = place.saturating_add(1);
 }
 
 /// Takes the next item of a mailbox, if there is one, and gives it back. Whether there was.
-fn take_next(rt: &impl Abort, inbox: &mut Inbox) -> bool {
+fn take_next(rt: &impl Abort, inbox: &mut Inbox, load: Load) -> bool {
     let Took::Held(held) = PoolMail::take(&mut inbox.receiver) else {
         return false;
     };
     let (sender, item) = PoolMail::read(&mut inbox.receiver, &held);
     PoolMail::give_back(&mut inbox.receiver, held);
-    assert_next(rt, inbox, sender, item);
+    assert_next(rt, inbox, load, sender, item);
     true
 }
 
 /// Takes from each mailbox in turn. Whether any had an item.
-fn take_round(rt: &impl Abort, inboxes: &mut Vec<Inbox>) -> bool {
+fn take_round(rt: &impl Abort, inboxes: &mut Vec<Inbox>, load: Load) -> bool {
     let mut took = false;
     for inbox in inboxes.iter_mut() {
-        if take_next(rt, inbox) {
+        if take_next(rt, inbox, load) {
             took = true;
         }
     }
     took
 }
 
+/// Whether all posts and the end mark of each sender have come to a mailbox.
+fn is_complete(inbox: &Inbox, load: Load) -> bool {
+    let all = load.posts.saturating_add(1);
+    inbox.come.iter().filter(|come| **come == all).count() as u64 == load.senders
+}
+
 /// Takes all items of mailboxes, and asserts that those of each sender come in order, none left out and none twice.
-fn take_all(rt: &impl Abort, mut inboxes: Vec<Inbox>) {
+fn take_all(rt: &impl Abort, mut inboxes: Vec<Inbox>, load: Load) {
     for _ in 0..MOST_TURNS {
-        if take_round(rt, &mut inboxes) {
+        if take_round(rt, &mut inboxes, load) {
             continue;
         }
-        if inboxes.iter().all(|inbox| inbox.come == [POSTS + 1; 4]) {
+        if inboxes.iter().all(|inbox| is_complete(inbox, load)) {
             return;
         }
         thread::yield_now();
     }
     panic!(rt; "no item comes");
-}
-
-/// Takes out the last of some senders.
-fn last_of(senders: &mut Vec<PoolSender>) -> Poster
-    requires some { 0 < vec_len senders.old }
-    requires of_five { All (λ s. (sender_of s).mailboxes ≡ 5) (vec_items senders.old) }
-    ensures left { vec_len senders.new + 1 ≡ vec_len senders.old }
-    ensures of_five { All (λ s. (sender_of s).mailboxes ≡ 5) (vec_items senders.new) }
-{
-    let Some(sender) = senders.pop() else {
-        unreachable!();
-    };
-    Poster { sender }
-}
-
-/// A pool of four senders and five mailboxes.
-fn open_pool(alloc: Global, nodes: u64) -> Result<(Vec<PoolSender>, Vec<PoolReceiver>), AllocError>
-    requires { (0 < nodes) × (nodes ≤ 64) }
-    ensures count { IfOk result (λ r. vec_len r.0 ≡ 4) }
-    ensures of_five { IfOk result (λ r. All (λ s. (sender_of s).mailboxes ≡ 5) (vec_items r.0)) }
-{
-    let (senders, receivers, _tally) = PoolMail::open(alloc, 4, 5, nodes, 5 * POSTS)?;
-    Ok((senders, receivers))
 }
 
 /// The mailboxes with an even number, and those with an odd one.
@@ -176,38 +167,71 @@ fn deal(
     Ok((even, odd))
 }
 
-/// Four senders, and two readers that go round their mailboxes, each in a thread of its own.
-fn post_of_four<R: Abort + Threads + Sync>(rt: &R, alloc: Global, nodes: u64) -> Result<(), Fail>
-    requires { (0 < nodes) × (nodes ≤ 64) }
+/// So many senders, and two readers that go round their mailboxes, each in a thread of its own.
+fn post_in_threads<R: Abort + Threads + Sync>(
+    rt: &R,
+    alloc: Global,
+    load: Load,
+    nodes: u64,
+) -> Result<(), Fail>
+    requires senders { (0 < load.senders) × (load.senders ≤ 8) }
+    requires mailboxes { (0 < load.mailboxes) × (load.mailboxes ≤ 16384) }
+    requires posts { load.posts ≤ 1000000 }
+    requires nodes { (0 < nodes) × (nodes ≤ 64) }
 {
-    let (mut senders, receivers) = open_pool(alloc, nodes)?;
-    let (fourth, third) = (last_of(&mut senders), last_of(&mut senders));
-    let (second, first) = (last_of(&mut senders), last_of(&mut senders));
+    let lines = load.mailboxes * load.posts;
+    assert!(rt; lines <= 1_000_000);
+    let (posters, receivers) = open_posters(alloc, load.senders, load.mailboxes, nodes, lines)?;
     let (even, odd) = deal(alloc, receivers)?;
-    join(
+    let (sent, _) = join(
         rt,
+        move || map_vec(rt, posters, &|poster| send_all(rt, poster, lines)),
         || join(
             rt,
-            || join(
-                rt,
-                move || send_all(rt, first),
-                move || send_all(rt, second),
-            ),
-            || join(
-                rt,
-                move || send_all(rt, third),
-                move || send_all(rt, fourth),
-            ),
+            move || take_all(rt, even, load),
+            move || take_all(rt, odd, load),
         ),
-        || join(rt, move || take_all(rt, even), move || take_all(rt, odd)),
     );
+    sent?;
     Ok(())
 }
 
+/// 5,181,088 posts, and with those of three senders ten million.
 #[test]
-fn four_senders_post_to_five_mailboxes_in_threads(rt: HostRuntime) -> Result<(), Fail> {
-    for nodes in [1, 2, 64] {
-        post_of_four(&rt, rt.alloc(), nodes)?;
+fn four_senders_post_to_mailboxes_in_threads(rt: HostRuntime) -> Result<(), Fail> {
+    for (mailboxes, nodes, posts) in [
+        (2, 1, 60_000),
+        (2, 64, 218_484),
+        (64, 2, 2_000),
+        (64, 64, 8_000),
+        (16_384, 64, 6),
+    ] {
+        let load = Load {
+            senders: 4,
+            mailboxes,
+            posts,
+        };
+        post_in_threads(&rt, rt.alloc(), load, nodes)?;
+    }
+    Ok(())
+}
+
+/// 4,818,912 posts.
+#[test]
+fn three_senders_post_to_mailboxes_in_threads(rt: HostRuntime) -> Result<(), Fail> {
+    for (mailboxes, nodes, posts) in [
+        (2, 2, 120_000),
+        (2, 64, 250_000),
+        (64, 1, 2_000),
+        (64, 64, 10_000),
+        (16_384, 64, 6),
+    ] {
+        let load = Load {
+            senders: 3,
+            mailboxes,
+            posts,
+        };
+        post_in_threads(&rt, rt.alloc(), load, nodes)?;
     }
     Ok(())
 }
