@@ -8,5 +8,7 @@ pub mod WorkingLemmas
 pub mod ReadingLemmas
 pub mod OpeningLemmas
 pub mod RunningLemmas
+pub mod PooledLemmas
+pub mod SeparateLemmas
 pub mod AddsUp
 mod Reversals

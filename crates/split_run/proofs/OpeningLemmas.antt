@@ -1,10 +1,9 @@
 -- One mailbox more is opened, and one sender or receiver more is handed out.
-use Rattle.std.proofs.Common.{arith, ◌≡◌, ◌≢◌, ◌∙◌, ◌<◌, ◌≤◌, ◌+◌, ◌%◌, ◌++◌, ◌∷◌, [], ℕ, Bool, true, false, List, None, Option, Some, cond, get_or, length, map, replicate, set, ap, sym, refl, subst, ⊎_elim}
-use Rattle.std.specs.Prelude.{◌==◌, ◌&&◌, All, nat_lt, option_map}
-use Rattle.std.proofs.lemmas.List.Elements.{All-push, All-set}
+use Rattle.std.proofs.Common.{add-one, arith, ◌≡◌, ◌≢◌, ◌∙◌, ◌<◌, ◌≤◌, ◌+◌, ◌%◌, ◌++◌, ◌∷◌, [], ℕ, Bool, true, false, List, None, Option, Some, cond, get_or, length, map, replicate, set, ap, sym, refl, subst, ⊎_elim}
+use Rattle.std.specs.Prelude.{◌==◌, ◌&&◌, nat_lt, option_map}
 use Rattle.std.proofs.lemmas.Bool.{cases_lt}
 use Rattle.std.proofs.lemmas.Bool.Decides.{eqb_tells, nat_tests}
-use Rattle.std.proofs.lemmas.List.{get_or-map, map_push, map-set, get_or-replicate, get_or_append_left, get_or-set_other, get_or-set_same, get_or_push, length-append, length-replicate, length-set, replicate-append-replicate}
+use Rattle.std.proofs.lemmas.List.{get_or-map, map-set, get_or-replicate, get_or_append_left, get_or-set_other, get_or-set_same, get_or_push, length-append, length-replicate, length-set}
 use Rattle.mail_box.specs.Mails.{ReceiverView, SenderView, opened_receiver, opened_sender}
 use Rattle.split_run.specs.Reading.{IsUntouched}
 use Rattle.split_run.specs.Running.{AreDealt, AreLeft, AreMailboxes, HaveOneMore}
@@ -26,6 +25,15 @@ changed_at xs ys y d n k changed within P before here =
     (λ e. subst P (sym (ap (λ l. get_or l k d) changed ∙ ap (λ (i : ℕ). get_or (set xs n y) i d) e.1 ∙ get_or-set_same xs n y d within)) (here e.1))
     (λ e. subst P (sym (ap (λ l. get_or l k d) changed ∙ get_or-set_other xs n k y d e.1)) (before e.1))
     (eqb_tells k n)
+
+-- some value of a list that is not empty
+pub some_of : {A : Type 0} (xs : List A) (k : ℕ) → k < length xs → A
+some_of [] k lt = absurd (omega (arith, lt))
+some_of (x ∷ xs) k lt = x
+
+-- one element further on
+pub at_next : {X : Type 0} (x : X) (xs : List X) (k : ℕ) (d : X) → get_or (x ∷ xs) (k + 1) d ≡ get_or xs k d
+at_next x xs k d = rw add-one refl
 
 -- the places before this one are dealt
 pub record IsDealtUpTo {V : Type 0} (readers reader place : ℕ) (was left own : List (Option V)) : Type 0 where
@@ -105,9 +113,6 @@ module _ {V : Type 0} (was : List (List V)) (senders : List V) where
             (λ same. absurd (omega (arith, same, from)));
       }
 
-pub all_given : {Name : Type 0} (was : List (List (SenderView Name))) (senders : List (SenderView Name)) (now : List (List (SenderView Name))) (number : ℕ) → number ≡ length was → HaveOneMoreUpTo number was senders now → HaveOneMore was senders now
-all_given was senders now number whole have = record { count = have.count; each = λ worker s lt. have.done worker s (omega (arith, lt, whole)) }
-
 module _ {Name : Type 0} (workers nodes most : ℕ) where
   -- no mailbox yet
   pub no_mailbox : AreMailboxes {Name = Name} workers 0 nodes most (replicate workers []) []
@@ -147,10 +152,6 @@ module _ {Name : Type 0} (workers nodes most : ℕ) where
             ))
             (cases_lt account accounts);
       }
-
--- a worker more with no sender
-pub replicate_more : {A : Type 0} (n : ℕ) (a : A) → replicate n a ++ a ∷ [] ≡ replicate (n + 1) a
-replicate_more n a = replicate-append-replicate n 1 a
 
 -- what is not taken is nothing, seen either way
 pub cond_none : {A B : Type 0} (f : A → B) (b : Bool) (x : Option A) → option_map f (cond b None x) ≡ cond b None (option_map f x)
@@ -221,13 +222,3 @@ untouched_dealt {Name = Name} workers readers reader was own of untouched accoun
     go : (b : Bool) → cond b (get_or was account None) None ≡ Some r → (r.senders ≡ workers) × (r.got ≡ (λ sender. []))
     go true at = untouched account lt r at
     go false at = absurd (cc)
-
--- a worker more, with no sender yet
-pub worker_more : {W V : Type 0} (f : W → List V) (P : W → Type 0) (all all' : List W) (w : W) (n : ℕ) → all' ≡ all ++ w ∷ [] → f w ≡ [] → P w → map f all ≡ replicate n [] → All P all
-    → (map f all' ≡ replicate (n + 1) []) × All P all'
-worker_more f P all all' w n pushed none has empty have =
-    (ap (map f) pushed ∙ map_push f all w ∙ (λ i. empty i ++ none i ∷ []) ∙ replicate_more n [], subst (All P) (sym pushed) (All-push P all w have has))
-
--- a worker that got a sender has the room that it had
-pub room_kept : {W : Type 0} (P : W → Type 0) (all : List W) (number : ℕ) (x new : W) → number < length all → x ≡ get_or all number x → (P x → P new) → All P all → All P (set all number new)
-room_kept P all number x new within at same have = All-set P all number new (same (subst P (sym at) (have number x within))) have

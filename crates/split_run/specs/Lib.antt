@@ -5,3 +5,4 @@ pub mod Divisions
 pub mod Sending
 pub mod Reading
 pub mod Running
+pub mod PoolSeen

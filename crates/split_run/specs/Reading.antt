@@ -46,15 +46,15 @@ module _ {Name : Type 0} where
 abbrev pub inboxes_by : {R Name : Type 0} → (R → ReceiverView Name) → List (Option R) → List (Option (ReceiverView Name))
 inboxes_by receiver inboxes = map (option_map receiver) inboxes
 
-module _ {M Sender Receiver Held Name : Type 0} where
+module _ {B Sender Receiver Kept Gathered Name : Type 0} where
   -- what a reader has taken from its mailboxes since they were opened, and what it keeps of it
-  abbrev pub HasKept : (Receiver → ReceiverView Name) → Reader M Sender Receiver Held → Type 0
+  abbrev pub HasKept : (Receiver → ReceiverView Name) → Reader B Sender Receiver Kept Gathered → Type 0
   HasKept receiver reader = AreTaken reader.workers reader.whole (inboxes_by receiver reader.opened.value.items) (inboxes_by receiver reader.inboxes.items) reader.ends.items reader.journal
 
   -- it has taken and kept all
-  abbrev pub HasKeptAll : (Receiver → ReceiverView Name) → Reader M Sender Receiver Held → Type 0
+  abbrev pub HasKeptAll : (Receiver → ReceiverView Name) → Reader B Sender Receiver Kept Gathered → Type 0
   HasKeptAll receiver reader = AreServed reader.workers (inboxes_by receiver reader.opened.value.items) (inboxes_by receiver reader.inboxes.items) reader.journal
 
   -- and this is what it gave back
-  abbrev pub HasServed : (Receiver → ReceiverView Name) → Reader M Sender Receiver Held → Served M Sender Receiver Held → Type 0
+  abbrev pub HasServed : (Receiver → ReceiverView Name) → Reader B Sender Receiver Kept Gathered → Served B Sender Receiver Kept Gathered → Type 0
   HasServed receiver reader served = AreServed reader.workers (inboxes_by receiver reader.opened.value.items) (inboxes_by receiver served.inboxes.items) served.book

@@ -1,5 +1,5 @@
 -- What a run opens, and what its threads give back.
-use Rattle.std.specs.Prelude.{ℕ, ℤ, ◌≡◌, ◌+◌, ◌<◌, ◌≤◌, ◌%◌, ◌==◌, ◌++◌, ◌∷◌, [], List, None, Option, Some, cond, length, map, nat_lt, slice_index_or, true}
+use Rattle.std.specs.Prelude.{Bool, ℕ, ℤ, ◌≡◌, ◌+◌, ◌<◌, ◌≤◌, ◌%◌, ◌==◌, ◌++◌, ◌∷◌, [], List, None, Option, Some, cond, length, nat_lt, slice_index_or, true}
 use Rattle.line_split.specs.UsageLine.{UsageLine}
 use Rattle.line_split.specs.declared.TheConstants.{MOST_CLAIMS}
 use Rattle.block_draw.specs.Views.{DrawView, DrawerView, drawer_of}
@@ -14,15 +14,15 @@ use Rattle.mail_box.specs.Mails.{Begins, ReceiverView, SenderView, opened_receiv
 abbrev pub IsFresh : ℕ → DrawerView → Type 0
 IsFresh lines drawer = (drawer.blocks ≡ blocks_of lines) × (drawer.drawn ≡ [])
 
-module _ {Name : Type 0} where
-  -- each list has one sender more, the one at its place
-  pub record HaveOneMore (before : List (List (SenderView Name))) (senders : List (SenderView Name)) (after : List (List (SenderView Name))) : Type 0 where
-    pub count : length after ≡ length before
-    pub each : (worker : ℕ) (s : SenderView Name) → worker < length before → slice_index_or after worker [] ≡ slice_index_or before worker [] ++ slice_index_or senders worker s ∷ []
+-- each list has one sender more, the one at its place
+pub record HaveOneMore {S : Type 0} (before : List (List S)) (senders : List S) (after : List (List S)) : Type 0 where
+  pub count : length after ≡ length before
+  pub each : (worker : ℕ) (s : S) → worker < length before → slice_index_or after worker [] ≡ slice_index_or before worker [] ++ slice_index_or senders worker s ∷ []
 
-  -- the senders of a worker before it starts: one for each account, each with room for a posting of every line
-  abbrev pub AreForWork : (accounts lines : ℕ) → List (SenderView Name) → Type 0
-  AreForWork accounts lines senders = (length senders ≡ accounts) × AreFresh senders × AreReadyFor senders lines
+module _ {Name : Type 0} where
+  -- the senders of a worker before it starts: one for each account, with room for the postings of every line
+  abbrev pub AreForWork : (is_shared : Bool) → (accounts lines : ℕ) → List (SenderView Name) → Type 0
+  AreForWork is_shared accounts lines senders = (length senders ≡ accounts) × AreFresh senders × AreReadyFor is_shared senders lines
 
   -- A mailbox for each account: its receiver, and for each worker a list of the senders, in order of account.
   pub record AreMailboxes (workers accounts nodes most : ℕ) (senders : List (List (SenderView Name))) (inboxes : List (Option (ReceiverView Name))) : Type 0 where
@@ -32,16 +32,21 @@ module _ {Name : Type 0} where
     pub each : (account : ℕ) → account < accounts → (mailbox : Name) × (slice_index_or inboxes account None ≡ Some (opened_receiver mailbox workers))
         × ((worker : ℕ) (s : SenderView Name) → worker < workers → slice_index_or (slice_index_or senders worker []) account s ≡ opened_sender mailbox worker nodes most)
 
-module _ {M Sender Receiver Held Name : Type 0} where
-  -- A worker may start: it has a sender for each account, with room for a posting of every line, a drawer of the blocks of so many lines, and room for the division of a line.
-  pub record IsReady (sender : Sender → SenderView Name) (accounts lines : ℕ) (worker : Worker M Sender Receiver Held) : Type 0 where
-    pub senders : AreForWork accounts lines (map sender worker.senders.items)
+module _ {B Sender Receiver Kept Gathered : Type 0} where
+  -- a worker has room for the division of a line
+  abbrev pub HasRoom : Worker B Sender Receiver Kept Gathered → Type 0
+  HasRoom worker = (MOST_CLAIMS ≤ worker.claims.room) × (MOST_CLAIMS + 1 ≤ worker.portions.room)
+
+module _ {B Sender Receiver Kept Gathered Name : Type 0} where
+  -- A worker may start: it has a sender for each account, with room for the postings of every line, a drawer of the blocks of so many lines, and room for the division of a line.
+  pub record IsReady (is_shared : Bool) (senders_of : List Sender → List (SenderView Name)) (accounts lines : ℕ) (worker : Worker B Sender Receiver Kept Gathered) : Type 0 where
+    pub senders : AreForWork is_shared accounts lines (senders_of worker.senders.items)
     pub drawer : IsFresh lines (drawer_of worker.drawer)
-    pub room : (MOST_CLAIMS ≤ worker.claims.room) × (MOST_CLAIMS + 1 ≤ worker.portions.room)
+    pub room : HasRoom worker
 
   -- A worker is done: its drawer has found that no block is left, and its senders have sent what the blocks come to that it drew, and have ended.
-  pub record HasWorked (sender : Sender → SenderView Name) (division : UsageLine → List (ℕ × ℤ)) (usage : List UsageLine) (worker : Worker M Sender Receiver Held) (worked : Worked M Sender Receiver Held) : Type 0 where
-    pub sent : HaveEnded (map sender worker.senders.items) (map sender worked.senders.items) (λ account. postings_of division usage account (drawer_of worked.drawer).drawn)
+  pub record HasWorked (is_shared : Bool) (senders_of : List Sender → List (SenderView Name)) (division : UsageLine → List (ℕ × ℤ)) (usage : List UsageLine) (worker : Worker B Sender Receiver Kept Gathered) (worked : Worked B Sender Receiver Kept Gathered) : Type 0 where
+    pub sent : HaveEnded is_shared (senders_of worker.senders.items) (senders_of worked.senders.items) (λ account. postings_of division usage account (drawer_of worked.drawer).drawn)
     pub same : ((drawer_of worked.drawer).draw ≡ (drawer_of worker.drawer).draw) × ((drawer_of worked.drawer).number ≡ (drawer_of worker.drawer).number)
     pub done : (drawer_of worked.drawer).is_done ≡ true
 
@@ -87,9 +92,10 @@ module _ {Name : Type 0} where
 
   -- What a worker gave back may be taken in: its senders have ended, each at the mailbox of its account, and its drawer is one of this draw and has found that no block is left.
   pub record MayBeTakenIn (draw : DrawView) (drawer : DrawerView) (inboxes : List (Option (ReceiverView Name))) (senders : List (SenderView Name)) : Type 0 where
+    pub some : 0 < length inboxes
     pub count : length senders ≡ length inboxes
-    pub ended : (account : ℕ) (s : SenderView Name) (r : ReceiverView Name) → account < length inboxes → slice_index_or inboxes account None ≡ Some r
-        → ((slice_index_or senders account s).mailbox ≡ r.mailbox) × ((slice_index_or senders account s).is_ended ≡ true)
+    pub ended : (account : ℕ) (s : SenderView Name) → account < length inboxes → (r : ReceiverView Name) × (slice_index_or inboxes account None ≡ Some r)
+        × ((slice_index_or senders account s).mailbox ≡ r.mailbox) × ((slice_index_or senders account s).is_ended ≡ true)
     pub same : drawer.draw ≡ draw.draw
     pub done : drawer.is_done ≡ true
 

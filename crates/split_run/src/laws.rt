@@ -6,13 +6,14 @@ ghost use Rattle.line_split.specs.UsageLine.{IsReversalOf, UsageLine};
 ghost use Rattle.payee_book.specs.Run.{portion_of, statement_of};
 ghost use Rattle.payee_book.specs.Statement.{total_of};
 ghost use Rattle.split_run.specs.Divisions.{division_by};
-ghost use Rattle.split_run.specs.declared.TheConstants.{MOST_NODES, MOST_THREADS};
+ghost use Rattle.split_run.specs.declared.TheConstants.{MOST_NODES, MOST_POSTINGS, MOST_THREADS};
 ghost use Rattle.split_run.specs.Taken.{TakingKeepsUp, WhatWasSentIsTheStatement};
 
-/// A run has at most 8 workers and 8 readers, and a worker at most 64 nodes in a mailbox.
+/// A run has at most 8 workers and 8 readers, a worker at most 64 nodes in a mailbox or a pool, and a line at most 257 postings.
 pub fn law_the_limits()
     ensures most_threads { MOST_THREADS ≡ 8 }
     ensures most_nodes { MOST_NODES ≡ 64 }
+    ensures most_postings { MOST_POSTINGS ≡ 257 }
 {}
 
 /// Of each account: where every block of usage lines was drawn by one worker, and all that the workers sent was taken, in

@@ -1,16 +1,20 @@
 //! The threads of a distribution run.
 #![tactic(auto)]
 
+mod bells;
 mod counting;
 mod fault;
 mod gate;
 pub mod laws;
+mod mailboxes;
 mod meeting;
 mod opening;
 mod plan;
+mod pooled;
 mod reading;
 mod running;
 mod sending;
+mod separate;
 mod starting;
 mod working;
 
@@ -20,8 +24,8 @@ pub use fault::RunFault;
 pub use gate::{Gate, NoGate};
 pub use meeting::{MeetingGate, MeetingMail, MeetingReceiver};
 pub use plan::Plan;
-pub use running::{run, run_cut};
-pub use working::work;
+pub use running::{run, run_cut, run_pool, run_pool_cut};
+pub use working::{work, work_pool};
 
 /// The most workers, and the most readers, of a run.
 pub const MOST_THREADS: u64 = 8;
@@ -31,3 +35,6 @@ pub const MOST_NODES: u64 = 64;
 
 /// How many usage lines a block has; the last may have fewer.
 pub const LINES_IN_BLOCK: usize = 64;
+
+/// The most postings that a usage line has: one for each of 256 parties, and one for the residue.
+pub const MOST_POSTINGS: u64 = 257;

@@ -5,24 +5,31 @@ ghost use Rattle.mail_box.specs.Mails.{HasReceived, ReceiverView};
 ghost use Rattle.split_run.specs.Reading.{HasKept, HasKeptAll, HasServed, IsUntouched, inboxes_by};
 
 use crate::MOST_NODES;
+use crate::bells::Bells;
+use crate::mailboxes::Mailboxes;
 use crossbeam_utils::Backoff;
 use line_split::Account;
-use mail_box::{Item, Mail, receive};
 use payee_book::{Book, Journal};
+use queue_core::Item;
 use std::alloc::{AllocError, Global};
 use std::snapshot::Snapshot;
 use std::sync::Wait;
 use std::sync::atomic::{AtomicBool, Ordering};
 
+/// How often a reader looks in vain at its bells before it goes to each mailbox.
+const IDLE_TURNS: u32 = 64;
+
 /// The mailboxes of the accounts that one reader serves, and what it has taken from them.
 #[derive(Drop)]
-pub(crate) struct Reader<M: Mail> {
+pub(crate) struct Reader<B: Mailboxes> {
     /// The mailbox of each account, where this reader serves it.
-    pub inboxes: Vec<Option<M::Receiver>>,
+    pub inboxes: Vec<Option<B::Receiver>>,
     /// The same as they were opened.
-    pub opened: Snapshot<Vec<Option<M::Receiver>>>,
+    pub opened: Snapshot<Vec<Option<B::Receiver>>>,
     /// How many workers send to each mailbox.
     pub workers: u64,
+    /// Which of the readers it is, from 0.
+    number: usize,
     /// How many end marks each mailbox has given.
     ends: Vec<u64>,
     pub journal: Journal,
@@ -32,24 +39,25 @@ pub(crate) struct Reader<M: Mail> {
 
 /// What a reader gives back: its mailboxes, and the statements of their accounts.
 #[derive(Drop)]
-pub(crate) struct Served<M: Mail> {
-    pub inboxes: Vec<Option<M::Receiver>>,
+pub(crate) struct Served<B: Mailboxes> {
+    pub inboxes: Vec<Option<B::Receiver>>,
     pub book: Book,
 }
 
-impl<M: Mail> Reader<M> {
+impl<B: Mailboxes> Reader<B> {
     /// A reader of these mailboxes that has taken nothing.
     pub fn new(
         alloc: Global,
-        inboxes: Vec<Option<M::Receiver>>,
+        number: usize,
+        inboxes: Vec<Option<B::Receiver>>,
         accounts: u16,
         workers: u64,
-    ) -> Result<Reader<M>, AllocError>
+    ) -> Result<Reader<B>, AllocError>
         requires some { 0 < accounts }
         requires count { length inboxes.items ≡ accounts }
-        requires untouched { (account : ℕ) → account < accounts → IsUntouched workers (slice_index_or (inboxes_by M.receiver inboxes.items) account None) }
+        requires untouched { (account : ℕ) → account < accounts → IsUntouched workers (slice_index_or (inboxes_by B.receiver inboxes.items) account None) }
         ensures opened { IfOk result (λ r. (r.opened.value ≡ inboxes) × (r.workers ≡ workers)) }
-        ensures taken { IfOk result (HasKept M.receiver) }
+        ensures taken { IfOk result (HasKept B.receiver) }
     {
         let opened = Snapshot::of(&inboxes);
         let ends = vec![in alloc; 0u64; inboxes.len()]?;
@@ -58,40 +66,46 @@ impl<M: Mail> Reader<M> {
             inboxes,
             opened,
             workers,
+            number,
             ends,
             journal,
             whole: true,
         })
     }
 
-    /// Takes from each mailbox in turn until every one has given an end mark of each worker. False: the run was stopped,
-    /// or a posting was refused its memory.
-    pub fn serve<R: Wait>(&mut self, rt: &R, stop: &AtomicBool) -> bool
-        requires taken { HasKept M.receiver self.old }
-        ensures served { result ≡ true → HasKeptAll M.receiver self.new }
+    /// Takes from its mailboxes until every one has given an end mark of each worker: from those whose bells have rung, if there
+    /// are bells, and now and then, or where there are none, from each in turn. False: the run was stopped, or a posting was
+    /// refused its memory.
+    pub fn serve<R: Wait>(&mut self, rt: &R, stop: &AtomicBool, bells: Option<&Bells>) -> bool
+        requires taken { HasKept B.receiver self.old }
+        ensures served { result ≡ true → HasKeptAll B.receiver self.new }
         ensures opened { (self.new.opened.value ≡ self.old.opened.value) × (self.new.workers ≡ self.old.workers) }
     {
         let turn = Backoff::new();
+        let mut idle = 0u32;
         for _ in rt.forever() {
-            if self.take_round(rt) {
+            let everywhere = bells.is_none() || idle >= IDLE_TURNS;
+            if self.take_round(rt, if everywhere { None } else { bells }) {
+                idle = 0;
                 turn.reset();
                 continue;
             }
-            if self.have_ended() {
+            if everywhere && self.have_ended() {
                 return self.whole;
             }
             if stop.load(Ordering::SeqCst) {
                 return false;
             }
+            idle = if everywhere { 0 } else { idle + 1 };
             turn.snooze();
         }
         unreachable!()
     }
 
     /// The mailboxes, and the statements of what was taken.
-    pub fn into_served(self) -> Served<M>
-        requires { HasKeptAll M.receiver self }
-        ensures { HasServed M.receiver self result }
+    pub fn into_served(self) -> Served<B>
+        requires { HasKeptAll B.receiver self }
+        ensures { HasServed B.receiver self result }
     {
         Served {
             inboxes: self.inboxes,
@@ -99,10 +113,22 @@ impl<M: Mail> Reader<M> {
         }
     }
 
+    /// Takes from the mailboxes whose bells have rung or, if there are no bells, from each in turn. False: none had anything.
+    fn take_round<R: Wait>(&mut self, rt: &R, bells: Option<&Bells>) -> bool
+        requires taken { HasKept B.receiver self.old }
+        ensures taken { HasKept B.receiver self.new }
+        ensures opened { (self.new.opened.value ≡ self.old.opened.value) × (self.new.workers ≡ self.old.workers) }
+    {
+        match bells {
+            Some(bells) => self.take_rung(rt, bells),
+            None => self.take_each(rt),
+        }
+    }
+
     /// Takes from each mailbox in turn. False: none had anything.
-    fn take_round<R: Wait>(&mut self, rt: &R) -> bool
-        requires taken { HasKept M.receiver self.old }
-        ensures taken { HasKept M.receiver self.new }
+    fn take_each<R: Wait>(&mut self, rt: &R) -> bool
+        requires taken { HasKept B.receiver self.old }
+        ensures taken { HasKept B.receiver self.new }
         ensures opened { (self.new.opened.value ≡ self.old.opened.value) × (self.new.workers ≡ self.old.workers) }
     {
         let mut took = false;
@@ -114,11 +140,47 @@ impl<M: Mail> Reader<M> {
         took
     }
 
+    /// Takes from the mailboxes whose bells have rung. False: none had anything.
+    fn take_rung<R: Wait>(&mut self, rt: &R, bells: &Bells) -> bool
+        requires taken { HasKept B.receiver self.old }
+        ensures taken { HasKept B.receiver self.new }
+        ensures opened { (self.new.opened.value ≡ self.old.opened.value) × (self.new.workers ≡ self.old.workers) }
+    {
+        let mut took = false;
+        for word in 0..bells.words(self.number) {
+            if self.take_word(rt, bells, word) {
+                took = true;
+            }
+        }
+        took
+    }
+
+    /// Takes from those mailboxes that have their bells in one word. False: none had anything.
+    fn take_word<R: Wait>(&mut self, rt: &R, bells: &Bells, word: usize) -> bool
+        requires taken { HasKept B.receiver self.old }
+        ensures taken { HasKept B.receiver self.new }
+        ensures opened { (self.new.opened.value ≡ self.old.opened.value) × (self.new.workers ≡ self.old.workers) × (length self.new.journal ≡ length self.old.journal) }
+    {
+        let mut rung = bells.still(self.number, word);
+        let mut took = false;
+        for _ in 0..rung.count_ones() {
+            let bell = rung.trailing_zeros() as usize;
+            rung &= rung.wrapping_sub(1);
+            let account = bells.account(self.number, word, bell);
+            if account < self.journal.accounts() as usize
+                && self.take_some(rt, account as Account)
+            {
+                took = true;
+            }
+        }
+        took
+    }
+
     /// Takes what the mailbox of an account has, up to as many items as a worker may have in it. False: it had none.
     fn take_some<R: Wait>(&mut self, rt: &R, account: Account) -> bool
         requires account { account < length self.old.journal }
-        requires taken { HasKept M.receiver self.old }
-        ensures taken { HasKept M.receiver self.new }
+        requires taken { HasKept B.receiver self.old }
+        ensures taken { HasKept B.receiver self.new }
         ensures opened { (self.new.opened.value ≡ self.old.opened.value) × (self.new.workers ≡ self.old.workers) × (length self.new.journal ≡ length self.old.journal) }
     {
         let mut took = false;
@@ -134,15 +196,15 @@ impl<M: Mail> Reader<M> {
     /// Takes from the mailbox of an account, and records a posting. False: there was none, or no more is to come.
     fn take_from<R: Wait>(&mut self, rt: &R, account: Account) -> bool
         requires account { account < length self.old.journal }
-        requires taken { HasKept M.receiver self.old }
-        ensures taken { HasKept M.receiver self.new }
+        requires taken { HasKept B.receiver self.old }
+        ensures taken { HasKept B.receiver self.new }
         ensures opened { (self.new.opened.value ≡ self.old.opened.value) × (self.new.workers ≡ self.old.workers) × (length self.new.journal ≡ length self.old.journal) }
     {
         let place = account as usize;
         if self.ends[place] >= self.workers {
             return false;
         }
-        match receive_at::<M, R>(rt, &mut self.inboxes, place) {
+        match receive_at::<B, R>(rt, &mut self.inboxes, place) {
             Some((_, Item::Post { line, amount })) => {
                 if self.whole {
                     self.whole = self.journal.record(account, line, amount).is_ok();
@@ -160,7 +222,7 @@ impl<M: Mail> Reader<M> {
     /// Whether each mailbox has given an end mark of each worker.
     fn have_ended(&self) -> bool
         requires { length self.now.ends.items ≡ length self.now.inboxes.items }
-        ensures { result ≡ true → (account : ℕ) → account < length self.now.inboxes.items → (slice_index_or (inboxes_by M.receiver self.now.inboxes.items) account None ≡ None) ⊎ (self.now.workers ≤ slice_index_or self.now.ends.items account 0) }
+        ensures { result ≡ true → (account : ℕ) → account < length self.now.inboxes.items → (slice_index_or (inboxes_by B.receiver self.now.inboxes.items) account None ≡ None) ⊎ (self.now.workers ≤ slice_index_or self.now.ends.items account 0) }
     {
         for account in 0..self.inboxes.len() {
             if self.inboxes[account].is_some() && self.ends[account] < self.workers {
@@ -172,16 +234,16 @@ impl<M: Mail> Reader<M> {
 }
 
 /// Takes an item from the mailbox of an account, if there is one.
-fn receive_at<M: Mail, R: Wait>(
+fn receive_at<B: Mailboxes, R: Wait>(
     rt: &R,
-    inboxes: &mut Vec<Option<M::Receiver>>,
+    inboxes: &mut Vec<Option<B::Receiver>>,
     account: usize,
 ) -> Option<(u64, Item)>
     requires { account < length (vec_items inboxes.old) }
-    ensures { MatchOption result (inboxes_by M.receiver (vec_items inboxes.new) ≡ inboxes_by M.receiver (vec_items inboxes.old)) (λ pair. (r : ReceiverView _) × (after : ReceiverView _) × (slice_index_or (inboxes_by M.receiver (vec_items inboxes.old)) account None ≡ Some r) × HasReceived r after pair.0 pair.1 × (inboxes_by M.receiver (vec_items inboxes.new) ≡ slice_set (inboxes_by M.receiver (vec_items inboxes.old)) account (Some after))) }
+    ensures { MatchOption result (inboxes_by B.receiver (vec_items inboxes.new) ≡ inboxes_by B.receiver (vec_items inboxes.old)) (λ pair. (r : ReceiverView _) × (after : ReceiverView _) × (slice_index_or (inboxes_by B.receiver (vec_items inboxes.old)) account None ≡ Some r) × HasReceived r after pair.0 pair.1 × (inboxes_by B.receiver (vec_items inboxes.new) ≡ slice_set (inboxes_by B.receiver (vec_items inboxes.old)) account (Some after))) }
 {
     match &mut inboxes[account] {
-        Some(receiver) => receive::<M, R>(rt, receiver),
+        Some(receiver) => B::receive(rt, receiver),
         None => None,
     }
 }

@@ -1,20 +1,26 @@
 //! A run: workers divide the usage lines, readers keep the statements, and between them lies a mailbox for each account.
 
-ghost use Rattle.std.specs.Prelude.{◌≡◌, ◌+◌, ◌<◌, ◌≤◌, ℕ, All, IfOk, IfSome, None, OnOk, Some, length, map, replicate, slice_index_or, true, vec_items};
+ghost use Rattle.std.specs.Prelude.{◌≡◌, ◌+◌, ◌<◌, ◌≤◌, ℕ, All, IfOk, IfSome, List, None, OnOk, Some, length, map, replicate, slice_index_or, true, vec_items};
 ghost use Rattle.line_split.specs.Signs.{int_sum_by};
 ghost use Rattle.mail_box.specs.Mails.{Begins, ReceiverView, SenderView, with_sender};
+ghost use Rattle.queue_core.specs.declared.item.Item.{Item};
 ghost use Rattle.payee_book.specs.Run.{IsBookOf};
 ghost use Rattle.payee_book.specs.Statement.{total_of};
 ghost use Rattle.split_run.specs.Divisions.{division_by};
-ghost use Rattle.split_run.specs.Reading.{HasKept, inboxes_by};
+ghost use Rattle.split_run.specs.Reading.{HasKept, inboxes_by, with_got};
 ghost use Rattle.block_draw.specs.Drawn.{AreDrawnOnce};
 ghost use Rattle.block_draw.specs.Views.{draw_of, drawer_of, opened_draw, opened_drawer, with_drawer};
 ghost use Rattle.split_run.specs.Blocks.{blocks_of};
+ghost use Rattle.split_run.specs.Sending.{room_of};
 ghost use Rattle.split_run.specs.Running.{AreDealt, AreMailboxes, AreMerged, AreTakenIn, IsGivenBack, IsReady, IsWorkOf, MayBeTakenIn, or_else};
 
+use crate::bells::Bells;
 use crate::gate::Gate;
-use crate::opening::{Worker, open_mailboxes, readers_of};
+use crate::mailboxes::Mailboxes;
+use crate::opening::{Worker, readers_of, workers_of};
+use crate::pooled::Pooled;
 use crate::reading::{Reader, Served};
+use crate::separate::Separate;
 use crate::starting::{Worked, at_once};
 use crate::working::Inputs;
 use crate::{LINES_IN_BLOCK, Plan, RunFault};
@@ -23,14 +29,18 @@ use cwr_share::Registry;
 use line_split::Usage;
 use mail_box::Mail;
 use payee_book::Book;
+use pool_box::Pool;
 use std::alloc::{AllocError, Global};
 use std::snapshot::Snapshot;
 use std::sync::Wait;
 use std::thread::Threads;
 use tis_tree::TisTable;
 
-/// The statements of all accounts, worked out by the threads of a plan over mailboxes of any kind. They do not depend on the
-/// plan, the mailboxes, the gate or the order in which the threads run, and their totals come to all amounts.
+/// From so many mailboxes of a reader on it looks at its bells: with fewer it is faster to go to each.
+const MANY_MAILBOXES: u64 = 500;
+
+/// The statements of all accounts, worked out by the threads of a plan over a mailbox of any kind for each account. They do not
+/// depend on the plan, the mailboxes, the gate or the order in which the threads run, and their totals come to all amounts.
 pub fn run<M: Mail, G: Gate, R: Threads + Wait + Sync>(
     rt: &R,
     alloc: Global,
@@ -70,37 +80,111 @@ pub fn run_cut<M: Mail, G: Gate, R: Threads + Wait + Sync>(
         registry,
         usage,
     };
-    let accounts = registry.accounts();
+    run_on(rt, alloc, &Separate(mail), inputs, plan, gate, threads)
+}
+
+/// The same over a pool of any kind, with a mailbox for each account.
+pub fn run_pool<P: Pool, G: Gate, R: Threads + Wait + Sync>(
+    rt: &R,
+    alloc: Global,
+    pool: &P,
+    tis: &TisTable,
+    registry: &Registry,
+    usage: &Usage,
+    plan: Plan,
+    gate: &G,
+) -> Result<Book, RunFault>
+    ensures book { IfOk result (IsBookOf (division_by tis.now registry.now) usage.now (length registry.now.parties)) }
+    ensures adds_up { IfOk result (λ book. int_sum_by total_of book ≡ int_sum_by (λ line. line.amount) usage.now) }
+{
+    let threads = plan.readers + plan.workers;
+    run_pool_cut(rt, alloc, pool, tis, registry, usage, plan, gate, threads)
+}
+
+/// The same over a pool, where the thread with a number counts as refused, as `run_cut` has it.
+pub fn run_pool_cut<P: Pool, G: Gate, R: Threads + Wait + Sync>(
+    rt: &R,
+    alloc: Global,
+    pool: &P,
+    tis: &TisTable,
+    registry: &Registry,
+    usage: &Usage,
+    plan: Plan,
+    gate: &G,
+    threads: u64,
+) -> Result<Book, RunFault>
+    ensures book { IfOk result (IsBookOf (division_by tis.now registry.now) usage.now (length registry.now.parties)) }
+    ensures adds_up { IfOk result (λ book. int_sum_by total_of book ≡ int_sum_by (λ line. line.amount) usage.now) }
+    ensures cut { IfOk result (λ _. plan.readers + plan.workers ≤ threads) }
+{
+    let inputs = Inputs {
+        tis,
+        registry,
+        usage,
+    };
+    run_on(rt, alloc, &Pooled(pool), inputs, plan, gate, threads)
+}
+
+/// A run over mailboxes of any kind, where the thread with a number counts as refused.
+fn run_on<B: Mailboxes, G: Gate, R: Threads + Wait + Sync>(
+    rt: &R,
+    alloc: Global,
+    mailboxes: &B,
+    inputs: Inputs<'_>,
+    plan: Plan,
+    gate: &G,
+    threads: u64,
+) -> Result<Book, RunFault>
+    ensures book { IfOk result (IsBookOf (division_by inputs.entry.tis.now inputs.entry.registry.now) inputs.entry.usage.now (length inputs.entry.registry.now.parties)) }
+    ensures adds_up { IfOk result (λ book. int_sum_by total_of book ≡ int_sum_by (λ line. line.amount) inputs.entry.usage.now) }
+    ensures cut { IfOk result (λ _. plan.readers + plan.workers ≤ threads) }
+{
+    let accounts = inputs.registry.accounts();
     let workers = plan.workers;
-    let (mut draw, mailboxes, jobs, readers) = open_all(
+    let bells = bells_for(alloc, accounts, plan.readers)?;
+    let (mut draw, opened, kept, jobs, readers) = open_all(
         alloc,
-        mail,
+        mailboxes,
         inputs,
         workers,
         plan.readers,
         plan.nodes,
     )?;
-    let Some((worked, read)) = at_once(rt, alloc, mail, inputs, gate, jobs, readers, threads) else {
+    let Some((worked, read)) = at_once(
+        rt,
+        alloc,
+        mailboxes,
+        inputs,
+        gate,
+        jobs,
+        readers,
+        threads,
+        bells.as_ref(),
+    ) else {
         return Err(RunFault::Room);
     };
-    let (mut inboxes, book) = merge_all::<M>(
-        alloc,
-        accounts,
-        workers,
-        plan.readers,
-        mailboxes,
-        read,
-    )?;
+    let (inboxes, book) = merge_all::<B>(alloc, accounts, workers, plan.readers, opened, read)?;
     prove!(book.accounts() == accounts, "each account has a statement");
-    take_in_all::<M, R>(rt, inputs, &mut draw, inboxes.as_mut_slice(), worked)?;
+    let mut gathered = B::gather(kept, inboxes);
+    take_in_all::<B, R>(rt, inputs, &mut draw, &mut gathered, worked)?;
     Ok(book)
 }
 
-/// Opens all that a run needs before it starts a thread: the draw of its blocks, a mailbox for each account, as it is kept here
-/// for the proofs, and its workers and readers, which have the ends of the mailboxes.
-fn open_all<M: Mail>(
+/// Bells, where each reader has many mailboxes.
+fn bells_for(alloc: Global, accounts: u16, readers: u64) -> Result<Option<Bells>, AllocError>
+    requires { 0 < readers }
+{
+    if accounts as u64 / readers < MANY_MAILBOXES {
+        return Ok(None);
+    }
+    Ok(Some(Bells::open(alloc, accounts, readers)?))
+}
+
+/// Opens all that a run needs before it starts a thread: the draw of its blocks, the mailboxes of all accounts, as they are kept
+/// here for the proofs, what is kept aside of them, and its workers and readers, which have the ends of the mailboxes.
+fn open_all<B: Mailboxes>(
     alloc: Global,
-    mail: &M,
+    mailboxes: &B,
     inputs: Inputs<'_>,
     workers: u64,
     readers: u64,
@@ -108,9 +192,10 @@ fn open_all<M: Mail>(
 ) -> Result<
     (
         Draw,
-        Snapshot<Vec<Option<M::Receiver>>>,
-        Vec<Worker<M>>,
-        Vec<Reader<M>>,
+        Snapshot<Vec<Option<B::Receiver>>>,
+        B::Kept,
+        Vec<Worker<B>>,
+        Vec<Reader<B>>,
     ),
     AllocError,
 >
@@ -118,60 +203,57 @@ fn open_all<M: Mail>(
     requires readers { 0 < readers }
     requires nodes { (0 < nodes) × (nodes ≤ 64) }
     ensures draw { IfOk result (λ r. draw_of r.0 ≡ opened_draw (draw_of r.0).draw (blocks_of (length inputs.entry.usage.now)) workers) }
-    ensures drawers { IfOk result (λ r. (number : ℕ) (d : _) → number < workers → drawer_of (slice_index_or r.2.items number d).drawer ≡ opened_drawer (draw_of r.0).draw (blocks_of (length inputs.entry.usage.now)) number) }
-    ensures mailboxes { IfOk result (λ r. AreMailboxes workers (length inputs.entry.registry.now.parties) nodes (length inputs.entry.usage.now) (map (λ worker. map M.sender worker.senders.items) r.2.items) (inboxes_by M.receiver r.1.value.items)) }
-    ensures ready { IfOk result (λ r. (length r.2.items ≡ workers) × All (IsReady M.sender (length inputs.entry.registry.now.parties) (length inputs.entry.usage.now)) r.2.items) }
-    ensures dealt { IfOk result (λ r. (reader : ℕ) (d : _) → reader < readers → AreDealt readers reader (inboxes_by M.receiver r.1.value.items) (inboxes_by M.receiver (slice_index_or r.3.items reader d).opened.value.items)) }
-    ensures taken { IfOk result (λ r. (length r.3.items ≡ readers) × All (λ reader. (reader.workers ≡ workers) × HasKept M.receiver reader) r.3.items) }
+    ensures drawers { IfOk result (λ r. (number : ℕ) (d : _) → number < workers → drawer_of (slice_index_or r.3.items number d).drawer ≡ opened_drawer (draw_of r.0).draw (blocks_of (length inputs.entry.usage.now)) number) }
+    ensures mailboxes { IfOk result (λ r. AreMailboxes workers (length inputs.entry.registry.now.parties) nodes (room_of B.is_shared (length inputs.entry.usage.now)) (map (λ worker. B.senders worker.senders.items) r.3.items) (inboxes_by B.receiver r.1.value.items)) }
+    ensures kept { IfOk result (λ r. (account : ℕ) (inbox : ReceiverView _) (got : ℕ → List Item) → slice_index_or (inboxes_by B.receiver r.1.value.items) account None ≡ Some inbox → B.belongs r.2 account (with_got inbox got)) }
+    ensures ready { IfOk result (λ r. (length r.3.items ≡ workers) × All (IsReady B.is_shared B.senders (length inputs.entry.registry.now.parties) (length inputs.entry.usage.now)) r.3.items) }
+    ensures dealt { IfOk result (λ r. (reader : ℕ) (d : _) → reader < readers → AreDealt readers reader (inboxes_by B.receiver r.1.value.items) (inboxes_by B.receiver (slice_index_or r.4.items reader d).opened.value.items)) }
+    ensures taken { IfOk result (λ r. (length r.4.items ≡ readers) × All (λ reader. (reader.workers ≡ workers) × HasKept B.receiver reader) r.4.items) }
 {
     let accounts = inputs.registry.accounts();
     let lines = inputs.usage.len() as u64;
     let blocks = (inputs.usage.len() + (LINES_IN_BLOCK - 1)) / LINES_IN_BLOCK;
     let (draw, drawers) = Draw::open(alloc, blocks as u64, workers)?;
-    let (jobs, receivers) = open_mailboxes(
-        alloc,
-        mail,
-        inputs.registry,
-        drawers,
-        workers,
-        nodes,
-        lines,
-    )?;
+    let (lists, receivers, kept) = mailboxes.open(alloc, accounts, workers, nodes, lines)?;
+    let jobs = workers_of::<B>(alloc, inputs.registry, lists, drawers)?;
     let opened = Snapshot::of(&receivers);
-    let readers = readers_of::<M>(alloc, accounts, workers, readers, receivers)?;
-    Ok((draw, opened, jobs, readers))
+    let readers = readers_of::<B>(alloc, accounts, workers, readers, receivers)?;
+    Ok((draw, opened, kept, jobs, readers))
 }
 
 /// Merges what the readers gave back: the mailbox of each account, and the book of all statements. `opened` are the
 /// mailboxes as they were opened.
-fn merge_all<M: Mail>(
+fn merge_all<B: Mailboxes>(
     alloc: Global,
     accounts: u16,
     workers: u64,
     readers: u64,
-    opened: Snapshot<Vec<Option<M::Receiver>>>,
-    read: Vec<Option<Served<M>>>,
-) -> Result<(Vec<Option<M::Receiver>>, Book), RunFault>
+    opened: Snapshot<Vec<Option<B::Receiver>>>,
+    read: Vec<Option<Served<B>>>,
+) -> Result<(Vec<Option<B::Receiver>>, Book), RunFault>
     requires some { (0 < accounts) × (0 < readers) }
     requires count { (length opened.value.items ≡ accounts) × (length read.items ≡ readers) }
-    requires read { (number : ℕ) (d : _) → number < readers → IfSome (slice_index_or read.items number d) (λ reader. IsGivenBack workers readers number (inboxes_by M.receiver opened.value.items) (inboxes_by M.receiver reader.inboxes.items) reader.book) }
-    ensures { IfOk result (λ r. AreMerged workers readers readers (inboxes_by M.receiver opened.value.items) (inboxes_by M.receiver r.0.items) r.1) }
+    requires read { (number : ℕ) (d : _) → number < readers → IfSome (slice_index_or read.items number d) (λ reader. IsGivenBack workers readers number (inboxes_by B.receiver opened.value.items) (inboxes_by B.receiver reader.inboxes.items) reader.book) }
+    ensures { IfOk result (λ r. AreMerged workers readers readers (inboxes_by B.receiver opened.value.items) (inboxes_by B.receiver r.0.items) r.1) }
 {
-    let mut inboxes = no_inboxes::<M>(alloc, accounts)?;
+    let mut inboxes = no_inboxes::<B>(alloc, accounts)?;
     let mut book = Book::open(alloc, accounts)?;
     for reader in read {
         let Some(reader) = reader else {
             return Err(RunFault::Room);
         };
-        merge::<M>(&mut inboxes, reader.inboxes);
+        merge::<B>(&mut inboxes, reader.inboxes);
         book.join(reader.book);
     }
     Ok((inboxes, book))
 }
 
 /// A place for the receiver of each account, and none there.
-fn no_inboxes<M: Mail>(alloc: Global, accounts: u16) -> Result<Vec<Option<M::Receiver>>, AllocError>
-    ensures { IfOk result (λ inboxes. inboxes_by M.receiver inboxes.items ≡ replicate accounts None) }
+fn no_inboxes<B: Mailboxes>(
+    alloc: Global,
+    accounts: u16,
+) -> Result<Vec<Option<B::Receiver>>, AllocError>
+    ensures { IfOk result (λ inboxes. inboxes_by B.receiver inboxes.items ≡ replicate accounts None) }
 {
     let mut inboxes = Vec::new(alloc);
     for _ in 0..accounts {
@@ -181,10 +263,10 @@ fn no_inboxes<M: Mail>(alloc: Global, accounts: u16) -> Result<Vec<Option<M::Rec
 }
 
 /// Puts the receivers of one reader with those of the others.
-fn merge<M: Mail>(inboxes: &mut Vec<Option<M::Receiver>>, more: Vec<Option<M::Receiver>>)
+fn merge<B: Mailboxes>(inboxes: &mut Vec<Option<B::Receiver>>, more: Vec<Option<B::Receiver>>)
     requires { length more.items ≡ length (vec_items inboxes.old) }
     ensures count { length (vec_items inboxes.new) ≡ length (vec_items inboxes.old) }
-    ensures each { (account : ℕ) → account < length (vec_items inboxes.old) → slice_index_or (inboxes_by M.receiver (vec_items inboxes.new)) account None ≡ or_else (slice_index_or (inboxes_by M.receiver more.items) account None) (slice_index_or (inboxes_by M.receiver (vec_items inboxes.old)) account None) }
+    ensures each { (account : ℕ) → account < length (vec_items inboxes.old) → slice_index_or (inboxes_by B.receiver (vec_items inboxes.new)) account None ≡ or_else (slice_index_or (inboxes_by B.receiver more.items) account None) (slice_index_or (inboxes_by B.receiver (vec_items inboxes.old)) account None) }
 {
     let mut account = 0;
     for inbox in more {
@@ -202,77 +284,43 @@ fn put_if<T: Drop>(something: Option<T>, place: &mut Option<T>)
     }
 }
 
-/// Takes in what all workers gave back, each its senders and its drawer. `inputs` is what they divided. An error: one of them
+/// Takes in what all workers gave back, each what it sent by and its drawer. `inputs` is what they divided. An error: one of them
 /// was stopped, and gave back nothing.
-fn take_in_all<M: Mail, R: Wait>(
+fn take_in_all<B: Mailboxes, R: Wait>(
     rt: &R,
     inputs: Inputs<'_>,
     draw: &mut Draw,
-    inboxes: &mut [Option<M::Receiver>],
-    worked: Vec<Option<Worked<M>>>,
+    inboxes: &mut B::Gathered,
+    worked: Vec<Option<Worked<B>>>,
 ) -> Result<(), RunFault>
-    requires some { 0 < length worked.items }
+    requires some { (0 < length worked.items) × (0 < length (B.gathered inboxes.old)) }
     requires opened { draw_of draw.old ≡ opened_draw (draw_of draw.old).draw (blocks_of (length inputs.usage.now)) (length worked.items) }
-    requires worked { (worker : ℕ) (d : _) → worker < length worked.items → IfSome (slice_index_or worked.items worker d) (λ own. IsWorkOf (division_by inputs.tis.now inputs.registry.now) inputs.usage.now (draw_of draw.old) worker (drawer_of own.drawer) (inboxes_by M.receiver inboxes.old) (map M.sender own.senders.items)) }
-    ensures taken { OnOk result (AreTakenIn (division_by inputs.entry.tis.now inputs.entry.registry.now) inputs.entry.usage.now (draw_of draw.new).drawn (length worked.items) (inboxes_by M.receiver inboxes.old) (inboxes_by M.receiver inboxes.new)) }
+    requires worked { (worker : ℕ) (d : _) → worker < length worked.items → IfSome (slice_index_or worked.items worker d) (λ own. IsWorkOf (division_by inputs.tis.now inputs.registry.now) inputs.usage.now (draw_of draw.old) worker (drawer_of own.drawer) (B.gathered inboxes.old) (B.senders own.senders.items)) }
+    ensures taken { OnOk result (AreTakenIn (division_by inputs.entry.tis.now inputs.entry.registry.now) inputs.entry.usage.now (draw_of draw.new).drawn (length worked.items) (B.gathered inboxes.old) (B.gathered inboxes.new)) }
     ensures once { OnOk result (AreDrawnOnce (length worked.items) (draw_of draw.new).drawn (blocks_of (length inputs.entry.usage.now))) }
 {
     for worker in worked {
         let Some(worker) = worker else {
             return Err(RunFault::Room);
         };
-        take_in_worker::<M, R>(rt, draw, inboxes, worker);
+        take_in_worker::<B, R>(rt, draw, inboxes, worker);
     }
     Ok(())
 }
 
-/// Takes in what a worker gave back: its senders, each at the mailbox of its account, and its drawer.
-fn take_in_worker<M: Mail, R: Wait>(
+/// Takes in what a worker gave back: what it sent by, and its drawer.
+fn take_in_worker<B: Mailboxes, R: Wait>(
     rt: &R,
     draw: &mut Draw,
-    inboxes: &mut [Option<M::Receiver>],
-    worker: Worked<M>,
+    inboxes: &mut B::Gathered,
+    worker: Worked<B>,
 )
-    requires ended { MayBeTakenIn (draw_of draw.old) (drawer_of worker.drawer) (inboxes_by M.receiver inboxes.old) (map M.sender worker.senders.items) }
-    ensures each { (account : ℕ) (s : SenderView _) (r : ReceiverView _) → account < length inboxes.old → slice_index_or (inboxes_by M.receiver inboxes.old) account None ≡ Some r → (slice_index_or (inboxes_by M.receiver inboxes.new) account None ≡ Some (with_sender r (slice_index_or (map M.sender worker.senders.items) account s))) × Begins (with_sender r (slice_index_or (map M.sender worker.senders.items) account s)) }
-    ensures count { length (inboxes_by M.receiver inboxes.new) ≡ length (inboxes_by M.receiver inboxes.old) }
+    requires ended { MayBeTakenIn (draw_of draw.old) (drawer_of worker.drawer) (B.gathered inboxes.old) (B.senders worker.senders.items) }
+    ensures each { (account : ℕ) (s : SenderView _) (r : ReceiverView _) → account < length (B.gathered inboxes.old) → slice_index_or (B.gathered inboxes.old) account None ≡ Some r → (slice_index_or (B.gathered inboxes.new) account None ≡ Some (with_sender r (slice_index_or (B.senders worker.senders.items) account s))) × Begins (with_sender r (slice_index_or (B.senders worker.senders.items) account s)) }
+    ensures count { length (B.gathered inboxes.new) ≡ length (B.gathered inboxes.old) }
     ensures gathered { draw_of draw.new ≡ with_drawer (draw_of draw.old) (drawer_of worker.drawer) }
     ensures whole { (draw_of draw.new).gathered ≡ (draw_of draw.new).drawers → AreDrawnOnce (draw_of draw.new).drawers (draw_of draw.new).drawn (draw_of draw.new).blocks }
 {
-    take_in_those::<M, R>(rt, inboxes, worker.senders);
+    B::take_in(rt, inboxes, worker.senders);
     draw.gather(worker.drawer);
-}
-
-/// Takes in the senders of a worker, each at the mailbox of its account.
-fn take_in_those<M: Mail, R: Wait>(
-    rt: &R,
-    inboxes: &mut [Option<M::Receiver>],
-    senders: Vec<M::Sender>,
-)
-    requires count { length senders.items ≡ length inboxes.old }
-    requires ended { (account : ℕ) (s : SenderView _) (r : ReceiverView _) → account < length inboxes.old → slice_index_or (inboxes_by M.receiver inboxes.old) account None ≡ Some r → ((slice_index_or (map M.sender senders.items) account s).mailbox ≡ r.mailbox) × ((slice_index_or (map M.sender senders.items) account s).is_ended ≡ true) }
-    ensures { (account : ℕ) (s : SenderView _) (r : ReceiverView _) → account < length inboxes.old → slice_index_or (inboxes_by M.receiver inboxes.old) account None ≡ Some r → (slice_index_or (inboxes_by M.receiver inboxes.new) account None ≡ Some (with_sender r (slice_index_or (map M.sender senders.items) account s))) × Begins (with_sender r (slice_index_or (map M.sender senders.items) account s)) }
-{
-    let mut account = 0;
-    for sender in senders {
-        take_in_at::<M, R>(rt, inboxes, account, sender);
-        account += 1;
-    }
-}
-
-/// Takes in a sender at the mailbox of its account.
-fn take_in_at<M: Mail, R: Wait>(
-    rt: &R,
-    inboxes: &mut [Option<M::Receiver>],
-    account: usize,
-    sender: M::Sender,
-)
-    requires account { account < length inboxes.old }
-    requires ended { (r : ReceiverView _) → slice_index_or (inboxes_by M.receiver inboxes.old) account None ≡ Some r → ((M.sender sender).mailbox ≡ r.mailbox) × ((M.sender sender).is_ended ≡ true) }
-    ensures here { (r : ReceiverView _) → slice_index_or (inboxes_by M.receiver inboxes.old) account None ≡ Some r → (slice_index_or (inboxes_by M.receiver inboxes.new) account None ≡ Some (with_sender r (M.sender sender))) × Begins (with_sender r (M.sender sender)) }
-    ensures others { (other : ℕ) → ¬ (other ≡ account) → slice_index_or (inboxes_by M.receiver inboxes.new) other None ≡ slice_index_or (inboxes_by M.receiver inboxes.old) other None }
-{
-    if let Some(receiver) = &mut inboxes[account] {
-        M::take_in(rt, receiver, sender);
-    }
 }

@@ -5,14 +5,15 @@ ghost use Rattle.split_run.specs.Divisions.{division_by};
 ghost use Rattle.split_run.specs.Reading.{HasKept, HasServed};
 ghost use Rattle.split_run.specs.Running.{HasWorked, IsReady};
 
+use crate::bells::Bells;
 use crate::gate::Gate;
+use crate::mailboxes::Mailboxes;
 use crate::opening::Worker;
 use crate::reading::{Reader, Served};
-use crate::working::{Inputs, work};
+use crate::working::{Inputs, work_on};
 use block_draw::Drawer;
 use cwr_share::Registry;
 use line_split::Usage;
-use mail_box::Mail;
 use std::alloc::Global;
 use std::snapshot::Snapshot;
 use std::sync::Wait;
@@ -23,54 +24,55 @@ use tis_tree::TisTable;
 
 /// What a worker gives back: its senders, and its drawer.
 #[derive(Drop)]
-pub(crate) struct Worked<M: Mail> {
-    pub senders: Vec<M::Sender>,
+pub(crate) struct Worked<B: Mailboxes> {
+    pub senders: Vec<B::Sender>,
     pub drawer: Drawer,
 }
 
 /// What is promised of what a worker's thread gives back: no block is left, and its senders have sent all that the blocks come
 /// to that it drew, and have ended.
 #[derive(Drop)]
-pub(crate) struct WorkDone<M: Mail> {
+pub(crate) struct WorkDone<B: Mailboxes> {
     tis: Snapshot<TisTable>,
     registry: Snapshot<Registry>,
     usage: Snapshot<Usage>,
-    worker: Snapshot<Worker<M>>,
+    worker: Snapshot<Worker<B>>,
 }
 
-impl<M: Mail> Promise<Option<Worked<M>>> for WorkDone<M> {
+impl<B: Mailboxes> Promise<Option<Worked<B>>> for WorkDone<B> {
     ghost use Rattle.std.specs.Prelude.{IfSome};
     ghost use Rattle.split_run.specs.Divisions.{division_by};
     ghost use Rattle.split_run.specs.Running.{HasWorked};
 
-    ghost kept_by = { λ p r. IfSome r (HasWorked M.sender (division_by p.tis.value p.registry.value) p.usage.value p.worker.value) };
+    ghost kept_by = { λ p r. IfSome r (HasWorked B.is_shared B.senders (division_by p.tis.value p.registry.value) p.usage.value p.worker.value) };
 }
 
 /// What a reader's thread gives back: its mailboxes, which have ended, and the statements of their accounts.
 #[derive(Drop)]
-pub(crate) struct ReadingDone<M: Mail> {
-    reader: Snapshot<Reader<M>>,
+pub(crate) struct ReadingDone<B: Mailboxes> {
+    reader: Snapshot<Reader<B>>,
 }
 
-impl<M: Mail> Promise<Option<Served<M>>> for ReadingDone<M> {
+impl<B: Mailboxes> Promise<Option<Served<B>>> for ReadingDone<B> {
     ghost use Rattle.std.specs.Prelude.{IfSome};
     ghost use Rattle.split_run.specs.Reading.{HasServed};
 
-    ghost kept_by = { λ p r. IfSome r (HasServed M.receiver p.reader.value) };
+    ghost kept_by = { λ p r. IfSome r (HasServed B.receiver p.reader.value) };
 }
 
-/// What a reader's thread does. None: the run was stopped, or memory was refused.
-fn read_all<M: Mail, R: Wait>(
+/// What a reader's thread does. The mailboxes are lent to it since they outlive it. None: the run was stopped, or memory was refused.
+fn read_all<B: Mailboxes, R: Wait>(
     rt: &R,
-    _mail: &M,
-    reader: Reader<M>,
+    _mailboxes: &B,
+    reader: Reader<B>,
     stop: &AtomicBool,
-) -> Option<Served<M>>
-    requires taken { HasKept M.receiver reader }
-    ensures { IfSome result (HasServed M.receiver reader) }
+    bells: Option<&Bells>,
+) -> Option<Served<B>>
+    requires taken { HasKept B.receiver reader }
+    ensures { IfSome result (HasServed B.receiver reader) }
 {
     let mut reader = reader;
-    if reader.serve(rt, stop) {
+    if reader.serve(rt, stop, bells) {
         Some(reader.into_served())
     } else {
         None
@@ -78,56 +80,57 @@ fn read_all<M: Mail, R: Wait>(
 }
 
 /// Starts a reader, if a thread can be made.
-fn start_reader<'s, E, M: Mail, R: Threads + Wait + Sync>(
+fn start_reader<'s, E, B: Mailboxes, R: Threads + Wait + Sync>(
     scope: &Scope<'s, E>,
     rt: &'s R,
-    mail: &'s M,
-    reader: Reader<M>,
+    mailboxes: &'s B,
+    reader: Reader<B>,
     stop: &'s AtomicBool,
-) -> Option<PromisedHandle<Option<Served<M>>, ReadingDone<M>>>
-    requires taken { HasKept M.receiver reader }
+    bells: Option<&'s Bells>,
+) -> Option<PromisedHandle<Option<Served<B>>, ReadingDone<B>>>
+    requires taken { HasKept B.receiver reader }
     ensures { IfSome result (λ h. h.promise.reader.value ≡ reader) }
 {
-    let promise: ReadingDone<M> = ReadingDone {
+    let promise: ReadingDone<B> = ReadingDone {
         reader: Snapshot::of(&reader),
     };
     scope
         .spawn_with(
             promise,
-            move || -> Option<Served<M>>
-                requires { HasKept M.receiver reader }
-                ensures { IfSome result (HasServed M.receiver reader) }
-            { read_all::<M, R>(rt, mail, reader, stop) },
+            move || -> Option<Served<B>>
+                requires { HasKept B.receiver reader }
+                ensures { IfSome result (HasServed B.receiver reader) }
+            { read_all::<B, R>(rt, mailboxes, reader, stop, bells) },
         )
         .ok()
 }
 
-/// What a worker's thread does. None: the run was stopped.
-fn work_all<M: Mail, G: Gate, R: Wait>(
+/// What a worker's thread does. The mailboxes are lent to it since they outlive it. None: the run was stopped.
+fn work_all<B: Mailboxes, G: Gate, R: Wait>(
     rt: &R,
-    _mail: &M,
+    _mailboxes: &B,
     inputs: Inputs<'_>,
     gate: &G,
-    worker: Worker<M>,
+    worker: Worker<B>,
     number: u64,
     stop: &AtomicBool,
-) -> Option<Worked<M>>
-    requires { IsReady M.sender (length inputs.registry.now.parties) (length inputs.usage.now) worker }
-    ensures { IfSome result (HasWorked M.sender (division_by inputs.entry.tis.now inputs.entry.registry.now) inputs.entry.usage.now worker) }
+    bells: Option<&Bells>,
+) -> Option<Worked<B>>
+    requires { IsReady B.is_shared B.senders (length inputs.registry.now.parties) (length inputs.usage.now) worker }
+    ensures { IfSome result (HasWorked B.is_shared B.senders (division_by inputs.entry.tis.now inputs.entry.registry.now) inputs.entry.usage.now worker) }
 {
     let mut worker = worker;
-    let done = work::<M, G, R>(
+    let done = work_on::<B, G, R>(
         rt,
         worker.senders.as_mut_slice(),
-        inputs.tis,
-        inputs.registry,
-        inputs.usage,
+        inputs,
         &mut worker.drawer,
         number,
         &mut worker.claims,
         &mut worker.portions,
         gate,
         stop,
+        bells,
     );
     if done {
         Some(Worked {
@@ -140,21 +143,22 @@ fn work_all<M: Mail, G: Gate, R: Wait>(
 }
 
 /// Starts a worker, if a thread can be made.
-fn start_worker<'s, E, M: Mail, G: Gate, R: Threads + Wait + Sync>(
+fn start_worker<'s, E, B: Mailboxes, G: Gate, R: Threads + Wait + Sync>(
     scope: &Scope<'s, E>,
     rt: &'s R,
-    mail: &'s M,
+    mailboxes: &'s B,
     inputs: Inputs<'s>,
     gate: &'s G,
-    worker: Worker<M>,
+    worker: Worker<B>,
     number: u64,
     stop: &'s AtomicBool,
-) -> Option<PromisedHandle<Option<Worked<M>>, WorkDone<M>>>
-    requires { IsReady M.sender (length inputs.registry.now.parties) (length inputs.usage.now) worker }
+    bells: Option<&'s Bells>,
+) -> Option<PromisedHandle<Option<Worked<B>>, WorkDone<B>>>
+    requires { IsReady B.is_shared B.senders (length inputs.registry.now.parties) (length inputs.usage.now) worker }
     ensures inputs { IfSome result (λ h. (h.promise.tis.value ≡ inputs.entry.tis.now) × (h.promise.registry.value ≡ inputs.entry.registry.now) × (h.promise.usage.value ≡ inputs.entry.usage.now)) }
     ensures worker { IfSome result (λ h. h.promise.worker.value ≡ worker) }
 {
-    let promise: WorkDone<M> = WorkDone {
+    let promise: WorkDone<B> = WorkDone {
         tis: Snapshot::of(inputs.tis),
         registry: Snapshot::of(inputs.registry),
         usage: Snapshot::of(inputs.usage),
@@ -163,26 +167,27 @@ fn start_worker<'s, E, M: Mail, G: Gate, R: Threads + Wait + Sync>(
     scope
         .spawn_with(
             promise,
-            move || -> Option<Worked<M>>
-                requires { IsReady M.sender (length inputs.registry.now.parties) (length inputs.usage.now) worker }
-                ensures { IfSome result (HasWorked M.sender (division_by inputs.entry.tis.now inputs.entry.registry.now) inputs.entry.usage.now worker) }
-            { work_all::<M, G, R>(rt, mail, inputs, gate, worker, number, stop) },
+            move || -> Option<Worked<B>>
+                requires { IsReady B.is_shared B.senders (length inputs.registry.now.parties) (length inputs.usage.now) worker }
+                ensures { IfSome result (HasWorked B.is_shared B.senders (division_by inputs.entry.tis.now inputs.entry.registry.now) inputs.entry.usage.now worker) }
+            { work_all::<B, G, R>(rt, mailboxes, inputs, gate, worker, number, stop, bells) },
         )
         .ok()
 }
 
 /// Starts all readers. None: a thread was refused, as the one with the number `cut` is, from 0.
-fn start_readers<'s, E, M: Mail, R: Threads + Wait + Sync>(
+fn start_readers<'s, E, B: Mailboxes, R: Threads + Wait + Sync>(
     scope: &Scope<'s, E>,
     rt: &'s R,
-    mail: &'s M,
-    readers: Vec<Reader<M>>,
+    mailboxes: &'s B,
+    readers: Vec<Reader<B>>,
     cut: u64,
     stop: &'s AtomicBool,
-    room: Vec<PromisedHandle<Option<Served<M>>, ReadingDone<M>>>,
-) -> Option<Vec<PromisedHandle<Option<Served<M>>, ReadingDone<M>>>>
+    bells: Option<&'s Bells>,
+    room: Vec<PromisedHandle<Option<Served<B>>, ReadingDone<B>>>,
+) -> Option<Vec<PromisedHandle<Option<Served<B>>, ReadingDone<B>>>>
     requires room { vec_len room ≡ 0 }
-    requires taken { All (λ reader. HasKept M.receiver reader) readers.items }
+    requires taken { All (λ reader. HasKept B.receiver reader) readers.items }
     ensures cut { IfSome result (λ _. vec_len readers ≤ cut) }
     ensures started { IfSome result (λ all. (vec_len all ≡ vec_len readers) × ((number : ℕ) (d : _) (e : _) → number < length readers.items → (slice_index_or all.items number d).promise.reader.value ≡ slice_index_or readers.items number e)) }
 {
@@ -191,27 +196,28 @@ fn start_readers<'s, E, M: Mail, R: Threads + Wait + Sync>(
         if started.len() as u64 == cut {
             return None;
         }
-        let handle = start_reader::<E, M, R>(scope, rt, mail, reader, stop)?;
+        let handle = start_reader::<E, B, R>(scope, rt, mailboxes, reader, stop, bells)?;
         started.push(handle).ok()?;
     }
     Some(started)
 }
 
 /// Starts all workers. None: a thread was refused, as the one with the number `cut` is, from 0.
-fn start_workers<'s, E, M: Mail, G: Gate, R: Threads + Wait + Sync>(
+fn start_workers<'s, E, B: Mailboxes, G: Gate, R: Threads + Wait + Sync>(
     scope: &Scope<'s, E>,
     rt: &'s R,
-    mail: &'s M,
+    mailboxes: &'s B,
     inputs: Inputs<'s>,
     gate: &'s G,
-    jobs: Vec<Worker<M>>,
+    jobs: Vec<Worker<B>>,
     cut: u64,
     stop: &'s AtomicBool,
-    room: Vec<PromisedHandle<Option<Worked<M>>, WorkDone<M>>>,
-) -> Option<Vec<PromisedHandle<Option<Worked<M>>, WorkDone<M>>>>
+    bells: Option<&'s Bells>,
+    room: Vec<PromisedHandle<Option<Worked<B>>, WorkDone<B>>>,
+) -> Option<Vec<PromisedHandle<Option<Worked<B>>, WorkDone<B>>>>
     requires room { vec_len room ≡ 0 }
     requires few { length jobs.items ≤ 8 }
-    requires ready { All (IsReady M.sender (length inputs.registry.now.parties) (length inputs.usage.now)) jobs.items }
+    requires ready { All (IsReady B.is_shared B.senders (length inputs.registry.now.parties) (length inputs.usage.now)) jobs.items }
     ensures cut { IfSome result (λ _. vec_len jobs ≤ cut) }
     ensures count { IfSome result (λ all. vec_len all ≡ vec_len jobs) }
     ensures inputs { IfSome result (λ all. (number : ℕ) (d : _) → number < length jobs.items → ((slice_index_or all.items number d).promise.tis.value ≡ inputs.entry.tis.now) × ((slice_index_or all.items number d).promise.registry.value ≡ inputs.entry.registry.now) × ((slice_index_or all.items number d).promise.usage.value ≡ inputs.entry.usage.now)) }
@@ -223,7 +229,9 @@ fn start_workers<'s, E, M: Mail, G: Gate, R: Threads + Wait + Sync>(
         if number == cut {
             return None;
         }
-        let handle = start_worker::<E, M, G, R>(scope, rt, mail, inputs, gate, job, number, stop)?;
+        let handle = start_worker::<E, B, G, R>(
+            scope, rt, mailboxes, inputs, gate, job, number, stop, bells,
+        )?;
         started.push(handle).ok()?;
         number += 1;
     }
@@ -232,22 +240,23 @@ fn start_workers<'s, E, M: Mail, G: Gate, R: Threads + Wait + Sync>(
 
 /// Lets all readers and workers run at once, and answers what each gave back. None: memory or a thread was refused, as the one
 /// with the number `cut` is, readers first; then those that were started have stopped.
-pub(crate) fn at_once<M: Mail, G: Gate, R: Threads + Wait + Sync>(
+pub(crate) fn at_once<B: Mailboxes, G: Gate, R: Threads + Wait + Sync>(
     rt: &R,
     alloc: Global,
-    mail: &M,
+    mailboxes: &B,
     inputs: Inputs<'_>,
     gate: &G,
-    workers: Vec<Worker<M>>,
-    readers: Vec<Reader<M>>,
+    workers: Vec<Worker<B>>,
+    readers: Vec<Reader<B>>,
     cut: u64,
-) -> Option<(Vec<Option<Worked<M>>>, Vec<Option<Served<M>>>)>
+    bells: Option<&Bells>,
+) -> Option<(Vec<Option<Worked<B>>>, Vec<Option<Served<B>>>)>
     requires few { length workers.items ≤ 8 }
-    requires ready { All (IsReady M.sender (length inputs.registry.now.parties) (length inputs.usage.now)) workers.items }
-    requires taken { All (λ reader. (reader.workers ≡ length workers.items) × HasKept M.receiver reader) readers.items }
+    requires ready { All (IsReady B.is_shared B.senders (length inputs.registry.now.parties) (length inputs.usage.now)) workers.items }
+    requires taken { All (λ reader. (reader.workers ≡ length workers.items) × HasKept B.receiver reader) readers.items }
     ensures cut { IfSome result (λ _. length readers.items + length workers.items ≤ cut) }
-    ensures worked { IfSome result (λ r. (length r.0.items ≡ length workers.items) × ((number : ℕ) (d : _) (e : _) → number < length workers.items → IfSome (slice_index_or r.0.items number d) (HasWorked M.sender (division_by inputs.entry.tis.now inputs.entry.registry.now) inputs.entry.usage.now (slice_index_or workers.items number e)))) }
-    ensures read { IfSome result (λ r. (length r.1.items ≡ length readers.items) × ((number : ℕ) (d : _) (e : _) → number < length readers.items → IfSome (slice_index_or r.1.items number d) (HasServed M.receiver (slice_index_or readers.items number e)))) }
+    ensures worked { IfSome result (λ r. (length r.0.items ≡ length workers.items) × ((number : ℕ) (d : _) (e : _) → number < length workers.items → IfSome (slice_index_or r.0.items number d) (HasWorked B.is_shared B.senders (division_by inputs.entry.tis.now inputs.entry.registry.now) inputs.entry.usage.now (slice_index_or workers.items number e)))) }
+    ensures read { IfSome result (λ r. (length r.1.items ≡ length readers.items) × ((number : ℕ) (d : _) (e : _) → number < length readers.items → IfSome (slice_index_or r.1.items number d) (HasServed B.receiver (slice_index_or readers.items number e)))) }
 {
     let working_room = Vec::with_capacity(alloc, workers.len()).ok()?;
     let reading_room = Vec::with_capacity(alloc, readers.len()).ok()?;
@@ -256,37 +265,39 @@ pub(crate) fn at_once<M: Mail, G: Gate, R: Threads + Wait + Sync>(
     thread::scope(
         thread::scope_env(),
         rt,
-        move |scope| -> Option<(Vec<Option<Worked<M>>>, Vec<Option<Served<M>>>)>
+        move |scope| -> Option<(Vec<Option<Worked<B>>>, Vec<Option<Served<B>>>)>
             requires few { length workers.items ≤ 8 }
             requires rooms { (vec_len working_room ≡ 0) × (vec_len reading_room ≡ 0) }
-            requires ready { All (IsReady M.sender (length inputs.registry.now.parties) (length inputs.usage.now)) workers.items }
-            requires taken { All (λ reader. (reader.workers ≡ length workers.items) × HasKept M.receiver reader) readers.items }
+            requires ready { All (IsReady B.is_shared B.senders (length inputs.registry.now.parties) (length inputs.usage.now)) workers.items }
+            requires taken { All (λ reader. (reader.workers ≡ length workers.items) × HasKept B.receiver reader) readers.items }
             ensures cut { IfSome result (λ _. length readers.items + length workers.items ≤ cut) }
-            ensures worked { IfSome result (λ r. (length r.0.items ≡ length workers.items) × ((number : ℕ) (d : _) (e : _) → number < length workers.items → IfSome (slice_index_or r.0.items number d) (HasWorked M.sender (division_by inputs.entry.tis.now inputs.entry.registry.now) inputs.entry.usage.now (slice_index_or workers.items number e)))) }
-            ensures read { IfSome result (λ r. (length r.1.items ≡ length readers.items) × ((number : ℕ) (d : _) (e : _) → number < length readers.items → IfSome (slice_index_or r.1.items number d) (HasServed M.receiver (slice_index_or readers.items number e)))) }
+            ensures worked { IfSome result (λ r. (length r.0.items ≡ length workers.items) × ((number : ℕ) (d : _) (e : _) → number < length workers.items → IfSome (slice_index_or r.0.items number d) (HasWorked B.is_shared B.senders (division_by inputs.entry.tis.now inputs.entry.registry.now) inputs.entry.usage.now (slice_index_or workers.items number e)))) }
+            ensures read { IfSome result (λ r. (length r.1.items ≡ length readers.items) × ((number : ℕ) (d : _) (e : _) → number < length readers.items → IfSome (slice_index_or r.1.items number d) (HasServed B.receiver (slice_index_or readers.items number e)))) }
         {
             let count = readers.len() as u64;
-            let Some(reading) = start_readers::<_, M, R>(
+            let Some(reading) = start_readers::<_, B, R>(
                 scope,
                 rt,
-                mail,
+                mailboxes,
                 readers,
                 cut,
                 stop,
+                bells,
                 reading_room,
             ) else {
                 stop.store(true, Ordering::SeqCst);
                 return None;
             };
-            let Some(working) = start_workers::<_, M, G, R>(
+            let Some(working) = start_workers::<_, B, G, R>(
                 scope,
                 rt,
-                mail,
+                mailboxes,
                 inputs,
                 gate,
                 workers,
                 cut - count,
                 stop,
+                bells,
                 working_room,
             ) else {
                 stop.store(true, Ordering::SeqCst);

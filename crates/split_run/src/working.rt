@@ -1,6 +1,7 @@
 //! What a worker does: it divides the lines of its blocks, and sends each portion to the mailbox of its account.
 
-ghost use Rattle.std.specs.Prelude.{[], ◌≡◌, ◌*◌, ◌+◌, ◌-◌, ◌<◌, ◌≤◌, ℕ, None, Some, length, map, slice_get, slice_index_or, true};
+ghost use Rattle.std.specs.Prelude.{[], ◌≡◌, ◌*◌, ◌+◌, ◌-◌, ◌<◌, ◌≤◌, ℕ, None, false, Some, length, map, slice_get, slice_index_or, true};
+ghost use Rattle.std.specs.Mem.{FitsInMemory};
 ghost use Rattle.cwr_share.specs.Found.{IsLookUp};
 ghost use Rattle.cwr_share.specs.Registered.{IsRegistered};
 ghost use Rattle.line_split.specs.UsageLine.{UsageLine};
@@ -10,15 +11,22 @@ ghost use Rattle.block_draw.specs.Views.{drawer_of};
 ghost use Rattle.split_run.specs.Blocks.{list_of, postings_in, postings_of};
 ghost use Rattle.split_run.specs.Divisions.{division_by};
 ghost use Rattle.split_run.specs.Running.{IsFresh};
-ghost use Rattle.split_run.specs.Sending.{AreFresh, AreReadyFor, HaveEnded, HaveSent};
+ghost use Rattle.pool_box.specs.Pools.{HasEndedEverywhere};
+ghost use Rattle.split_run.specs.Sending.{AreFresh, AreReadyFor, HasSpent, HaveEnded, HaveSent};
 
 use crate::LINES_IN_BLOCK;
+use crate::bells::Bells;
 use crate::gate::Gate;
-use crate::sending::{send_end_to, send_line};
+use crate::mailboxes::Mailboxes;
+use crate::pooled::Pooled;
+use crate::sending::{send_end, send_line};
+use crate::separate::Separate;
 use block_draw::Drawer;
 use cwr_share::{Registry, Work};
 use line_split::{Claims, MOST_CLAIMS, MOST_LINES, Portions, Usage, split};
 use mail_box::Mail;
+use pool_box::Pool;
+use std::array::from_mut;
 use std::sync::Wait;
 use std::sync::atomic::{AtomicBool, Ordering};
 use tis_tree::TisTable;
@@ -49,29 +57,97 @@ pub fn work<M: Mail, G: Gate, R: Wait>(
 ) -> bool
     requires accounts { length senders.old ≡ length registry.now.parties }
     requires fresh { AreFresh (map M.sender senders.old) }
-    requires ready { AreReadyFor (map M.sender senders.old) (length usage.now) }
+    requires ready { AreReadyFor false (map M.sender senders.old) (length usage.now) }
     requires drawer { IsFresh (length usage.now) (drawer_of drawer.old) }
     requires claims { MOST_CLAIMS ≤ claims.old.room }
     requires portions { MOST_CLAIMS + 1 ≤ portions.old.room }
     ensures sent { result ≡ true → (account : ℕ) (s : _) → account < length senders.old → (slice_index_or (map M.sender senders.new) account s).sent ≡ list_of (division_by tis.now registry.now) usage.now account (drawer_of drawer.new).drawn }
-    ensures ended { result ≡ true → HaveEnded (map M.sender senders.old) (map M.sender senders.new) (λ account. postings_of (division_by tis.now registry.now) usage.now account (drawer_of drawer.new).drawn) }
+    ensures ended { result ≡ true → HaveEnded false (map M.sender senders.old) (map M.sender senders.new) (λ account. postings_of (division_by tis.now registry.now) usage.now account (drawer_of drawer.new).drawn) }
     ensures drawn { result ≡ true → (drawer_of drawer.new).is_done ≡ true }
     ensures drawer { ((drawer_of drawer.new).draw ≡ (drawer_of drawer.old).draw) × ((drawer_of drawer.new).number ≡ (drawer_of drawer.old).number) × ((drawer_of drawer.new).blocks ≡ (drawer_of drawer.old).blocks) }
 {
-    prove!(registry.accounts() >= 1, "there is the residue's account");
     let inputs = Inputs {
         tis,
         registry,
         usage,
     };
+    work_on::<Separate<'_, M>, G, R>(
+        rt, senders, inputs, drawer, worker, claims, portions, gate, stop, None,
+    )
+}
+
+/// The same by the sender of a pool, whose mailboxes are those of the accounts. Its type has to fit into memory, as every
+/// type does of which there is a value; the checker does not know it of a type parameter.
+pub fn work_pool<P: Pool, G: Gate, R: Wait>(
+    rt: &R,
+    sender: &mut P::Sender,
+    tis: &TisTable,
+    registry: &Registry,
+    usage: &Usage,
+    drawer: &mut Drawer,
+    worker: u64,
+    claims: &mut Claims,
+    portions: &mut Portions,
+    gate: &G,
+    stop: &AtomicBool,
+) -> bool
+    requires size { FitsInMemory P.Sender.row }
+    requires accounts { (P.sender sender.old).mailboxes ≡ length registry.now.parties }
+    requires fresh { (account : ℕ) → account < length registry.now.parties → ((P.sender sender.old).sent account ≡ []) × ((P.sender sender.old).is_ended account ≡ false) }
+    requires left { 257 * length usage.now ≤ (P.sender sender.old).left }
+    requires drawer { IsFresh (length usage.now) (drawer_of drawer.old) }
+    requires claims { MOST_CLAIMS ≤ claims.old.room }
+    requires portions { MOST_CLAIMS + 1 ≤ portions.old.room }
+    ensures sent { result ≡ true → (account : ℕ) → account < length registry.now.parties → (P.sender sender.new).sent account ≡ list_of (division_by tis.now registry.now) usage.now account (drawer_of drawer.new).drawn }
+    ensures ended { result ≡ true → HasEndedEverywhere (P.sender sender.new) }
+    ensures same { result ≡ true → ((P.sender sender.new).pool ≡ (P.sender sender.old).pool) × ((P.sender sender.new).mailboxes ≡ (P.sender sender.old).mailboxes) × ((P.sender sender.new).number ≡ (P.sender sender.old).number) }
+    ensures drawn { result ≡ true → (drawer_of drawer.new).is_done ≡ true }
+    ensures drawer { ((drawer_of drawer.new).draw ≡ (drawer_of drawer.old).draw) × ((drawer_of drawer.new).number ≡ (drawer_of drawer.old).number) × ((drawer_of drawer.new).blocks ≡ (drawer_of drawer.old).blocks) }
+{
+    let inputs = Inputs {
+        tis,
+        registry,
+        usage,
+    };
+    prove!(registry.accounts() >= 1, "there is the residue's account");
+    let senders = from_mut(sender).as_mut_slice();
+    work_on::<Pooled<'_, P>, G, R>(
+        rt, senders, inputs, drawer, worker, claims, portions, gate, stop, None,
+    )
+}
+
+/// What both do, over mailboxes of any kind: each posting is rung for, if there are bells.
+pub(crate) fn work_on<B: Mailboxes, G: Gate, R: Wait>(
+    rt: &R,
+    senders: &mut [B::Sender],
+    inputs: Inputs<'_>,
+    drawer: &mut Drawer,
+    worker: u64,
+    claims: &mut Claims,
+    portions: &mut Portions,
+    gate: &G,
+    stop: &AtomicBool,
+    bells: Option<&Bells>,
+) -> bool
+    requires accounts { length (B.senders senders.old) ≡ length inputs.registry.now.parties }
+    requires ready { AreReadyFor B.is_shared (B.senders senders.old) (length inputs.usage.now) }
+    requires drawer { IsFresh (length inputs.usage.now) (drawer_of drawer.old) }
+    requires claims { MOST_CLAIMS ≤ claims.old.room }
+    requires portions { MOST_CLAIMS + 1 ≤ portions.old.room }
+    ensures ended { result ≡ true → HaveEnded B.is_shared (B.senders senders.old) (B.senders senders.new) (λ account. postings_of (division_by inputs.entry.tis.now inputs.entry.registry.now) inputs.entry.usage.now account (drawer_of drawer.new).drawn) }
+    ensures drawn { result ≡ true → (drawer_of drawer.new).is_done ≡ true }
+    ensures drawer { ((drawer_of drawer.new).draw ≡ (drawer_of drawer.old).draw) × ((drawer_of drawer.new).number ≡ (drawer_of drawer.old).number) × ((drawer_of drawer.new).blocks ≡ (drawer_of drawer.old).blocks) }
+{
+    let accounts = inputs.registry.accounts();
+    prove!(accounts >= 1, "there is the residue's account");
     for _ in rt.forever() {
         if stop.load(Ordering::SeqCst) {
             return false;
         }
         let Some(block) = drawer.draw() else {
-            return send_ends::<M, R>(rt, senders, stop);
+            return send_ends::<B, R>(rt, senders, accounts as usize, stop, bells);
         };
-        if !work_block::<M, G, R>(
+        if !work_block::<B, G, R>(
             rt,
             senders,
             inputs,
@@ -81,6 +157,7 @@ pub fn work<M: Mail, G: Gate, R: Wait>(
             portions,
             gate,
             stop,
+            bells,
         ) {
             return false;
         }
@@ -89,9 +166,9 @@ pub fn work<M: Mail, G: Gate, R: Wait>(
 }
 
 /// Divides and sends the lines of a block. False: the run was stopped.
-fn work_block<M: Mail, G: Gate, R: Wait>(
+fn work_block<B: Mailboxes, G: Gate, R: Wait>(
     rt: &R,
-    senders: &mut [M::Sender],
+    senders: &mut [B::Sender],
     inputs: Inputs<'_>,
     block: usize,
     worker: u64,
@@ -99,14 +176,16 @@ fn work_block<M: Mail, G: Gate, R: Wait>(
     portions: &mut Portions,
     gate: &G,
     stop: &AtomicBool,
+    bells: Option<&Bells>,
 ) -> bool
-    requires accounts { length senders.old ≡ length inputs.registry.now.parties }
+    requires accounts { length (B.senders senders.old) ≡ length inputs.registry.now.parties }
     requires sound { IsRegistered inputs.registry.now }
     requires block { 64 * block < length inputs.usage.now }
-    requires ready { AreReadyFor (map M.sender senders.old) (length inputs.usage.now - 64 * block) }
+    requires ready { AreReadyFor B.is_shared (B.senders senders.old) (length inputs.usage.now - 64 * block) }
     requires claims { MOST_CLAIMS ≤ claims.old.room }
     requires portions { MOST_CLAIMS + 1 ≤ portions.old.room }
-    ensures sent { result ≡ true → HaveSent (map M.sender senders.old) (map M.sender senders.new) (λ account. postings_in (division_by inputs.entry.tis.now inputs.entry.registry.now) inputs.entry.usage.now account block) }
+    ensures sent { result ≡ true → HaveSent B.is_shared (B.senders senders.old) (B.senders senders.new) (λ account. postings_in (division_by inputs.entry.tis.now inputs.entry.registry.now) inputs.entry.usage.now account block) }
+    ensures spent { result ≡ true → HasSpent B.is_shared (B.senders senders.old) (B.senders senders.new) (257 * ((length inputs.entry.usage.now - 64 * block) - (length inputs.entry.usage.now - 64 * (block + 1)))) }
     ensures rooms { (claims.new.room ≡ claims.old.room) × (portions.new.room ≡ portions.old.room) }
 {
     let lines = inputs.usage.len();
@@ -115,8 +194,8 @@ fn work_block<M: Mail, G: Gate, R: Wait>(
     let works = works_of(inputs.registry, inputs.usage, first, end);
     for place in first..end {
         let found = works[place - first];
-        if !work_line::<M, G, R>(
-            rt, senders, inputs, place, found, worker, claims, portions, gate, stop,
+        if !work_line::<B, G, R>(
+            rt, senders, inputs, place, found, worker, claims, portions, gate, stop, bells,
         ) {
             return false;
         }
@@ -125,9 +204,9 @@ fn work_block<M: Mail, G: Gate, R: Wait>(
 }
 
 /// Divides a line, whose work has been looked up, and sends its portions. False: the run was stopped.
-fn work_line<M: Mail, G: Gate, R: Wait>(
+fn work_line<B: Mailboxes, G: Gate, R: Wait>(
     rt: &R,
-    senders: &mut [M::Sender],
+    senders: &mut [B::Sender],
     inputs: Inputs<'_>,
     place: usize,
     found: Option<Work<'_>>,
@@ -136,15 +215,17 @@ fn work_line<M: Mail, G: Gate, R: Wait>(
     portions: &mut Portions,
     gate: &G,
     stop: &AtomicBool,
+    bells: Option<&Bells>,
 ) -> bool
-    requires accounts { length senders.old ≡ length inputs.registry.now.parties }
+    requires accounts { length (B.senders senders.old) ≡ length inputs.registry.now.parties }
     requires sound { IsRegistered inputs.registry.now }
     requires place { place < length inputs.usage.now }
     requires found { (line : UsageLine) → slice_get inputs.usage.now place ≡ Some line → IsLookUp inputs.registry.now line.work found }
-    requires ready { AreReadyFor (map M.sender senders.old) 1 }
+    requires ready { AreReadyFor B.is_shared (B.senders senders.old) 1 }
     requires claims { MOST_CLAIMS ≤ claims.old.room }
     requires portions { MOST_CLAIMS + 1 ≤ portions.old.room }
-    ensures sent { (line : UsageLine) → slice_get inputs.entry.usage.now place ≡ Some line → result ≡ true → HaveSent (map M.sender senders.old) (map M.sender senders.new) (λ account. posting_of place (portion_of account (division_by inputs.entry.tis.now inputs.entry.registry.now line))) }
+    ensures sent { (line : UsageLine) → slice_get inputs.entry.usage.now place ≡ Some line → result ≡ true → HaveSent B.is_shared (B.senders senders.old) (B.senders senders.new) (λ account. posting_of place (portion_of account (division_by inputs.entry.tis.now inputs.entry.registry.now line))) }
+    ensures spent { result ≡ true → HasSpent B.is_shared (B.senders senders.old) (B.senders senders.new) 257 }
     ensures rooms { (claims.new.room ≡ claims.old.room) × (portions.new.room ≡ portions.old.room) }
 {
     prove!(
@@ -159,7 +240,7 @@ fn work_line<M: Mail, G: Gate, R: Wait>(
     );
     split(line.amount, claims, portions);
     gate.pass(worker, place as u64);
-    send_line::<M, R>(rt, senders, place as u64, portions.list(), stop)
+    send_line::<B, R>(rt, senders, place as u64, portions.list(), stop, bells)
 }
 
 /// The works of the lines from one place to another, at most a block of them. They lie far apart in memory, and look-ups
@@ -181,13 +262,20 @@ fn works_of<'a>(
     works
 }
 
-/// Sends an end mark to every mailbox. False: the run was stopped before.
-fn send_ends<M: Mail, R: Wait>(rt: &R, senders: &mut [M::Sender], stop: &AtomicBool) -> bool
-    requires { AreReadyFor (map M.sender senders.old) 0 }
-    ensures { result ≡ true → HaveEnded (map M.sender senders.old) (map M.sender senders.new) (λ account. []) }
+/// Sends an end mark to the mailbox of each account. False: the run was stopped before.
+fn send_ends<B: Mailboxes, R: Wait>(
+    rt: &R,
+    senders: &mut [B::Sender],
+    accounts: usize,
+    stop: &AtomicBool,
+    bells: Option<&Bells>,
+) -> bool
+    requires accounts { accounts ≡ length (B.senders senders.old) }
+    requires ready { AreReadyFor B.is_shared (B.senders senders.old) 0 }
+    ensures { result ≡ true → HaveEnded B.is_shared (B.senders senders.old) (B.senders senders.new) (λ account. []) }
 {
-    for account in 0..senders.len() {
-        if !send_end_to::<M, R>(rt, senders, account, stop) {
+    for account in 0..accounts {
+        if !send_end::<B, R>(rt, senders, account, stop, bells) {
             return false;
         }
     }

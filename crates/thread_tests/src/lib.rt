@@ -22,6 +22,8 @@ mod pool_mail_tests;
 #[cfg(test)]
 mod pool_rows;
 #[cfg(test)]
+mod pool_run_tests;
+#[cfg(test)]
 mod pool_threads_tests;
 #[cfg(test)]
 mod posters;

@@ -1,5 +1,5 @@
 //! Plans in range and out of it, and what a worker alone sends.
-ghost use Rattle.std.specs.Prelude.{◌≡◌, ◌<◌, ◌≤◌, IfOk, map};
+ghost use Rattle.std.specs.Prelude.{◌≡◌, ◌<◌, ◌≤◌, IfOk, false, map};
 ghost use Rattle.mail_box.specs.LaneViews.{sender_of};
 ghost use Rattle.block_draw.specs.Views.{drawer_of};
 ghost use Rattle.split_run.specs.Running.{IsFresh};
@@ -40,7 +40,7 @@ fn takes_plans_in_range(rt: HostRuntime) -> Result<(), Fail> {
 fn open_three(alloc: Global, nodes: u64) -> Result<([LaneSender; 3], [LaneReceiver; 3]), AllocError>
     requires { (0 < nodes) × (nodes ≤ 64) }
     ensures fresh { IfOk result (λ r. AreFresh (map sender_of r.0)) }
-    ensures ready { IfOk result (λ r. AreReadyFor (map sender_of r.0) 3) }
+    ensures ready { IfOk result (λ r. AreReadyFor false (map sender_of r.0) 3) }
 {
     let (first, to_first) = open_one(alloc, &LaneMail, nodes, 3)?;
     let (second, to_second) = open_one(alloc, &LaneMail, nodes, 3)?;
@@ -49,7 +49,7 @@ fn open_three(alloc: Global, nodes: u64) -> Result<([LaneSender; 3], [LaneReceiv
 }
 
 /// The only drawer of the blocks of three lines.
-fn only_drawer(alloc: Global) -> Result<Drawer, AllocError>
+pub fn only_drawer(alloc: Global) -> Result<Drawer, AllocError>
     ensures { IfOk result (λ drawer. IsFresh 3 (drawer_of drawer)) }
 {
     let (_draw, mut drawers) = Draw::open(alloc, 1, 1)?;
@@ -75,7 +75,7 @@ fn work_by<G: Gate, R: Abort + Wait>(
     stop: &AtomicBool,
 ) -> Result<bool, Fail>
     requires fresh { AreFresh (map sender_of senders.old) }
-    requires ready { AreReadyFor (map sender_of senders.old) 3 }
+    requires ready { AreReadyFor false (map sender_of senders.old) 3 }
     requires drawer { IsFresh 3 (drawer_of drawer.old) }
 {
     let (tis, registry, usage) = (&inputs.tis, &inputs.registry, &inputs.usage);
@@ -99,7 +99,7 @@ fn work_alone<G: Gate, R: Abort + Wait>(
     stop: &AtomicBool,
 ) -> Result<bool, Fail>
     requires fresh { AreFresh (map sender_of senders.old) }
-    requires ready { AreReadyFor (map sender_of senders.old) 3 }
+    requires ready { AreReadyFor false (map sender_of senders.old) 3 }
 {
     let inputs = Inputs::read(alloc, usage)?;
     let mut drawer = only_drawer(alloc)?;

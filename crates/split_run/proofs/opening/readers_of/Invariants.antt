@@ -6,8 +6,8 @@ use Rattle.split_run.proofs.opening.readers_of.Given as goal
 -- the readers so far have their mailboxes, and the others are left
 abbrev pub invariant-loop-reader : goal.invariant-loop-reader
 invariant-loop-reader g l = record {
-  left : AreLeft l.readers l.reader (inboxes_by g.M.Mail.receiver l.initial.inboxes.items) (inboxes_by g.M.Mail.receiver l.inboxes.items);
+  left : AreLeft l.readers l.reader (inboxes_by g.B.Mailboxes.receiver l.initial.inboxes.items) (inboxes_by g.B.Mailboxes.receiver l.inboxes.items);
   count : length l.all.items ≡ l.reader;
-  dealt : (reader : ℕ) (d : _) → reader < l.reader → AreDealt l.readers reader (inboxes_by g.M.Mail.receiver l.initial.inboxes.items) (inboxes_by g.M.Mail.receiver (slice_index_or l.all.items reader d).opened.value.items);
-  taken : All (λ r. (r.workers ≡ l.workers) × HasKept g.M.Mail.receiver r) l.all.items;
+  dealt : (reader : ℕ) (d : _) → reader < l.reader → AreDealt l.readers reader (inboxes_by g.B.Mailboxes.receiver l.initial.inboxes.items) (inboxes_by g.B.Mailboxes.receiver (slice_index_or l.all.items reader d).opened.value.items);
+  taken : All (λ r. (r.workers ≡ l.workers) × HasKept g.B.Mailboxes.receiver r) l.all.items;
 }

@@ -9,10 +9,10 @@ abbrev pub invariant-loop-inbox : goal.invariant-loop-inbox
 invariant-loop-inbox g l =
     let rest = l.inbox-iterator in
     let all = into_iter_items l.initial.inbox-iterator in
-    let was = inboxes_by g.M.Mail.receiver (vec_items l.initial.inboxes) in
-    let now = inboxes_by g.M.Mail.receiver (vec_items l.inboxes) in
+    let was = inboxes_by g.B.Mailboxes.receiver (vec_items l.initial.inboxes) in
+    let now = inboxes_by g.B.Mailboxes.receiver (vec_items l.inboxes) in
     (length now ≡ length was)
     × (l.account + into_iter_len rest ≡ length all)
     × ((k : ℕ) (d : _) → k < into_iter_len rest → slice_index_or (into_iter_items rest) k d ≡ slice_index_or all (l.account + k) d)
-    × ((account : ℕ) → account < l.account → slice_index_or now account None ≡ or_else (slice_index_or (inboxes_by g.M.Mail.receiver all) account None) (slice_index_or was account None))
+    × ((account : ℕ) → account < l.account → slice_index_or now account None ≡ or_else (slice_index_or (inboxes_by g.B.Mailboxes.receiver all) account None) (slice_index_or was account None))
     × ((account : ℕ) → l.account ≤ account → slice_index_or now account None ≡ slice_index_or was account None)

@@ -9,35 +9,35 @@ use Rattle.split_run.proofs.running.merge_all.Goals as goal
 
 pub loop-reader-init : goal.loop-reader-init
 loop-reader-init g c =
-    let opened = inboxes_by g.M.Mail.receiver c.args.opened.value.items in
+    let opened = inboxes_by g.B.Mailboxes.receiver c.args.opened.value.items in
     let gives = c.into_iter-reader-iterator.ensures.into_iter_gives.0 in
     let size : length (into_iter_items c.into_iter-reader-iterator.result) ≡ c.args.readers = ap length gives ∙ c.requires.count.1 in (
       0,
       omega (arith, size),
       (λ k d below.
-          first_given (λ number r. IsGivenBack c.args.workers c.args.readers number opened (inboxes_by g.M.Mail.receiver r.inboxes.items) r.book) (into_iter_items c.into_iter-reader-iterator.result) c.args.read.items k d gives
+          first_given (λ number r. IsGivenBack c.args.workers c.args.readers number opened (inboxes_by g.B.Mailboxes.receiver r.inboxes.items) r.book) (into_iter_items c.into_iter-reader-iterator.result) c.args.read.items k d gives
           (c.requires.read k d (omega (arith, below, size)))),
-      none_merged c.args.workers c.args.readers opened c.args.accounts (inboxes_by g.M.Mail.receiver c.in_ok-inboxes.inboxes.items) c.in_ok-book.book
-          (length-map c.args.opened.value.items (option_map g.M.Mail.receiver) ∙ c.requires.count.0) c.in_ok-inboxes.ensures c.in_ok-book.ensures,
+      none_merged c.args.workers c.args.readers opened c.args.accounts (inboxes_by g.B.Mailboxes.receiver c.in_ok-inboxes.inboxes.items) c.in_ok-book.book
+          (length-map c.args.opened.value.items (option_map g.B.Mailboxes.receiver) ∙ c.requires.count.0) c.in_ok-inboxes.ensures c.in_ok-book.ensures,
     )
 
 pub merge-requires-after_bounds : goal.merge-requires-after_bounds
 merge-requires-after_bounds g c κs within =
     let was = c.loop-reader.invariant in
     let reader = c.in-Some-reader.reader in
-    let opened = inboxes_by g.M.Mail.receiver c.args.opened.value.items in
+    let opened = inboxes_by g.B.Mailboxes.receiver c.args.opened.value.items in
     let back =
-    next_given (λ number r. IsGivenBack c.args.workers c.args.readers number opened (inboxes_by g.M.Mail.receiver r.inboxes.items) r.book) (into_iter_items c.loop-reader.reader-iterator) (into_iter_items c.next.new.self) c.in-Some.reader was.0
+    next_given (λ number r. IsGivenBack c.args.workers c.args.readers number opened (inboxes_by g.B.Mailboxes.receiver r.inboxes.items) r.book) (into_iter_items c.loop-reader.reader-iterator) (into_iter_items c.next.new.self) c.in-Some.reader was.0
     (into_iter_len c.loop-reader.reader-iterator) (into_iter_len c.next.new.self) c.in-Some.ensures.steps.0 c.in-Some.ensures.steps.1 was.2 reader c.in-Some-reader.is in
-    omega (arith, back.1.count, back.2.count, was.3.count, length-map reader.inboxes.items (option_map g.M.Mail.receiver), length-map (vec_items c.loop-reader.inboxes) (option_map g.M.Mail.receiver))
+    omega (arith, back.1.count, back.2.count, was.3.count, length-map reader.inboxes.items (option_map g.B.Mailboxes.receiver), length-map (vec_items c.loop-reader.inboxes) (option_map g.B.Mailboxes.receiver))
 
 pub join-requires-clause-accounts : goal.join-requires-clause-accounts
 join-requires-clause-accounts g c =
     let was = c.loop-reader.invariant in
     let reader = c.in-Some-reader.reader in
-    let opened = inboxes_by g.M.Mail.receiver c.args.opened.value.items in
+    let opened = inboxes_by g.B.Mailboxes.receiver c.args.opened.value.items in
     let back =
-    next_given (λ number r. IsGivenBack c.args.workers c.args.readers number opened (inboxes_by g.M.Mail.receiver r.inboxes.items) r.book) (into_iter_items c.loop-reader.reader-iterator) (into_iter_items c.next.new.self) c.in-Some.reader was.0
+    next_given (λ number r. IsGivenBack c.args.workers c.args.readers number opened (inboxes_by g.B.Mailboxes.receiver r.inboxes.items) r.book) (into_iter_items c.loop-reader.reader-iterator) (into_iter_items c.next.new.self) c.in-Some.reader was.0
     (into_iter_len c.loop-reader.reader-iterator) (into_iter_len c.next.new.self) c.in-Some.ensures.steps.0 c.in-Some.ensures.steps.1 was.2 reader c.in-Some-reader.is in
     back.2.accounts ∙ back.1.count ∙ sym was.3.accounts
 
@@ -45,30 +45,30 @@ pub join-requires-clause-apart : goal.join-requires-clause-apart
 join-requires-clause-apart g c =
     let was = c.loop-reader.invariant in
     let reader = c.in-Some-reader.reader in
-    let opened = inboxes_by g.M.Mail.receiver c.args.opened.value.items in
+    let opened = inboxes_by g.B.Mailboxes.receiver c.args.opened.value.items in
     let back =
-    next_given (λ number r. IsGivenBack c.args.workers c.args.readers number opened (inboxes_by g.M.Mail.receiver r.inboxes.items) r.book) (into_iter_items c.loop-reader.reader-iterator) (into_iter_items c.next.new.self) c.in-Some.reader was.0
+    next_given (λ number r. IsGivenBack c.args.workers c.args.readers number opened (inboxes_by g.B.Mailboxes.receiver r.inboxes.items) r.book) (into_iter_items c.loop-reader.reader-iterator) (into_iter_items c.next.new.self) c.in-Some.reader was.0
     (into_iter_len c.loop-reader.reader-iterator) (into_iter_len c.next.new.self) c.in-Some.ensures.steps.0 c.in-Some.ensures.steps.1 was.2 reader c.in-Some-reader.is in
-    let now = inboxes_by g.M.Mail.receiver (vec_items c.loop-reader.inboxes) in
-    are_apart c.args.workers c.args.readers opened was.0 now (inboxes_by g.M.Mail.receiver reader.inboxes.items) now c.loop-reader.book reader.book c.loop-reader.book was.3 back
+    let now = inboxes_by g.B.Mailboxes.receiver (vec_items c.loop-reader.inboxes) in
+    are_apart c.args.workers c.args.readers opened was.0 now (inboxes_by g.B.Mailboxes.receiver reader.inboxes.items) now c.loop-reader.book reader.book c.loop-reader.book was.3 back
 
 pub loop-reader-preserved : goal.loop-reader-preserved
 loop-reader-preserved g c =
     let was = c.loop-reader.invariant in
     let reader = c.in-Some-reader.reader in
-    let opened = inboxes_by g.M.Mail.receiver c.args.opened.value.items in
+    let opened = inboxes_by g.B.Mailboxes.receiver c.args.opened.value.items in
     let back =
-    next_given (λ number r. IsGivenBack c.args.workers c.args.readers number opened (inboxes_by g.M.Mail.receiver r.inboxes.items) r.book) (into_iter_items c.loop-reader.reader-iterator) (into_iter_items c.next.new.self) c.in-Some.reader was.0
+    next_given (λ number r. IsGivenBack c.args.workers c.args.readers number opened (inboxes_by g.B.Mailboxes.receiver r.inboxes.items) r.book) (into_iter_items c.loop-reader.reader-iterator) (into_iter_items c.next.new.self) c.in-Some.reader was.0
     (into_iter_len c.loop-reader.reader-iterator) (into_iter_len c.next.new.self) c.in-Some.ensures.steps.0 c.in-Some.ensures.steps.1 was.2 reader c.in-Some-reader.is in
-    let now = inboxes_by g.M.Mail.receiver (vec_items c.loop-reader.inboxes) in
-    let after = inboxes_by g.M.Mail.receiver (vec_items c.merge.new.inboxes) in
-    let size = length-map (vec_items c.loop-reader.inboxes) (option_map g.M.Mail.receiver) in (
+    let now = inboxes_by g.B.Mailboxes.receiver (vec_items c.loop-reader.inboxes) in
+    let after = inboxes_by g.B.Mailboxes.receiver (vec_items c.merge.new.inboxes) in
+    let size = length-map (vec_items c.loop-reader.inboxes) (option_map g.B.Mailboxes.receiver) in (
       was.0 + 1,
       omega (arith, was.1, c.in-Some.ensures.steps.1),
-      rest_given (λ number r. IsGivenBack c.args.workers c.args.readers number opened (inboxes_by g.M.Mail.receiver r.inboxes.items) r.book) (into_iter_items c.loop-reader.reader-iterator) (into_iter_items c.next.new.self) c.in-Some.reader was.0
+      rest_given (λ number r. IsGivenBack c.args.workers c.args.readers number opened (inboxes_by g.B.Mailboxes.receiver r.inboxes.items) r.book) (into_iter_items c.loop-reader.reader-iterator) (into_iter_items c.next.new.self) c.in-Some.reader was.0
           (into_iter_len c.loop-reader.reader-iterator) (into_iter_len c.next.new.self) c.in-Some.ensures.steps.0 c.in-Some.ensures.steps.1 was.2,
-      one_merged c.args.workers c.args.readers opened was.0 now (inboxes_by g.M.Mail.receiver reader.inboxes.items) after c.loop-reader.book reader.book c.join.new.self was.3 back
-          (length-map (vec_items c.merge.new.inboxes) (option_map g.M.Mail.receiver) ∙ c.merge.ensures.count ∙ sym size)
+      one_merged c.args.workers c.args.readers opened was.0 now (inboxes_by g.B.Mailboxes.receiver reader.inboxes.items) after c.loop-reader.book reader.book c.join.new.self was.3 back
+          (length-map (vec_items c.merge.new.inboxes) (option_map g.B.Mailboxes.receiver) ∙ c.merge.ensures.count ∙ sym size)
           (λ account lt. c.merge.ensures.each account (omega (arith, lt, size)))
           c.join.ensures,
     )

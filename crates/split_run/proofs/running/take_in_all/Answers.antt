@@ -1,10 +1,7 @@
-use Rattle.std.proofs.Common.{arith, ap, length, map, refl, subst, sym, ◌+◌, ◌≡◌, ◌∙◌, ℕ}
-use Rattle.std.specs.Prelude.{option_map}
+use Rattle.std.proofs.Common.{arith, ap, length, refl, subst, sym, ◌+◌, ◌≡◌, ◌∙◌, ℕ}
 use Rattle.std.specs.Vec.Iter.{into_iter_items, into_iter_len}
-use Rattle.std.proofs.lemmas.List.{length-map}
 use Rattle.block_draw.specs.Views.{draw_of, drawer_of}
 use Rattle.split_run.specs.Divisions.{division_by}
-use Rattle.split_run.specs.Reading.{inboxes_by}
 use Rattle.split_run.specs.Running.{AreGivenBack, AreTakenIn, IsWorkOf}
 use Rattle.split_run.proofs.RunningLemmas.{drawn_then, ended_there, first_given, next_given, none_taken_in, one_taken_in, rest_given, still_given}
 use Rattle.split_run.proofs.running.take_in_all.Goals as goal
@@ -13,7 +10,7 @@ pub loop-worker-init : goal.loop-worker-init
 loop-worker-init g c =
     let division = division_by c.args.inputs.tis.now c.args.inputs.registry.now in
     let usage = c.args.inputs.usage.now in
-    let before = inboxes_by g.M.Mail.receiver c.args.inboxes.now in
+    let before = g.B.Mailboxes.gathered c.args.inboxes.now in
     let draw = draw_of c.args.draw.now in
     let gives = c.into_iter-worker-iterator.ensures.into_iter_gives.0 in
     let size = ap length gives in
@@ -22,14 +19,14 @@ loop-worker-init g c =
       0,
       omega arith,
       (λ k d below.
-          first_given (λ number o. IsWorkOf division usage draw number (drawer_of o.drawer) before (map g.M.Mail.sender o.senders.items)) (into_iter_items c.into_iter-worker-iterator.result) c.args.worked.items k d gives
+          first_given (λ number o. IsWorkOf division usage draw number (drawer_of o.drawer) before (g.B.Mailboxes.senders o.senders.items)) (into_iter_items c.into_iter-worker-iterator.result) c.args.worked.items k d gives
           (c.requires.worked k d (omega (arith, below, size)))),
       none_taken_in division usage draw.drawn before,
       refl,
       none,
       drawers ∙ sym size,
       ap (λ v. v.blocks) c.requires.opened,
-      λ all. absurd (omega (arith, all, none, drawers, c.requires.some)),
+      λ all. absurd (omega (arith, all, none, drawers, c.requires.some.0)),
     )
 
 pub take_in_worker-requires-clause-ended : goal.take_in_worker-requires-clause-ended
@@ -38,15 +35,15 @@ take_in_worker-requires-clause-ended g c κs within =
     let division = division_by c.args.inputs.tis.now c.args.inputs.registry.now in
     let usage = c.args.inputs.usage.now in
     let worker = c.in-Some-worker.worker in
-    let senders = map g.M.Mail.sender worker.senders.items in
+    let senders = g.B.Mailboxes.senders worker.senders.items in
     let drawer = drawer_of worker.drawer in
-    let before = inboxes_by g.M.Mail.receiver c.args.inboxes.now in
-    let now = inboxes_by g.M.Mail.receiver c.loop-worker.inboxes in
+    let before = g.B.Mailboxes.gathered c.args.inboxes.now in
+    let now = g.B.Mailboxes.gathered c.loop-worker.inboxes in
     let own =
-    next_given (λ number o. IsWorkOf division usage (draw_of c.args.draw.now) number (drawer_of o.drawer) before (map g.M.Mail.sender o.senders.items)) (into_iter_items c.loop-worker.worker-iterator) (into_iter_items c.next.new.self) c.in-Some.worker
+    next_given (λ number o. IsWorkOf division usage (draw_of c.args.draw.now) number (drawer_of o.drawer) before (g.B.Mailboxes.senders o.senders.items)) (into_iter_items c.loop-worker.worker-iterator) (into_iter_items c.next.new.self) c.in-Some.worker
     was.0 (into_iter_len c.loop-worker.worker-iterator) (into_iter_len c.next.new.self) c.in-Some.ensures.steps.0 c.in-Some.ensures.steps.1 was.2 worker c.in-Some-worker.is in
     let given = still_given division usage (draw_of c.loop-worker.draw).drawn drawer.drawn was.0 was.0 before now senders was.3 own.sent in
-    record { count = given.count; ended = ended_there division usage was.0 drawer.drawn now senders given; same = own.same.0 ∙ sym was.4; done = own.done }
+    record { some = omega (arith, was.3.count, c.requires.some.1); count = given.count; ended = ended_there division usage was.0 drawer.drawn now senders given; same = own.same.0 ∙ sym was.4; done = own.done }
 
 pub loop-worker-preserved : goal.loop-worker-preserved
 loop-worker-preserved g c =
@@ -54,26 +51,25 @@ loop-worker-preserved g c =
     let division = division_by c.args.inputs.tis.now c.args.inputs.registry.now in
     let usage = c.args.inputs.usage.now in
     let worker = c.in-Some-worker.worker in
-    let senders = map g.M.Mail.sender worker.senders.items in
+    let senders = g.B.Mailboxes.senders worker.senders.items in
     let drawer = drawer_of worker.drawer in
-    let before = inboxes_by g.M.Mail.receiver c.args.inboxes.now in
-    let now = inboxes_by g.M.Mail.receiver c.loop-worker.inboxes in
+    let before = g.B.Mailboxes.gathered c.args.inboxes.now in
+    let now = g.B.Mailboxes.gathered c.loop-worker.inboxes in
     let own =
-    next_given (λ number o. IsWorkOf division usage (draw_of c.args.draw.now) number (drawer_of o.drawer) before (map g.M.Mail.sender o.senders.items)) (into_iter_items c.loop-worker.worker-iterator) (into_iter_items c.next.new.self) c.in-Some.worker
+    next_given (λ number o. IsWorkOf division usage (draw_of c.args.draw.now) number (drawer_of o.drawer) before (g.B.Mailboxes.senders o.senders.items)) (into_iter_items c.loop-worker.worker-iterator) (into_iter_items c.next.new.self) c.in-Some.worker
     was.0 (into_iter_len c.loop-worker.worker-iterator) (into_iter_len c.next.new.self) c.in-Some.ensures.steps.0 c.in-Some.ensures.steps.1 was.2 worker c.in-Some-worker.is in
     let given = still_given division usage (draw_of c.loop-worker.draw).drawn drawer.drawn was.0 was.0 before now senders was.3 own.sent in
-    let after = inboxes_by g.M.Mail.receiver c.take_in_worker.new.inboxes in
-    let size = length-map c.loop-worker.inboxes (option_map g.M.Mail.receiver) in
+    let after = g.B.Mailboxes.gathered c.take_in_worker.new.inboxes in
     let draw = draw_of c.loop-worker.draw in
     let draw' = draw_of c.take_in_worker.new.draw in
     let taken = c.take_in_worker.ensures.gathered in
     let then = drawn_then draw draw' drawer was.0 taken own.same.1 in (
       was.0 + 1,
       omega (arith, was.1, c.in-Some.ensures.steps.1),
-      rest_given (λ number o. IsWorkOf division usage (draw_of c.args.draw.now) number (drawer_of o.drawer) before (map g.M.Mail.sender o.senders.items)) (into_iter_items c.loop-worker.worker-iterator) (into_iter_items c.next.new.self)
+      rest_given (λ number o. IsWorkOf division usage (draw_of c.args.draw.now) number (drawer_of o.drawer) before (g.B.Mailboxes.senders o.senders.items)) (into_iter_items c.loop-worker.worker-iterator) (into_iter_items c.next.new.self)
           c.in-Some.worker was.0 (into_iter_len c.loop-worker.worker-iterator) (into_iter_len c.next.new.self) c.in-Some.ensures.steps.0 c.in-Some.ensures.steps.1 was.2,
       one_taken_in division usage draw.drawn draw'.drawn was.0 before now after senders then.1 was.3 (subst (λ l. AreGivenBack division usage was.0 l now senders) (sym then.0) given) c.take_in_worker.ensures.count
-          (λ account s r lt at. c.take_in_worker.ensures.each account s r (omega (arith, lt, size)) at),
+          c.take_in_worker.ensures.each,
       ap (λ v. v.draw) taken ∙ was.4,
       ap (λ v. v.gathered) taken ∙ ap (λ (n : ℕ). n + 1) was.5,
       ap (λ v. v.drawers) taken ∙ was.6,
@@ -86,4 +82,4 @@ returns-clause-taken g c =
     let was = c.loop-worker.invariant in
     let division = division_by c.args.inputs.tis.now c.args.inputs.registry.now in
     let all : was.0 ≡ length c.args.worked.items = omega (arith, was.1, c.in-None.ensures.steps.0, ap length c.into_iter-worker-iterator.ensures.into_iter_gives.0) in
-    subst (λ n. AreTakenIn division c.args.inputs.usage.now (draw_of c.loop-worker.draw).drawn n (inboxes_by g.M.Mail.receiver c.args.inboxes.now) (inboxes_by g.M.Mail.receiver c.loop-worker.inboxes)) all was.3
+    subst (λ n. AreTakenIn division c.args.inputs.usage.now (draw_of c.loop-worker.draw).drawn n (g.B.Mailboxes.gathered c.args.inboxes.now) (g.B.Mailboxes.gathered c.loop-worker.inboxes)) all was.3

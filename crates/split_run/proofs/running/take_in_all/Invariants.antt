@@ -1,11 +1,10 @@
-use Rattle.std.specs.Prelude.{ℕ, ◌+◌, ◌<◌, ◌≡◌, length, map, slice_index_or}
+use Rattle.std.specs.Prelude.{ℕ, ◌+◌, ◌<◌, ◌≡◌, length, slice_index_or}
 use Rattle.std.specs.Option.{IfSome}
 use Rattle.std.specs.Vec.Iter.{into_iter_items, into_iter_len}
 use Rattle.block_draw.specs.Drawn.{AreDrawnOnce}
 use Rattle.block_draw.specs.Views.{draw_of, drawer_of}
 use Rattle.split_run.specs.Blocks.{blocks_of}
 use Rattle.split_run.specs.Divisions.{division_by}
-use Rattle.split_run.specs.Reading.{inboxes_by}
 use Rattle.split_run.specs.Running.{AreTakenIn, IsWorkOf}
 use Rattle.split_run.proofs.running.take_in_all.Given as goal
 
@@ -16,13 +15,13 @@ invariant-loop-worker g l =
     let usage = l.inputs.usage.now in
     let rest = l.worker-iterator in
     let workers = length (into_iter_items l.initial.worker-iterator) in
-    let before = inboxes_by g.M.Mail.receiver l.initial.inboxes in
+    let before = g.B.Mailboxes.gathered l.initial.inboxes in
     let draw = draw_of l.draw in
     (done : ℕ)
     × (done + into_iter_len rest ≡ workers)
     × ((k : ℕ) (d : _) → k < into_iter_len rest
-    → IfSome (slice_index_or (into_iter_items rest) k d) (λ own. IsWorkOf division usage (draw_of l.initial.draw) (done + k) (drawer_of own.drawer) before (map g.M.Mail.sender own.senders.items)))
-    × AreTakenIn division usage draw.drawn done before (inboxes_by g.M.Mail.receiver l.inboxes)
+    → IfSome (slice_index_or (into_iter_items rest) k d) (λ own. IsWorkOf division usage (draw_of l.initial.draw) (done + k) (drawer_of own.drawer) before (g.B.Mailboxes.senders own.senders.items)))
+    × AreTakenIn division usage draw.drawn done before (g.B.Mailboxes.gathered l.inboxes)
     × (draw.draw ≡ (draw_of l.initial.draw).draw)
     × (draw.gathered ≡ done)
     × (draw.drawers ≡ workers)

@@ -2,4 +2,4 @@ use Rattle.std.specs.Prelude.{◌≡◌}
 use Rattle.split_run.proofs.sending.send.Given as goal
 
 abbrev pub invariant-loop : goal.invariant-loop
-invariant-loop g l = g.M.Mail.sender l.sender ≡ g.M.Mail.sender l.initial.sender
+invariant-loop g l = g.B.Mailboxes.senders l.senders ≡ g.B.Mailboxes.senders l.initial.senders

@@ -4,4 +4,4 @@ use Rattle.split_run.proofs.reading.Reader.have_ended.Given as goal
 
 -- the mailboxes so far have ended
 abbrev pub invariant-loop-account : goal.invariant-loop-account
-invariant-loop-account g l = (account : ℕ) → account < l.account → (slice_index_or (inboxes_by g.M.Mail.receiver l.self.inboxes.items) account None ≡ None) ⊎ (l.self.workers ≤ slice_index_or l.self.ends.items account 0)
+invariant-loop-account g l = (account : ℕ) → account < l.account → (slice_index_or (inboxes_by g.B.Mailboxes.receiver l.self.inboxes.items) account None ≡ None) ⊎ (l.self.workers ≤ slice_index_or l.self.ends.items account 0)

@@ -1,0 +1,158 @@
+//! The mailboxes of one pool, one for each account.
+
+ghost use Rattle.std.specs.Prelude.{◌≡◌, ◌<◌, ◌∷◌, [], ℕ, IfOk, None, Some, length, map, slice_index_or, true};
+ghost use Rattle.mail_box.specs.Mails.{Begins, ReceiverView, SenderView, with_sender};
+ghost use Rattle.split_run.specs.PoolSeen.{belongs_to, gathered_in, inbox_of, senders_of};
+ghost use Rattle.split_run.specs.Reading.{inboxes_by};
+
+use crate::MOST_POSTINGS;
+use crate::mailboxes::Mailboxes;
+use pool_box::{Item, Pool, Posted, Took};
+use std::alloc::{AllocError, Global};
+use std::sync::Wait;
+
+/// The mailboxes of a pool of a kind. A worker has one sender for all.
+#[derive(Clone, Copy)]
+pub(crate) struct Pooled<'a, P>(pub &'a P);
+
+/// The tally of a pool that was just opened, and how many workers send to it.
+#[derive(Drop)]
+pub(crate) struct KeptPool<P: Pool> {
+    tally: P::Tally,
+    workers: u64,
+}
+
+/// The tally of a pool, how many mailboxes it has, and how many workers send to them.
+#[derive(Drop)]
+pub(crate) struct GatheredPool<P: Pool> {
+    tally: P::Tally,
+    accounts: usize,
+    workers: u64,
+}
+
+impl<P: Pool> Mailboxes for Pooled<'_, P> {
+    type Sender = P::Sender;
+
+    type Receiver = P::Receiver;
+
+    type Kept = KeptPool<P>;
+
+    type Gathered = GatheredPool<P>;
+
+    ghost use Rattle.std.specs.Prelude.{ℕ, true};
+    ghost use Rattle.split_run.specs.PoolSeen.{belongs_to, gathered_in, inbox_of, senders_of};
+
+    ghost Name = { P.Name × ℕ };
+
+    ghost is_shared = { true };
+
+    ghost senders = { senders_of P.sender };
+
+    ghost receiver = { λ r. inbox_of (P.receiver r) };
+
+    ghost belongs = { λ kept. belongs_to (P.tally kept.tally) kept.workers };
+
+    ghost gathered = { λ all. gathered_in (P.tally all.tally) all.accounts all.workers };
+
+    fn open(
+        &self,
+        alloc: Global,
+        accounts: u16,
+        workers: u64,
+        nodes: u64,
+        lines: u64,
+    ) -> Result<(Vec<Vec<P::Sender>>, Vec<Option<P::Receiver>>, KeptPool<P>), AllocError> {
+        let (senders, receivers, tally) = self.0.open(
+            alloc,
+            workers,
+            accounts as u64,
+            nodes,
+            MOST_POSTINGS * lines,
+        )?;
+        let lists = one_each(alloc, senders)?;
+        let inboxes = all_there(alloc, receivers)?;
+        Ok((lists, inboxes, KeptPool { tally, workers }))
+    }
+
+    fn try_send<R: Wait>(
+        _rt: &R,
+        all: &mut [P::Sender],
+        account: usize,
+        line: u64,
+        amount: i64,
+    ) -> Posted {
+        P::try_send(&mut all[0], account as u64, line, amount)
+    }
+
+    fn end<R: Wait>(_rt: &R, all: &mut [P::Sender], account: usize) -> Posted {
+        P::end(&mut all[0], account as u64);
+        Posted::Sent
+    }
+
+    fn receive<R: Wait>(_rt: &R, inbox: &mut P::Receiver) -> Option<(u64, Item)> {
+        match P::take(inbox) {
+            Took::Held(held) => {
+                let pair = P::read(inbox, &held);
+                P::give_back(inbox, held);
+                Some(pair)
+            }
+            Took::Empty | Took::Busy => None,
+        }
+    }
+
+    fn gather(kept: KeptPool<P>, inboxes: Vec<Option<P::Receiver>>) -> GatheredPool<P>
+        requires { (account : ℕ) → account < length inboxes.items → (inbox : ReceiverView _) × (slice_index_or (inboxes_by (λ r. inbox_of (P.receiver r)) inboxes.items) account None ≡ Some inbox) × belongs_to (P.tally kept.tally) kept.workers account inbox }
+        ensures { gathered_in (P.tally result.tally) result.accounts result.workers ≡ inboxes_by (λ r. inbox_of (P.receiver r)) inboxes.items }
+    {
+        let accounts = inboxes.len();
+        let workers = kept.workers;
+        let mut tally = kept.tally;
+        for inbox in inboxes {
+            if let Some(receiver) = inbox {
+                P::gather(&mut tally, receiver);
+            }
+        }
+        GatheredPool {
+            tally,
+            accounts,
+            workers,
+        }
+    }
+
+    fn take_in<R: Wait>(_rt: &R, all: &mut GatheredPool<P>, own: Vec<P::Sender>)
+        requires some { 0 < length (gathered_in (P.tally all.old.tally) all.old.accounts all.old.workers) }
+        requires count { length (senders_of P.sender own.items) ≡ length (gathered_in (P.tally all.old.tally) all.old.accounts all.old.workers) }
+        requires ended { (account : ℕ) (s : SenderView _) → account < length (gathered_in (P.tally all.old.tally) all.old.accounts all.old.workers) → (inbox : ReceiverView _) × (slice_index_or (gathered_in (P.tally all.old.tally) all.old.accounts all.old.workers) account None ≡ Some inbox) × ((slice_index_or (senders_of P.sender own.items) account s).mailbox ≡ inbox.mailbox) × ((slice_index_or (senders_of P.sender own.items) account s).is_ended ≡ true) }
+        ensures count { length (gathered_in (P.tally all.new.tally) all.new.accounts all.new.workers) ≡ length (gathered_in (P.tally all.old.tally) all.old.accounts all.old.workers) }
+        ensures each { (account : ℕ) (s : SenderView _) (inbox : ReceiverView _) → account < length (gathered_in (P.tally all.old.tally) all.old.accounts all.old.workers) → slice_index_or (gathered_in (P.tally all.old.tally) all.old.accounts all.old.workers) account None ≡ Some inbox → (slice_index_or (gathered_in (P.tally all.new.tally) all.new.accounts all.new.workers) account None ≡ Some (with_sender inbox (slice_index_or (senders_of P.sender own.items) account s))) × Begins (with_sender inbox (slice_index_or (senders_of P.sender own.items) account s)) }
+    {
+        let mut own = own;
+        if let Some(sender) = own.pop() {
+            P::take_in(&mut all.tally, sender);
+        }
+    }
+}
+
+/// For each worker a list of its sender alone.
+fn one_each<T: Drop>(alloc: Global, senders: Vec<T>) -> Result<Vec<Vec<T>>, AllocError>
+    ensures { IfOk result (λ lists. map (λ own. own.items) lists.items ≡ map (λ s. s ∷ []) senders.items) }
+{
+    let mut lists = Vec::new(alloc);
+    for sender in senders {
+        let mut own = Vec::new(alloc);
+        own.push(sender)?;
+        lists.push(own)?;
+    }
+    Ok(lists)
+}
+
+/// The receivers, each in its place.
+fn all_there<T: Drop>(alloc: Global, receivers: Vec<T>) -> Result<Vec<Option<T>>, AllocError>
+    ensures { IfOk result (λ there. there.items ≡ map Some receivers.items) }
+{
+    let mut there = Vec::new(alloc);
+    for receiver in receivers {
+        there.push(Some(receiver))?;
+    }
+    Ok(there)
+}
