@@ -127,11 +127,11 @@ module _ (shape : Shape) (id : ℕ) (v : ReaderSeat) (s : State Posting Known) (
     hand_is g too = let both : Some h ≡ Some g = sym hand ∙ too in cc
 
     -- so its line is found
-    pub line_found : (g : Holding) → v.at_hand ≡ Some g → get_or s.words (line_word_of shape h.node) 0 ≡ line_word g.item
+    pub line_found : (g : Holding) → v.at_hand ≡ Some g → get_or s.words (line_word_of h.node) 0 ≡ line_word g.item
     line_found g too = kept.words.line h.node node_low ∙ (words_are.0 ∙ ap (λ (g : Holding). line_word g.item) (hand_is g too))
 
     -- and its amount
-    pub amount_found : (g : Holding) → v.at_hand ≡ Some g → get_or s.words (amount_word_of shape h.node) 0 ≡ amount_word g.item
+    pub amount_found : (g : Holding) → v.at_hand ≡ Some g → get_or s.words (amount_word_of h.node) 0 ≡ amount_word g.item
     amount_found g too = kept.words.amount h.node node_low ∙ (words_are.1 ∙ ap (λ (g : Holding). amount_word g.item) (hand_is g too))
 
     -- ---- GiveBack
@@ -155,7 +155,7 @@ module _ (shape : Shape) (id : ℕ) (v : ReaderSeat) (s : State Posting Known) (
       q' = after_in b event q
 
       abbrev word : ℕ
-      word = (get_or s.words (turn_word shape h.node) 0 + 1) % 2 ^ 64
+      word = (get_or s.words (turn_word h.node) 0 + 1) % 2 ^ 64
 
       -- the reader holds the node
       used : may_use reads.Rest b h.node c ≡ true
@@ -202,12 +202,12 @@ module _ (shape : Shape) (id : ℕ) (v : ReaderSeat) (s : State Posting Known) (
       has_less (Node node) has = let none = has.1 in cc
 
       -- So the rule is kept.
-      pub give_kept : KeepsNodes shape record { words = set s.words (turn_word shape h.node) word; homes = s.homes; views = set s.views id (Reads (after_give (Some h) v)) }
+      pub give_kept : KeepsNodes shape record { words = set s.words (turn_word h.node) word; homes = s.homes; views = set s.views id (Reads (after_give (Some h) v)) }
       give_kept = moved shape s kept id v seen (steps.GiveBack h.node) (Some event) n _ (after_give (Some h) v) record {
         due = due;
         event_is = event_is;
         same = same;
-        are_words = turn_words shape c kept.mail.fits.mailboxes s.words kept.words n h.node node_low turned refl refl word (ap (λ (k : ℕ). (k + 1) % 2 ^ 64) (kept.words.turn h.node node_low)) refl refl refl;
+        are_words = turn_words shape c s.words kept.words n h.node node_low turned refl refl word (ap (λ (k : ℕ). (k + 1) % 2 ^ 64) (kept.words.turn h.node node_low)) refl refl refl;
         seat = seat_after shape s kept id v seen (Some event) n same v.reader v.passed (v.given ++ entry ∷ []) v.got None record {
           reader_is = mine.reader;
           passed_is = mine.passed;

@@ -178,7 +178,7 @@ module _ (shape : Shape) (id : ℕ) (v : ReaderSeat) (s : State Posting Known) (
   next = (node_at c reader.tail).next
 
   abbrev found : ℕ
-  found = get_or s.words (next_word shape v.reader.tail) 0
+  found = get_or s.words (next_word v.reader.tail) 0
 
   -- its mailbox is there
   there : b < length c.heads
@@ -198,7 +198,7 @@ module _ (shape : Shape) (id : ℕ) (v : ReaderSeat) (s : State Posting Known) (
 
   -- what is found is the next of the tail
   found_is : found ≡ next
-  found_is = ap (λ (t : ℕ). get_or s.words (next_word shape t) 0) (sym tail_is) ∙ kept.words.next reader.tail (reader_keeps c kept.mail.pooled b there).0
+  found_is = ap (λ (t : ℕ). get_or s.words (next_word t) 0) (sym tail_is) ∙ kept.words.next reader.tail (reader_keeps c kept.mail.pooled b there).0
 
   stub_here : stub_in c b ≡ stub_of v.shape b
   stub_here = stub_is shape s kept id v seen
@@ -213,7 +213,7 @@ module _ (shape : Shape) (id : ℕ) (v : ReaderSeat) (s : State Posting Known) (
 
   -- the rule where the seat knows more
   abbrev KeepsThen : ReaderSeat → Type 0
-  KeepsThen w = KeepsNodes shape record { words = set s.words (next_word shape v.reader.tail) found; homes = s.homes; views = set s.views id (Reads w) }
+  KeepsThen w = KeepsNodes shape record { words = set s.words (next_word v.reader.tail) found; homes = s.homes; views = set s.views id (Reads w) }
 
   -- ---- null is found
 
@@ -240,7 +240,7 @@ module _ (shape : Shape) (id : ℕ) (v : ReaderSeat) (s : State Posting Known) (
           due = none_due c q b none reader.point loads links.reader.at_tail;
           event_is = ap (λ t. if t then Some Pass else None) none;
           same = but_reader shape s kept id v seen None n.heads n.nodes n.holders n.readers refl (reader_else shape s kept id v seen r) refl refl;
-          are_words = look_words shape c kept.mail.fits.mailboxes s.words kept.words n (next_word shape v.reader.tail) refl refl;
+          are_words = look_words shape c s.words kept.words n (next_word v.reader.tail) refl refl;
           reader_is = reader_set shape s kept id v seen r ∙ (λ i. without_next (stub_here i) (mine.reader i));
           passed_is = mine.passed;
           given_is = refl;
@@ -312,7 +312,7 @@ module _ (shape : Shape) (id : ℕ) (v : ReaderSeat) (s : State Posting Known) (
         due = second_due;
         event_is = pass_event;
         same = but_reader shape s kept id v seen (Some Pass) second.heads second.nodes second.holders second.readers refl (twice_else past) refl refl;
-        are_words = look_words shape c kept.mail.fits.mailboxes s.words kept.words second (next_word shape v.reader.tail) refl refl;
+        are_words = look_words shape c s.words kept.words second (next_word v.reader.tail) refl refl;
         reader_is = second_is;
         passed_is = passed_then c.ring m its (links_in c q b) links Stub stub_first ∙ ap (λ xs. xs ++ Stub ∷ []) mine.passed;
         given_is = refl;
@@ -401,7 +401,7 @@ module _ (shape : Shape) (id : ℕ) (v : ReaderSeat) (s : State Posting Known) (
         due = node_due c q b has other reader.point loads;
         event_is = pass_event;
         same = same;
-        are_words = look_words shape c kept.mail.fits.mailboxes s.words kept.words n (next_word shape v.reader.tail) refl refl;
+        are_words = look_words shape c s.words kept.words n (next_word v.reader.tail) refl refl;
         seat = seat_after shape s kept id v seen (Some Pass) n same (record { point = reads.Rest; tail = found - 1; last = Some (took.Held v.reader.tail) }) (v.passed ++ Of p k ∷ []) v.given (v.got ++ (p, item_at m p k) ∷ []) (Some h) record {
           reader_is = twice held_now ∙ ((λ i. record (on_is i) { point = reads.Rest; last = Some (took.Held reader.tail) }) ∙ (λ i. record { point = reads.Rest; tail = sym found_is i - 1; last = Some (took.Held (tail_is i)) }));
           passed_is = passed_is;

@@ -19,14 +19,14 @@ use Rattle.queue_core.proofs.PoolRuns.{opening_shown}
 use Rattle.node_table.specs.declared.seats.Known.{Known}
 use Rattle.node_table.specs.declared.seats.Posting.{Posting}
 use Rattle.node_table.specs.declared.seats.Shape.{Shape}
-use Rattle.node_table.specs.Layout.{IsSmall, amount_word_of, head_word, line_word_of, next_word, nodes_in, stub_of, turn_word, words_in}
+use Rattle.node_table.specs.Layout.{IsSmall, amount_word_of, head_word, line_word_of, next_word, nodes_in, slot_of, slots_in, stub_of, turn_word, words_in}
 use Rattle.queue_core.specs.Items.{IsInRange}
 use Rattle.node_table.specs.Seats.{HasEndedEverywhere, HasShape, IsGathered, IsNewReader, IsNewSender, IsSeat, IsTakenIn}
 use Rattle.node_table.specs.Rule.{AreApart, AreWords, IsNodeMail, KeepsNodes, nodes_opened}
 use Rattle.node_table.proofs.Owned.{at_within}
 
-module _ (shape : Shape) (small : IsSmall shape) (words : List ℕ) (wide : length words ≡ words_in shape) (heads : (b : ℕ) → b < shape.mailboxes → get_or words (head_word b) 0 ≡ stub_of shape b + 1)
-    (zeros : (i : ℕ) → shape.mailboxes + 16 ≤ i → get_or words i 0 ≡ 0) (slots : List Posting) (many : length slots ≡ shape.senders) where
+module _ (shape : Shape) (small : IsSmall shape) (words : List ℕ) (wide : length words ≡ words_in shape) (heads : (b : ℕ) → b < shape.mailboxes → get_or words (head_word shape b) 0 ≡ stub_of shape b + 1)
+    (zeros : (n k : ℕ) → k < 4 → get_or words (next_word n + k) 0 ≡ 0) (slots : List Posting) (many : length slots ≡ slots_in shape) where
   -- ---- the core
 
   abbrev core : Pooled
@@ -59,19 +59,19 @@ module _ (shape : Shape) (small : IsSmall shape) (words : List ℕ) (wide : leng
   node n low = get_or-replicate (nodes_in shape) n empty_node empty_node (omega (arith, low, many_nodes))
 
   -- so each of its words is 0
-  word_is : (f : Node → ℕ) → f empty_node ≡ 0 → (place : ℕ → ℕ) → ((n : ℕ) → shape.mailboxes + 16 ≤ place n) → (n : ℕ) → n < length core.nodes → get_or words (place n) 0 ≡ f (node_at core n)
-  word_is f null place behind n low = zeros (place n) (behind n) ∙ sym (ap f (node n low) ∙ null)
+  word_is : (f : Node → ℕ) → f empty_node ≡ 0 → (place : ℕ → ℕ) (k : ℕ) → k < 4 → ((n : ℕ) → place n ≡ next_word n + k) → (n : ℕ) → n < length core.nodes → get_or words (place n) 0 ≡ f (node_at core n)
+  word_is f null place k few is n low = ap (λ (i : ℕ). get_or words i 0) (is n) ∙ (zeros n k few ∙ sym (ap f (node n low) ∙ null))
 
   are_words : AreWords shape core words
   are_words = record {
-    wide = wide ∙ ap (next_word shape) (sym many_nodes);
+    wide = wide ∙ ap next_word (sym many_nodes);
     head = λ b low.
         let there : b < shape.mailboxes = omega (arith, low, fits.mailboxes) in
         heads b there ∙ sym (get_or-map-range_with_len (λ b. link_to (stub_of shape b)) 0 shape.mailboxes b b 0 there (omega arith));
-    next = word_is (λ z. z.next) refl (next_word shape) (λ n. omega arith);
-    turn = word_is (λ z. z.turn) refl (turn_word shape) (λ n. omega arith);
-    line = word_is (λ z. z.line) refl (line_word_of shape) (λ n. omega arith);
-    amount = word_is (λ z. z.amount) refl (amount_word_of shape) (λ n. omega arith);
+    next = word_is (λ z. z.next) refl next_word 0 (omega arith) (λ n. omega arith);
+    turn = word_is (λ z. z.turn) refl turn_word 1 (omega arith) (λ n. omega arith);
+    line = word_is (λ z. z.line) refl line_word_of 2 (omega arith) (λ n. omega arith);
+    amount = word_is (λ z. z.amount) refl amount_word_of 3 (omega arith) (λ n. omega arith);
   }
 
   -- ---- what is dealt has done nothing
@@ -86,7 +86,7 @@ module _ (shape : Shape) (small : IsSmall shape) (words : List ℕ) (wide : leng
         let place : end_place core b p ≡ p * shape.mailboxes + b = λ i. p * fits.mailboxes i + b in
         get_or-replicate (shape.senders * shape.mailboxes) (end_place core b p) false _ (omega (arith, place, mul-add-lt p shape.mailboxes b shape.senders low (omega (arith, there, fits.mailboxes))));
     items = λ b. refl;
-    slot = some_there slots p (omega (arith, low, many));
+    slot = some_there slots (slot_of p) (omega (arith, low, many));
   }
 
   new_reader_is : (b : ℕ) → b < shape.mailboxes → IsNewReader core opening_pool b

@@ -1,5 +1,5 @@
 -- What a step of a reader at a table of nodes asks of its caller, from where the seat is.
-use Rattle.std.proofs.Common.{◌≡◌, ◌∙◌, ◌+◌, ◌%◌, ◌^◌, ℕ, [], refl, subst, sym}
+use Rattle.std.proofs.Common.{◌≡◌, ◌∙◌, ◌+◌, ◌%◌, ◌^◌, ℕ, [], ap, refl, subst, sym}
 use mathlib.Core.Option.{none}
 use Rattle.atomic_table.specs.Table.{Me, Allows, step}
 use Rattle.queue_core.specs.declared.reader.ReaderPoint.{ReaderPoint}
@@ -26,15 +26,15 @@ module _ (shape key : Shape) (words : ℕ) (table : IsTableOf shape key words) (
 
   module _ (mailbox tail : ℕ) where
     -- the tail, as the caller knows it
-    pub loads_next : IsReading LoadsNext shape mailbox tail me → Allows (KeepsNodes key) slots id me (next_word shape tail) (λ n. n) (tells_load_next (step slots (next_word shape tail) 0 0 none) me)
+    pub loads_next : IsReading LoadsNext shape mailbox tail me → Allows (KeepsNodes key) slots id me (next_word tail) (λ n. n) (tells_load_next (step slots (next_word tail) 0 0 none) me)
     loads_next at =
-        of_table (λ k x t _. Allows (KeepsNodes k) slots id x (next_word shape t) (λ n. n) (tells_load_next (step slots (next_word shape t) 0 0 none) x)) at.is_reader _ tail 0 0 at.tail_is refl
+        of_table (λ k x t _. Allows (KeepsNodes k) slots id x (next_word t) (λ n. n) (tells_load_next (step slots (next_word t) 0 0 none) x)) at.is_reader _ tail 0 0 at.tail_is refl
         (next_loads shape slots id v at.at)
 
-    -- the head
-    pub loads_head : IsReading LoadsHead shape mailbox tail me → Allows (KeepsNodes key) slots id me (head_word mailbox) (λ n. n) (tells_load_head (step slots (head_word mailbox) 0 0 none) me)
-    loads_head at =
-        of_table (λ k x b _. Allows (KeepsNodes k) slots id x (head_word b) (λ n. n) (tells_load_head (step slots (head_word b) 0 0 none) x)) at.is_reader _ mailbox 0 0 at.mailbox_is refl
+    -- the head, in its word
+    pub loads_head : (word : ℕ) → word ≡ head_word shape mailbox → IsReading LoadsHead shape mailbox tail me → Allows (KeepsNodes key) slots id me word (λ n. n) (tells_load_head (step slots word 0 0 none) me)
+    loads_head word is at =
+        of_table (λ k x w _. Allows (KeepsNodes k) slots id x w (λ n. n) (tells_load_head (step slots w 0 0 none) x)) at.is_reader _ word 0 0 (ap (head_word shape) at.mailbox_is ∙ sym is) refl
         (head_loads shape slots id v at.at)
 
     module _ (stub : ℕ) (stub_is : stub ≡ stub_of shape mailbox) where
@@ -44,36 +44,36 @@ module _ (shape key : Shape) (words : ℕ) (table : IsTableOf shape key words) (
 
       -- the stub is emptied, exchanged in and linked
       pub nulls_stub : IsReading (λ point. point ≡ reads.Null) shape mailbox tail me
-          → Allows (KeepsNodes key) slots id me (next_word shape stub) (λ _. null) (λ _. tells_stub_null (step slots (next_word shape stub) null 0 none) me null)
+          → Allows (KeepsNodes key) slots id me (next_word stub) (λ _. null) (λ _. tells_stub_null (step slots (next_word stub) null 0 none) me null)
       nulls_stub at =
-          of_table (λ k x n _. Allows (KeepsNodes k) slots id x (next_word shape n) (λ _. null) (λ _. tells_stub_null (step slots (next_word shape n) null 0 none) x null)) at.is_reader _ stub 0 0 (known_stub _ at) refl
+          of_table (λ k x n _. Allows (KeepsNodes k) slots id x (next_word n) (λ _. null) (λ _. tells_stub_null (step slots (next_word n) null 0 none) x null)) at.is_reader _ stub 0 0 (known_stub _ at) refl
           (stub_nulls shape slots id v at.at)
 
-      pub swaps_stub : IsReading (λ point. point ≡ reads.Swap) shape mailbox tail me
-          → Allows (KeepsNodes key) slots id me (head_word mailbox) (λ _. stub + 1) (tells_stub_swap (step slots (head_word mailbox) (stub + 1) 0 none) me)
-      swaps_stub at =
-          of_table (λ k x b n. Allows (KeepsNodes k) slots id x (head_word b) (λ _. n + 1) (tells_stub_swap (step slots (head_word b) (n + 1) 0 none) x)) at.is_reader _ mailbox _ stub at.mailbox_is (known_stub _ at)
+      pub swaps_stub : (word : ℕ) → word ≡ head_word shape mailbox → IsReading (λ point. point ≡ reads.Swap) shape mailbox tail me
+          → Allows (KeepsNodes key) slots id me word (λ _. stub + 1) (tells_stub_swap (step slots word (stub + 1) 0 none) me)
+      swaps_stub word is at =
+          of_table (λ k x w n. Allows (KeepsNodes k) slots id x w (λ _. n + 1) (tells_stub_swap (step slots w (n + 1) 0 none) x)) at.is_reader _ word _ stub (ap (head_word shape) at.mailbox_is ∙ sym is) (known_stub _ at)
           (stub_swaps shape slots id v at.at)
 
       pub links_stub : (before : ℕ) → IsReading (λ point. point ≡ reads.Link before) shape mailbox tail me
-          → Allows (KeepsNodes key) slots id me (next_word shape before) (λ _. stub + 1) (λ _. tells_stub_link (step slots (next_word shape before) (stub + 1) 0 none) me (stub + 1))
+          → Allows (KeepsNodes key) slots id me (next_word before) (λ _. stub + 1) (λ _. tells_stub_link (step slots (next_word before) (stub + 1) 0 none) me (stub + 1))
       links_stub before at =
-          of_table (λ k x n _. Allows (KeepsNodes k) slots id x (next_word shape before) (λ _. n + 1) (λ _. tells_stub_link (step slots (next_word shape before) (n + 1) 0 none) x (n + 1))) at.is_reader _ stub 0 0 (known_stub _ at) refl
+          of_table (λ k x n _. Allows (KeepsNodes k) slots id x (next_word before) (λ _. n + 1) (λ _. tells_stub_link (step slots (next_word before) (n + 1) 0 none) x (n + 1))) at.is_reader _ stub 0 0 (known_stub _ at) refl
           (stub_links shape slots id v before at.at)
 
   -- what is at hand
   module _ (node : ℕ) (at : HasAtHand shape node me) where
-    pub loads_line : Allows (KeepsNodes key) slots id me (line_word_of shape node) (λ n. n) (tells_load_line (step slots (line_word_of shape node) 0 0 none) me)
+    pub loads_line : Allows (KeepsNodes key) slots id me (line_word_of node) (λ n. n) (tells_load_line (step slots (line_word_of node) 0 0 none) me)
     loads_line =
-        of_table (λ k x n _. Allows (KeepsNodes k) slots id x (line_word_of shape n) (λ j. j) (tells_load_line (step slots (line_word_of shape n) 0 0 none) x)) at.is_reader _ node 0 0 at.node_is refl
+        of_table (λ k x n _. Allows (KeepsNodes k) slots id x (line_word_of n) (λ j. j) (tells_load_line (step slots (line_word_of n) 0 0 none) x)) at.is_reader _ node 0 0 at.node_is refl
         (line_loads shape slots id v at.holding at.hand at.rest)
 
-    pub loads_amount : Allows (KeepsNodes key) slots id me (amount_word_of shape node) (λ n. n) (tells_load_amount (step slots (amount_word_of shape node) 0 0 none) me)
+    pub loads_amount : Allows (KeepsNodes key) slots id me (amount_word_of node) (λ n. n) (tells_load_amount (step slots (amount_word_of node) 0 0 none) me)
     loads_amount =
-        of_table (λ k x n _. Allows (KeepsNodes k) slots id x (amount_word_of shape n) (λ j. j) (tells_load_amount (step slots (amount_word_of shape n) 0 0 none) x)) at.is_reader _ node 0 0 at.node_is refl
+        of_table (λ k x n _. Allows (KeepsNodes k) slots id x (amount_word_of n) (λ j. j) (tells_load_amount (step slots (amount_word_of n) 0 0 none) x)) at.is_reader _ node 0 0 at.node_is refl
         (amount_loads shape slots id v at.holding at.hand at.rest)
 
-    pub adds_turn : Allows (KeepsNodes key) slots id me (turn_word shape node) (λ n. (n + 1) % 2 ^ 64) (tells_give_back (step slots (turn_word shape node) 1 0 none) me)
+    pub adds_turn : Allows (KeepsNodes key) slots id me (turn_word node) (λ n. (n + 1) % 2 ^ 64) (tells_give_back (step slots (turn_word node) 1 0 none) me)
     adds_turn =
-        of_table (λ k x n _. Allows (KeepsNodes k) slots id x (turn_word shape n) (λ j. (j + 1) % 2 ^ 64) (tells_give_back (step slots (turn_word shape n) 1 0 none) x)) at.is_reader _ node 0 0 at.node_is refl
+        of_table (λ k x n _. Allows (KeepsNodes k) slots id x (turn_word n) (λ j. (j + 1) % 2 ^ 64) (tells_give_back (step slots (turn_word n) 1 0 none) x)) at.is_reader _ node 0 0 at.node_is refl
         (turn_adds shape slots id v at.holding at.hand at.rest)

@@ -44,7 +44,7 @@ use Rattle.node_table.proofs.Holdings.{amount_found, give_kept, hand_held, line_
 use Rattle.node_table.proofs.Next.{next_kept}
 use Rattle.node_table.proofs.Readers.{but_reader, gone_on, holds, low, nodes_are, own, reader_else, reader_set, stub_is}
 use Rattle.node_table.proofs.TakenIn.{find_awaited, head_alone, known_sent, one_entry}
-use Rattle.node_table.proofs.Words.{head_words, look_words, next_words}
+use Rattle.node_table.proofs.Words.{head_words, look_words, next_words, stub_there}
 
 -- ---- LoadHead is due
 
@@ -98,13 +98,16 @@ module _ (shape : Shape) (id : ℕ) (v : ReaderSeat) (s : State Posting Known) (
   stub_here : stub ≡ stub_of v.shape b
   stub_here = stub_is shape s kept id v seen
 
+  stub_low : stub_of shape b < length c.nodes
+  stub_low = stub_there shape c kept.mail.fits kept.mail.pooled b there
+
   point_is : reader.point ≡ v.reader.point
   point_is = ap (λ (r : Reader). r.point) mine.reader
 
   tail_is : reader.tail ≡ v.reader.tail
   tail_is = ap (λ (r : Reader). r.tail) mine.reader
 
-  head_is : get_or s.words (head_word b) 0 ≡ head_in c b
+  head_is : get_or s.words (head_word shape b) 0 ≡ head_in c b
   head_is = kept.words.head b there
 
   -- where the reader is written, it is that, and the others are as they were
@@ -122,7 +125,7 @@ module _ (shape : Shape) (id : ℕ) (v : ReaderSeat) (s : State Posting Known) (
 
   module _ (at : LoadsHead v.reader.point) where
     abbrev found : ℕ
-    found = get_or s.words (head_word b) 0
+    found = get_or s.words (head_word shape b) 0
 
     -- where the tail alone is left, it is so at the point that comes next
     alone_then : (point : ReaderPoint) → LoadsHead point → (r : Reader) → IsAlone m point → IsAlone m (after_head_at point found r).point
@@ -144,7 +147,7 @@ module _ (shape : Shape) (id : ℕ) (v : ReaderSeat) (s : State Posting Known) (
         ]
 
     -- the rule is kept
-    head_kept : KeepsThen (after_head found v.reader) (head_word b) found
+    head_kept : KeepsThen (after_head found v.reader) (head_word shape b) found
     head_kept =
         let r : Reader = after_head (head_in c b) reader in
         let n : Pooled = with_reader b r c in
@@ -152,7 +155,7 @@ module _ (shape : Shape) (id : ℕ) (v : ReaderSeat) (s : State Posting Known) (
           due = head_due c b reader.point (subst LoadsHead (sym point_is) at);
           event_is = refl;
           same = but_reader shape s kept id v seen None n.heads n.nodes n.holders n.readers refl (else_is r) refl refl;
-          are_words = look_words shape c kept.mail.fits.mailboxes s.words kept.words n (head_word b) refl refl;
+          are_words = look_words shape c s.words kept.words n (head_word shape b) refl refl;
           reader_is = set_is r ∙ (λ i. after_head (sym head_is i) (mine.reader i));
           passed_is = mine.passed;
           given_is = refl;
@@ -184,7 +187,7 @@ module _ (shape : Shape) (id : ℕ) (v : ReaderSeat) (s : State Posting Known) (
 
   module _ (at : v.reader.point ≡ reads.Null) where
     -- the rule is kept: a word of the stub is written, and no event happens
-    null_kept : KeepsThen (record v.reader { point = reads.Swap }) (next_word shape (stub_of v.shape b)) null
+    null_kept : KeepsThen (record v.reader { point = reads.Swap }) (next_word (stub_of v.shape b)) null
     null_kept =
         let node : Node = record (node_at c stub) { next = null } in
         let n : Pooled = goes_to b reads.Swap (with_node stub node c) in
@@ -193,8 +196,8 @@ module _ (shape : Shape) (id : ℕ) (v : ReaderSeat) (s : State Posting Known) (
           due = ap (λ point. stub_null_at point b c) (point_is ∙ at);
           event_is = refl;
           same = but_reader shape s kept id v seen None n.heads n.nodes n.holders n.readers refl (else_is (record reader { point = reads.Swap })) refl refl;
-          are_words = subst (λ x. AreWords shape n (set s.words (next_word shape x) null)) stub_here
-              (next_words shape c kept.mail.fits.mailboxes s.words kept.words n stub in_nodes node refl refl null refl refl refl refl);
+          are_words = subst (λ x. AreWords shape n (set s.words (next_word x) null)) stub_here
+              (next_words shape c s.words kept.words n stub in_nodes node refl refl null refl refl refl refl);
           reader_is = set_is (record reader { point = reads.Swap }) ∙ ap (λ (r : Reader). record r { point = reads.Swap }) mine.reader;
           passed_is = mine.passed;
           given_is = refl;
@@ -221,7 +224,7 @@ module _ (shape : Shape) (id : ℕ) (v : ReaderSeat) (s : State Posting Known) (
     swap_may = (step_shows_in b steps.StubSwap kept.events q c swapped there kept.mail.pooled kept.mail.leads kept.mail.shows swap_due).0
 
     -- the rule is kept
-    swap_kept : KeepsThen (record v.reader { point = reads.Link (get_or s.words (head_word b) 0 - 1) }) (head_word b) (stub_of v.shape b + 1)
+    swap_kept : KeepsThen (record v.reader { point = reads.Link (get_or s.words (head_word shape b) 0 - 1) }) (head_word shape b) (stub_of v.shape b + 1)
     swap_kept =
         let its = holds shape s kept id v seen b in
         let passed : passed_entries (after StubIn m) ≡ passed_entries m = same_passed c.ring m its Stub swap_may in
@@ -229,7 +232,7 @@ module _ (shape : Shape) (id : ℕ) (v : ReaderSeat) (s : State Posting Known) (
           due = swap_due;
           event_is = refl;
           same = but_reader shape s kept id v seen (Some StubIn) swapped.heads swapped.nodes swapped.holders swapped.readers (length-set c.heads b (link_to stub)) (else_is linking) refl refl;
-          are_words = head_words shape c kept.mail.fits.mailboxes s.words kept.words swapped b (stub_of v.shape b + 1) there (ap (λ (x : ℕ). set c.heads b (x + 1)) stub_here) refl;
+          are_words = head_words shape c s.words kept.words swapped b (stub_of v.shape b + 1) there stub_low (ap (λ (x : ℕ). set c.heads b (x + 1)) stub_here) refl;
           reader_is = set_is linking ∙ (λ i. record (mine.reader i) { point = reads.Link (sym head_is i - 1) });
           passed_is = passed ∙ mine.passed;
           given_is = refl;
@@ -241,7 +244,7 @@ module _ (shape : Shape) (id : ℕ) (v : ReaderSeat) (s : State Posting Known) (
         }
 
     -- what was the head is a link
-    swap_found : (0 < get_or s.words (head_word b) 0) × (get_or s.words (head_word b) 0 ≤ nodes_in v.shape)
+    swap_found : (0 < get_or s.words (head_word shape b) 0) × (get_or s.words (head_word shape b) 0 ≤ nodes_in v.shape)
     swap_found =
         let is = head_keeps c kept.mail.pooled b there in
         (omega (arith, head_is, is.0), omega (arith, head_is, is.1, nodes_are shape s kept id v seen))
@@ -250,7 +253,7 @@ module _ (shape : Shape) (id : ℕ) (v : ReaderSeat) (s : State Posting Known) (
 
   module _ (before : ℕ) (at : v.reader.point ≡ reads.Link before) where
     -- the rule is kept: the stub is linked
-    link_kept : KeepsThen (record v.reader { point = reads.Last }) (next_word shape before) (stub_of v.shape b + 1)
+    link_kept : KeepsThen (record v.reader { point = reads.Last }) (next_word before) (stub_of v.shape b + 1)
     link_kept =
         let node : Node = record (node_at c before) { next = link_to stub } in
         let n : Pooled = goes_to b reads.Last (with_node before node c) in
@@ -259,7 +262,7 @@ module _ (shape : Shape) (id : ℕ) (v : ReaderSeat) (s : State Posting Known) (
           due = ap (λ point. stub_link_at point b c) (point_is ∙ at);
           event_is = refl;
           same = but_reader shape s kept id v seen (Some StubLink) n.heads n.nodes n.holders n.readers refl (else_is (record reader { point = reads.Last })) refl refl;
-          are_words = next_words shape c kept.mail.fits.mailboxes s.words kept.words n before in_nodes node refl refl (stub_of v.shape b + 1) (ap link_to (sym stub_here)) refl refl refl;
+          are_words = next_words shape c s.words kept.words n before in_nodes node refl refl (stub_of v.shape b + 1) (ap link_to (sym stub_here)) refl refl refl;
           reader_is = set_is (record reader { point = reads.Last }) ∙ ap (λ (r : Reader). record r { point = reads.Last }) mine.reader;
           passed_is = mine.passed;
           given_is = refl;
@@ -269,42 +272,42 @@ module _ (shape : Shape) (id : ℕ) (v : ReaderSeat) (s : State Posting Known) (
         }
 
 module _ (shape : Shape) (slots id : ℕ) (v : ReaderSeat) where
-  pub next_loads : LoadsNext v.reader.point → Allows (KeepsNodes shape) slots id (Reads v, []) (next_word shape v.reader.tail) (λ n. n) (tells_load_next (step slots (next_word shape v.reader.tail) 0 0 none) (Reads v, []))
+  pub next_loads : LoadsNext v.reader.point → Allows (KeepsNodes shape) slots id (Reads v, []) (next_word v.reader.tail) (λ n. n) (tells_load_next (step slots (next_word v.reader.tail) 0 0 none) (Reads v, []))
   next_loads at s kept deep seen small = let next = next_kept shape id v s kept seen at in (Reads next.0, keeps, tt, next.1, (next.0, refl, next.2))
 
-  pub head_loads : LoadsHead v.reader.point → Allows (KeepsNodes shape) slots id (Reads v, []) (head_word v.mailbox) (λ n. n) (tells_load_head (step slots (head_word v.mailbox) 0 0 none) (Reads v, []))
+  pub head_loads : LoadsHead v.reader.point → Allows (KeepsNodes shape) slots id (Reads v, []) (head_word shape v.mailbox) (λ n. n) (tells_load_head (step slots (head_word shape v.mailbox) 0 0 none) (Reads v, []))
   head_loads at s kept deep seen small =
-      let w : ReaderSeat = with_reader_at (after_head (get_or s.words (head_word v.mailbox) 0) v.reader) v in
+      let w : ReaderSeat = with_reader_at (after_head (get_or s.words (head_word shape v.mailbox) 0) v.reader) v in
       (Reads w, keeps, tt, head_kept shape id v s kept seen at, (w, refl, head_told shape id v s kept seen at))
 
   pub stub_nulls : v.reader.point ≡ reads.Null
-      → Allows (KeepsNodes shape) slots id (Reads v, []) (next_word shape (stub_of v.shape v.mailbox)) (λ _. null) (λ _. tells_stub_null (step slots (next_word shape (stub_of v.shape v.mailbox)) null 0 none) (Reads v, []) null)
+      → Allows (KeepsNodes shape) slots id (Reads v, []) (next_word (stub_of v.shape v.mailbox)) (λ _. null) (λ _. tells_stub_null (step slots (next_word (stub_of v.shape v.mailbox)) null 0 none) (Reads v, []) null)
   stub_nulls at s kept deep seen small =
       let w : ReaderSeat = reading_at reads.Swap v in
       (Reads w, keeps, tt, null_kept shape id v s kept seen at, (w, refl, refl))
 
   pub stub_swaps : v.reader.point ≡ reads.Swap
-      → Allows (KeepsNodes shape) slots id (Reads v, []) (head_word v.mailbox) (λ _. stub_of v.shape v.mailbox + 1) (tells_stub_swap (step slots (head_word v.mailbox) (stub_of v.shape v.mailbox + 1) 0 none) (Reads v, []))
+      → Allows (KeepsNodes shape) slots id (Reads v, []) (head_word shape v.mailbox) (λ _. stub_of v.shape v.mailbox + 1) (tells_stub_swap (step slots (head_word shape v.mailbox) (stub_of v.shape v.mailbox + 1) 0 none) (Reads v, []))
   stub_swaps at s kept deep seen small =
-      let w : ReaderSeat = reading_at (reads.Link (get_or s.words (head_word v.mailbox) 0 - 1)) v in
+      let w : ReaderSeat = reading_at (reads.Link (get_or s.words (head_word shape v.mailbox) 0 - 1)) v in
       let found = swap_found shape id v s kept seen at in
       (Reads w, keeps, tt, swap_kept shape id v s kept seen at, (w, refl, (refl, found.0, found.1)))
 
   pub stub_links : (before : ℕ) → v.reader.point ≡ reads.Link before
-      → Allows (KeepsNodes shape) slots id (Reads v, []) (next_word shape before) (λ _. stub_of v.shape v.mailbox + 1) (λ _. tells_stub_link (step slots (next_word shape before) (stub_of v.shape v.mailbox + 1) 0 none) (Reads v, []) (stub_of v.shape v.mailbox + 1))
+      → Allows (KeepsNodes shape) slots id (Reads v, []) (next_word before) (λ _. stub_of v.shape v.mailbox + 1) (λ _. tells_stub_link (step slots (next_word before) (stub_of v.shape v.mailbox + 1) 0 none) (Reads v, []) (stub_of v.shape v.mailbox + 1))
   stub_links before at s kept deep seen small =
       let w : ReaderSeat = reading_at reads.Last v in
       (Reads w, keeps, tt, link_kept shape id v s kept seen before at, (w, refl, refl))
 
   -- what is at hand
   module _ (h : Holding) (hand : v.at_hand ≡ Some h) (at : v.reader.point ≡ reads.Rest) where
-    pub line_loads : Allows (KeepsNodes shape) slots id (Reads v, []) (line_word_of shape h.node) (λ n. n) (tells_load_line (step slots (line_word_of shape h.node) 0 0 none) (Reads v, []))
-    line_loads s kept deep seen small = (Reads v, keeps, tt, look_kept shape id v s kept seen (line_word_of shape h.node), (v, refl, (refl, line_found shape id v s kept seen h hand)))
+    pub line_loads : Allows (KeepsNodes shape) slots id (Reads v, []) (line_word_of h.node) (λ n. n) (tells_load_line (step slots (line_word_of h.node) 0 0 none) (Reads v, []))
+    line_loads s kept deep seen small = (Reads v, keeps, tt, look_kept shape id v s kept seen (line_word_of h.node), (v, refl, (refl, line_found shape id v s kept seen h hand)))
 
-    pub amount_loads : Allows (KeepsNodes shape) slots id (Reads v, []) (amount_word_of shape h.node) (λ n. n) (tells_load_amount (step slots (amount_word_of shape h.node) 0 0 none) (Reads v, []))
-    amount_loads s kept deep seen small = (Reads v, keeps, tt, look_kept shape id v s kept seen (amount_word_of shape h.node), (v, refl, (refl, amount_found shape id v s kept seen h hand)))
+    pub amount_loads : Allows (KeepsNodes shape) slots id (Reads v, []) (amount_word_of h.node) (λ n. n) (tells_load_amount (step slots (amount_word_of h.node) 0 0 none) (Reads v, []))
+    amount_loads s kept deep seen small = (Reads v, keeps, tt, look_kept shape id v s kept seen (amount_word_of h.node), (v, refl, (refl, amount_found shape id v s kept seen h hand)))
 
-    pub turn_adds : Allows (KeepsNodes shape) slots id (Reads v, []) (turn_word shape h.node) (λ n. (n + 1) % 2 ^ 64) (tells_give_back (step slots (turn_word shape h.node) 1 0 none) (Reads v, []))
+    pub turn_adds : Allows (KeepsNodes shape) slots id (Reads v, []) (turn_word h.node) (λ n. (n + 1) % 2 ^ 64) (tells_give_back (step slots (turn_word h.node) 1 0 none) (Reads v, []))
     turn_adds s kept deep seen small =
         let w : ReaderSeat = after_give (Some h) v in
         (Reads w, keeps, tt, give_kept shape id v s kept seen h hand at, (w, refl, (ap (λ o. after_give o v) (sym hand), hand_held shape id v s kept seen h hand)))

@@ -13,7 +13,7 @@ use Rattle.node_table.specs.declared.seats.Known.TheVariants.{Sends}
 use Rattle.node_table.specs.declared.seats.Posting.{Posting}
 use Rattle.node_table.specs.declared.seats.SenderSeat.{SenderSeat}
 use Rattle.node_table.specs.declared.seats.Shape.{Shape}
-use Rattle.node_table.specs.Layout.{IsTableOf, amount_word_of, first_of, head_word, line_word_of, next_word, nodes_in, turn_word}
+use Rattle.node_table.specs.Layout.{IsTableOf, amount_word_of, first_of, head_word, line_word_of, next_word, nodes_in, slot_of, turn_word}
 use Rattle.node_table.specs.Rule.{KeepsNodes}
 use Rattle.node_table.specs.Asks.{IsEnding, IsPosting, IsResting, IsSending, IsSlotless, sender_in}
 use Rattle.node_table.specs.Tells.{in_slot, node_of, posting, tells_give_slot, tells_load_turn, tells_store_amount, tells_store_line, tells_store_link, tells_store_null, tells_swap_head, tells_take_slot}
@@ -21,20 +21,20 @@ use Rattle.node_table.proofs.Sends.{amount_stores, end_stores, head_swaps, line_
 
 -- ---- a seat that has its slot
 
-module _ (me : Me Posting Known) (number : ℕ) (is : me ≡ (Sends (sender_in me.0), (number, in_slot me.1) ∷ [])) where
-  slot_is : me.1 ≡ (number, in_slot me.1) ∷ []
+module _ (me : Me Posting Known) (number : ℕ) (is : me ≡ (Sends (sender_in me.0), (slot_of number, in_slot me.1) ∷ [])) where
+  slot_is : me.1 ≡ (slot_of number, in_slot me.1) ∷ []
   slot_is = ap (λ (x : Me Posting Known). x.1) is
 
   -- the slot that it took last is its own
-  pub slot_first : me.1 ≡ (number, in_slot me.1) ∷ rest me.1
-  slot_first = slot_is ∙ ap (λ (xs : List (ℕ × Posting)). (number, in_slot me.1) ∷ xs) (sym (ap (λ (xs : List (ℕ × Posting)). rest xs) slot_is))
+  pub slot_first : me.1 ≡ (slot_of number, in_slot me.1) ∷ rest me.1
+  slot_first = slot_is ∙ ap (λ (xs : List (ℕ × Posting)). (slot_of number, in_slot me.1) ∷ xs) (sym (ap (λ (xs : List (ℕ × Posting)). rest xs) slot_is))
 
   -- and what it lays into it lies there
-  laid_there : (laid : Posting) (x : Me Posting Known) → x ≡ (me.0, (number, laid) ∷ rest me.1) → x ≡ (Sends (sender_in me.0), (number, laid) ∷ [])
+  laid_there : (laid : Posting) (x : Me Posting Known) → x ≡ (me.0, (slot_of number, laid) ∷ rest me.1) → x ≡ (Sends (sender_in me.0), (slot_of number, laid) ∷ [])
   laid_there laid x there =
       let known = ap (λ (y : Me Posting Known). y.0) is in
       let none_more = ap (λ (xs : List (ℕ × Posting)). rest xs) slot_is in
-      there ∙ (λ i. (known i, (number, laid) ∷ none_more i))
+      there ∙ (λ i. (known i, (slot_of number, laid) ∷ none_more i))
 
 module _ (shape key : Shape) (words : ℕ) (table : IsTableOf shape key words) (slots id : ℕ) where
   -- ---- a word is one of the table, and a load, a store or an exchange of it tells a seat something
@@ -79,52 +79,52 @@ module _ (shape key : Shape) (words : ℕ) (table : IsTableOf shape key words) (
     takes_slot number at = loads tells_take_slot (λ n. n) _ me 0 0 (sym at.0) refl (omega (arith, table.wide)) (slot_takes shape slots id shape number at.1)
 
     pub gives_slot : IsResting me → Loads me 0 tells_give_slot
-    gives_slot at = loads tells_give_slot (λ n. n) _ me 0 0 (sym at.is) refl (omega (arith, table.wide)) (slot_gives shape slots id v v.number (in_slot me.1))
+    gives_slot at = loads tells_give_slot (λ n. n) _ me 0 0 (sym at.is) refl (omega (arith, table.wide)) (slot_gives shape slots id v (slot_of v.number) (in_slot me.1))
 
     -- ---- in a call
 
     module _ (b node : ℕ) (item : Item) where
-      pub swaps_head : IsSending shape (sends.Swap item) b item node me → Swaps me (head_word b) (node + 1) tells_swap_head
-      swaps_head at =
-          swaps tells_swap_head (λ _. head_word b) _ me 0 0 (sym at.is) refl (omega (arith, table.wide, at.there)) _ (node + 1) (ap (λ (k : ℕ). k + 1) at.node_is)
+      pub swaps_head : (word : ℕ) → word ≡ head_word shape b → IsSending shape (sends.Swap item) b item node me → Swaps me word (node + 1) tells_swap_head
+      swaps_head word is at =
+          swaps tells_swap_head (λ w. w) _ me _ word (sym at.is) (sym is) (omega (arith, table.wide, at.there, is)) _ (node + 1) (ap (λ (k : ℕ). k + 1) at.node_is)
           (head_swaps shape slots id v me.1 b (its_mailbox b at.shape_is at.there) at.mailbox_is item at.at)
 
-      pub stores_link : (before : ℕ) → before < nodes_in shape → IsSending shape (sends.Link item before) b item node me → Stores me (next_word shape before) (node + 1) tells_store_link
+      pub stores_link : (before : ℕ) → before < nodes_in shape → IsSending shape (sends.Link item before) b item node me → Stores me (next_word before) (node + 1) tells_store_link
       stores_link before low at =
-          stores tells_store_link (next_word shape) _ me before before (sym at.is) refl (omega (arith, table.wide, low)) _ (node + 1) (ap (λ (k : ℕ). k + 1) at.node_is)
+          stores tells_store_link next_word _ me before before (sym at.is) refl (omega (arith, table.wide, low)) _ (node + 1) (ap (λ (k : ℕ). k + 1) at.node_is)
           (link_stores shape slots id v me.1 b (its_mailbox b at.shape_is at.there) at.mailbox_is item before at.at)
 
       module _ (low : node < nodes_in shape) where
-        pub stores_line : (word : ℕ) → IsSending shape (sends.Line item) b item node me → line_word item ≡ word → Stores me (line_word_of shape node) word tells_store_line
+        pub stores_line : (word : ℕ) → IsSending shape (sends.Line item) b item node me → line_word item ≡ word → Stores me (line_word_of node) word tells_store_line
         stores_line word at is =
-            stores tells_store_line (line_word_of shape) _ me _ node (sym at.is) at.node_is (omega (arith, table.wide, low)) _ word is
+            stores tells_store_line line_word_of _ me _ node (sym at.is) at.node_is (omega (arith, table.wide, low)) _ word is
             (line_stores shape slots id v me.1 b (its_mailbox b at.shape_is at.there) at.mailbox_is item at.at)
 
-        pub stores_amount : (word : ℕ) → IsSending shape (sends.Amount item) b item node me → amount_word item ≡ word → Stores me (amount_word_of shape node) word tells_store_amount
+        pub stores_amount : (word : ℕ) → IsSending shape (sends.Amount item) b item node me → amount_word item ≡ word → Stores me (amount_word_of node) word tells_store_amount
         stores_amount word at is =
-            stores tells_store_amount (amount_word_of shape) _ me _ node (sym at.is) at.node_is (omega (arith, table.wide, low)) _ word is
+            stores tells_store_amount amount_word_of _ me _ node (sym at.is) at.node_is (omega (arith, table.wide, low)) _ word is
             (amount_stores shape slots id v me.1 b (its_mailbox b at.shape_is at.there) at.mailbox_is item at.at)
 
-        pub stores_null : IsSending shape (sends.Null item) b item node me → Stores me (next_word shape node) null tells_store_null
+        pub stores_null : IsSending shape (sends.Null item) b item node me → Stores me (next_word node) null tells_store_null
         stores_null at =
-            stores tells_store_null (next_word shape) _ me _ node (sym at.is) at.node_is (omega (arith, table.wide, low)) null null refl
+            stores tells_store_null next_word _ me _ node (sym at.is) at.node_is (omega (arith, table.wide, low)) null null refl
             (null_stores shape slots id v me.1 b (its_mailbox b at.shape_is at.there) at.mailbox_is item at.at)
 
     -- ---- in no call, with what it is to fill in its slot
 
     module _ (number b first : ℕ) (below : number < shape.senders) (first_is : first ≡ first_of shape number) (x : Me Posting Known) where
-      pub ends_line : IsEnding shape number b me → x ≡ (me.0, (number, posting b End) ∷ rest me.1) → Stores x (line_word_of shape (first + (shape.ring + b))) 0 tells_store_line
+      pub ends_line : IsEnding shape number b me → x ≡ (me.0, (slot_of number, posting b End) ∷ rest me.1) → Stores x (line_word_of (first + (shape.ring + b))) 0 tells_store_line
       ends_line at is =
           let node_is : node_of v b End ≡ first + (shape.ring + b) = (λ i. at.number_is i * ((at.shape_is i).ring + (at.shape_is i).mailboxes) + ((at.shape_is i).ring + b)) ∙ ap (λ (k : ℕ). k + (shape.ring + b)) (sym first_is) in
-          stores tells_store_line (line_word_of shape) _ x _ _ (sym (laid_there me number at.is (posting b End) x is)) node_is
+          stores tells_store_line line_word_of _ x _ _ (sym (laid_there me number at.is (posting b End) x is)) node_is
           (omega (arith, table.wide, first_is, mul-add-lt number (shape.ring + shape.mailboxes) (shape.ring + b) shape.senders below (omega (arith, at.there)))) 0 0 refl
-          (end_stores shape slots id v number at.rest b (its_mailbox b at.shape_is at.there) at.going)
+          (end_stores shape slots id v (slot_of number) at.rest b (its_mailbox b at.shape_is at.there) at.going)
 
-      pub loads_turn : (count line : ℕ) (amount : ℤ) → IsPosting shape number count b line amount me → x ≡ (me.0, (number, posting b (Post line amount)) ∷ rest me.1)
-          → Loads x (turn_word shape (first + count % shape.ring)) tells_load_turn
+      pub loads_turn : (count line : ℕ) (amount : ℤ) → IsPosting shape number count b line amount me → x ≡ (me.0, (slot_of number, posting b (Post line amount)) ∷ rest me.1)
+          → Loads x (turn_word (first + count % shape.ring)) tells_load_turn
       loads_turn count line amount at is =
           let node_is : node_of v b (Post line amount) ≡ first + count % shape.ring = (λ i. at.number_is i * ((at.shape_is i).ring + (at.shape_is i).mailboxes) + at.count_is i % (at.shape_is i).ring) ∙ ap (λ (k : ℕ). k + count % shape.ring) (sym first_is) in
-          loads tells_load_turn (turn_word shape) _ x _ _ (sym (laid_there me number at.is (posting b (Post line amount)) x is)) node_is
+          loads tells_load_turn turn_word _ x _ _ (sym (laid_there me number at.is (posting b (Post line amount)) x is)) node_is
           (omega (arith, table.wide, first_is, mul-add-lt number (shape.ring + shape.mailboxes) (count % shape.ring) shape.senders below (omega (arith, mod-lt count table.small.ring.0))))
-          (turn_loads shape slots id v number at.rest b (its_mailbox b at.shape_is at.there) at.going line amount
+          (turn_loads shape slots id v (slot_of number) at.rest b (its_mailbox b at.shape_is at.there) at.going line amount
           (subst (λ (k : ℕ). k < MOST_POOL_POSTS) (sym at.count_is) at.few) at.line_low at.amount_within.0 at.amount_within.1)

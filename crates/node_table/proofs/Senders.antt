@@ -46,6 +46,7 @@ use Rattle.node_table.specs.Seats.{Owned, Has, HasShape, IsGathered, IsHolding, 
 use Rattle.node_table.specs.Seats.Owned.{Part, Node}
 use Rattle.node_table.proofs.Owned.{apart_still, other_has_not}
 use Rattle.node_table.specs.declared.seats.ReaderSeat.{ReaderSeat}
+use Rattle.node_table.specs.Layout.{slot_of}
 
 -- ---- what a sender's step leaves as it was
 
@@ -182,7 +183,7 @@ module _ (ring : ℕ) (some_nodes : 0 < ring) (q : Pool) (b p : ℕ) where
 
 -- the slot of a sender is at home
 abbrev pub IsHome : List (Slot Posting) → ℕ → Type 0
-IsHome homes r = (laid : Posting) × (get_elem? homes r ≡ some (some laid))
+IsHome homes r = (laid : Posting) × (get_elem? homes (slot_of r) ≡ some (some laid))
 
 -- the part of a sender whose items a reader knows is the reader's
 part_known : (b : ℕ) (ws : List SenderSeat) (p : ℕ) (items : List Item) → known_in b ws p ≡ Some items → IsPartIn ws (sender_part p)

@@ -38,14 +38,14 @@ use Rattle.node_table.specs.declared.seats.Known.TheVariants.{Dealt, Sends}
 use Rattle.node_table.specs.declared.seats.Posting.{Posting}
 use Rattle.node_table.specs.declared.seats.SenderSeat.{SenderSeat}
 use Rattle.node_table.specs.declared.seats.Shape.{Shape}
-use Rattle.node_table.specs.Layout.{amount_word_of, head_word, line_word_of, next_word, nodes_in, turn_word}
+use Rattle.node_table.specs.Layout.{amount_word_of, head_word, line_word_of, next_word, nodes_in, slot_of, turn_word}
 use Rattle.node_table.specs.Rule.{AreWords, KeepsNodes}
 use Rattle.queue_core.specs.Items.{IsInRange}
 use Rattle.node_table.specs.Seats.{IsDealtSeat, IsNewSender, IsSenderSeat, has_ended, items_in}
 use Rattle.node_table.specs.Tells.{after_amount_at, after_link_at, after_sending, after_turn, after_null_at, after_swap_at, at_point, filling, found_full, is_free_at, new_sender, node_of as seat_node, posting, tells_give_slot, tells_load_turn, tells_store_amount, tells_store_line, tells_store_link, tells_store_null, tells_swap_head, tells_take_slot}
 use Rattle.node_table.proofs.Owned.{at_within}
 use Rattle.node_table.proofs.Senders.{CoreButSender, IsHome, PoolButSender, box_exchanged, box_holds, box_linked, core_but, core_still, its_posts, its_within, later_in, moved, own, pool_but, pool_filled, pool_still, put_together, stood, told, went_on}
-use Rattle.node_table.proofs.Words.{amount_words, head_words, line_words, look_words, next_words}
+use Rattle.node_table.proofs.Words.{amount_words, head_words, line_words, look_words, next_words, stub_there}
 
 -- ---- what a sender has filled, with one item more
 
@@ -156,11 +156,11 @@ module _ (shape d : Shape) (p : ℕ) (low : p < d.senders) (s : State Posting Kn
     items = new.items;
   }
 
-  takes_kept : KeepsNodes shape record { words = set s.words 0 (get_or s.words 0 0); homes = set s.homes p none; views = set s.views id (Sends (new_sender d p)) }
+  takes_kept : KeepsNodes shape record { words = set s.words 0 (get_or s.words 0 0); homes = set s.homes (slot_of p) none; views = set s.views id (Sends (new_sender d p)) }
   takes_kept =
       put_together shape s kept id p (Dealt d p) seen refl (omega (arith, low, dealt.shape_is.senders)) kept.events kept.pool kept.core kept.mail (core_still kept.core p) (pool_still kept.core.ring kept.pool p)
-      (set s.words 0 (get_or s.words 0 0)) (look_words shape kept.core kept.mail.fits.mailboxes s.words kept.words kept.core 0 refl refl)
-      (set s.homes p none) (λ r other at. (at.0, set_else s.homes p r none other ∙ at.1)) (new_sender d p) refl begins
+      (set s.words 0 (get_or s.words 0 0)) (look_words shape kept.core s.words kept.words kept.core 0 refl refl)
+      (set s.homes (slot_of p) none) (λ r other at. (at.0, set_else s.homes (slot_of p) (slot_of r) none (λ e. other (omega (arith, e))) ∙ at.1)) (new_sender d p) refl begins
 
 -- ---- a sender in its call
 
@@ -186,9 +186,6 @@ module _ (shape : Shape) (v : SenderSeat) (s : State Posting Known) (kept : Keep
 
   in_table : p < length c.senders
   in_table = its_within shape s kept id v seen
-
-  boxes : length c.heads ≡ shape.mailboxes
-  boxes = kept.mail.fits.mailboxes
 
   -- as many nodes as its shape says
   nodes_are : length c.nodes ≡ nodes_in v.shape
@@ -253,35 +250,35 @@ module _ (shape : Shape) (v : SenderSeat) (s : State Posting Known) (kept : Keep
           goes_on x None n due still (core_but c n p (record (sender_at c p) { point = point; mailbox = b }) refl refl refl refl refl refl) (pool_still c.ring q p) point (get_or-set_same c.senders p _ _ in_table) refl words are mailbox (λ d. refl)
 
       -- a store of its line, of its amount, and of null as its next
-      line_kept : v.caller.point ≡ sends.Line item → Keeps (set s.words (line_word_of shape (seat_node v b item)) (line_word item)) (at_point (sends.Amount item) v)
+      line_kept : v.caller.point ≡ sends.Line item → Keeps (set s.words (line_word_of (seat_node v b item)) (line_word item)) (at_point (sends.Amount item) v)
       line_kept at = stores (steps.StoreLine p) _ (sends.Amount item) (ap (λ point. option_map (at_amount c b p) (line_due point)) (point_is (sends.Line item) at)) refl _
-          (subst (λ (k : ℕ). AreWords shape (at_amount c b p item) (set s.words (line_word_of shape k) (line_word item))) (node_here item)
-          (line_words shape c boxes s.words kept.words (at_amount c b p item) (node_of c b p item) (node_there item) _ refl refl (line_word item) refl refl refl refl))
+          (subst (λ (k : ℕ). AreWords shape (at_amount c b p item) (set s.words (line_word_of k) (line_word item))) (node_here item)
+          (line_words shape c s.words kept.words (at_amount c b p item) (node_of c b p item) (node_there item) _ refl refl (line_word item) refl refl refl refl))
 
-      amount_kept : v.caller.point ≡ sends.Amount item → Keeps (set s.words (amount_word_of shape (seat_node v b item)) (amount_word item)) (at_point (sends.Null item) v)
+      amount_kept : v.caller.point ≡ sends.Amount item → Keeps (set s.words (amount_word_of (seat_node v b item)) (amount_word item)) (at_point (sends.Null item) v)
       amount_kept at = stores (steps.StoreAmount p) _ (sends.Null item) (ap (λ point. option_map (at_null c b p) (amount_due point)) (point_is (sends.Amount item) at)) refl _
-          (subst (λ (k : ℕ). AreWords shape (at_null c b p item) (set s.words (amount_word_of shape k) (amount_word item))) (node_here item)
-          (amount_words shape c boxes s.words kept.words (at_null c b p item) (node_of c b p item) (node_there item) _ refl refl (amount_word item) refl refl refl refl))
+          (subst (λ (k : ℕ). AreWords shape (at_null c b p item) (set s.words (amount_word_of k) (amount_word item))) (node_here item)
+          (amount_words shape c s.words kept.words (at_null c b p item) (node_of c b p item) (node_there item) _ refl refl (amount_word item) refl refl refl refl))
 
-      null_kept : v.caller.point ≡ sends.Null item → Keeps (set s.words (next_word shape (seat_node v b item)) null) (at_point (sends.Swap item) v)
+      null_kept : v.caller.point ≡ sends.Null item → Keeps (set s.words (next_word (seat_node v b item)) null) (at_point (sends.Swap item) v)
       null_kept at = stores (steps.StoreNull p) _ (sends.Swap item) (ap (λ point. option_map (at_swap c b p) (null_due point)) (point_is (sends.Null item) at)) refl _
-          (subst (λ (k : ℕ). AreWords shape (at_swap c b p item) (set s.words (next_word shape k) null)) (node_here item)
-          (next_words shape c boxes s.words kept.words (at_swap c b p item) (node_of c b p item) (node_there item) _ refl refl null refl refl refl refl))
+          (subst (λ (k : ℕ). AreWords shape (at_swap c b p item) (set s.words (next_word k) null)) (node_here item)
+          (next_words shape c s.words kept.words (at_swap c b p item) (node_of c b p item) (node_there item) _ refl refl null refl refl refl refl))
 
       -- ---- the exchange of the head
 
       swap_kept : v.caller.point ≡ sends.Swap item
-          → Keeps (set s.words (head_word b) (seat_node v b item + 1)) (at_point (sends.Link item (get_or s.words (head_word b) 0 - 1)) v)
+          → Keeps (set s.words (head_word shape b) (seat_node v b item + 1)) (at_point (sends.Link item (get_or s.words (head_word shape b) 0 - 1)) v)
       swap_kept at =
           let n : Pooled = at_link c b p item in
           let due : swap_head b p c ≡ Some n = ap (λ point. option_map (at_link c b p) (swap_due point)) (point_is (sends.Swap item) at) in
           let may = (told shape s kept id v seen b there (steps.SwapHead p) (Some (Exchange p)) n due refl).0 in
           let core : CoreButSender c n p = core_but c n p (record (sender_at c p) { point = sends.Link item (head_in c b - 1); mailbox = b }) refl refl (length-set c.heads b _) refl refl refl in
           let pool = pool_but c.ring q b p (Exchange p) (box_exchanged (q.boxes b) p c.ring (box_holds shape s kept id v seen b) may) refl in
-          let found : get_or s.words (head_word b) 0 ≡ head_in c b = kept.words.head b there in
-          goes_on (steps.SwapHead p) (Some (Exchange p)) n due refl core pool (sends.Link item (get_or s.words (head_word b) 0 - 1))
+          let found : get_or s.words (head_word shape b) 0 ≡ head_in c b = kept.words.head b there in
+          goes_on (steps.SwapHead p) (Some (Exchange p)) n due refl core pool (sends.Link item (get_or s.words (head_word shape b) 0 - 1))
           (get_or-set_same c.senders p _ _ in_table ∙ (λ i. record (sender_at c p) { point = sends.Link item (sym found i - 1); mailbox = b })) refl _
-          (subst (λ (k : ℕ). AreWords shape n (set s.words (head_word b) (k + 1))) (node_here item) (head_words shape c boxes s.words kept.words n b (link_to (node_of c b p item)) there refl refl))
+          (subst (λ (k : ℕ). AreWords shape n (set s.words (head_word shape b) (k + 1))) (node_here item) (head_words shape c s.words kept.words n b (link_to (node_of c b p item)) there (stub_there shape c kept.mail.fits ok b there) refl refl))
           mailbox (λ d. ap (λ items. items p) (same_field (λ m. m.items) q b (Exchange p) refl d))
 
       -- ---- the store of a link
@@ -306,19 +303,19 @@ module _ (shape : Shape) (v : SenderSeat) (s : State Posting Known) (kept : Keep
           readers = λ d. refl;
         }
 
-        link_kept : Keeps (set s.words (next_word shape before) (seat_node v b item + 1)) (after_sending item v)
+        link_kept : Keeps (set s.words (next_word before) (seat_node v b item + 1)) (after_sending item v)
         link_kept =
             let due : store_link b p c ≡ Some linked = ap (λ point. option_map (at_rest c b p) (link_due point)) (point_is (sends.Link item before) at) in
             went_on shape s kept id v seen b there (steps.StoreLink p) (Some (Link p)) linked due refl link_core (pool_but c.ring q b p (Link p) (box_linked (q.boxes b) p) refl)
             (after_sent item v.caller) (flags_after v item) (get_or-set_same c.senders p _ _ in_table ∙ ap (after_sent item) mine.caller) (flags_long v item ∙ mine.flags)
             (λ d low. flags_are c b p there v item mailbox d (omega (arith, low, mine.shape.mailboxes)) (omega (arith, low, mine.flags)) (mine.ended d low)) _
-            (next_words shape c boxes s.words kept.words linked before before_there _ refl refl (seat_node v b item + 1) (sym (ap (λ (k : ℕ). k + 1) (node_here item))) refl refl refl)
+            (next_words shape c s.words kept.words linked before before_there _ refl refl (seat_node v b item + 1) (sym (ap (λ (k : ℕ). k + 1) (node_here item))) refl refl refl)
             (λ d. ap (λ items. items p) (same_field (λ m. m.items) q b (Link p) refl d))
 
     -- the head is the number of a node and 1
-    head_small : (0 < get_or s.words (head_word b) 0) × (get_or s.words (head_word b) 0 ≤ nodes_in v.shape)
+    head_small : (0 < get_or s.words (head_word shape b) 0) × (get_or s.words (head_word shape b) 0 ≤ nodes_in v.shape)
     head_small =
-        let found : get_or s.words (head_word b) 0 ≡ head_in c b = kept.words.head b there in
+        let found : get_or s.words (head_word shape b) 0 ≡ head_in c b = kept.words.head b there in
         let head = head_keeps c ok b there in
         (omega (arith, found, head.0), omega (arith, found, head.1, nodes_are))
 
@@ -332,15 +329,15 @@ module _ (shape : Shape) (v : SenderSeat) (s : State Posting Known) (kept : Keep
       going_there : has_ended_in c b p ≡ false
       going_there = mine.ended b exists ∙ going
 
-      end_kept : Keeps (set s.words (line_word_of shape (seat_node v b End)) (line_word End)) (filling (sends.Amount End) (posting b End) v)
+      end_kept : Keeps (set s.words (line_word_of (seat_node v b End)) (line_word End)) (filling (sends.Amount End) (posting b End) v)
       end_kept =
           let n : Pooled = at_amount c b p End in
           let one : is_at_rest (sender_at c p).point ≡ true = ap is_at_rest at_its_rest in
           let two : not (has_ended_in c b p) ≡ true = ap not going_there in
           let due : end_line b p c ≡ Some n = rw (one, two) refl in
           fills End (steps.EndLine p) n due refl (core_but c n p (record (sender_at c p) { point = sends.Amount End; mailbox = b }) refl refl refl refl refl refl) (sends.Amount End) (get_or-set_same c.senders p _ _ in_table) refl _
-          (subst (λ (k : ℕ). AreWords shape n (set s.words (line_word_of shape k) (line_word End))) (node_here End)
-          (line_words shape c boxes s.words kept.words n (node_of c b p End) (node_there End) _ refl refl (line_word End) refl refl refl refl)) tt
+          (subst (λ (k : ℕ). AreWords shape n (set s.words (line_word_of k) (line_word End))) (node_here End)
+          (line_words shape c s.words kept.words n (node_of c b p End) (node_there End) _ refl refl (line_word End) refl refl refl refl)) tt
 
       -- ---- the load of a turn
 
@@ -349,7 +346,7 @@ module _ (shape : Shape) (v : SenderSeat) (s : State Posting Known) (kept : Keep
         post = Post line amount
 
         abbrev word : ℕ
-        word = turn_word shape (seat_node v b post)
+        word = turn_word (seat_node v b post)
 
         abbrev found : ℕ
         found = get_or s.words word 0
@@ -357,7 +354,7 @@ module _ (shape : Shape) (v : SenderSeat) (s : State Posting Known) (kept : Keep
         -- the sender finds what the core has
         free_is : is_free c b p post ≡ is_free_at found v
         free_is =
-            let turn : found ≡ (node_at c (node_of c b p post)).turn = ap (λ (k : ℕ). get_or s.words (turn_word shape k) 0) (sym (node_here post)) ∙ kept.words.turn (node_of c b p post) (node_there post) in
+            let turn : found ≡ (node_at c (node_of c b p post)).turn = ap (λ (k : ℕ). get_or s.words (turn_word k) 0) (sym (node_here post)) ∙ kept.words.turn (node_of c b p post) (node_there post) in
             λ i. sym turn i == (mine.caller i).count / mine.shape.ring i
 
         -- so it has filled as many posts as it has ring nodes, where it is not free
@@ -380,7 +377,7 @@ module _ (shape : Shape) (v : SenderSeat) (s : State Posting Known) (kept : Keep
 
         -- a load changes no word
         look_now : (n : Pooled) → n.heads ≡ c.heads → n.nodes ≡ c.nodes → AreWords shape n (set s.words word found)
-        look_now n heads nodes = look_words shape c boxes s.words kept.words n word heads nodes
+        look_now n heads nodes = look_words shape c s.words kept.words n word heads nodes
 
         module _ (few : v.caller.count < MOST_POOL_POSTS) (low : line < MOST_POSTS) (above : 0 < unsigned_abs amount) (within : unsigned_abs amount ≤ MOST_AMOUNT) where
           abbrev full : Pooled
@@ -419,12 +416,12 @@ module _ (shape : Shape) (v : SenderSeat) (s : State Posting Known) (kept : Keep
 
   -- each slot that was at home is so, and so is its own
   gives_kept : (slot : ℕ) (laid : Posting) → KeepsNodes shape record { words = set s.words 0 (get_or s.words 0 0); homes = set s.homes slot (some laid); views = set s.views id (Sends v) }
-  gives_kept slot laid = stood shape s kept id v seen _ (look_words shape c boxes s.words kept.words c 0 refl refl) (set s.homes slot (some laid)) (λ r other at. home_there r at)
+  gives_kept slot laid = stood shape s kept id v seen _ (look_words shape c s.words kept.words c 0 refl refl) (set s.homes slot (some laid)) (λ r other at. home_there r at)
     where
       home_there : (r : ℕ) → IsHome s.homes r → IsHome (set s.homes slot (some laid)) r
-      home_there r at = elim (cases_eq r slot) [
+      home_there r at = elim (cases_eq (slot_of r) slot) [
         | inl same ↦ (laid, ap (get_elem? (set s.homes slot (some laid))) same ∙ set_here s.homes slot (some laid) (at_within s.homes slot (some at.0) (ap (get_elem? s.homes) (sym same) ∙ at.1)))
-        | inr apart ↦ (at.0, set_else s.homes slot r (some laid) apart ∙ at.1)
+        | inr apart ↦ (at.0, set_else s.homes slot (slot_of r) (some laid) apart ∙ at.1)
       ]
 
 -- ---- the steps at the table
@@ -433,59 +430,59 @@ module _ (shape : Shape) (slots id : ℕ) where
   pub slot_takes : (d : Shape) (p : ℕ) → p < d.senders → Allows (KeepsNodes shape) slots id (Dealt d p, []) 0 (λ n. n) (tells_take_slot (step slots 0 0 0 none) (Dealt d p, []))
   slot_takes d p low s kept deep seen small =
       let slot = (new shape d p low s kept id seen).slot in
-      (Sends (new_sender d p), takes p slot.0, slot.1, takes_kept shape d p low s kept id seen, (slot.0, refl))
+      (Sends (new_sender d p), takes (slot_of p) slot.0, slot.1, takes_kept shape d p low s kept id seen, (slot.0, refl))
 
   module _ (v : SenderSeat) (carried : List (ℕ × Posting)) (b : ℕ) (exists : b < v.shape.mailboxes) (mailbox : v.caller.mailbox ≡ b) (item : Item) where
     abbrev node : ℕ
     node = seat_node v b item
 
     pub line_stores : v.caller.point ≡ sends.Line item
-        → Allows (KeepsNodes shape) slots id (Sends v, carried) (line_word_of shape node) (λ _. line_word item) (λ _. tells_store_line (step slots (line_word_of shape node) (line_word item) 0 none) (Sends v, carried) (line_word item))
+        → Allows (KeepsNodes shape) slots id (Sends v, carried) (line_word_of node) (λ _. line_word item) (λ _. tells_store_line (step slots (line_word_of node) (line_word item) 0 none) (Sends v, carried) (line_word item))
     line_stores at s kept deep seen small =
         let w : SenderSeat = at_point (sends.Amount item) v in
         (Sends w, keeps, tt, line_kept shape v s kept id seen b exists mailbox item at, (w, refl, rw at refl))
 
     pub amount_stores : v.caller.point ≡ sends.Amount item
-        → Allows (KeepsNodes shape) slots id (Sends v, carried) (amount_word_of shape node) (λ _. amount_word item) (λ _. tells_store_amount (step slots (amount_word_of shape node) (amount_word item) 0 none) (Sends v, carried) (amount_word item))
+        → Allows (KeepsNodes shape) slots id (Sends v, carried) (amount_word_of node) (λ _. amount_word item) (λ _. tells_store_amount (step slots (amount_word_of node) (amount_word item) 0 none) (Sends v, carried) (amount_word item))
     amount_stores at s kept deep seen small =
         let w : SenderSeat = at_point (sends.Null item) v in
         (Sends w, keeps, tt, amount_kept shape v s kept id seen b exists mailbox item at, (w, refl, ap (λ point. after_amount_at point v) (sym at)))
 
     pub null_stores : v.caller.point ≡ sends.Null item
-        → Allows (KeepsNodes shape) slots id (Sends v, carried) (next_word shape node) (λ _. null) (λ _. tells_store_null (step slots (next_word shape node) null 0 none) (Sends v, carried) null)
+        → Allows (KeepsNodes shape) slots id (Sends v, carried) (next_word node) (λ _. null) (λ _. tells_store_null (step slots (next_word node) null 0 none) (Sends v, carried) null)
     null_stores at s kept deep seen small =
         let w : SenderSeat = at_point (sends.Swap item) v in
         (Sends w, keeps, tt, null_kept shape v s kept id seen b exists mailbox item at, (w, refl, ap (λ point. after_null_at point v) (sym at)))
 
-    pub head_swaps : v.caller.point ≡ sends.Swap item → Allows (KeepsNodes shape) slots id (Sends v, carried) (head_word b) (λ _. node + 1) (tells_swap_head (step slots (head_word b) (node + 1) 0 none) (Sends v, carried))
+    pub head_swaps : v.caller.point ≡ sends.Swap item → Allows (KeepsNodes shape) slots id (Sends v, carried) (head_word shape b) (λ _. node + 1) (tells_swap_head (step slots (head_word shape b) (node + 1) 0 none) (Sends v, carried))
     head_swaps at s kept deep seen small =
-        let found : ℕ = get_or s.words (head_word b) 0 in
+        let found : ℕ = get_or s.words (head_word shape b) 0 in
         let w : SenderSeat = at_point (sends.Link item (found - 1)) v in
         let head = head_small shape v s kept id seen b exists in
         (Sends w, keeps, tt, swap_kept shape v s kept id seen b exists mailbox item at, (w, refl, (ap (λ point. after_swap_at point found v) (sym at), head.0, head.1)))
 
     pub link_stores : (before : ℕ) → v.caller.point ≡ sends.Link item before
-        → Allows (KeepsNodes shape) slots id (Sends v, carried) (next_word shape before) (λ _. node + 1) (λ _. tells_store_link (step slots (next_word shape before) (node + 1) 0 none) (Sends v, carried) (node + 1))
+        → Allows (KeepsNodes shape) slots id (Sends v, carried) (next_word before) (λ _. node + 1) (λ _. tells_store_link (step slots (next_word before) (node + 1) 0 none) (Sends v, carried) (node + 1))
     link_stores before at s kept deep seen small =
         let w : SenderSeat = after_sending item v in
         (Sends w, keeps, tt, link_kept shape v s kept id seen b exists mailbox item before at, (w, refl, ap (λ point. after_link_at point v) (sym at)))
 
   module _ (v : SenderSeat) (slot : ℕ) where
     module _ (rest : v.caller.point ≡ sends.Rest) (b : ℕ) (exists : b < v.shape.mailboxes) (going : has_ended v b ≡ false) where
-      pub end_stores : Allows (KeepsNodes shape) slots id (Sends v, (slot, posting b End) ∷ []) (line_word_of shape (seat_node v b End)) (λ _. line_word End)
-          (λ _. tells_store_line (step slots (line_word_of shape (seat_node v b End)) (line_word End) 0 none) (Sends v, (slot, posting b End) ∷ []) (line_word End))
+      pub end_stores : Allows (KeepsNodes shape) slots id (Sends v, (slot, posting b End) ∷ []) (line_word_of (seat_node v b End)) (λ _. line_word End)
+          (λ _. tells_store_line (step slots (line_word_of (seat_node v b End)) (line_word End) 0 none) (Sends v, (slot, posting b End) ∷ []) (line_word End))
       end_stores s kept deep seen small =
           let w : SenderSeat = filling (sends.Amount End) (posting b End) v in
           (Sends w, keeps, tt, end_kept shape v s kept id seen b exists rest going, (w, refl, rw rest refl))
 
       pub turn_loads : (line : ℕ) (amount : ℤ) → v.caller.count < MOST_POOL_POSTS → line < MOST_POSTS → 0 < unsigned_abs amount → unsigned_abs amount ≤ MOST_AMOUNT
-          → Allows (KeepsNodes shape) slots id (Sends v, (slot, posting b (Post line amount)) ∷ []) (turn_word shape (seat_node v b (Post line amount))) (λ n. n)
-          (tells_load_turn (step slots (turn_word shape (seat_node v b (Post line amount))) 0 0 none) (Sends v, (slot, posting b (Post line amount)) ∷ []))
+          → Allows (KeepsNodes shape) slots id (Sends v, (slot, posting b (Post line amount)) ∷ []) (turn_word (seat_node v b (Post line amount))) (λ n. n)
+          (tells_load_turn (step slots (turn_word (seat_node v b (Post line amount))) 0 0 none) (Sends v, (slot, posting b (Post line amount)) ∷ []))
       turn_loads line amount few low above within s kept deep seen small =
           let item : Item = Post line amount in
-          let turn : ℕ = get_or s.words (turn_word shape (seat_node v b item)) 0 in
+          let turn : ℕ = get_or s.words (turn_word (seat_node v b item)) 0 in
           let w : SenderSeat = after_turn turn (posting b item) v in
-          let kept_then : KeepsNodes shape record { words = set s.words (turn_word shape (seat_node v b item)) turn; homes = s.homes; views = set s.views id (Sends w) } = elim (cases_Bool (is_free_at turn v)) [
+          let kept_then : KeepsNodes shape record { words = set s.words (turn_word (seat_node v b item)) turn; homes = s.homes; views = set s.views id (Sends w) } = elim (cases_Bool (is_free_at turn v)) [
             | inl free ↦ rw free (turn_fills shape v s kept id seen b exists rest going line amount few low above within free)
             | inr busy ↦ rw busy (turn_full shape v s kept id seen b exists rest going line amount few low above within busy)
           ] in

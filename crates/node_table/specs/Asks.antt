@@ -19,6 +19,7 @@ use Rattle.node_table.specs.declared.seats.TallySeat.{TallySeat}
 use Rattle.node_table.specs.Rule.{opened_tally}
 use Rattle.node_table.specs.Seats.{HasEndedEverywhere, has_ended}
 use Rattle.node_table.specs.Tells.{at_point, filling, found_full, in_slot, new_reader_seat, new_sender, node_of}
+use Rattle.node_table.specs.Layout.{slot_of}
 
 -- ---- what a seat knows, by its kind
 
@@ -52,7 +53,7 @@ IsSlotless shape p me = (me ≡ (Dealt shape p, [])) × (p < shape.senders)
 
 -- it is in no call, has its slot, has not ended in the mailbox, and has room for one more post, which is within the limits
 pub record IsPosting (shape : Shape) (number count mailbox line : ℕ) (amount : ℤ) (me : Me Posting Known) : Type 0 where
-  pub is : me ≡ (Sends (sender_in me.0), (number, in_slot me.1) ∷ [])
+  pub is : me ≡ (Sends (sender_in me.0), (slot_of number, in_slot me.1) ∷ [])
   pub shape_is : (sender_in me.0).shape ≡ shape
   pub number_is : (sender_in me.0).number ≡ number
   pub count_is : (sender_in me.0).caller.count ≡ count
@@ -65,7 +66,7 @@ pub record IsPosting (shape : Shape) (number count mailbox line : ℕ) (amount :
 
 -- it is in no call, has its slot, and has not ended in the mailbox
 pub record IsEnding (shape : Shape) (number mailbox : ℕ) (me : Me Posting Known) : Type 0 where
-  pub is : me ≡ (Sends (sender_in me.0), (number, in_slot me.1) ∷ [])
+  pub is : me ≡ (Sends (sender_in me.0), (slot_of number, in_slot me.1) ∷ [])
   pub shape_is : (sender_in me.0).shape ≡ shape
   pub number_is : (sender_in me.0).number ≡ number
   pub rest : (sender_in me.0).caller.point ≡ sends.Rest
@@ -83,7 +84,7 @@ pub record IsSending (shape : Shape) (point : SenderPoint) (mailbox : ℕ) (item
 
 -- it is in no call, and has its slot
 pub record IsResting (me : Me Posting Known) : Type 0 where
-  pub is : me ≡ (Sends (sender_in me.0), ((sender_in me.0).number, in_slot me.1) ∷ [])
+  pub is : me ≡ (Sends (sender_in me.0), (slot_of (sender_in me.0).number, in_slot me.1) ∷ [])
   pub rest : (sender_in me.0).caller.point ≡ sends.Rest
 
 -- and has given it back

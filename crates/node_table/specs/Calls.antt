@@ -16,7 +16,7 @@ use Rattle.node_table.specs.declared.seats.Posting.{Posting}
 use Rattle.node_table.specs.declared.seats.ReaderSeat.{ReaderSeat}
 use Rattle.node_table.specs.declared.seats.SenderSeat.{SenderSeat}
 use Rattle.node_table.specs.declared.seats.Shape.{Shape}
-use Rattle.node_table.specs.Layout.{nodes_in}
+use Rattle.node_table.specs.Layout.{nodes_in, slot_of}
 use Rattle.queue_core.specs.Items.{IsInRange}
 use Rattle.queue_core.specs.Matches.{MatchTook}
 use Rattle.node_table.specs.Seats.{own_entries}
@@ -27,7 +27,7 @@ use Rattle.node_table.specs.Tells.{BeginsAt, IsAwaitedAt, IsHeldAt, IsWholeAt, a
 
 -- it is in no call, and has its slot
 pub record IsAtRestSender (shape : Shape) (number count : ℕ) (me : Me Posting Known) : Type 0 where
-  pub is : me ≡ (Sends (sender_in me.0), (number, in_slot me.1) ∷ [])
+  pub is : me ≡ (Sends (sender_in me.0), (slot_of number, in_slot me.1) ∷ [])
   pub shape_is : (sender_in me.0).shape ≡ shape
   pub number_is : (sender_in me.0).number ≡ number
   pub count_is : (sender_in me.0).caller.count ≡ count

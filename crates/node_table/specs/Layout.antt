@@ -21,25 +21,33 @@ stub_of shape b = first_of shape shape.senders + b
 abbrev pub nodes_in : Shape → ℕ
 nodes_in shape = stub_of shape shape.mailboxes
 
--- ---- the words: the first is one that nobody writes; the heads are the words from 16 on; fifteen unused words behind them the nodes begin. So the heads have lines of memory for themselves.
+-- ---- the words: each node has eight, a line of memory, of which it uses four; the head of a mailbox stands with its stub, in the fifth. Before the first node there are six, and no step writes the first of all. (Large memory that the C library gives begins 16 bytes into a line, so word 6 begins one.)
 
-abbrev pub head_word : (b : ℕ) → ℕ
-head_word b = b + 16
+abbrev pub next_word : (n : ℕ) → ℕ
+next_word n = 8 * n + 6
 
-abbrev pub next_word : Shape → (n : ℕ) → ℕ
-next_word shape n = 4 * n + (shape.mailboxes + 31)
+abbrev pub turn_word : (n : ℕ) → ℕ
+turn_word n = 8 * n + 7
 
-abbrev pub turn_word : Shape → (n : ℕ) → ℕ
-turn_word shape n = 4 * n + (shape.mailboxes + 32)
+abbrev pub line_word_of : (n : ℕ) → ℕ
+line_word_of n = 8 * n + 8
 
-abbrev pub line_word_of : Shape → (n : ℕ) → ℕ
-line_word_of shape n = 4 * n + (shape.mailboxes + 33)
+abbrev pub amount_word_of : (n : ℕ) → ℕ
+amount_word_of n = 8 * n + 9
 
-abbrev pub amount_word_of : Shape → (n : ℕ) → ℕ
-amount_word_of shape n = 4 * n + (shape.mailboxes + 34)
+abbrev pub head_word : Shape → (b : ℕ) → ℕ
+head_word shape b = 8 * stub_of shape b + 10
 
 abbrev pub words_in : Shape → ℕ
-words_in shape = 4 * nodes_in shape + (shape.mailboxes + 31)
+words_in shape = 8 * nodes_in shape + 6
+
+-- ---- the slots: every fourth is a sender's, from the third on; so no two senders write to one line of memory, nor does a sender write to one that holds anything else
+
+abbrev pub slot_of : (p : ℕ) → ℕ
+slot_of p = 4 * p + 2
+
+abbrev pub slots_in : Shape → ℕ
+slots_in shape = 4 * shape.senders + 2
 
 -- ---- a table of a shape, by its key and how many words it has
 

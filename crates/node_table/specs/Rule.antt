@@ -18,12 +18,12 @@ use Rattle.node_table.specs.Seats.{Owned, Has, HasShape, IsSeat}
 
 -- the words are those of the core
 pub record AreWords (shape : Shape) (c : Pooled) (words : List ℕ) : Type 0 where
-  pub wide : length words ≡ next_word shape (length c.nodes)
-  pub head : (b : ℕ) → b < length c.heads → slice_index words (head_word b) ≡ head_in c b
-  pub next : (n : ℕ) → n < length c.nodes → slice_index words (next_word shape n) ≡ (node_at c n).next
-  pub turn : (n : ℕ) → n < length c.nodes → slice_index words (turn_word shape n) ≡ (node_at c n).turn
-  pub line : (n : ℕ) → n < length c.nodes → slice_index words (line_word_of shape n) ≡ (node_at c n).line
-  pub amount : (n : ℕ) → n < length c.nodes → slice_index words (amount_word_of shape n) ≡ (node_at c n).amount
+  pub wide : length words ≡ next_word (length c.nodes)
+  pub head : (b : ℕ) → b < length c.heads → slice_index words (head_word shape b) ≡ head_in c b
+  pub next : (n : ℕ) → n < length c.nodes → slice_index words (next_word n) ≡ (node_at c n).next
+  pub turn : (n : ℕ) → n < length c.nodes → slice_index words (turn_word n) ≡ (node_at c n).turn
+  pub line : (n : ℕ) → n < length c.nodes → slice_index words (line_word_of n) ≡ (node_at c n).line
+  pub amount : (n : ℕ) → n < length c.nodes → slice_index words (amount_word_of n) ≡ (node_at c n).amount
 
 -- A core shows what events lead to, and all items are within the limits.
 pub record IsNodeMail (shape : Shape) (events : List (ℕ × Event)) (q : Pool) (c : Pooled) : Type 0 where

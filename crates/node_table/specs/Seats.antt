@@ -22,6 +22,7 @@ use Rattle.node_table.specs.declared.seats.ReaderSeat.{ReaderSeat}
 use Rattle.node_table.specs.declared.seats.SenderSeat.{SenderSeat}
 use Rattle.node_table.specs.declared.seats.Shape.{Shape}
 use Rattle.node_table.specs.declared.seats.TallySeat.{TallySeat}
+use Rattle.node_table.specs.Layout.{slot_of}
 
 -- so many senders and mailboxes, and so many ring nodes
 pub record HasShape (shape : Shape) (c : Pooled) : Type 0 where
@@ -113,7 +114,7 @@ pub record IsNewSender (c : Pooled) (q : Pool) (homes : List (Slot Posting)) (p 
   pub caller : sender_at c p ≡ new_caller
   pub going : (b : ℕ) → b < length c.heads → has_ended_in c b p ≡ false
   pub items : (b : ℕ) → (q.boxes b).items p ≡ []
-  pub slot : (posting : Posting) × (get_elem? homes p ≡ some (some posting))
+  pub slot : (posting : Posting) × (get_elem? homes (slot_of p) ≡ some (some posting))
 
 pub record IsNewReader (c : Pooled) (q : Pool) (b : ℕ) : Type 0 where
   pub reader : reader_in c b ≡ new_reader (stub_in c b)

@@ -25,7 +25,7 @@ use Rattle.node_table.specs.declared.seats.ReaderSeat.{ReaderSeat}
 use Rattle.node_table.specs.declared.seats.SenderSeat.{SenderSeat}
 use Rattle.node_table.specs.declared.seats.Shape.{Shape}
 use Rattle.node_table.specs.declared.seats.TallySeat.{TallySeat}
-use Rattle.node_table.specs.Layout.{first_of, nodes_in, stub_of}
+use Rattle.node_table.specs.Layout.{first_of, nodes_in, slot_of, stub_of}
 use Rattle.node_table.specs.Seats.{got_in, items_in, known_in, own_entries}
 
 -- ---- a sender
@@ -259,7 +259,7 @@ OfTally P v w = TallyThen P v.0 (λ known. w ≡ (known, v.1))
 
 -- a sender that was dealt begins, and has its slot
 abbrev pub SenderBegins : Known → Me Posting Known → Type 0
-SenderBegins (Dealt shape p) w = (laid : Posting) × (w ≡ (Sends (new_sender shape p), (p, laid) ∷ []))
+SenderBegins (Dealt shape p) w = (laid : Posting) × (w ≡ (Sends (new_sender shape p), (slot_of p, laid) ∷ []))
 SenderBegins _ w = ⊤
 
 abbrev pub tells_take_slot : Step Posting → Me Posting Known → ℕ → Me Posting Known → Type 0

@@ -11,7 +11,7 @@ ghost use Rattle.node_table.specs.declared.seats.Known.TheVariants.{Reads, Sends
 ghost use Rattle.node_table.specs.Asks.{IsPosting, IsSending, IsTally, holding_in, reader_in, sender_in, tally_in};
 ghost use Rattle.queue_core.specs.Matches.{MatchPosted, MatchTook};
 ghost use Rattle.node_table.specs.Calls.{AtNode, AtRest, HasFound, HasSameMail, IsAtRestSender, IsHeldSeat, IsHolder, IsTakingAt, after_post, finished_at, put_in_at, sent};
-ghost use Rattle.node_table.specs.Layout.{IsSmall, head_word, nodes_in, stub_of, words_in};
+ghost use Rattle.node_table.specs.Layout.{IsSmall, head_word, next_word, nodes_in, slot_of, stub_of, words_in};
 ghost use Rattle.node_table.specs.Rule.{opened_tally};
 ghost use Rattle.node_table.specs.Seats.{HasEndedEverywhere, has_ended};
 ghost use Rattle.node_table.specs.Tells.{BeginsAt, IsAwaitedAt, IsHeldAt, IsWholeAt, TallyBegins, found_full, new_reader_seat, new_sender, posting, with_hand, with_reader, with_sender, with_taken_in};
@@ -105,7 +105,7 @@ fn send(
     requires number { number < nodes.now.shape.senders }
     requires at { IsPosting nodes.now.shape number count mailbox line amount seat.old.me }
     ensures same { seat.new.table_id ≡ seat.old.table_id }
-    ensures told { seat.new.me ≡ (Sends (after_post result (posting mailbox (Post line amount)) (sender_in seat.old.me.0)), (number, posting mailbox (Post line amount)) ∷ []) }
+    ensures told { seat.new.me ≡ (Sends (after_post result (posting mailbox (Post line amount)) (sender_in seat.old.me.0)), (slot_of number, posting mailbox (Post line amount)) ∷ []) }
     ensures full { result ≡ false → nodes.now.shape.ring ≤ count }
 {
     if !steps::load_turn(nodes, seat, number, count, mailbox, line, amount) {
@@ -207,14 +207,15 @@ fn take_from(nodes: &Nodes, seat: &mut NodeSeat, mailbox: u64, tail: u64) -> (To
 fn first_words(alloc: Global, shape: &Shape) -> Result<Vec<u64>, AllocError>
     requires { IsSmall shape.now }
     ensures wide { IfOk result (λ words. vec_len words ≡ words_in shape.now) }
-    ensures heads { IfOk result (λ words. (b : ℕ) → b < shape.now.mailboxes → get_or (vec_items words) (head_word b) 0 ≡ stub_of shape.now b + 1) }
-    ensures zeros { IfOk result (λ words. (i : ℕ) → shape.now.mailboxes + 16 ≤ i → get_or (vec_items words) i 0 ≡ 0) }
+    ensures heads { IfOk result (λ words. (b : ℕ) → b < shape.now.mailboxes → get_or (vec_items words) (head_word shape.now b) 0 ≡ stub_of shape.now b + 1) }
+    ensures zeros { IfOk result (λ words. (n k : ℕ) → k < 4 → get_or (vec_items words) (next_word n + k) 0 ≡ 0) }
 {
     let nodes = stub_of(shape, shape.mailboxes);
-    let many = 4 * nodes as usize + (shape.mailboxes as usize + 31);
+    let many = 8 * nodes as usize + 6;
     let mut words = Vec::from_elem(alloc, NULL, many)?;
     for mailbox in 0..shape.mailboxes {
-        words[mailbox as usize + 16] = stub_of(shape, mailbox) + 1;
+        let stub = stub_of(shape, mailbox);
+        words[8 * stub as usize + 10] = stub + 1;
     }
     Ok(words)
 }
@@ -231,7 +232,7 @@ fn open_nodes(alloc: Global, shape: Shape) -> Result<(Arc<Nodes>, NodeSeat), All
         mailbox: 0,
         item: Item::End,
     };
-    let slots = Vec::from_elem(alloc, slot, shape.senders as usize)?;
+    let slots = Vec::from_elem(alloc, slot, 4 * shape.senders as usize + 2)?;
     let Ok((board, seat)) = Board::new(alloc, words.as_slice(), slots, &shape) else {
         return Err(AllocError);
     };

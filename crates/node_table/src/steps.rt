@@ -8,7 +8,7 @@ ghost use Rattle.queue_core.specs.declared.sender.SenderPoint.TheVariants as sen
 ghost use Rattle.queue_core.specs.StoredWords.{amount_word, line_word};
 ghost use Rattle.node_table.specs.declared.seats.Holding.{Holding as AHolding};
 ghost use Rattle.node_table.specs.declared.seats.Known.TheVariants.{Gone, Reads, Sends};
-ghost use Rattle.node_table.specs.Layout.{IsTableOf, first_of, nodes_in, stub_of};
+ghost use Rattle.node_table.specs.Layout.{IsTableOf, first_of, nodes_in, slot_of, stub_of};
 ghost use Rattle.node_table.specs.Rule.{KeepsNodes, nodes_opened};
 ghost use Rattle.node_table.specs.Asks.{HasAtHand, IsDealing, IsEnding, IsGathering, IsHandingOut, IsPosting, IsReading, IsResting, IsSending, IsSlotless, IsTakingBack, IsTakingIn, IsTally, IsTallying, IsUnread, after_look, after_swap_on, reader_in, sender_in, tally_in};
 ghost use Rattle.node_table.specs.Tells.{BeginsAt, HasLoadedHead, HasLoadedNext, IsHeldAt, LoadsHead, LoadsNext, TallyBegins, after_amount_at, after_deal, after_give, after_hand, after_line_at, after_link_at, after_null_at, dealt, filling, gathered, hand_of, in_slot, new_reader_seat, new_sender, posting, reading_at, taken_back, taken_in, tallied};
@@ -290,7 +290,7 @@ pub fn take_slot(nodes: &Nodes, seat: &mut NodeSeat, number: u64)
     requires seat { seat.old.table_id ≡ nodes.now.board.shared.table_id }
     requires at { IsSlotless nodes.now.shape number seat.old.me }
     ensures same { seat.new.table_id ≡ seat.old.table_id }
-    ensures told { seat.new.me ≡ (Sends (new_sender nodes.now.shape number), (number, in_slot seat.new.me.1) ∷ []) }
+    ensures told { seat.new.me ≡ (Sends (new_sender nodes.now.shape number), (slot_of number, in_slot seat.new.me.1) ∷ []) }
 {
     nodes.board.shared.load::<TakeSlot>(seat, 0);
 }
@@ -320,19 +320,19 @@ pub fn load_turn(
     requires number { number < nodes.now.shape.senders }
     requires at { IsPosting nodes.now.shape number count mailbox line amount seat.old.me }
     ensures same { seat.new.table_id ≡ seat.old.table_id }
-    ensures told { seat.new.me ≡ (Sends (after_look result (posting mailbox (Post line amount)) (sender_in seat.old.me.0)), (number, posting mailbox (Post line amount)) ∷ []) }
+    ensures told { seat.new.me ≡ (Sends (after_look result (posting mailbox (Post line amount)) (sender_in seat.old.me.0)), (slot_of number, posting mailbox (Post line amount)) ∷ []) }
     ensures full { result ≡ false → nodes.now.shape.ring ≤ count }
 {
     nodes.board.shared.exchange(
         seat,
-        number as usize,
+        4 * number as usize + 2,
         Posting {
             mailbox,
             item: Item::Post { line, amount },
         },
     );
     let node = first_of(&nodes.shape, number) + count % nodes.shape.ring;
-    let word = 4 * node as usize + (nodes.shape.mailboxes as usize + 32);
+    let word = 8 * node as usize + 7;
     nodes.board.shared.load::<LoadTurn>(seat, word) == count / nodes.shape.ring
 }
 
@@ -345,7 +345,7 @@ pub fn store_line(nodes: &Nodes, seat: &mut NodeSeat, node: u64, line: u64)
     ensures same { seat.new.table_id ≡ seat.old.table_id }
     ensures told { seat.new.me ≡ (Sends (after_line_at (sender_in seat.old.me.0).caller.point (in_slot seat.old.me.1) (sender_in seat.old.me.0)), seat.old.me.1) }
 {
-    let word = 4 * node as usize + (nodes.shape.mailboxes as usize + 33);
+    let word = 8 * node as usize + 8;
     nodes.board.shared.store::<StoreLine>(seat, word, line + 1);
 }
 
@@ -355,18 +355,18 @@ pub fn end_line(nodes: &Nodes, seat: &mut NodeSeat, number: u64, mailbox: u64)
     requires number { number < nodes.now.shape.senders }
     requires at { IsEnding nodes.now.shape number mailbox seat.old.me }
     ensures same { seat.new.table_id ≡ seat.old.table_id }
-    ensures told { seat.new.me ≡ (Sends (filling (sends.Amount End) (posting mailbox End) (sender_in seat.old.me.0)), (number, posting mailbox End) ∷ []) }
+    ensures told { seat.new.me ≡ (Sends (filling (sends.Amount End) (posting mailbox End) (sender_in seat.old.me.0)), (slot_of number, posting mailbox End) ∷ []) }
 {
     nodes.board.shared.exchange(
         seat,
-        number as usize,
+        4 * number as usize + 2,
         Posting {
             mailbox,
             item: Item::End,
         },
     );
     let node = first_of(&nodes.shape, number) + (nodes.shape.ring + mailbox);
-    let word = 4 * node as usize + (nodes.shape.mailboxes as usize + 33);
+    let word = 8 * node as usize + 8;
     nodes.board.shared.store::<StoreLine>(seat, word, 0);
 }
 
@@ -378,7 +378,7 @@ pub fn store_amount(nodes: &Nodes, seat: &mut NodeSeat, node: u64, amount: u64)
     ensures same { seat.new.table_id ≡ seat.old.table_id }
     ensures told { seat.new.me ≡ (Sends (after_amount_at (sender_in seat.old.me.0).caller.point (sender_in seat.old.me.0)), seat.old.me.1) }
 {
-    let word = 4 * node as usize + (nodes.shape.mailboxes as usize + 34);
+    let word = 8 * node as usize + 9;
     nodes.board.shared.store::<StoreAmount>(seat, word, amount);
 }
 
@@ -390,7 +390,7 @@ pub fn store_null(nodes: &Nodes, seat: &mut NodeSeat, node: u64)
     ensures same { seat.new.table_id ≡ seat.old.table_id }
     ensures told { seat.new.me ≡ (Sends (after_null_at (sender_in seat.old.me.0).caller.point (sender_in seat.old.me.0)), seat.old.me.1) }
 {
-    let word = 4 * node as usize + (nodes.shape.mailboxes as usize + 31);
+    let word = 8 * node as usize + 6;
     nodes.board.shared.store::<StoreNull>(seat, word, NULL);
 }
 
@@ -403,7 +403,7 @@ pub fn swap_head(nodes: &Nodes, seat: &mut NodeSeat, mailbox: u64, node: u64) ->
     ensures told { seat.new.me ≡ (Sends (after_swap_on (sender_in seat.old.me.0).caller.point result (sender_in seat.old.me.0)), seat.old.me.1) }
     ensures before { result < nodes_in nodes.now.shape }
 {
-    let word = mailbox as usize + 16;
+    let word = 8 * stub_of(&nodes.shape, mailbox) as usize + 10;
     nodes.board.shared.swap::<SwapHead>(seat, word, node + 1) - 1
 }
 
@@ -415,7 +415,7 @@ pub fn store_link(nodes: &Nodes, seat: &mut NodeSeat, before: u64, node: u64)
     ensures same { seat.new.table_id ≡ seat.old.table_id }
     ensures told { seat.new.me ≡ (Sends (after_link_at (sender_in seat.old.me.0).caller.point (sender_in seat.old.me.0)), seat.old.me.1) }
 {
-    let word = 4 * before as usize + (nodes.shape.mailboxes as usize + 31);
+    let word = 8 * before as usize + 6;
     nodes.board.shared.store::<StoreLink>(seat, word, node + 1);
 }
 
@@ -439,7 +439,7 @@ pub fn load_next(nodes: &Nodes, seat: &mut NodeSeat, tail: u64) -> u64
     ensures reads { seat.new.me ≡ (Reads (reader_in seat.new.me.0), []) }
     ensures told { HasLoadedNext result (reader_in seat.old.me.0) (reader_in seat.new.me.0) }
 {
-    let word = 4 * tail as usize + (nodes.shape.mailboxes as usize + 31);
+    let word = 8 * tail as usize + 6;
     nodes.board.shared.load::<LoadNext>(seat, word)
 }
 
@@ -452,7 +452,7 @@ pub fn load_head(nodes: &Nodes, seat: &mut NodeSeat, mailbox: u64) -> u64
     ensures reads { seat.new.me ≡ (Reads (reader_in seat.new.me.0), []) }
     ensures told { HasLoadedHead result (reader_in seat.old.me.0) (reader_in seat.new.me.0) }
 {
-    let word = mailbox as usize + 16;
+    let word = 8 * stub_of(&nodes.shape, mailbox) as usize + 10;
     nodes.board.shared.load::<LoadHead>(seat, word)
 }
 
@@ -465,7 +465,7 @@ pub fn stub_null(nodes: &Nodes, seat: &mut NodeSeat, mailbox: u64, stub: u64)
     ensures same { seat.new.table_id ≡ seat.old.table_id }
     ensures told { seat.new.me ≡ (Reads (reading_at reads.Swap (reader_in seat.old.me.0)), []) }
 {
-    let word = 4 * stub as usize + (nodes.shape.mailboxes as usize + 31);
+    let word = 8 * stub as usize + 6;
     nodes.board.shared.store::<StubNull>(seat, word, NULL);
 }
 
@@ -479,7 +479,7 @@ pub fn stub_swap(nodes: &Nodes, seat: &mut NodeSeat, mailbox: u64, stub: u64) ->
     ensures told { seat.new.me ≡ (Reads (reading_at (reads.Link result) (reader_in seat.old.me.0)), []) }
     ensures before { result < nodes_in nodes.now.shape }
 {
-    let word = mailbox as usize + 16;
+    let word = 8 * stub_of(&nodes.shape, mailbox) as usize + 10;
     nodes.board.shared.swap::<StubSwap>(seat, word, stub + 1) - 1
 }
 
@@ -493,7 +493,7 @@ pub fn stub_link(nodes: &Nodes, seat: &mut NodeSeat, mailbox: u64, before: u64, 
     ensures same { seat.new.table_id ≡ seat.old.table_id }
     ensures told { seat.new.me ≡ (Reads (reading_at reads.Last (reader_in seat.old.me.0)), []) }
 {
-    let word = 4 * before as usize + (nodes.shape.mailboxes as usize + 31);
+    let word = 8 * before as usize + 6;
     nodes.board.shared.store::<StubLink>(seat, word, stub + 1);
 }
 
@@ -506,7 +506,7 @@ pub fn load_line(nodes: &Nodes, seat: &mut NodeSeat, node: u64) -> u64
     ensures told { seat.new.me ≡ seat.old.me }
     ensures found { (h : AHolding) → (reader_in seat.old.me.0).at_hand ≡ Some h → result ≡ line_word h.item }
 {
-    let word = 4 * node as usize + (nodes.shape.mailboxes as usize + 33);
+    let word = 8 * node as usize + 8;
     nodes.board.shared.load::<LoadLine>(seat, word)
 }
 
@@ -519,7 +519,7 @@ pub fn load_amount(nodes: &Nodes, seat: &mut NodeSeat, node: u64) -> u64
     ensures told { seat.new.me ≡ seat.old.me }
     ensures found { (h : AHolding) → (reader_in seat.old.me.0).at_hand ≡ Some h → result ≡ amount_word h.item }
 {
-    let word = 4 * node as usize + (nodes.shape.mailboxes as usize + 34);
+    let word = 8 * node as usize + 9;
     nodes.board.shared.load::<LoadAmount>(seat, word)
 }
 
@@ -532,7 +532,7 @@ pub fn give_back(nodes: &Nodes, seat: &mut NodeSeat, node: u64)
     ensures told { seat.new.me ≡ (Reads (after_give (reader_in seat.old.me.0).at_hand (reader_in seat.old.me.0)), []) }
     ensures held { (h : AHolding) → (reader_in seat.old.me.0).at_hand ≡ Some h → IsHeldAt (reader_in seat.old.me.0) h }
 {
-    let word = 4 * node as usize + (nodes.shape.mailboxes as usize + 32);
+    let word = 8 * node as usize + 7;
     nodes.board.shared.fetch_add::<GiveBack>(seat, word, 1);
 }
 

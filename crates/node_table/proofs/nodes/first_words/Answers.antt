@@ -1,18 +1,18 @@
 use Rattle.std.proofs.Common.{rules, ◌≡◌, ◌∙◌, ◌+◌, ◌*◌, ◌<◌, ℕ, List, ap, arith, get_or, length, replicate, set, sym, get_or-set_other, get_or-set_same, inl, inr, subst}
 use Rattle.std.proofs.lemmas.Bool.{cases_eq, cases_lt}
 use Rattle.std.proofs.lemmas.List.{get_or-replicate, get_or_past, length-replicate}
-use Rattle.node_table.specs.Layout.{head_word, stub_of}
+use Rattle.node_table.specs.Layout.{head_word, next_word, stub_of}
 use Rattle.node_table.proofs.nodes.first_words.Goals as goal
 
 pub loop-mailbox-init : goal.loop-mailbox-init
 loop-mailbox-init c =
-    let many = 4 * c.stub_of-nodes.result + (c.args.shape.now.mailboxes + 31) in
+    let many = 8 * c.stub_of-nodes.result + 6 in
     let blank : c.in_ok-words.words.items ≡ replicate many 0 = search rules in record {
       wide = search rules;
       heads = λ b below. absurd (omega (arith, below));
-      zeros = λ i past. ap (λ (xs : List ℕ). get_or xs i 0) blank ∙ elim (cases_lt i many) [
-        | inl low ↦ get_or-replicate many i 0 0 low
-        | inr far ↦ get_or_past (replicate many 0) i 0 (omega (arith, far, length-replicate {A = ℕ} many 0))
+      zeros = λ n k few. ap (λ (xs : List ℕ). get_or xs (next_word n + k) 0) blank ∙ elim (cases_lt (next_word n + k) many) [
+        | inl low ↦ get_or-replicate many (next_word n + k) 0 0 low
+        | inr far ↦ get_or_past (replicate many 0) (next_word n + k) 0 (omega (arith, far, length-replicate {A = ℕ} many 0))
       ];
     }
 
@@ -20,17 +20,19 @@ pub loop-mailbox-preserved : goal.loop-mailbox-preserved
 loop-mailbox-preserved c =
     let was = c.loop-mailbox.invariant in
     let words = c.loop-mailbox.words.items in
-    let word = c.stub_of.result + 1 in
+    let stub = c.stub_of-stub.result in
     let here = c.loop-mailbox.mailbox in
-    let within : here + 16 < length words = search rules in record {
+    let place = 8 * stub + 10 in
+    let head : place ≡ head_word c.args.shape.now here = ap (λ (n : ℕ). 8 * n + 10) c.stub_of-stub.ensures in
+    let within : place < length words = search rules in record {
       wide = was.wide;
       heads = λ b below. elim (cases_eq b here) [
         | inl same ↦
-            subst (λ (b : ℕ). get_or (set words (here + 16) word) (head_word b) 0 ≡ stub_of c.args.shape.now b + 1) (sym same)
-            (get_or-set_same words (here + 16) word 0 within ∙ ap (λ (n : ℕ). n + 1) c.stub_of.ensures)
-        | inr other ↦ get_or-set_other words (here + 16) (head_word b) word 0 (λ e. other (omega (arith, e))) ∙ was.heads b (omega (arith, below, other))
+            subst (λ (b : ℕ). get_or (set words place (stub + 1)) (head_word c.args.shape.now b) 0 ≡ stub_of c.args.shape.now b + 1) (sym same)
+            (ap (λ (i : ℕ). get_or (set words place (stub + 1)) i 0) (sym head) ∙ (get_or-set_same words place (stub + 1) 0 within ∙ ap (λ (n : ℕ). n + 1) c.stub_of-stub.ensures))
+        | inr other ↦ get_or-set_other words place (head_word c.args.shape.now b) (stub + 1) 0 (λ e. other (omega (arith, e, head))) ∙ was.heads b (omega (arith, below, other))
       ];
-      zeros = λ i past. get_or-set_other words (here + 16) i word 0 (λ e. omega (arith, e, past, c.loop-mailbox-test.true)) ∙ was.zeros i past;
+      zeros = λ n k few. get_or-set_other words place (next_word n + k) (stub + 1) 0 (λ e. omega (arith, e, few)) ∙ was.zeros n k few;
     }
 
 pub returns-clause-heads : goal.returns-clause-heads

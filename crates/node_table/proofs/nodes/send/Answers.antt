@@ -6,7 +6,7 @@ use Rattle.node_table.specs.declared.seats.Known.{Known}
 use Rattle.node_table.specs.declared.seats.Known.TheVariants.{Sends}
 use Rattle.node_table.specs.declared.seats.Posting.{Posting}
 use Rattle.node_table.specs.Asks.{sender_in}
-use Rattle.node_table.specs.Layout.{first_of}
+use Rattle.node_table.specs.Layout.{first_of, slot_of}
 use Rattle.node_table.specs.Tells.{after_line_at, at_point, filling, in_slot, posting}
 use Rattle.node_table.proofs.Sending.{is_sending}
 use Rattle.node_table.proofs.nodes.send.Goals as goal
@@ -20,7 +20,7 @@ store_line-requires-clause-at c =
     = λ i. (ap (λ s. first_of s (sender_in c.args.seat.now.me.0).number) at.shape_is ∙ (ap (first_of c.args.nodes.now.shape) at.number_is ∙ sym c.first_of.ensures)) i + at.count_is i % (at.shape_is i).ring in (
       c.args.mailbox,
       item,
-      is_sending c.args.nodes.now.shape (sends.Line item) c.args.mailbox item _ c.load_turn.new.seat.me (filling (sends.Line item) laid (sender_in c.args.seat.now.me.0)) ((c.args.number, laid) ∷ []) c.if-not-load_turn.ensures.told
+      is_sending c.args.nodes.now.shape (sends.Line item) c.args.mailbox item _ c.load_turn.new.seat.me (filling (sends.Line item) laid (sender_in c.args.seat.now.me.0)) ((slot_of c.args.number, laid) ∷ []) c.if-not-load_turn.ensures.told
           at.shape_is refl refl at.there node,
       refl,
     )
@@ -35,6 +35,6 @@ finish-requires-clause-at c =
     = λ i. (ap (λ s. first_of s v.number) at.shape_is ∙ (ap (first_of c.args.nodes.now.shape) at.number_is ∙ sym c.first_of.ensures)) i + at.count_is i % (at.shape_is i).ring in
     let now = c.store_line.ensures.told ∙ ap (λ (m : Me Posting Known). (Sends (after_line_at (sender_in m.0).caller.point (in_slot m.1) (sender_in m.0)), m.1)) c.if-not-load_turn.ensures.told in (
       item,
-      is_sending c.args.nodes.now.shape (sends.Amount item) c.args.mailbox item _ c.store_line.new.seat.me (at_point (sends.Amount item) v) ((c.args.number, laid) ∷ []) now at.shape_is refl refl at.there node,
+      is_sending c.args.nodes.now.shape (sends.Amount item) c.args.mailbox item _ c.store_line.new.seat.me (at_point (sends.Amount item) v) ((slot_of c.args.number, laid) ∷ []) now at.shape_is refl refl at.there node,
       sym c.encoded.ensures,
     )
