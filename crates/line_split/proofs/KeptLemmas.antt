@@ -1,9 +1,13 @@
 -- Usage lines that are kept in two lists.
-use Rattle.std.proofs.Common.{◌≡◌, ◌<◌, ◌++◌, ◌∷◌, [], ℕ, List, zero, suc, ap, arith, get_or, length, refl}
+use Rattle.std.proofs.Common.{◌≡◌, ◌<◌, ◌≤◌, ◌+◌, ◌++◌, ◌∷◌, [], ℕ, List, zero, suc, ap, arith, get_or, length, refl, subst, sym}
+use Rattle.std.proofs.lemmas.List.{length-append}
+use Rattle.std.proofs.lemmas.List.Elements.{All-append}
 use Rattle.std.specs.List.{slice_get}
 use Rattle.std.specs.declared.option.Option.TheVariants.{Some}
 use Rattle.line_split.specs.KeptLines.{line_with, lines_of}
 use Rattle.line_split.specs.UsageLine.{UsageLine}
+use Rattle.line_split.specs.UsageLines.{AreUsageLines, IsUsageLine}
+use Rattle.line_split.specs.declared.usage.TheConstants.{MOST_LINES}
 use Rattle.line_split.specs.declared.usage.UsageDetail.{UsageDetail}
 
 pub length-lines_of : (names : List (List ℕ)) (details : List UsageDetail) → length names ≡ length details → length (lines_of names details) ≡ length details
@@ -29,3 +33,21 @@ lines_push [] (_ ∷ details) name detail paired = absurd (omega (arith, paired)
 lines_push (_ ∷ names) [] name detail paired = absurd (omega (arith, paired))
 lines_push (first ∷ names) (first_use ∷ details) name detail paired =
     ap (λ (l : List UsageLine). line_with first first_use ∷ l) (lines_push names details name detail (omega (arith, paired)))
+
+-- those of two such lists, one behind the other
+pub lines_append : (names more : List (List ℕ)) (details others : List UsageDetail) → length names ≡ length details → lines_of (names ++ more) (details ++ others) ≡ lines_of names details ++ lines_of more others
+lines_append [] more [] others paired = refl
+lines_append [] more (_ ∷ details) others paired = absurd (omega (arith, paired))
+lines_append (_ ∷ names) more [] others paired = absurd (omega (arith, paired))
+lines_append (name ∷ names) more (detail ∷ details) others paired = ap (λ (l : List UsageLine). line_with name detail ∷ l) (lines_append names more details others (omega (arith, paired)))
+
+-- which keep to the limits as the two do
+pub joined_keep : (names more : List (List ℕ)) (details others : List UsageDetail) → length names ≡ length details → length more ≡ length others → AreUsageLines (lines_of names details) → AreUsageLines (lines_of more others)
+    → length (lines_of names details) + length (lines_of more others) ≤ MOST_LINES → (length (names ++ more) ≡ length (details ++ others)) × AreUsageLines (lines_of (names ++ more) (details ++ others))
+joined_keep names more details others paired alike first second few = (
+  omega (arith, paired, alike, length-append names more, length-append details others),
+  subst AreUsageLines (sym (lines_append names more details others paired)) record {
+    few = omega (arith, few, length-append (lines_of names details) (lines_of more others));
+    each = All-append IsUsageLine (lines_of names details) (lines_of more others) first.each second.each;
+  },
+)

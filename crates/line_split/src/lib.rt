@@ -10,6 +10,7 @@ mod contender;
 pub mod laws;
 mod line_fault;
 mod pairs;
+mod parts;
 mod portions;
 mod reason;
 mod text;

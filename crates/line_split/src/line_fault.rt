@@ -2,6 +2,7 @@
 
 ghost use Rattle.std.specs.Prelude.{◌≡◌};
 
+use crate::MOST_LINES;
 use std::alloc::AllocError;
 use thiserror::Error;
 
@@ -60,6 +61,34 @@ impl LineFault {
             | LineFault::Right(row)
             | LineFault::Amount(row) => Some(row),
             LineFault::Lines | LineFault::Memory => None,
+        }
+    }
+}
+
+impl LineFault {
+    ghost use Rattle.std.specs.Prelude.{◌≤◌};
+    ghost use Rattle.line_split.specs.UsageParts.{IsBehind};
+
+    /// The same fault, of a row that has so many more before it.
+    pub(crate) fn behind(self, rows: u64) -> LineFault
+        requires { rows ≤ MOST_LINES }
+        ensures { IsBehind rows self result }
+    {
+        let Some(row) = self.place() else {
+            return self;
+        };
+        if row > MOST_LINES - rows {
+            return LineFault::Lines;
+        }
+        let row = rows + row;
+        match self {
+            LineFault::Csv(_) => LineFault::Csv(row),
+            LineFault::Fields(_) => LineFault::Fields(row),
+            LineFault::Territory(_) => LineFault::Territory(row),
+            LineFault::Right(_) => LineFault::Right(row),
+            LineFault::Amount(_) => LineFault::Amount(row),
+            LineFault::Lines => LineFault::Lines,
+            LineFault::Memory => LineFault::Memory,
         }
     }
 }

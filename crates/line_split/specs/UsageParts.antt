@@ -1,0 +1,40 @@
+-- Rows of the table of usage lines below its header, or some of them. The first counts as 1.
+use Rattle.std.specs.Prelude.{ℕ, ◌≡◌, ◌≤◌, ◌<◌, ◌+◌, ◌⊎◌, ◌∷◌, ◌++◌, List, All, length, map}
+use Rattle.line_split.specs.UsageLine.{UsageLine, line_of}
+use Rattle.line_split.specs.UsageTable.{IsFaultOfRow, IsLine}
+use Rattle.line_split.specs.declared.usage.TheConstants.{MOST_LINES}
+use Rattle.line_split.specs.declared.line_fault.LineFault.{LineFault}
+use Rattle.line_split.specs.declared.line_fault.LineFault.TheVariants.{Csv, Fields, Territory, Right, Amount, Lines, Memory}
+
+-- all are lines, these
+pub record AreLinesOf (rows : List (List (List ℕ))) (lines : List UsageLine) : Type 0 where
+  pub few : length lines ≤ MOST_LINES
+  pub sound : All IsLine rows
+  pub same : lines ≡ map line_of rows
+
+-- a row that is refused stands behind rows that are lines
+pub record IsFirstFaultIn (rows : List (List (List ℕ))) (fault : LineFault) : Type 0 where
+  pub before : List (List (List ℕ))
+  pub row : List (List ℕ)
+  pub after : List (List (List ℕ))
+  pub split : rows ≡ before ++ row ∷ after
+  pub sound : All IsLine before
+  pub refused : IsFaultOfRow (length before + 1) row fault
+
+-- what they are refused for: memory, or else the first row that is no line
+abbrev pub IsFaultIn : List (List (List ℕ)) → LineFault → Type 0
+IsFaultIn rows fault = (fault ≡ Memory) ⊎ IsFirstFaultIn rows fault
+
+-- a fault of a row, by its number, where so many rows stand before the first
+abbrev pub IsMoved : ℕ → ℕ → (ℕ → LineFault) → LineFault → Type 0
+IsMoved rows row fault moved = (rows + row ≤ MOST_LINES → moved ≡ fault (rows + row)) × (MOST_LINES < rows + row → moved ≡ Lines)
+
+-- the fault of the whole
+abbrev pub IsBehind : ℕ → LineFault → LineFault → Type 0
+IsBehind rows (Csv row) moved = IsMoved rows row Csv moved
+IsBehind rows (Fields row) moved = IsMoved rows row Fields moved
+IsBehind rows (Territory row) moved = IsMoved rows row Territory moved
+IsBehind rows (Right row) moved = IsMoved rows row Right moved
+IsBehind rows (Amount row) moved = IsMoved rows row Amount moved
+IsBehind rows Lines moved = moved ≡ Lines
+IsBehind rows Memory moved = moved ≡ Memory
