@@ -61,6 +61,7 @@ refuse:
 
 bench:
 	python3 bench/bench.py --program $(PROGRAM) --lines 1000000 --works 20000 --parties 400 --repeats 5
+	python3 bench/bench.py --program $(PROGRAM) --lines 1000000 --works 20000 --parties 16000 --repeats 3
 	cd crates/mail_bench && rt run < stdin > /dev/null
 	python3 bench/mail.py --program crates/mail_bench/out/mail_bench
 

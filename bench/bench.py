@@ -7,9 +7,10 @@
 With --lanes PATH, a build of the program in which `settle` runs over `LaneMail`, only mailboxes are compared: linked nodes, lanes,
 and the plain program's linked queues, with 1, 2 and 4 workers, 1 and 2 readers, and 1, 8 and 64 nodes.
 
-The program runs with each number of workers and of readers. The plain one runs on one thread, as it is and
+The program runs with each number of workers and of readers, and beside it the plain program's pool of linked nodes, with bells and
+without. The plain one runs on one thread, as it is and
 without its hints to fetch memory ahead (`prefetch`), which Rattle has no word for; and in each
-of its modes with threads, with 4 workers and 2 readers.
+of its other modes with threads, with 4 workers and 2 readers.
 
 The data are made once. Every repeat runs each row once, so that noise hits all
 alike. Outputs go to a file and have to be the same bytes. Shown are the best wall
@@ -150,7 +151,9 @@ def main():
         unhinted = Row("no hints", [no_hints, *words(1, 1), "--times"])
         modes = {mode: Row(f"{mode} 4 x 2", [plain, *words(4, 2), "--mode", mode])
                  for mode in ("threads", "channels", "batches", "linked")}
-        rows = [*ours.values(), theirs, unhinted, *modes.values()]
+        pools = {(plan, mode): Row("{} {} x {}".format(mode, *plan), [plain, *words(*plan), "--mode", mode])
+                 for plan in ours for mode in ("pool", "bells")}
+        rows = [*ours.values(), theirs, unhinted, *modes.values(), *pools.values()]
         load = os.getloadavg()[0]
         for _ in range(a.repeats):
             for row in rows:
@@ -158,8 +161,15 @@ def main():
     print(f"{a.lines} lines, {a.works} works, {a.parties} parties, {a.nodes} nodes, best of {a.repeats}, "
           f"{os.cpu_count()} cores, load {load:.1f} to {os.getloadavg()[0]:.1f}")
     print(f"{'':<16}{'wall s':>10}{'user+sys':>10}{'MB':>8}")
-    for row in rows:
+    for row in (theirs, unhinted, *modes.values()):
         print(f"{row.name:<16}{row.wall:>10.3f}{row.cpu:>10.3f}{row.memory:>8.0f}")
+    print(f"{'program':<16}{'wall s':>10}{'user+sys':>10}{'MB':>8}{'pool s':>10}{'bells s':>10}{'to the better':>15}")
+    for plan, row in ours.items():
+        pool, bells = pools[plan, "pool"], pools[plan, "bells"]
+        print(f"{'{} x {}'.format(*plan):<16}{row.wall:>10.3f}{row.cpu:>10.3f}{row.memory:>8.0f}{pool.wall:>10.3f}{bells.wall:>10.3f}"
+              f"{row.wall / min(pool.wall, bells.wall):>15.2f}")
+    best = min(ours.values(), key=lambda row: row.wall)
+    print(f"{best.name} is the best plan; to plain on one thread: {times(best, theirs)}")
     for plan, other in (((1, 1), theirs), ((1, 1), unhinted), ((4, 2), modes["channels"]),
                         ((4, 2), ours[1, 1]), ((8, 8), ours[4, 2])):
         print(f"{ours[plan].name} to {other.name}: {times(ours[plan], other)}, "

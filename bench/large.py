@@ -126,7 +126,7 @@ def registration(kind, number, work, interests, rng):
 
 
 def generate(outdir, lines, works, parties, seed, taken_back=0.0):
-    assert 1 <= lines <= 1_000_000 and 1 <= works <= 20_000 and 2 <= parties <= 10_000
+    assert 1 <= lines <= 1_000_000 and 1 <= works <= 20_000 and 2 <= parties <= min(works, 16_383)
     rng = random.Random(seed)
     os.makedirs(outdir, exist_ok=True)
     rows, lands = make_tis(rng)
@@ -134,7 +134,7 @@ def generate(outdir, lines, works, parties, seed, taken_back=0.0):
         f.write("code,groups\n")
         f.writelines(f"{c},{' '.join(map(str, g))}\n" for c, g in rows)
 
-    names = [f"I{n:0{rng.choice([4, 6, 8])}d}" for n in rng.sample(range(10000), parties)]
+    names = [f"I{n:0{rng.choice([4, 6, 8])}d}" for n in rng.sample(range(10_000 if parties <= 10_000 else 100_000), parties)]
     weights = list(accumulate(1 / (k + 20) for k in range(parties)))
 
     def draw_party():

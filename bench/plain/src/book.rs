@@ -1,6 +1,8 @@
 //! The postings of each account, gathered on one thread or on several.
 
-use crate::linked::{Backoff, Receiver, Sender, Table, Took};
+use crate::bells::Bells;
+use crate::linked::{self, Backoff, Receiver, Table, Took};
+use crate::pool::{self, Pool};
 use crate::split::{BLOCK, Input, Scratch};
 use std::mem::{replace, take};
 use std::sync::OnceLock;
@@ -29,6 +31,10 @@ pub enum Mode {
     Batches,
     /// Workers and readers, with a linked queue for each account.
     Linked,
+    /// The same with one table of nodes for all queues.
+    Pool,
+    /// The same again, and a bit for each account that tells its reader where something may wait.
+    Bells,
 }
 
 impl Mode {
@@ -39,6 +45,8 @@ impl Mode {
             "channels" => Mode::Channels,
             "batches" => Mode::Batches,
             "linked" => Mode::Linked,
+            "pool" => Mode::Pool,
+            "bells" => Mode::Bells,
             _ => return None,
         })
     }
@@ -51,6 +59,33 @@ pub struct Plan {
 }
 
 const BATCH: usize = 512;
+
+/// What a worker posts to all accounts by.
+trait Post {
+    fn try_send(&mut self, account: usize, line: u64, amount: i64) -> bool;
+
+    fn end(&mut self, account: usize);
+}
+
+impl Post for Vec<linked::Sender<'_>> {
+    fn try_send(&mut self, account: usize, line: u64, amount: i64) -> bool {
+        self[account].try_send(line, amount)
+    }
+
+    fn end(&mut self, account: usize) {
+        self[account].end();
+    }
+}
+
+impl Post for pool::Sender<'_> {
+    fn try_send(&mut self, account: usize, line: u64, amount: i64) -> bool {
+        pool::Sender::try_send(self, account, line, amount)
+    }
+
+    fn end(&mut self, account: usize) {
+        pool::Sender::end(self, account);
+    }
+}
 
 /// The usage lines, of which workers draw blocks, and the reason of each line.
 pub struct Job<'a> {
@@ -66,6 +101,8 @@ impl Job<'_> {
             Mode::Channels => self.channels(plan),
             Mode::Batches => self.batches(plan),
             Mode::Linked => self.linked(plan),
+            Mode::Pool => self.pool(plan, None),
+            Mode::Bells => self.pool(plan, Some(&Bells::new(self.accounts(), plan.readers))),
         }
     }
 
@@ -190,59 +227,107 @@ impl Job<'_> {
     }
 
     fn linked(&self, plan: &Plan) -> Book {
-        let drawn = &AtomicUsize::new(0);
         let table = &Table::open(self.accounts(), plan.workers, plan.nodes);
+        let senders = |worker| -> Vec<_> { (0..self.accounts()).map(|a| table.sender(a, worker)).collect() };
+        self.queues(plan, |a| table.receiver(a), senders, None)
+    }
+
+    fn pool(&self, plan: &Plan, bells: Option<&Bells>) -> Book {
+        let pool = &Pool::open(self.accounts(), plan.workers, plan.nodes);
+        self.queues(plan, |a| pool.receiver(a), |worker| pool.sender(worker), bells)
+    }
+
+    fn queues<'q, S: Post>(
+        &self,
+        plan: &Plan,
+        receiver: impl Fn(usize) -> Receiver<'q> + Sync,
+        sender: impl Fn(usize) -> S + Sync,
+        bells: Option<&Bells>,
+    ) -> Book {
+        let drawn = &AtomicUsize::new(0);
+        let (receiver, sender) = (&receiver, &sender);
         let (workers, readers) = (plan.workers, plan.readers);
         thread::scope(|s| {
             let list: Vec<_> = (0..readers)
                 .map(|r| {
                     s.spawn(move || {
                         let own = (0..self.accounts()).skip(r).step_by(readers);
-                        self.serve(own.map(|a| (a, table.receiver(a))).collect(), workers)
+                        let own = own.map(|a| (a, receiver(a))).collect();
+                        Serving::new(self.accounts(), own, workers).serve(bells.map(|bells| (bells, r)))
                     })
                 })
                 .collect();
             for worker in 0..workers {
                 s.spawn(move || {
-                    let mut senders: Vec<Sender> =
-                        (0..self.accounts()).map(|a| table.sender(a, worker)).collect();
+                    let mut sender = sender(worker);
                     self.work(drawn, |account, p| {
                         let mut turn = Backoff::new();
-                        while !senders[account as usize].try_send(p.line as u64, p.amount) {
+                        while !sender.try_send(account as usize, p.line as u64, p.amount) {
                             turn.wait();
                         }
+                        if let Some(bells) = bells {
+                            bells.ring(account as usize);
+                        }
                     });
-                    for sender in &mut senders {
-                        sender.end();
+                    for account in 0..self.accounts() {
+                        sender.end(account);
+                        if let Some(bells) = bells {
+                            bells.ring(account);
+                        }
                     }
                 });
             }
             joined(list.into_iter().map(|r| r.join().unwrap()).collect())
         })
     }
+}
 
-    /// Takes from each mailbox in turn until it gives none, up to the last end mark.
-    fn serve(&self, mut own: Vec<(usize, Receiver)>, workers: usize) -> Book {
-        let mut book: Book = vec![Vec::new(); self.accounts()];
-        let mut ends = own.len() * workers;
-        let mut turn = Backoff::new();
-        while ends > 0 {
-            let mut took = false;
-            for (account, receiver) in &mut own {
-                while let Took::Held(node) = receiver.take() {
-                    took = true;
-                    match receiver.read(node) {
-                        Some((line, amount)) => {
-                            book[*account].push(Posting { line: line as u32, amount })
-                        }
-                        None => ends -= 1,
-                    }
-                    receiver.give_back(node);
+/// A reader at work: its mailboxes, what it took, and how many end marks are to come.
+struct Serving<'q> {
+    own: Vec<(usize, Receiver<'q>)>,
+    book: Book,
+    ends: usize,
+}
+
+impl<'q> Serving<'q> {
+    fn new(accounts: usize, own: Vec<(usize, Receiver<'q>)>, workers: usize) -> Serving<'q> {
+        let ends = own.len() * workers;
+        Serving { own, book: vec![Vec::new(); accounts], ends }
+    }
+
+    /// Takes from a mailbox until it gives nothing. Whether it gave anything.
+    fn take_from(&mut self, place: usize) -> bool {
+        let (account, receiver) = &mut self.own[place];
+        let mut took = false;
+        while let Took::Held(node) = receiver.take() {
+            took = true;
+            match receiver.read(node) {
+                Some((line, amount)) => {
+                    self.book[*account].push(Posting { line: line as u32, amount })
                 }
+                None => self.ends -= 1,
+            }
+            receiver.give_back(node);
+        }
+        took
+    }
+
+    /// Takes from each mailbox in turn, or from those whose bell was rung, up to the last end mark.
+    fn serve(mut self, bells: Option<(&Bells, usize)>) -> Book {
+        let mut turn = Backoff::new();
+        while self.ends > 0 {
+            let mut took = false;
+            match bells {
+                None => {
+                    for place in 0..self.own.len() {
+                        took |= self.take_from(place);
+                    }
+                }
+                Some((bells, reader)) => bells.answer(reader, |place| took |= self.take_from(place)),
             }
             if took { turn.reset() } else { turn.wait() }
         }
-        in_order(book)
+        in_order(self.book)
     }
 }
 

@@ -1,11 +1,13 @@
 //! `royalty_run run` once more, as one would write it by hand in Rust, with no proofs. The words and the
 //! text that comes out are the same. `--mode` says how the book is filled: one (where there is no such word), threads, channels,
-//! batches or linked. With `--times` it says how long each phase took.
+//! batches, linked, pool or bells. With `--times` it says how long each phase took.
 
+mod bells;
 mod book;
 mod cwr;
 mod linked;
 mod payees;
+mod pool;
 mod rows;
 mod split;
 mod text;

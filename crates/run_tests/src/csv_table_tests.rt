@@ -5,7 +5,7 @@
 
 use crate::rows::{Ask, assert_rows, in_brackets, text_of};
 use csv_table::forms::{code, is_printable, number_up_to};
-use csv_table::{RowWriter, Rows};
+use csv_table::{RowWriter, Rows, cut_in_two};
 use std::alloc::Global;
 use std::test::Fail;
 
@@ -34,6 +34,22 @@ fn told(alloc: Global, rows: &mut Rows<'_>) -> Result<String, Fail> {
 /// The same of the rows of a text.
 fn told_text(alloc: Global, text: &str) -> Result<String, Fail> {
     told(alloc, &mut Rows::of(alloc, text.as_bytes()))
+}
+
+/// The rows of the two parts of a text that is cut in two, and a caret between them.
+fn told_parts(alloc: Global, text: &str) -> Result<String, Fail> {
+    let Some((first, second)) = cut_in_two(text.as_bytes()) else {
+        return Ok(String::from_str(alloc, "not cut")?);
+    };
+    let mut told = told(alloc, &mut Rows::of(alloc, first))?;
+    told.push_str("^")?;
+    told.push_str(told_second(alloc, second)?.as_str())?;
+    Ok(told)
+}
+
+/// The rows of a second part.
+fn told_second(alloc: Global, second: &[u8]) -> Result<String, Fail> {
+    told(alloc, &mut Rows::of(alloc, second))
 }
 
 /// The fields of a text, which strokes divide.
@@ -291,4 +307,33 @@ fn knows_the_forms_of_fields(rt: HostRuntime) -> Result<(), Fail> {
 21 6: None
 ",
     )
+}
+
+#[test]
+fn cuts_a_text_in_two(rt: HostRuntime) -> Result<(), Fail> {
+    let alloc = rt.alloc();
+    // behind the first line feed from the middle on, whatever stands before it
+    assert_eq!(rt; told_parts(alloc, "a\nb\nc\n")?.as_str(), "(a)/(b)/^(c)/");
+    assert_eq!(rt;
+        told_parts(alloc, "a,b\r\nc,d")?.as_str(),
+        "(a)(b)/^(c)(d)/"
+    );
+    assert_eq!(rt;
+        told_parts(alloc, "a\rb\n\r\n\nc")?.as_str(),
+        "(a)/(b)/^(c)/"
+    );
+    assert_eq!(rt; told_parts(alloc, "a,\n,b")?.as_str(), "(a)()/^()(b)/");
+    assert_eq!(rt; told_parts(alloc, "\n")?.as_str(), "^");
+    // a quote behind the cut
+    assert_eq!(rt; told_parts(alloc, "a\nb\n\"c\nd\"")?.as_str(), "not cut");
+    assert_eq!(rt;
+        told_parts(alloc, "aa\nbb\n\"c\"")?.as_str(),
+        "(aa)/(bb)/^(c)/"
+    );
+    // a quote before it, no line feed, and a byte order mark behind it
+    assert_eq!(rt; told_parts(alloc, "\"a\nb\"\nc\nd")?.as_str(), "not cut");
+    assert_eq!(rt; told_parts(alloc, "a\nbcd")?.as_str(), "not cut");
+    assert_eq!(rt; told_parts(alloc, "")?.as_str(), "not cut");
+    assert_eq!(rt; told_parts(alloc, "abcd\n\u{FEFF}e")?.as_str(), "not cut");
+    Ok(())
 }

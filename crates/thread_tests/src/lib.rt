@@ -33,3 +33,5 @@ mod run_threads_tests;
 mod settle_run_tests;
 #[cfg(test)]
 mod split_run_tests;
+#[cfg(test)]
+mod usage_parts_tests;
