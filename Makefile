@@ -5,7 +5,7 @@ help:
 	@echo 'make build    prove and build the program, leave it as out/royalty_run'
 	@echo 'make test     the gate: prove every crate from nothing, refuse wrong bodies, run every test, and the program and each call, also with memory and threads refused'
 	@echo 'make edits    refuse the wrong bodies that the gate leaves out, of every crate or of one: make edits CRATE=mail_box; an hour for all'
-	@echo 'make compare  run the program and a plain Rust one on small made-up inputs, good and bad, and compare'
+	@echo 'make compare  run the program and a plain Rust one on made-up inputs, good and bad, and compare'
 	@echo 'make fuzz     the same on 100000 damaged inputs; some ten minutes on four cores'
 	@echo 'make sizes    run both at each limit and one beyond it, print times and peak memory; a minute, 2 GB of memory'
 	@echo 'make refuse   run the program with each allocation, thread, read and write refused in turn, and each call as make test does; a minute once both are built'

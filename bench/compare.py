@@ -1,6 +1,7 @@
 #!/usr/bin/env python3
-"""Runs the program and the plain Rust one on small made-up inputs, good and bad, half of them with a table of
-payees, and compares statuses, statements and messages.
+"""Runs the program and the plain Rust one on made-up inputs, good and bad, half of them with a table of
+payees, and compares statuses, statements and messages. Half of the inputs are small; the others are realistic, with up to 2,000
+parties and 6,000 usage lines, so that some of these are read in parts.
 
     python3 compare.py --program PATH [--cases 2000] [--seed 1]
 """
@@ -12,6 +13,7 @@ import sys
 import tempfile
 
 from bench import build_plain
+from large import generate
 
 CODES = [2136, 9001, 9002, 276, 840, 40, 756, 4, 9999]
 PARTIES = ["A", "B", "C", "DD", 'E,"', "F G", "12345678", "ZZZZZZZZZ"]
@@ -57,8 +59,8 @@ def registrations(rng):
     return end.join(lines) + (end if lines and rng.random() < 0.8 else "")
 
 
-def payees(rng):
-    names = PARTIES + ["Z", "Z Y", 'Q"', "N" * 64, "0"]
+def payees(rng, parties=PARTIES):
+    names = parties + ["Z", "Z Y", 'Q"', "N" * 64, "0"]
     parties = rng.sample(names, rng.choice([0, 1, 2, 4, len(names)]))
     rows = ["party,payee"]
     for party in parties:
@@ -111,10 +113,29 @@ def damaged(rng, data):
 NAMES = ("tis", "cwr", "usage", "payees")
 
 
-def case(rng):
-    """The three files of a case, and a table of payees in half of them."""
+def small(rng):
+    """The three files of a small case, and a table of payees in half of them."""
     makers = [territories, registrations, usage] + [payees] * rng.randint(0, 1)
-    files = [make(rng).encode() for make in makers]
+    return [make(rng).encode() for make in makers]
+
+
+def realistic(rng, folder):
+    """The same of a realistic case with 2 to 2,000 parties."""
+    parties = int(2 * 1000 ** rng.random())
+    generate(folder, rng.randint(1, 6_000), parties + rng.randint(0, 300), parties, rng.randrange(10**9), rng.choice([0.0, 0.1]))
+    files = []
+    for name in ("tis.csv", "works.cwr", "usage.csv"):
+        with open(os.path.join(folder, name), "rb") as f:
+            files.append(f.read())
+    if rng.random() < 0.5:
+        found = sorted({line[19:28].decode().strip() for line in files[1].split(b"\r\n") if line[:3] in (b"SPT", b"SWT")})
+        files.append(payees(rng, found).encode())
+    return files
+
+
+def case(rng, folder):
+    """The three files of a case, or four."""
+    files = small(rng) if rng.random() < 0.5 else realistic(rng, folder)
     if rng.random() < 0.5:
         place = rng.randrange(len(files))
         files[place] = damaged(rng, files[place])
@@ -146,7 +167,7 @@ def main():
         for n in range(a.cases):
             rng = random.Random(a.seed * 1_000_003 + n)
             used = []
-            for name, data in zip(NAMES, case(rng)):
+            for name, data in zip(NAMES, case(rng, os.path.join(folder, "made"))):
                 used.append(os.path.join(folder, name))
                 with open(used[-1], "wb") as f:
                     f.write(data)
