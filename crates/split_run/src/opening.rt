@@ -70,7 +70,8 @@ pub(crate) fn readers_of<B: Mailboxes>(
     let mut all = Vec::new(alloc);
     for reader in 0..readers {
         let own = deal::<B>(alloc, &mut inboxes, readers, reader)?;
-        all.push(Reader::new(alloc, reader as usize, own, accounts, workers)?)?;
+        let number = reader as usize;
+        all.push(Reader::new(alloc, number, readers as usize, own, accounts, workers)?)?;
     }
     Ok(all)
 }

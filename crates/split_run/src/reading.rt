@@ -28,8 +28,10 @@ pub(crate) struct Reader<B: Mailboxes> {
     pub opened: Snapshot<Vec<Option<B::Receiver>>>,
     /// How many workers send to each mailbox.
     pub workers: u64,
-    /// Which of the readers it is, from 0.
+    /// Which of the readers it is, from 0, and how many there are: its accounts are those whose number leaves this one when it is divided
+    /// by how many they are.
     number: usize,
+    readers: usize,
     /// How many end marks each mailbox has given.
     ends: Vec<u64>,
     pub journal: Journal,
@@ -45,10 +47,11 @@ pub(crate) struct Served<B: Mailboxes> {
 }
 
 impl<B: Mailboxes> Reader<B> {
-    /// A reader of these mailboxes that has taken nothing.
+    /// One of so many readers, with these mailboxes, that has taken nothing.
     pub fn new(
         alloc: Global,
         number: usize,
+        readers: usize,
         inboxes: Vec<Option<B::Receiver>>,
         accounts: u16,
         workers: u64,
@@ -67,6 +70,7 @@ impl<B: Mailboxes> Reader<B> {
             opened,
             workers,
             number,
+            readers,
             ends,
             journal,
             whole: true,
@@ -132,8 +136,11 @@ impl<B: Mailboxes> Reader<B> {
         ensures opened { (self.new.opened.value ≡ self.old.opened.value) × (self.new.workers ≡ self.old.workers) }
     {
         let mut took = false;
-        for account in 0..self.journal.accounts() {
-            if self.take_some(rt, account) {
+        for turn in 0..=self.inboxes.len() / self.readers.max(1) {
+            let account = turn.wrapping_mul(self.readers).wrapping_add(self.number);
+            if account < self.journal.accounts() as usize
+                && self.take_some(rt, account as Account)
+            {
                 took = true;
             }
         }

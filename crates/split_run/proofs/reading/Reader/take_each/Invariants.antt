@@ -2,8 +2,8 @@ use Rattle.std.specs.Prelude.{◌≡◌, length}
 use Rattle.split_run.specs.Reading.{AreTaken, inboxes_by}
 use Rattle.split_run.proofs.reading.Reader.take_each.Given as goal
 
-abbrev pub invariant-loop-account : goal.invariant-loop-account
-invariant-loop-account g l = record {
+abbrev pub invariant-loop-turn : goal.invariant-loop-turn
+invariant-loop-turn g l = record {
   taken : AreTaken l.self.workers l.self.whole (inboxes_by g.B.Mailboxes.receiver l.self.opened.value.items) (inboxes_by g.B.Mailboxes.receiver l.self.inboxes.items) l.self.ends.items l.self.journal;
   opened : l.self.opened.value ≡ l.initial.self.opened.value;
   workers : l.self.workers ≡ l.initial.self.workers;
