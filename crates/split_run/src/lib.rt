@@ -15,11 +15,12 @@ mod reading;
 mod running;
 mod sending;
 mod separate;
+mod sharing;
 mod starting;
 mod working;
 
 pub use block_draw::{Draw, Drawer};
-pub use counting::{CountingMail, CountingReceiver};
+pub use counting::{CountingMail, CountingPool, CountingReceiver};
 pub use fault::RunFault;
 pub use gate::{Gate, NoGate};
 pub use meeting::{MeetingGate, MeetingMail, MeetingReceiver};
