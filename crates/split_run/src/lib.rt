@@ -23,9 +23,10 @@ pub use block_draw::{Draw, Drawer};
 pub use counting::{CountingMail, CountingPool, CountingReceiver};
 pub use fault::RunFault;
 pub use gate::{Gate, NoGate};
-pub use meeting::{MeetingGate, MeetingMail, MeetingReceiver};
+pub use meeting::{MeetingGate, MeetingMail, MeetingPool, MeetingReceiver};
 pub use plan::Plan;
 pub use running::{run, run_cut, run_pool, run_pool_cut};
+pub use sharing::Sharing;
 pub use working::{work, work_pool};
 
 /// The most workers, and the most readers, of a run.
