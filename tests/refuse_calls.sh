@@ -1,7 +1,8 @@
 #!/usr/bin/env bash
 # Runs a build of refusal_runs with its memory and its threads refused. Each allocation and each thread in turn: each call answers as it does where nothing is
 # refused, or that memory was, and each is refused an allocation at some number. All allocations once a mailbox is open: its calls answer as they do with ample
-# memory. Each allocation and thread of a run in turn: if its workers came to all lines, all their postings and end marks were taken, with a book or without.
+# memory. Each allocation and thread in turn of a run over mailboxes, and of one over a pool: if its workers came to all lines, all their postings and end marks
+# were taken, with a book or without.
 # It takes a C compiler, and half a minute. Usage: tests/refuse_calls.sh PROGRAM
 set -euo pipefail
 program=$(realpath "$1")
@@ -81,7 +82,9 @@ for word in links lanes 'linked sequence'; do
     echo "$word: the same with all allocations refused from number $from on"
 done
 
-finished=0
-sweep counted REFUSE is_counted
-((finished > 0)) || fail 'no run came to all lines and then had no book'
-sweep counted REFUSE_THREAD is_counted
+for word in counted 'counted pool'; do
+    finished=0
+    sweep "$word" REFUSE is_counted
+    ((finished > 0)) || fail "$word: no run came to all lines and then had no book"
+    sweep "$word" REFUSE_THREAD is_counted
+done

@@ -1,7 +1,8 @@
 //! Makes calls on small inputs and prints what they answer, so that each of their allocations can be refused in turn.
 //!
 //! Each line of the input says what to do: `calls`, each call that takes memory, a line each; `links` or `lanes`, open a mailbox of that kind
-//! and make its calls; `linked sequence`, one sequence of the calls of `LinkMail`; `counted`, a run whose gate and mailboxes count.
+//! and make its calls; `linked sequence`, one sequence of the calls of `LinkMail`; `counted`, a run whose gate and mailboxes count;
+//! `counted pool`, one whose gate and pool count.
 #![tactic(auto)]
 
 mod calls;
@@ -10,7 +11,7 @@ mod mailboxes;
 mod sequence;
 
 use calls::make_calls;
-use counted::run_counted;
+use counted::{run_counted, run_counted_pool};
 use mail_box::{LaneMail, LinkMail};
 use mailboxes::exchange;
 use sequence::linked_sequence;
@@ -28,6 +29,7 @@ fn main(rt: HostRuntime) -> io::Result<ExitCode> {
             "lanes" => exchange(&rt, alloc, &LaneMail, &mut out)?,
             "linked sequence" => linked_sequence(alloc, &mut out)?,
             "counted" => run_counted(&rt, alloc, &mut out)?,
+            "counted pool" => run_counted_pool(&rt, alloc, &mut out)?,
             _ => return Ok(ExitCode::FAILURE),
         }
     }

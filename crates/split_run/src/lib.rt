@@ -15,16 +15,18 @@ mod reading;
 mod running;
 mod sending;
 mod separate;
+mod sharing;
 mod starting;
 mod working;
 
 pub use block_draw::{Draw, Drawer};
-pub use counting::{CountingMail, CountingReceiver};
+pub use counting::{CountingMail, CountingPool, CountingReceiver};
 pub use fault::RunFault;
 pub use gate::{Gate, NoGate};
-pub use meeting::{MeetingGate, MeetingMail, MeetingReceiver};
+pub use meeting::{MeetingGate, MeetingMail, MeetingPool, MeetingReceiver};
 pub use plan::Plan;
 pub use running::{run, run_cut, run_pool, run_pool_cut};
+pub use sharing::Sharing;
 pub use working::{work, work_pool};
 
 /// The most workers, and the most readers, of a run.

@@ -2,6 +2,9 @@
 
 use crate::pool_rows::{assert_row_while_held, assert_rows, open_ends, settle};
 use pool_box::{Item, PoolMail};
+use split_run::CountingPool;
+use std::alloc::Global;
+use std::process::Abort;
 use std::test::Fail;
 
 #[test]
@@ -155,4 +158,34 @@ fn the_most_senders_and_mailboxes_have_room(rt: HostRuntime) -> Result<(), Fail>
 0 takes: Held((0, Post { line: 0, amount: 1 }))
 ";
     assert_rows(&rt, alloc, &mut ends, rows)
+}
+
+/// Asserts how many items the receivers of both mailboxes of a pool take, whose only sender posts three times and ends.
+fn assert_takes(rt: &impl Abort, alloc: Global, pool: &CountingPool<PoolMail>) -> Result<(), Fail> {
+    let mut ends = open_ends(alloc, pool, 1, 2, 3, 5)?;
+    let rows = "\
+0 takes: Empty
+0 posts 0 1 10: Sent
+0 posts 1 2 20: Sent
+0 posts 1 3 30: Sent
+1 takes: Held((0, Post { line: 2, amount: 20 }))
+0 takes: Held((0, Post { line: 1, amount: 10 }))
+0 takes: Empty
+0 ends 0: done
+0 ends 1: done
+1 takes: Held((0, Post { line: 3, amount: 30 }))
+0 takes: Held((0, End))
+0 ended 1: true
+0 is: 0 2
+";
+    assert_rows(rt, alloc, &mut ends, rows)?;
+    settle(rt, ends);
+    assert_eq!(rt; pool.takes(), 4);
+    Ok(())
+}
+
+#[test]
+fn counts_what_is_taken_of_a_pool(rt: HostRuntime) -> Result<(), Fail> {
+    let pool = CountingPool::new(rt.alloc(), PoolMail)?;
+    assert_takes(&rt, rt.alloc(), &pool)
 }

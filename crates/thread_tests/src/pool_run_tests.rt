@@ -1,17 +1,22 @@
-//! A run over a pool: what it comes to whatever the plan, that it has no book where a thread is refused, and what a worker alone
-//! sends.
+//! A run over a pool: what it comes to whatever the plan, that it has no book where a thread is refused, how it uses its pool, what it
+//! tells its gate, that its threads are at work at once, and what a worker alone sends.
 ghost use Rattle.std.specs.Prelude.{◌≡◌, ◌*◌, ◌<◌, ◌≤◌, ℕ, [], IfOk, false, length};
 ghost use Rattle.pool_box.specs.PoolViews.{sender_of};
 ghost use Rattle.block_draw.specs.Views.{drawer_of};
 ghost use Rattle.split_run.specs.Running.{IsFresh};
 
-use crate::run_threads_tests::{Inputs, assert_small_run, assert_totals, plan_of, watch};
+use crate::run_threads_tests::{
+    Inputs, RollCall, TAKES, assert_met, assert_small_run, assert_told, assert_totals, plan_of,
+    watch,
+};
 use crate::split_run_tests::only_drawer;
 use line_split::{MOST_CLAIMS, Portions};
 use payee_book::Book;
 use pool_box::{Item, Pool, PoolMail, PoolReceiver, PoolSender, Took};
 use small_run::{NO_USES, USES, equal_uses};
-use split_run::{Drawer, NoGate, run_pool, run_pool_cut, work_pool};
+use split_run::{
+    CountingPool, Drawer, Gate, MeetingGate, MeetingPool, NoGate, run_pool, run_pool_cut, work_pool,
+};
 use std::alloc::{AllocError, Global};
 use std::process::Abort;
 use std::sync::Wait;
@@ -20,16 +25,18 @@ use std::test::Fail;
 use std::thread::{Threads, join};
 
 /// The book of a run over a pool and these usage lines, with so many workers, readers and nodes.
-fn book_of<R: Threads + Wait + Sync>(
+fn book_of<P: Pool, G: Gate, R: Threads + Wait + Sync>(
     rt: &R,
     alloc: Global,
+    pool: &P,
     usage: &str,
     threads: (u64, u64, u64),
+    gate: &G,
 ) -> Result<Book, Fail> {
     let plan = plan_of(threads)?;
     let inputs = Inputs::read(alloc, usage)?;
     let (tis, registry, usage) = (&inputs.tis, &inputs.registry, &inputs.usage);
-    Ok(run_pool(rt, alloc, &PoolMail, tis, registry, usage, plan, &NoGate)?)
+    Ok(run_pool(rt, alloc, pool, tis, registry, usage, plan, gate)?)
 }
 
 /// The book of a run of two workers and two readers over a pool, of which the thread with a number counts as refused. None: there
@@ -69,28 +76,43 @@ fn book_watched<R: Abort + Threads + Wait + Sync>(
     book
 }
 
+/// Asserts the statements of the small run with this kind of pool and so many workers, readers and nodes.
+fn assert_small_run_of<P: Pool, R: Abort + Threads + Wait + Sync>(
+    rt: &R,
+    alloc: Global,
+    pool: &P,
+    threads: (u64, u64, u64),
+) -> Result<(), Fail> {
+    let book = book_of(rt, alloc, pool, USES, threads, &NoGate)?;
+    assert_small_run(rt, &book);
+    Ok(())
+}
+
 #[test]
 fn comes_to_one_book_over_a_pool_whatever_the_plan(rt: HostRuntime) -> Result<(), Fail> {
     for workers in [1, 2, 3, 8] {
         for readers in [1, 2, 8] {
             for nodes in [1, 2, 64] {
-                let book = book_of(&rt, rt.alloc(), USES, (workers, readers, nodes))?;
-                assert_small_run(&rt, &book);
+                assert_small_run_of(&rt, rt.alloc(), &PoolMail, (workers, readers, nodes))?;
             }
         }
     }
-    assert_totals(
-        &rt,
-        &book_of(&rt, rt.alloc(), NO_USES, (2, 2, 1))?,
-        (0, 0, 0),
-    );
+    let book = book_of(&rt, rt.alloc(), &PoolMail, NO_USES, (2, 2, 1), &NoGate)?;
+    assert_totals(&rt, &book, (0, 0, 0));
     Ok(())
 }
 
 #[test]
 fn eight_workers_of_a_pool_share_one_node_each(rt: HostRuntime) -> Result<(), Fail> {
     let uses = equal_uses(rt.alloc(), 1000)?;
-    let book = book_of(&rt, rt.alloc(), uses.as_str(), (8, 8, 1))?;
+    let book = book_of(
+        &rt,
+        rt.alloc(),
+        &PoolMail,
+        uses.as_str(),
+        (8, 8, 1),
+        &NoGate,
+    )?;
     assert_totals(&rt, &book, (0, 60_000, 40_000));
     Ok(())
 }
@@ -107,6 +129,100 @@ fn has_no_book_over_a_pool_where_a_thread_is_refused(rt: HostRuntime) -> Result<
         None => return Err(Fail::new("there are four threads, and all were started")),
     }
     Ok(())
+}
+
+/// Asserts how many items a run with so many workers takes from its pool.
+fn assert_takes<R: Abort + Threads + Wait + Sync>(
+    rt: &R,
+    alloc: Global,
+    usage: &str,
+    workers: u64,
+    takes: u64,
+) -> Result<(), Fail> {
+    let counting = CountingPool::new(alloc, PoolMail)?;
+    let _ = book_of(rt, alloc, &counting, usage, (workers, 1, 1), &NoGate)?;
+    assert_eq!(rt; counting.takes(), takes);
+    Ok(())
+}
+
+#[test]
+fn takes_each_posting_and_each_end_mark_of_a_pool_once(rt: HostRuntime) -> Result<(), Fail> {
+    for (usage, workers, takes) in TAKES {
+        assert_takes(&rt, rt.alloc(), usage, workers, takes)?;
+    }
+    Ok(())
+}
+
+/// Asserts that a run over a pool with so many workers tells its gate each of so many lines once, and that each worker comes under a
+/// number of its own, with its lines in order. There are 64 lines or more for each worker.
+fn assert_tells<R: Abort + Threads + Wait + Sync>(
+    rt: &R,
+    alloc: Global,
+    workers: u64,
+    lines: usize,
+) -> Result<(), Fail> {
+    let uses = equal_uses(alloc, lines)?;
+    let gate = RollCall::of(alloc, workers, lines)?;
+    let _ = book_of(rt, alloc, &PoolMail, uses.as_str(), (workers, 2, 64), &gate)?;
+    assert_told(rt, &gate);
+    Ok(())
+}
+
+#[test]
+fn workers_of_a_pool_tell_the_gate_each_line_once(rt: HostRuntime) -> Result<(), Fail> {
+    for workers in [1, 2, 3, 8] {
+        assert_tells(&rt, rt.alloc(), workers, 520)?;
+    }
+    Ok(())
+}
+
+/// Asserts what a run of two workers over a pool and so many equal lines comes to, where the gate holds the first worker at its
+/// first line until the other has come to some number of lines.
+fn assert_workers_meet<R: Abort + Threads + Wait + Sync>(
+    rt: &R,
+    alloc: Global,
+    lines: usize,
+    nodes: u64,
+    gate: MeetingGate,
+    totals: (i128, i128, i128),
+) -> Result<(), Fail> {
+    let uses = equal_uses(alloc, lines)?;
+    let book = book_of(rt, alloc, &PoolMail, uses.as_str(), (2, 1, nodes), &gate)?;
+    assert_met(rt, &gate, &book, totals);
+    Ok(())
+}
+
+#[test]
+fn two_workers_of_a_pool_are_at_work_at_once(rt: HostRuntime) -> Result<(), Fail> {
+    let gate = MeetingGate::after(1, 1_000_000);
+    assert_workers_meet(&rt, rt.alloc(), 128, 1, gate, (0, 7680, 5120))
+}
+
+/// If the blocks were dealt out before the workers start, the other worker would have 128 lines.
+#[test]
+fn a_worker_of_a_pool_draws_while_the_other_is_held_up(rt: HostRuntime) -> Result<(), Fail> {
+    let gate = MeetingGate::after(129, 10_000_000);
+    assert_workers_meet(&rt, rt.alloc(), 256, 64, gate, (0, 15_360, 10_240))
+}
+
+/// Asserts that the two readers of a run have met in its pool, and what it comes to.
+fn assert_readers_meet<R: Abort + Threads + Wait + Sync>(
+    rt: &R,
+    alloc: Global,
+    pool: &MeetingPool<PoolMail>,
+) -> Result<(), Fail> {
+    assert_small_run_of(rt, alloc, pool, (1, 2, 1))?;
+    assert!(rt;
+        pool.has_met(),
+        "the first reader was not let go by the other"
+    );
+    Ok(())
+}
+
+#[test]
+fn two_readers_of_a_pool_are_at_work_at_once(rt: HostRuntime) -> Result<(), Fail> {
+    let pool = MeetingPool::new(rt.alloc(), PoolMail)?;
+    assert_readers_meet(&rt, rt.alloc(), &pool)
 }
 
 /// The only sender of a pool of three mailboxes, which may post for three lines, and the receivers.

@@ -189,6 +189,10 @@ pub fn assert_comes_to<M: Mail, R: Abort + Threads + Wait + Sync>(
     Ok(())
 }
 
+/// Usage lines, how many workers divide them, and how many items are then taken: each posting, and of each worker an end mark in each of
+/// three mailboxes.
+pub const TAKES: [(&str, u64, u64); 3] = [(USES, 2, 11), (USES, 8, 29), (NO_USES, 2, 6)];
+
 /// Asserts how many items a run with so many workers takes from its mailboxes, which are of this kind.
 fn assert_takes<M: Mail + Drop, R: Abort + Threads + Wait + Sync>(
     rt: &R,
@@ -210,7 +214,7 @@ const MOST_TURNS: u32 = 1_000_000;
 /// A gate that holds each worker at its first line until all of them have come, or it has waited too many turns. It keeps
 /// which lines it was told.
 #[derive(Drop)]
-struct RollCall {
+pub struct RollCall {
     /// For each worker, one more than the last line that it came with; 0 until it comes.
     ends: Vec<AtomicU64>,
     /// For each line, how often it was told.
@@ -221,7 +225,7 @@ struct RollCall {
 
 impl RollCall {
     /// A gate for so many workers and lines, of which it was told none.
-    fn of(alloc: Global, workers: u64, lines: usize) -> Result<RollCall, AllocError> {
+    pub fn of(alloc: Global, workers: u64, lines: usize) -> Result<RollCall, AllocError> {
         Ok(RollCall {
             ends: counters(alloc, workers as usize)?,
             told: counters(alloc, lines)?,
@@ -287,7 +291,7 @@ fn assert_tells<R: Abort + Threads + Wait + Sync>(
 }
 
 /// Asserts that each worker has come to a gate, and that it was told each line once and nothing else.
-fn assert_told(rt: &impl Abort, gate: &RollCall) {
+pub fn assert_told(rt: &impl Abort, gate: &RollCall) {
     assert!(rt; gate.is_full(), "a worker has not come");
     assert_eq!(rt; gate.faults.load(Ordering::SeqCst), 0);
     for told in &gate.told {
@@ -307,12 +311,17 @@ fn assert_workers_meet<M: Mail, R: Abort + Threads + Wait + Sync>(
     totals: (i128, i128, i128),
 ) -> Result<(), Fail> {
     let book = book_of(rt, alloc, mail, uses, (2, 1, nodes), &gate)?;
+    assert_met(rt, &gate, &book, totals);
+    Ok(())
+}
+
+/// Asserts that the first worker was let go by the other, and what the run came to.
+pub fn assert_met(rt: &impl Abort, gate: &MeetingGate, book: &Book, totals: (i128, i128, i128)) {
     assert!(rt;
         gate.has_met(),
         "the first worker was not let go by the other"
     );
-    assert_totals(rt, &book, totals);
-    Ok(())
+    assert_totals(rt, book, totals);
 }
 
 #[test]
@@ -363,7 +372,7 @@ fn eight_workers_and_readers_share_one_node_each(rt: HostRuntime) -> Result<(), 
 #[test]
 fn takes_each_posting_and_each_end_mark_once(rt: HostRuntime) -> Result<(), Fail> {
     let alloc = rt.alloc();
-    for (usage, workers, takes) in [(USES, 2, 11), (USES, 8, 29), (NO_USES, 2, 6)] {
+    for (usage, workers, takes) in TAKES {
         assert_takes(&rt, alloc, LaneMail, usage, workers, takes)?;
         assert_takes(&rt, alloc, LinkMail, usage, workers, takes)?;
         assert_takes(&rt, alloc, ShyMail(LaneMail), usage, workers, takes)?;
