@@ -37,7 +37,7 @@ const ALL_ODD: [Odd; 10] = [
 ];
 
 /// The text of a row and its end.
-fn odd_row(odd: Odd) -> &str {
+fn odd_row(odd: Odd) -> &'static str {
     match odd {
         Odd::Short => "u,w,1,P\n",
         Odd::LongText =>
@@ -199,6 +199,5 @@ fn parts_have_a_million_lines_and_no_more(rt: HostRuntime) -> Result<(), Fail> {
     let alloc = rt.alloc();
     assert_eq!(rt; counted(&rt, alloc, MOST_LINES, 3)?.as_str(), "1000000");
     assert_eq!(rt; counted(&rt, alloc, MOST_LINES + 1, 3)?.as_str(), "6 None");
-    assert_eq!(rt; counted(&rt, alloc, MOST_LINES + 1, 1)?.as_str(), "6 None");
     Ok(())
 }
