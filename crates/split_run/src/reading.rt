@@ -136,11 +136,9 @@ impl<B: Mailboxes> Reader<B> {
         ensures opened { (self.new.opened.value ≡ self.old.opened.value) × (self.new.workers ≡ self.old.workers) }
     {
         let mut took = false;
-        for turn in 0..=self.inboxes.len() / self.readers.max(1) {
+        for turn in 0..self.inboxes.len().div_ceil(self.readers.max(1)) {
             let account = turn.wrapping_mul(self.readers).wrapping_add(self.number);
-            if account < self.journal.accounts() as usize
-                && self.take_some(rt, account as Account)
-            {
+            if self.take_at(rt, account) {
                 took = true;
             }
         }
@@ -174,13 +172,20 @@ impl<B: Mailboxes> Reader<B> {
             let bell = rung.trailing_zeros() as usize;
             rung &= rung.wrapping_sub(1);
             let account = bells.account(self.number, word, bell);
-            if account < self.journal.accounts() as usize
-                && self.take_some(rt, account as Account)
-            {
+            if self.take_at(rt, account) {
                 took = true;
             }
         }
         took
+    }
+
+    /// Takes what the mailbox of an account has, where there is one with this number. False: it had nothing.
+    fn take_at<R: Wait>(&mut self, rt: &R, account: usize) -> bool
+        requires taken { HasKept B.receiver self.old }
+        ensures taken { HasKept B.receiver self.new }
+        ensures opened { (self.new.opened.value ≡ self.old.opened.value) × (self.new.workers ≡ self.old.workers) × (length self.new.journal ≡ length self.old.journal) }
+    {
+        account < self.journal.accounts() as usize && self.take_some(rt, account as Account)
     }
 
     /// Takes what the mailbox of an account has, up to as many items as a worker may have in it. False: it had none.
