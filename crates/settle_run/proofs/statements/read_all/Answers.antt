@@ -26,4 +26,4 @@ returns-in_err-lines-clause-fault g c =
     rw (exit.1, exit.2)
     (usage_fault (g.I.Input.bytes c.args.tis) (option_map g.I.Input.bytes c.args.payees) (g.I.Input.bytes c.args.cwr) (g.I.Input.bytes c.args.usage) c.in_ok-payees.payees c.in_ok-registry.registry
     (c.in_ok-territories.territories, rw c.bytes.ensures at c.in_ok-territories.ensures.table) c.in_ok-payees.ensures.payees
-    (rw c.bytes-2.ensures at c.in_ok-registry.ensures.registrations) c.in_ok-registry.ensures.sound c.in_err-lines.field-0.0 (rw c.bytes-3.ensures at c.in_err-lines.ensures.fault))
+    (rw c.bytes-2.ensures at c.in_ok-registry.ensures.registrations) c.in_ok-registry.ensures.sound c.in_err-lines.field-0.0 (rw c.bytes-usage.ensures at c.in_err-lines.ensures.fault))
