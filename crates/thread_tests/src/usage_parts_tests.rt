@@ -89,18 +89,17 @@ fn told(alloc: Global, read: Result<Usage, LineFault>) -> Result<String, Fail> {
     Ok(told)
 }
 
-/// In how many parts, cut in two so often, a table is read as one thread reads it.
-fn alike<R: Threads + Sync>(rt: &R, alloc: Global, table: &str) -> Result<u32, Fail> {
+/// Whether a table is read alike by one thread and in parts, however often it is cut.
+fn are_alike<R: Threads + Sync>(rt: &R, alloc: Global, table: &str) -> Result<bool, Fail> {
     let bytes = table.as_bytes();
     let one = told(alloc, Usage::read(alloc, bytes))?;
-    let mut alike = 0;
     for halvings in 0..5 {
         let parts = told(alloc, Usage::read_in_parts(rt, alloc, bytes, halvings))?;
-        if parts.as_str() == one.as_str() {
-            alike += 1;
+        if parts.as_str() != one.as_str() {
+            return Ok(false);
         }
     }
-    Ok(alike)
+    Ok(true)
 }
 
 #[test]
@@ -109,7 +108,7 @@ fn parts_have_the_lines_and_the_faults_of_the_whole(rt: HostRuntime) -> Result<(
     for odd in ALL_ODD {
         for at in 0..ROWS {
             let table = table_with(alloc, odd, at, 0)?;
-            assert_eq!(rt; alike(&rt, alloc, table.as_str())?, 5);
+            assert!(rt; are_alike(&rt, alloc, table.as_str())?);
         }
     }
     Ok(())
@@ -121,7 +120,7 @@ fn a_header_in_another_part_than_the_first_is_found(rt: HostRuntime) -> Result<(
     let fault = "1 Some(0)";
     for empty in [1, 10, 300, 2000] {
         let table = table_with(alloc, Odd::NoRight, 20, empty)?;
-        assert_eq!(rt; alike(&rt, alloc, table.as_str())?, 5);
+        assert!(rt; are_alike(&rt, alloc, table.as_str())?);
         assert_eq!(rt;
             told(alloc, Usage::read_in_parts(&rt, alloc, table.as_bytes(), 3))?.as_str(),
             "4 Some(21)"
@@ -133,7 +132,7 @@ fn a_header_in_another_part_than_the_first_is_found(rt: HostRuntime) -> Result<(
         "usage,work\nu,w,1,P,1\n",
         "u,w,1,P,1\nu,w,1,P,1\nu,w,1,P,1\n",
     ] {
-        assert_eq!(rt; alike(&rt, alloc, none)?, 5);
+        assert!(rt; are_alike(&rt, alloc, none)?);
         assert_eq!(rt;
             told(alloc, Usage::read_in_parts(&rt, alloc, none.as_bytes(), 2))?.as_str(),
             fault
