@@ -8,6 +8,7 @@ parties and 6,000 usage lines, so that some of these are read in parts.
 import argparse
 import os
 import random
+import re
 import subprocess
 import sys
 import tempfile
@@ -127,6 +128,9 @@ def realistic(rng, folder):
     for name in ("tis.csv", "works.cwr", "usage.csv"):
         with open(os.path.join(folder, name), "rb") as f:
             files.append(f.read())
+    if rng.random() < 0.5:
+        # without quotes, before which a list of usage lines is not cut in parts
+        files[2] = re.sub(rb'"Radio ""(\d+)"", evening (\d+)"', rb"Radio \1 evening \2", files[2])
     if rng.random() < 0.5:
         found = sorted({line[19:28].decode().strip() for line in files[1].split(b"\r\n") if line[:3] in (b"SPT", b"SWT")})
         files.append(payees(rng, found).encode())

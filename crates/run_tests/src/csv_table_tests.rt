@@ -313,22 +313,22 @@ fn knows_the_forms_of_fields(rt: HostRuntime) -> Result<(), Fail> {
 fn cuts_a_text_in_two(rt: HostRuntime) -> Result<(), Fail> {
     let alloc = rt.alloc();
     // behind the first line feed from the middle on, whatever stands before it
-    assert_eq!(rt; told_parts(alloc, "a\nb\nc\n")?.as_str(), "(a)/(b)/^(c)/");
+    assert_eq!(rt; told_parts(alloc, "a\nb\nc\n")?.as_str(), "[a]/[b]/^[c]/");
     assert_eq!(rt;
         told_parts(alloc, "a,b\r\nc,d")?.as_str(),
-        "(a)(b)/^(c)(d)/"
+        "[a][b]/^[c][d]/"
     );
     assert_eq!(rt;
         told_parts(alloc, "a\rb\n\r\n\nc")?.as_str(),
-        "(a)/(b)/^(c)/"
+        "[a]/[b]/^[c]/"
     );
-    assert_eq!(rt; told_parts(alloc, "a,\n,b")?.as_str(), "(a)()/^()(b)/");
+    assert_eq!(rt; told_parts(alloc, "a,\n,b")?.as_str(), "[a][]/^[][b]/");
     assert_eq!(rt; told_parts(alloc, "\n")?.as_str(), "^");
     // a quote behind the cut
     assert_eq!(rt; told_parts(alloc, "a\nb\n\"c\nd\"")?.as_str(), "not cut");
     assert_eq!(rt;
         told_parts(alloc, "aa\nbb\n\"c\"")?.as_str(),
-        "(aa)/(bb)/^(c)/"
+        "[aa]/[bb]/^[c]/"
     );
     // a quote before it, no line feed, and a byte order mark behind it
     assert_eq!(rt; told_parts(alloc, "\"a\nb\"\nc\nd")?.as_str(), "not cut");
