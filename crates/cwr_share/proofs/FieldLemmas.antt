@@ -1,11 +1,15 @@
 -- Texts without the spaces at their ends.
-use Rattle.std.proofs.Common.{◌≡◌, ◌≢◌, ◌<◌, ◌≤◌, ◌-◌, ℕ, zero, suc, List, [], ◌∷◌, ◌++◌, length, take, drop, ap, refl, sym, ◌∙◌, arith, ◌==◌, Bool, true, false, cond}
+use Rattle.std.proofs.Common.{◌≡◌, ◌≢◌, ◌<◌, ◌≤◌, ◌+◌, ◌-◌, ℕ, zero, suc, List, [], ◌∷◌, ◌++◌, length, take, drop, ap, refl, sym, ◌∙◌, arith, ◌==◌, Bool, true, false, cond}
 use Rattle.std.specs.Prelude.{reverse, slice_index}
 use Rattle.std.proofs.lemmas.Bool.{ne_eqb}
 use Rattle.std.proofs.Math.Seq.{drop-append_seam}
 use Rattle.std.proofs.lemmas.List.{get_or-reverse, length-drop, length-reverse, length-take, reverse-append, reverse-reverse, take-append-drop}
 use Rattle.cwr_share.specs.Fields.{field_of, trimmed, without_spaces_before}
+use Rattle.cwr_share.specs.Records.{share_fields, type_of}
 use Rattle.cwr_share.specs.declared.fields.Field.{Field}
+use Rattle.cwr_share.specs.declared.numbers.TheConstants.{MOST_PARTY_BYTES}
+use Rattle.cwr_share.specs.declared.record_type.RecordType.{RecordType}
+use Rattle.cwr_share.specs.declared.record_type.RecordType.TheVariants.{Registration, Interest, PublisherShare, WriterShare, Closing, Other}
 
 -- nothing is left of an empty text
 no_text : without_spaces_before [] ≡ []
@@ -87,3 +91,15 @@ pub space_from_end : (text : List ℕ) (n : ℕ) → n < length text → slice_i
 space_from_end text n within space =
     let place : length text - 1 - n ≡ length text - n - 1 = omega arith in
     get_or-reverse text n 0 within ∙ ap (λ (k : ℕ). slice_index text k) place ∙ space
+
+-- the field of a party has no more bytes
+pub party_fits : (line : List ℕ) → (share_fields line).party.last < (share_fields line).party.first + MOST_PARTY_BYTES
+party_fits line = by (type_of line) refl
+  where
+    by : (type : RecordType) → type_of line ≡ type → (share_fields line).party.last < (share_fields line).party.first + MOST_PARTY_BYTES
+    by Registration is = rw is (omega arith)
+    by Interest is = rw is (omega arith)
+    by PublisherShare is = rw is (omega arith)
+    by WriterShare is = rw is (omega arith)
+    by Closing is = rw is (omega arith)
+    by Other is = rw is (omega arith)

@@ -4,6 +4,7 @@ pub mod CompiledLemmas
 pub mod FieldLemmas
 pub mod Groups
 pub mod FileLemmas
+pub mod FiledLemmas
 pub mod LawLemmas
 pub mod LineLemmas
 pub mod OnePayees

@@ -253,7 +253,7 @@ opening_stands line number Accounts sound fault = fault
 opening_stands line number Memory sound fault = fault
 
 -- nor is such a share line
-share_stands : (earlier : ℕ) (fields : ShareFields) (line : List ℕ) (number : ℕ) (fault : CwrFault) → IsShareRecord earlier fields line
+pub share_stands : (earlier : ℕ) (fields : ShareFields) (line : List ℕ) (number : ℕ) (fault : CwrFault) → IsShareRecord earlier fields line
     → ¬ IsFaultOfShare earlier fields line number fault
 share_stands earlier fields line number (Short n) sound fault = fault.1 sound.long
 share_stands earlier fields line number (Party n) sound fault = fault.2 sound.party

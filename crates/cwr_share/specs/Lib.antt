@@ -1,5 +1,6 @@
 pub mod Lines
 pub mod Fields
+pub mod Filed
 pub mod Records
 pub mod Registrations
 pub mod Registered

@@ -10,6 +10,7 @@
 mod claim_line;
 mod cwr_fault;
 pub mod fields;
+mod filed;
 pub mod laws;
 mod lines;
 mod name;
@@ -25,10 +26,12 @@ mod registry;
 mod share_line;
 
 pub use cwr_fault::CwrFault;
+pub use filed::{FiledRegistration, filed_registration};
 pub use payee_fault::PayeeFault;
 pub use payees::{MOST_NAME_BYTES, MOST_PAYEES, Payees};
 pub use record_type::RecordType;
 pub use registry::{Registry, Work};
+pub use share_line::ShareRecord;
 
 /// The most share lines that one registration has.
 pub const MOST_SHARES: usize = 256;

@@ -29,6 +29,13 @@ impl<'a> Lines<'a> {
         Lines { rest: text }
     }
 
+    /// The text of the lines that are to come.
+    pub(crate) fn rest(&self) -> &'a [u8]
+        ensures { lines_of result.now ≡ self.now }
+    {
+        self.rest
+    }
+
     /// The next line, where there is one.
     pub(crate) fn next(&mut self) -> Option<&'a [u8]>
         ensures some { IfSome result (λ line. self.old ≡ line.now ∷ self.new) }

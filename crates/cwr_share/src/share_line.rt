@@ -5,6 +5,8 @@ ghost use Rattle.csv_table.specs.Forms.{IsCode, number_of};
 ghost use Rattle.cwr_share.specs.CwrFile.{IsFaultOfShare, IsShareRecord};
 ghost use Rattle.cwr_share.specs.Fields.{HasShares, IsFilled, IsMark, IsShare, field_of, share_of, trimmed as trimmed_text, without_spaces_before as from_first_byte};
 ghost use Rattle.cwr_share.specs.Registrations.{share_line_of};
+ghost use Rattle.cwr_share.specs.ClaimsOn.{is_alike, share_for};
+ghost use Rattle.cwr_share.specs.Filed.{recorded_share};
 ghost use Rattle.cwr_share.specs.Compiled.{claim_line, line_by};
 ghost use Rattle.cwr_share.specs.declared.numbers.TheConstants.{MOST_PARTY_BYTES};
 
@@ -13,14 +15,14 @@ use crate::fields::ShareFields;
 use crate::numbers::{PartyNumber, in_place};
 use crate::{CwrFault, MOST_SHARES};
 use csv_table::forms::{code, number_up_to};
-use line_split::{Account, FULL_SHARE};
+use line_split::{Account, FULL_SHARE, Right};
 use std::marker::Model;
 use tis_tree::Code;
 
 /// What a party collects in a territory, in hundredths of a per cent, or that it collects nothing
 /// there.
 #[derive(Drop)]
-pub(crate) struct ShareRecord {
+pub struct ShareRecord {
     /// How many interests were opened before it in its registration.
     pub(crate) interest: usize,
     /// The interested party number.
@@ -111,6 +113,63 @@ impl ShareRecord {
             includes,
             territory,
         })
+    }
+
+    /// How many interests were opened before it in its registration: 0 for a line before the first SPU or SWR.
+    pub fn interest(&self) -> usize
+        ensures { result ≡ self.now.interest }
+    {
+        self.interest
+    }
+
+    /// The interested party number, without the spaces at its ends.
+    pub fn party(&self) -> &[u8]
+        ensures { result.now ≡ self.now.party }
+    {
+        self.party.as_slice()
+    }
+
+    /// The collection share for a right, in hundredths of a per cent, also of a line that excludes its territory.
+    pub fn recorded(&self, right: Right) -> u16
+        ensures { result ≡ recorded_share right self.now }
+    {
+        match right {
+            Right::P => self.shares.performing,
+            Right::M => self.shares.mechanical,
+            Right::S => self.shares.synchronisation,
+        }
+    }
+
+    /// What its party collects in the territory for a right: nothing where the territory is excluded.
+    pub fn collected(&self, right: Right) -> u16
+        ensures { result ≡ share_for right self.now }
+    {
+        if self.includes {
+            self.recorded(right)
+        } else {
+            0
+        }
+    }
+
+    /// Whether the territory is included or excluded.
+    pub fn includes(&self) -> bool
+        ensures { result ≡ self.now.includes }
+    {
+        self.includes
+    }
+
+    /// The TIS numeric code of the territory.
+    pub fn territory(&self) -> Code
+        ensures { result ≡ self.now.territory }
+    {
+        self.territory
+    }
+
+    /// Whether another share line is of the same interest and party.
+    pub fn is_alike(&self, other: &ShareRecord) -> bool
+        ensures { result ≡ is_alike self.now other.now }
+    {
+        self.interest == other.interest && self.party() == other.party()
     }
 
     /// What is kept of it, where its party has this number.

@@ -16,3 +16,4 @@ pub mod PortionAccounts
 pub mod Signs
 pub mod IntSums
 pub mod FairSigns
+pub mod ByRank

@@ -16,7 +16,7 @@ mod reason;
 mod text;
 mod usage;
 
-pub use by_rank::portion_by_rank;
+pub use by_rank::{Working, base_for, portion_by_rank, units_left_of, working_of};
 pub use claims::{ClaimFault, Claims};
 pub use line_fault::LineFault;
 pub use portions::{Portions, split};

@@ -1,8 +1,9 @@
 -- What a run answers over files. `holds path bytes` says that the file of a path has these bytes.
 use Rattle.std.specs.Prelude.{ℕ, ◌≤◌, List, None, Option, Some, length, ⊤}
 use Rattle.std.specs.declared.io.ErrorKind.{ErrorKind}
-use Rattle.settle_run.specs.Settled.{AreStatementsOf, HaveNoFault, IsFaultOf}
-use Rattle.settle_run.specs.declared.fault.Fault.{Fault}
+use Rattle.run_inputs.specs.Inputs.{HaveNoFault, IsFaultOf}
+use Rattle.settle_run.specs.Settled.{AreStatementsOf}
+use Rattle.run_inputs.specs.declared.fault.Fault.{Fault}
 
 -- What a file of the system has no contract can say, but that it is no larger than the most bytes.
 abbrev pub on_disk : List ℕ → List ℕ → Type 0

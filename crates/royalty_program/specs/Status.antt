@@ -16,8 +16,8 @@ use Rattle.line_split.specs.UsageTable as usage
 use Rattle.royalty_program.specs.Files.{IsFaultOver}
 use Rattle.royalty_program.specs.declared.failure.Failure.{Failure}
 use Rattle.royalty_program.specs.declared.failure.Failure.TheVariants.{Words, NotText, Pairs, Input, Room, File, Output}
-use Rattle.settle_run.specs.declared.fault.Fault.{Fault}
-use Rattle.settle_run.specs.declared.fault.Fault.TheVariants as input
+use Rattle.run_inputs.specs.declared.fault.Fault.{Fault}
+use Rattle.run_inputs.specs.declared.fault.Fault.TheVariants as input
 use Rattle.pair_split.specs.declared.pair_fault.PairFault.{PairFault}
 use Rattle.pair_split.specs.declared.pair_fault.PairFault.TheVariants as fault
 

@@ -6,7 +6,7 @@ ghost use Rattle.std.specs.Fmt.{WritesOnOk};
 ghost use Rattle.royalty_program.specs.Status.{fault_text};
 
 use pair_split::PairFault;
-use settle_run::Fault;
+use run_inputs::Fault;
 use std::fmt;
 use std::io::{self, Write};
 

@@ -8,6 +8,8 @@ mod csv_table_tests;
 #[cfg(test)]
 mod cwr_share_tests;
 #[cfg(test)]
+mod explain_tests;
+#[cfg(test)]
 mod line_split_tests;
 #[cfg(test)]
 mod paid_tests;

@@ -3,9 +3,8 @@
 ghost use Rattle.std.specs.Prelude.{◌≡◌, ◌∷◌, ◌↔◌, ℕ, List, None, Option, Some, []};
 ghost use Rattle.csv_table.specs.Table.{rows_of};
 ghost use Rattle.cwr_share.specs.PayeeTable.{header};
-ghost use Rattle.settle_run.specs.Settled.{AreStatementsOf, HaveNoFault, IsFaultOf};
-ghost use Rattle.settle_run.specs.declared.fault.Fault.{Fault};
-ghost use Rattle.settle_run.specs.declared.fault.Fault.TheVariants.{Room};
+ghost use Rattle.run_inputs.specs.Inputs.{HaveNoFault};
+ghost use Rattle.settle_run.specs.Settled.{AreStatementsOf};
 
 /// The inputs have one text, with a table of payees and without: whoever works out their statements, and
 /// with however many threads, comes to the same bytes.
@@ -21,12 +20,9 @@ pub fn law_a_table_without_rows_is_none()
         → AreStatementsOf territories_file (Some payees_file) registrations_file usage_file text ↔ AreStatementsOf territories_file None registrations_file usage_file text }
 {}
 
-/// Inputs without a fault are refused for none, and inputs that have statements are without a fault.
+/// Inputs that have statements have no fault.
 pub fn law_inputs_with_statements_have_no_fault()
-    ensures sound { (territories_file : List ℕ) (payees_file : Option (List ℕ)) (registrations_file usage_file : List ℕ) (fault : Fault)
-        → HaveNoFault territories_file payees_file registrations_file usage_file
-        → IsFaultOf territories_file payees_file registrations_file usage_file fault → fault ≡ Room }
-    ensures settled { (territories_file : List ℕ) (payees_file : Option (List ℕ)) (registrations_file usage_file text : List ℕ)
+    ensures { (territories_file : List ℕ) (payees_file : Option (List ℕ)) (registrations_file usage_file text : List ℕ)
         → AreStatementsOf territories_file payees_file registrations_file usage_file text
         → HaveNoFault territories_file payees_file registrations_file usage_file }
 {}

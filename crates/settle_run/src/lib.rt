@@ -1,9 +1,8 @@
 //! The statements of a run, from its inputs: three, and a table of payees where there is one.
 #![tactic(auto)]
 
-mod fault;
 pub mod laws;
 mod statements;
 
-pub use fault::Fault;
+pub use run_inputs::Fault;
 pub use statements::{settle, settle_paid, settle_to};

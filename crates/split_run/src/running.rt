@@ -36,8 +36,8 @@ use std::sync::Wait;
 use std::thread::Threads;
 use tis_tree::TisTable;
 
-/// From so many mailboxes of a reader on it looks at its bells: with fewer it is faster to go to each.
-const MANY_MAILBOXES: u64 = 500;
+/// From so many accounts on readers look at their bells: with fewer it is faster to go to each mailbox.
+const MANY_ACCOUNTS: u16 = 1_000;
 
 /// The statements of all accounts, worked out by the threads of a plan over a mailbox of any kind for each account. They do not
 /// depend on the plan, the mailboxes, the gate or the order in which the threads run, and their totals come to all amounts.
@@ -170,11 +170,11 @@ fn run_on<B: Mailboxes, G: Gate, R: Threads + Wait + Sync>(
     Ok(book)
 }
 
-/// Bells, where each reader has many mailboxes.
+/// Bells, where there are many accounts.
 fn bells_for(alloc: Global, accounts: u16, readers: u64) -> Result<Option<Bells>, AllocError>
     requires { 0 < readers }
 {
-    if accounts as u64 / readers < MANY_MAILBOXES {
+    if accounts < MANY_ACCOUNTS {
         return Ok(None);
     }
     Ok(Some(Bells::open(alloc, accounts, readers)?))

@@ -25,8 +25,8 @@ loop-other-preserved c =
       few = omega (arith, bit-le (before (remainders c.args.amount c.args.base (value_at (participants_of c.args.claims.now))) c.loop-other.other c.args.place), one, c.loop-other.invariant.few);
     }
 
-pub returns : goal.returns
-returns c =
+pub returns-clause-rank : goal.returns-clause-rank
+returns-clause-rank c =
     let all : c.loop-other.other ≡ length (participants_of c.args.claims.now) =
     omega (arith, length-participants c.args.claims.now, c.loop-other-test.false, c.loop-other.auto.other-end) in
     c.loop-other.invariant.rank

@@ -3,8 +3,8 @@ use Rattle.std.specs.Option.{option_map}
 use Rattle.std.proofs.lemmas.Result.{on_ok_weaker}
 use Rattle.std.specs.Prelude.{string_bytes}
 use Rattle.std.specs.declared.io.ErrorKind.{ErrorKind}
-use Rattle.settle_run.specs.declared.fault.Fault.{Fault}
-use Rattle.settle_run.specs.declared.fault.Fault.TheVariants.{Tis, Cwr, Usage, Room, Payee}
+use Rattle.run_inputs.specs.declared.fault.Fault.{Fault}
+use Rattle.run_inputs.specs.declared.fault.Fault.TheVariants.{Tis, Cwr, Usage, Room, Payee}
 use Rattle.royalty_program.specs.Files.{AreInputs, IsFaultOver}
 use Rattle.royalty_program.specs.Status.{IsOfPaths, failure_of_run}
 use Rattle.royalty_program.proofs.FileLemmas.{cwr_unread, payees_unread, read_if_given, tis_unread, usage_unread}

@@ -1,7 +1,8 @@
 use Rattle.std.proofs.Common.{◌≡◌, ◌∙◌, ◌∷◌, ℕ, List, None, Option, Some, [], arith, refl}
 use Rattle.csv_table.specs.Table.{rows_of}
 use Rattle.cwr_share.specs.PayeeTable.{header}
-use Rattle.settle_run.specs.Settled.{ArePayees, AreStatementsOf}
+use Rattle.run_inputs.specs.Inputs.{ArePayees}
+use Rattle.settle_run.specs.Settled.{AreStatementsOf}
 use Rattle.settle_run.proofs.laws.law_a_table_without_rows_is_none.Goals as goal
 
 -- what the one input says of the payees, the other says too

@@ -7,7 +7,8 @@ use Rattle.line_split.proofs.OneTable as uses
 use Rattle.line_split.specs.UsageLine.{UsageLine}
 use Rattle.tis_tree.proofs.OneTable as territories
 use Rattle.settle_run.specs.Settled.{AreStatementsFor}
-use Rattle.settle_run.proofs.OneText.{AnswerAlike, one_list, one_text}
+use Rattle.run_inputs.proofs.OnePayees.{one_list}
+use Rattle.settle_run.proofs.OneText.{AnswerAlike, one_text}
 use Rattle.settle_run.proofs.laws.law_inputs_have_one_text.Goals as goal
 
 pub returns : goal.returns

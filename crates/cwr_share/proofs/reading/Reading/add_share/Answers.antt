@@ -2,15 +2,13 @@ use Rattle.std.proofs.Common.{◌≡◌, ◌<◌, ◌+◌, arith, ℕ, List, Som
 use Rattle.std.proofs.lemmas.Result.{err_from_is_err_and}
 use Rattle.cwr_share.specs.CwrFile.{IsFaultOfLine, IsFaultOfShare, IsShareRecord}
 use Rattle.cwr_share.specs.Reading.{IsReadTo}
-use Rattle.cwr_share.specs.Records.{is_share_line, share_fields, type_of}
+use Rattle.cwr_share.specs.Records.{is_share_line, share_fields}
 use Rattle.cwr_share.specs.Registrations.{ShareLine, share_line_of}
 use Rattle.cwr_share.specs.declared.cwr_fault.CwrFault.{CwrFault}
-use Rattle.cwr_share.specs.declared.numbers.TheConstants.{MOST_PARTY_BYTES}
-use Rattle.cwr_share.specs.declared.record_type.RecordType.{RecordType}
-use Rattle.cwr_share.specs.declared.record_type.RecordType.TheVariants.{Registration, Interest, PublisherShare, WriterShare, Closing, Other}
 use Rattle.cwr_share.specs.declared.fields.ShareFields.{ShareFields}
 use Rattle.cwr_share.specs.declared.reading.Open.{Open}
 use Rattle.cwr_share.specs.declared.reading.Reading.{Reading}
+use Rattle.cwr_share.proofs.FieldLemmas.{party_fits}
 use Rattle.cwr_share.proofs.FileLemmas.{fault_of_share, open_share, read_inside, read_outside, share_stays, sound_share}
 use Rattle.cwr_share.proofs.reading.Reading.add_share.Goals as goal
 
@@ -21,18 +19,6 @@ refused : (line : List ℕ) (number earlier : ℕ) (fields : ShareFields) (readi
 refused line number earlier fields reading registration fault was is same count wrong = λ before read.
     fault_of_share before line number reading registration fault was is
     (subst (λ (n : ℕ). IsFaultOfShare n (share_fields line) line number fault) count (subst (λ (f : ShareFields). IsFaultOfShare earlier f line number fault) same wrong)) read
-
--- the field of a party has no more bytes
-party_fits : (line : List ℕ) → (share_fields line).party.last < (share_fields line).party.first + MOST_PARTY_BYTES
-party_fits line = by (type_of line) refl
-  where
-    by : (type : RecordType) → type_of line ≡ type → (share_fields line).party.last < (share_fields line).party.first + MOST_PARTY_BYTES
-    by Registration is = rw is (omega arith)
-    by Interest is = rw is (omega arith)
-    by PublisherShare is = rw is (omega arith)
-    by WriterShare is = rw is (omega arith)
-    by Closing is = rw is (omega arith)
-    by Other is = rw is (omega arith)
 
 pub read-requires : goal.read-requires
 read-requires c = record { party = rw c.requires.1 (party_fits c.args.line.now) }

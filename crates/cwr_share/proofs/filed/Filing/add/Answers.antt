@@ -1,0 +1,86 @@
+use Rattle.std.proofs.Common.{◌≡◌, ◌+◌, ◌++◌, ◌∷◌, ◌∙◌, [], ℕ, List, true, false, refl, sym, ap}
+use Rattle.cwr_share.specs.Filed.{IsFiledTo}
+use Rattle.cwr_share.specs.Records.{ends_registration, share_fields}
+use Rattle.cwr_share.specs.Registrations.{share_line_of}
+use Rattle.cwr_share.specs.declared.fields.ShareFields.{ShareFields}
+use Rattle.cwr_share.specs.declared.fields.TheConstants.{SPT, SWT}
+use Rattle.cwr_share.specs.declared.filed.FiledRegistration.{FiledRegistration}
+use Rattle.cwr_share.specs.declared.filed.Filing.{Filing}
+use Rattle.cwr_share.specs.declared.record_type.RecordType.TheVariants.{Interest, PublisherShare, WriterShare, Other}
+use Rattle.cwr_share.proofs.FileLemmas.{of_type}
+use Rattle.cwr_share.proofs.FiledLemmas.{filed_interest, filed_other, filed_share, record_due}
+use Rattle.cwr_share.proofs.filed.Filing.add.Goals.{in-Interest, in-PublisherShare+in_ok-add_share-in-PublisherShare, in-WriterShare+in_ok-add_share-in-WriterShare, in-Other}
+use Rattle.cwr_share.proofs.filed.Filing.add.Goals as goal
+
+pub add_share-requires-clause-sound : goal.add_share-requires-clause-sound
+add_share-requires-clause-sound c =
+    let line = c.args.line.now in
+    let (body, filed, good) = c.requires.sound in
+    let fields : share_fields line ≡ SPT = rw (sym c.in-PublisherShare.ensures) refl in
+    rw fields at (record_due body line c.args.self.now filed good (of_type PublisherShare line (sym c.in-PublisherShare.ensures)).share)
+
+pub add_share-requires-in-WriterShare-clause-sound : goal.add_share-requires-in-WriterShare-clause-sound
+add_share-requires-in-WriterShare-clause-sound c =
+    let line = c.args.line.now in
+    let (body, filed, good) = c.requires.sound in
+    let fields : share_fields line ≡ SWT = rw (sym c.in-WriterShare.ensures) refl in
+    rw fields at (record_due body line c.args.self.now filed good (of_type WriterShare line (sym c.in-WriterShare.ensures)).share)
+
+-- the registration with the line, by the line's type
+abbrev GoesOn : List ℕ → Filing → Filing → Type 0
+GoesOn line old next = (ends_registration line ≡ false) × (next.filed.line ≡ old.filed.line) × ((body : List (List ℕ)) → IsFiledTo body old → IsFiledTo (body ++ line ∷ []) next)
+
+pub returns-clause-on : goal.returns-clause-on
+returns-clause-on c = λ _.
+    let line = c.args.line.now in
+    let old = c.args.self.now in
+    let self = c.match-record_type.self in
+    let next : Filing = record { filed = self.filed; interest = self.interest; number = self.number + 1 } in
+    let on : GoesOn line old next = elim c.match-record_type.branch [
+      | in-Interest w ↦
+          let type = of_type Interest line (sym w.in-Interest.ensures) in
+          let filed : next.filed ≡ old.filed = ap (λ (f : Filing). f.filed) w.self-is in (
+            type.ends,
+            ap (λ (f : FiledRegistration). f.line) filed,
+            λ body so_far. filed_interest body line old next so_far type.share type.interest filed (ap (λ (f : Filing). f.number + 1) w.self-is) (ap (λ (f : Filing). f.interest) w.self-is),
+          )
+      | in-PublisherShare+in_ok-add_share-in-PublisherShare w ↦
+          let type = of_type PublisherShare line (sym w.in-PublisherShare.ensures) in
+          let fields : share_fields line ≡ SPT = rw (sym w.in-PublisherShare.ensures) refl in
+          let (number, interest, count) = w.in_ok-add_share-in-PublisherShare.ensures.rest in (
+            type.ends,
+            ap (λ (f : Filing). f.filed.line) w.self-is ∙ number,
+            λ body so_far. filed_share body line old next so_far type.share type.interest (ap (λ (f : Filing). f.filed.line) w.self-is ∙ number)
+                (ap (λ (f : Filing). f.interest) w.self-is ∙ interest) (ap (λ (f : Filing). f.number + 1) w.self-is ∙ ap (λ (n : ℕ). n + 1) count)
+                (ap (λ (f : Filing). f.filed.shares.items) w.self-is ∙ (w.in_ok-add_share-in-PublisherShare.ensures.shares
+                ∙ ap (λ (f : ShareFields). old.filed.shares.items ++ share_line_of old.interest f line ∷ []) (sym fields)))
+                (ap (λ (f : Filing). f.filed.numbers.items) w.self-is ∙ w.in_ok-add_share-in-PublisherShare.ensures.numbers),
+          )
+      | in-WriterShare+in_ok-add_share-in-WriterShare w ↦
+          let type = of_type WriterShare line (sym w.in-WriterShare.ensures) in
+          let fields : share_fields line ≡ SWT = rw (sym w.in-WriterShare.ensures) refl in
+          let (number, interest, count) = w.in_ok-add_share-in-WriterShare.ensures.rest in (
+            type.ends,
+            ap (λ (f : Filing). f.filed.line) w.self-is ∙ number,
+            λ body so_far. filed_share body line old next so_far type.share type.interest (ap (λ (f : Filing). f.filed.line) w.self-is ∙ number)
+                (ap (λ (f : Filing). f.interest) w.self-is ∙ interest) (ap (λ (f : Filing). f.number + 1) w.self-is ∙ ap (λ (n : ℕ). n + 1) count)
+                (ap (λ (f : Filing). f.filed.shares.items) w.self-is ∙ (w.in_ok-add_share-in-WriterShare.ensures.shares
+                ∙ ap (λ (f : ShareFields). old.filed.shares.items ++ share_line_of old.interest f line ∷ []) (sym fields)))
+                (ap (λ (f : Filing). f.filed.numbers.items) w.self-is ∙ w.in_ok-add_share-in-WriterShare.ensures.numbers),
+          )
+      | in-Other w ↦
+          let type = of_type Other line (sym w.in-Other.ensures) in
+          let filed : next.filed ≡ old.filed = ap (λ (f : Filing). f.filed) w.self-is in (
+            type.ends,
+            ap (λ (f : FiledRegistration). f.line) filed,
+            λ body so_far. filed_other body line old next so_far type.share type.interest filed (ap (λ (f : Filing). f.number + 1) w.self-is) (ap (λ (f : Filing). f.interest) w.self-is),
+          )
+    ] in on
+
+pub returns-clause-shares : goal.returns-clause-shares
+returns-clause-shares c = elim c.match-record_type.branch [
+  | in-Interest w ↦ rw w.self-is c.requires.shares
+  | in-PublisherShare+in_ok-add_share-in-PublisherShare w ↦ rw w.self-is w.in_ok-add_share-in-PublisherShare.ensures.few
+  | in-WriterShare+in_ok-add_share-in-WriterShare w ↦ rw w.self-is w.in_ok-add_share-in-WriterShare.ensures.few
+  | in-Other w ↦ rw w.self-is c.requires.shares
+]

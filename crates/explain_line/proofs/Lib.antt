@@ -1,0 +1,3 @@
+pub mod ClaimedLemmas
+pub mod Postings
+pub mod RowLemmas

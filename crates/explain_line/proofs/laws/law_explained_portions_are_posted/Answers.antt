@@ -1,0 +1,28 @@
+use Rattle.std.proofs.Common.{◌≡◌, ◌+◌, ◌<◌, ◌==◌, ◌++◌, ◌∷◌, ◌∙◌, [], ℕ, ℤ, List, ap, arith, filter, length, map, refl, subst, sym, unsigned_abs}
+use Rattle.std.specs.List.{enumerate_from}
+use Rattle.cwr_share.specs.ClaimsOn.{claims_on}
+use Rattle.cwr_share.proofs.ClaimLemmas.{map_twice}
+use Rattle.line_split.specs.Claims.{base_of, participants_of}
+use Rattle.line_split.specs.LargestRemainder.{portion_of as size_of}
+use Rattle.line_split.specs.Signs.{signed_entry, signed_portions_of}
+use Rattle.line_split.specs.UsageLine.{UsageLine}
+use Rattle.payee_book.specs.Run.{portion_of, posting_of, statement_of}
+use Rattle.explain_line.specs.Explanation.{portions_shown}
+use Rattle.explain_line.proofs.Postings.{one_at}
+use Rattle.explain_line.proofs.laws.law_explained_portions_are_posted.Goals as goal
+
+-- the portions shown are those of the division
+shown_are : (amount : ℤ) (claims : List (ℕ × ℕ)) → signed_portions_of amount claims ≡ portions_shown amount claims
+shown_are amount claims =
+    map_twice (λ (e : ℕ × (ℕ × ℕ)). (e.1.0, size_of (unsigned_abs amount) (base_of claims) (participants_of claims) e.0 e.1.1)) (signed_entry amount) (enumerate_from 0 (participants_of claims))
+
+pub returns : goal.returns
+returns c = λ table registered lines accounts statements place line account book row within.
+    let division : UsageLine → List (ℕ × ℤ) = λ other. signed_portions_of other.amount (claims_on table registered other) in
+    let before : place ≡ 0 + length row.before = omega (arith, row.place) in
+    ap (filter (λ (posting : ℕ × ℤ). posting.0 == place)) (book.each account within)
+    ∙ (ap (λ (l : List UsageLine). filter (λ (posting : ℕ × ℤ). posting.0 == place) (statement_of division l account)) row.split
+    ∙ (ap (λ (k : ℕ). filter (λ (posting : ℕ × ℤ). posting.0 == k) (statement_of division (row.before ++ line ∷ row.after) account)) before
+    ∙ (one_at (λ other. portion_of account (division other)) 0 row.before line row.after
+    ∙ (ap (λ (k : ℕ). posting_of k (portion_of account (division line))) (sym before)
+    ∙ ap (λ (l : List (ℕ × ℤ)). posting_of place (portion_of account l)) (shown_are line.amount (claims_on table registered line))))))

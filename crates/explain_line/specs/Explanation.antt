@@ -1,0 +1,134 @@
+-- The explanation of a usage line: each term by which it is divided, as a row.
+use Rattle.std.specs.Prelude.{ℕ, ℤ, ◌≡◌, ◌≤◌, ◌<◌, ◌+◌, ◌-◌, ◌⊎◌, ◌&&◌, ◌++◌, ◌∷◌, [], Bool, List, codes, decimal, drop, if◌then◌else◌, length, map, not, slice_index, slice_index_or, unsigned_abs, Option, Some, None}
+use Rattle.std.specs.Fmt.{signed_decimal}
+use Rattle.std.specs.List.{enumerate_from, list_any}
+use Rattle.std.specs.Option.{option_map_or}
+use Rattle.csv_table.specs.Table.{rows_of}
+use Rattle.csv_table.specs.Written.{text_of}
+use Rattle.cwr_share.specs.ClaimsOn.{claims_by, claims_on, covers, is_alike, reason_against}
+use Rattle.cwr_share.specs.Filed.{last_opening, numbers_from, recorded_share, shares_from}
+use Rattle.cwr_share.specs.Lines.{lines_of}
+use Rattle.cwr_share.specs.Payees.{payee_of}
+use Rattle.cwr_share.specs.Registered.{Registered}
+use Rattle.cwr_share.specs.Registrations.{ShareLine}
+use Rattle.line_split.specs.Claims.{base_of, participants_of}
+use Rattle.line_split.specs.FairSplit.{value_at}
+use Rattle.line_split.specs.LargestRemainder.{contenders_of, portion_of, quota_of, rank_of, remainder_of, units_left}
+use Rattle.line_split.specs.Signs.{with_sign_of}
+use Rattle.line_split.specs.UsageLine.{UsageLine}
+use Rattle.line_split.specs.UsageTable.{IsTableOf}
+use Rattle.line_split.specs.declared.reason.Reason.{Reason}
+use Rattle.line_split.specs.declared.reason.Reason.TheVariants.{Work, Land, Over, Open}
+use Rattle.line_split.specs.declared.usage.Right.{Right}
+use Rattle.line_split.specs.declared.usage.Right.TheVariants.{P, M, S}
+use Rattle.run_inputs.specs.Inputs.{IsReading}
+
+abbrev pub right_text : Right → List ℕ
+right_text P = codes "P"
+right_text M = codes "M"
+right_text S = codes "S"
+
+abbrev pub reason_text : Reason → List ℕ
+reason_text Work = codes "WORK"
+reason_text Land = codes "LAND"
+reason_text Over = codes "OVER"
+reason_text Open = codes "OPEN"
+
+abbrev pub yes_or_no : Bool → List ℕ
+yes_or_no b = if b then codes "yes" else codes "no"
+
+-- included or excluded
+abbrev pub mark_text : Bool → List ℕ
+mark_text includes = if includes then codes "I" else codes "E"
+
+-- the usage line, by its row
+abbrev pub line_row : (row : ℕ) → UsageLine → List (List ℕ)
+line_row row line =
+    codes "U" ∷ decimal row ∷ line.usage ∷ line.work ∷ decimal line.territory ∷ right_text line.right ∷ signed_decimal line.amount ∷ []
+
+-- the registration in force, by the number of its first line, and why no claim counts
+abbrev pub registration_row : Option ℕ → Option Reason → List (List ℕ)
+registration_row line reason = codes "N" ∷ option_map_or decimal line [] ∷ option_map_or reason_text reason [] ∷ []
+
+-- a share line decides what its interest and party have in a land: its territory contains the land, and that of no later line of theirs does
+abbrev pub decides : List (ℕ × List ℕ) → (land : ℕ) → ShareLine → (later : List ShareLine) → Bool
+decides table land share later = covers table land share && not (list_any (λ other. is_alike share other && covers table land other) later)
+
+-- a share line of a registration, by its place, for a land and a right
+abbrev pub share_row : List (ℕ × List ℕ) → Registered → (land : ℕ) → Right → (numbers : List ℕ) → (shares : List ShareLine) → ℕ × ShareLine → List (List ℕ)
+share_row table registered land right numbers shares e =
+    codes "C" ∷ decimal (slice_index numbers e.0) ∷ decimal e.1.interest ∷ e.1.party ∷ payee_of registered.payees e.1.party
+    ∷ decimal (recorded_share right e.1) ∷ mark_text e.1.includes ∷ decimal e.1.territory
+    ∷ yes_or_no (covers table land e.1) ∷ yes_or_no (decides table land e.1 (drop (e.0 + 1) shares)) ∷ []
+
+-- an account with its payee, which the residue's has none of
+abbrev pub payee_at : Registered → (account : ℕ) → List ℕ
+payee_at registered account = slice_index_or registered.parties account []
+
+-- what an account claims
+abbrev pub claim_row : Registered → ℕ × ℕ → List (List ℕ)
+claim_row registered claim = codes "A" ∷ decimal claim.0 ∷ payee_at registered claim.0 ∷ decimal claim.1 ∷ []
+
+-- what a registration comes to that begins in the line with this number
+abbrev pub rows_by : List (ℕ × List ℕ) → Registered → (file : List (List ℕ)) → UsageLine → (number : ℕ) → List (List (List ℕ))
+rows_by table registered file line number =
+    map (share_row table registered line.territory line.right (numbers_from file number) (shares_from file number)) (enumerate_from 0 (shares_from file number))
+    ++ map (claim_row registered) (claims_by table registered line (shares_from file number))
+
+-- what a share is a share of, the residue's share, and how many units the quotas leave
+abbrev pub base_row : (size : ℕ) → (claims : List (ℕ × ℕ)) → List (List ℕ)
+base_row size claims =
+    codes "B" ∷ decimal (base_of claims) ∷ decimal (value_at (participants_of claims) (length claims)) ∷ decimal (units_left size (base_of claims) (participants_of claims)) ∷ []
+
+-- how a participant comes to its portion; ranks count from 1
+abbrev pub participant_row : Registered → (amount : ℤ) → (claims : List (ℕ × ℕ)) → ℕ × (ℕ × ℕ) → List (List ℕ)
+participant_row registered amount claims e =
+    let size = unsigned_abs amount in
+    let base = base_of claims in
+    let participants = participants_of claims in
+    codes "P" ∷ decimal e.1.0 ∷ payee_at registered e.1.0 ∷ decimal e.1.1 ∷ decimal (quota_of size base e.1.1) ∷ decimal (remainder_of size base e.1.1)
+    ∷ decimal (rank_of (contenders_of size base participants) (e.0, remainder_of size base e.1.1) + 1)
+    ∷ signed_decimal (with_sign_of amount (portion_of size base participants e.0 e.1.1)) ∷ []
+
+-- the portions that these rows show, by account
+abbrev pub portions_shown : (amount : ℤ) → (claims : List (ℕ × ℕ)) → List (ℕ × ℤ)
+portions_shown amount claims =
+    map (λ e. (e.1.0, with_sign_of amount (portion_of (unsigned_abs amount) (base_of claims) (participants_of claims) e.0 e.1.1))) (enumerate_from 0 (participants_of claims))
+
+-- the division of an amount by claims
+abbrev pub division_rows : Registered → (amount : ℤ) → (claims : List (ℕ × ℕ)) → List (List (List ℕ))
+division_rows registered amount claims =
+    base_row (unsigned_abs amount) claims ∷ map (participant_row registered amount claims) (enumerate_from 0 (participants_of claims))
+
+-- the registration in force, which begins in a line of the file, and what it comes to
+abbrev pub registration_rows : List (ℕ × List ℕ) → Registered → (file : List (List ℕ)) → UsageLine → Option Reason → List (List (List ℕ))
+registration_rows table registered file line reason =
+    registration_row (last_opening file line.work) reason ∷ option_map_or (rows_by table registered file line) (last_opening file line.work) []
+
+-- the explanation of the line in a row, by the territories, the registrations and their file
+abbrev pub explanation_rows : List (ℕ × List ℕ) → Registered → (file : List (List ℕ)) → (row : ℕ) → UsageLine → List (List (List ℕ))
+explanation_rows table registered file row line =
+    line_row row line ∷ (registration_rows table registered file line (reason_against table registered line) ++ division_rows registered line.amount (claims_on table registered line))
+
+-- the row of a list of usage lines, from 1
+pub record IsRow (lines : List UsageLine) (row : ℕ) (line : UsageLine) : Type 0 where
+  pub before : List UsageLine
+  pub after : List UsageLine
+  pub split : lines ≡ before ++ line ∷ after
+  pub place : row ≡ length before + 1
+
+-- The text explains the line in a row of the usage list of these inputs.
+pub record IsExplanationOf (territories_file : List ℕ) (payees_file : Option (List ℕ)) (registrations_file usage_file : List ℕ) (row : ℕ) (text : List ℕ) : Type 0 where
+  pub table : List (ℕ × List ℕ)
+  pub registered : Registered
+  pub lines : List UsageLine
+  pub read : IsReading territories_file payees_file registrations_file usage_file table registered lines
+  pub line : UsageLine
+  pub at : IsRow lines row line
+  pub rows : text ≡ text_of (explanation_rows table registered (lines_of registrations_file) row line)
+
+-- a list of usage lines has no such row
+pub record HasNoRow (usage_file : List ℕ) (row : ℕ) : Type 0 where
+  pub lines : List UsageLine
+  pub read : IsTableOf (rows_of usage_file) lines
+  pub beyond : (row ≡ 0) ⊎ (length lines < row)

@@ -1,0 +1,10 @@
+//! Why a usage line pays what it pays: the registration in force, the share lines that decide, the claims, and how each portion
+//! comes about, from the very terms of the rules.
+#![tactic(auto)]
+
+mod claimed;
+mod explanation;
+pub mod laws;
+mod rows;
+
+pub use explanation::explain;

@@ -1,0 +1,2 @@
+pub mod OnePayees
+pub mod Refusals

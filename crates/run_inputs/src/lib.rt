@@ -1,0 +1,10 @@
+//! The inputs of a distribution run: a table of territories, a table of payees where there is one, a CWR file and a table of
+//! usage lines; and what they are refused for.
+#![tactic(auto)]
+
+mod fault;
+pub mod laws;
+mod reading;
+
+pub use fault::Fault;
+pub use reading::{Input, read_inputs, read_inputs_in_threads};
