@@ -1,11 +1,14 @@
 #!/usr/bin/env python3
 """Runs the program and the plain Rust one on made-up inputs, good and bad, half of them with a table of
-payees, and compares statuses, statements and messages. Half of the inputs are small; the others are realistic, with up to 2,000
-parties and 6,000 usage lines, so that some of these are read in parts.
+payees, and compares statuses, statements and messages; then the same for the explanations of a few of the usage
+lines, one row past the last among them at times; and each portion that an explanation shows has to be a row of the statements. Half of the inputs are small; the others are realistic, with up
+to 2,000 parties and 6,000 usage lines, so that some of these are read in parts.
 
-    python3 compare.py --program PATH [--cases 2000] [--seed 1]
+    python3 compare.py --program PATH [--cases 2000] [--explained 3] [--seed 1]
 """
 import argparse
+import csv
+import io
 import os
 import random
 import re
@@ -146,15 +149,40 @@ def case(rng, folder):
     return files
 
 
-def words_of(program, paths, plan):
-    words = [program, "run"]
-    for name, value in [*zip(NAMES, paths), *zip(("workers", "readers", "nodes"), plan)]:
+def run_options(paths, plan):
+    """The options of a run: its files, and its workers, readers and nodes."""
+    return [*zip(NAMES, paths), *zip(("workers", "readers", "nodes"), plan)]
+
+
+def words_of(program, command, options):
+    words = [program, command]
+    for name, value in options:
         words += [f"--{name}", str(value)]
     return words
 
 
-def run(program, paths, plan):
-    words = words_of(program, paths, plan)
+def data_rows(path):
+    """About how many usage lines there are."""
+    try:
+        with open(path, "rb") as f:
+            return max(1, f.read().count(b"\n") - 1)
+    except FileNotFoundError:
+        return 1
+
+
+def csv_rows(text):
+    return list(csv.reader(io.StringIO(text.decode("latin-1"))))
+
+
+def missing(statements, explanation):
+    """The portions of an explanation that no row of the statements has."""
+    rows = csv_rows(explanation)
+    usage, reason = rows[0][2], rows[1][2] or "OPEN"
+    portions = [(r[2] if r[1] != "0" else None, r[7]) for r in rows if r[0] == "P" and r[7] != "0"]
+    return [p for p in portions if (["L", p[0], usage, p[1]] if p[0] is not None else ["M", reason, usage, p[1]]) not in statements]
+
+
+def run(words):
     done = subprocess.run(words, capture_output=True)
     return done.returncode, done.stdout, done.stderr.split(b": ", 1)[-1]
 
@@ -163,10 +191,11 @@ def main():
     parser = argparse.ArgumentParser(description=__doc__)
     parser.add_argument("--program", required=True)
     parser.add_argument("--cases", type=int, default=2000)
+    parser.add_argument("--explained", type=int, default=3, help="usage lines explained in each case")
     parser.add_argument("--seed", type=int, default=1)
     a = parser.parse_args()
     plain, program = build_plain(), os.path.abspath(a.program)
-    statuses, rows, differing = {}, 0, 0
+    statuses, rows, explained, differing = {}, 0, 0, 0
     with tempfile.TemporaryDirectory() as folder:
         for n in range(a.cases):
             rng = random.Random(a.seed * 1_000_003 + n)
@@ -178,14 +207,26 @@ def main():
             if rng.random() < 0.02:
                 used[rng.randrange(len(used))] = os.path.join(folder, "absent")
             plan = rng.randint(1, 8), rng.randint(1, 8), rng.randint(1, 64)
-            ours, theirs = run(program, used, plan), run(plain, used, plan)
-            statuses[ours[0]] = statuses.get(ours[0], 0) + 1
-            rows += ours[1].count(b"\n")
-            if ours != theirs:
-                differing += 1
-                print(f"case {n} of seed {a.seed} differs: {ours} and {theirs}")
+            lines = data_rows(used[NAMES.index("usage")])
+            asked = [("run", run_options(used, plan))]
+            asked += [("explain", [*zip(NAMES, used), ("row", rng.randint(1, lines + 1))]) for _ in range(a.explained)]
+            for command, options in asked:
+                ours, theirs = (run(words_of(p, command, options)) for p in (program, plain))
+                if command == "run":
+                    statuses[ours[0]] = statuses.get(ours[0], 0) + 1
+                    rows += ours[1].count(b"\n")
+                    statements = csv_rows(ours[1])
+                elif ours[0] == 0:
+                    explained += 1
+                    unposted = missing(statements, ours[1])
+                    if unposted:
+                        differing += 1
+                        print(f"case {n} of seed {a.seed}, {options[len(used):]}: the statements lack {unposted}")
+                if ours != theirs:
+                    differing += 1
+                    print(f"case {n} of seed {a.seed} differs, {command} {options[len(used):]}: {ours} and {theirs}")
     by_status = ", ".join(f"{count} with status {s}" for s, count in sorted(statuses.items()))
-    print(f"{a.cases} cases ({by_status}; {rows} rows): {differing} differ")
+    print(f"{a.cases} cases ({by_status}; {rows} rows, {explained} lines explained): {differing} differ")
     return 1 if differing else 0
 
 

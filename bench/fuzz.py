@@ -21,7 +21,7 @@ import tempfile
 import compare
 import large
 from bench import HERE, build_plain
-from compare import NAMES, words_of
+from compare import NAMES, run_options, words_of
 
 # what a byte is changed to, or what is put in, more often than any byte
 BYTES = b' ,"\r\n0159AIEXPMS+-.\x00\x7f\x80\xff'
@@ -215,7 +215,7 @@ def run_part(part):
         for number in range(first, a.cases, a.jobs):
             files, plan = case(a.seed, number, folder)
             paths = write(folder, files)
-            ours, theirs = (outcome(words_of(p, paths, plan), a.seconds) for p in (program, plain))
+            ours, theirs = (outcome(words_of(p, "run", run_options(paths, plan)), a.seconds) for p in (program, plain))
             end = ours[2].decode("ascii", "replace").split(" at ")[0].strip() if ours[0] else "statements"
             ends[end] = ends.get(end, 0) + 1
             if ours != theirs:
@@ -231,7 +231,7 @@ def keep(a, program, plain, number):
         files, plan = case(a.seed, number, room)
     paths = write(folder, files)
     for p in (program, plain):
-        print("  " + " ".join(words_of(p, paths, plan)))
+        print("  " + " ".join(words_of(p, "run", run_options(paths, plan))))
 
 
 def main():

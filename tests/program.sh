@@ -6,6 +6,7 @@
 set -euo pipefail
 program=$(realpath "$1")
 examples=$(realpath "$(dirname "$0")/../examples")
+rules=$(realpath "$(dirname "$0")/../docs/RULES.md")
 room=$(mktemp -d)
 trap 'rm -rf "$room"' EXIT
 cd "$room"
@@ -63,6 +64,22 @@ printf 'code\n' >'territories.csv '
 check 'a path that ends in a blank' 1 '' 'royalty_run: tis fault 1 at row 0\n' "$program" run --tis 'territories.csv ' --cwr works.cwr --usage usage.csv "${plan[@]}"
 check 'a standard error that is full' 1 '' '' bash -c '"$0" "$@" 2>/dev/full' "$program" run --tis usage.csv --cwr works.cwr --usage usage.csv "${plan[@]}"
 check 'an output that is full' 4 '' 'royalty_run: cannot write\n' bash -c '"$0" split 3 A=5000 >/dev/full' "$program"
+
+# Each command that the page of rules shows prints what stands below it there. They are run in turn.
+mkdir bin shown
+ln -s "$program" bin/royalty_run
+cp -r "$examples" shown/examples
+awk '/^```console$/ { on = 1; next } /^```/ { on = 0 } on' "$rules" >commands
+run_shown() (
+    PATH="$room/bin:$PATH"
+    cd shown
+    while IFS= read -r line <&3; do
+        case $line in '$ '*) printf '%s\n' "$line"; eval "${line#'$ '}" ;; esac
+    done 3<../commands
+)
+as_shown() { run_shown | diff commands -; }
+check 'the examples of the rules' 0 '' '' as_shown
+[ "$(grep -c '^\$ royalty_run explain' commands)" -ge 10 ] || { echo 'program.sh: the page of rules shows no examples'; failed=$((failed + 1)); }
 
 # A table of the most bytes is read and refused for its first row, and one of a byte more is not cut short but not
 # read at all: as a file, and through a pipe.

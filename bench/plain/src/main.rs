@@ -1,10 +1,11 @@
-//! `royalty_run run` once more, as one would write it by hand in Rust, with no proofs. The words and the
+//! `royalty_run run` and `explain` once more, as one would write them by hand in Rust, with no proofs. The words and the
 //! text that comes out are the same. `--mode` says how the book is filled: one (where there is no such word), threads, channels,
 //! batches, linked, pool or bells. With `--times` it says how long each phase took.
 
 mod bells;
 mod book;
 mod cwr;
+mod explain;
 mod linked;
 mod payees;
 mod pool;
@@ -16,6 +17,7 @@ mod usage;
 
 use book::{Job, Mode, Plan};
 use std::fs::File;
+use std::io::Write;
 use std::os::fd::AsFd;
 use std::process::ExitCode;
 use std::sync::atomic::AtomicU8;
@@ -49,6 +51,72 @@ fn words() -> Option<(Vec<String>, Option<String>, bool, Mode)> {
     Some((values.into_iter().collect::<Option<_>>()?, payees, times, mode))
 }
 
+/// `explain`: the values of the options that have to be there, the path of the payees, and the row.
+fn explain_words() -> Option<(Vec<String>, Option<String>, usize)> {
+    let names = ["--tis", "--cwr", "--usage", "--row", "--payees"];
+    let mut values: Vec<Option<String>> = vec![None; names.len()];
+    let mut args = std::env::args().skip(2);
+    while let Some(name) = args.next() {
+        values[names.iter().position(|n| *n == name)?] = Some(args.next()?);
+    }
+    let payees = values.pop()?;
+    let row = values.pop()??.parse().ok().filter(|n| (1..=1_000_000).contains(n))?;
+    Some((values.into_iter().collect::<Option<_>>()?, payees, row))
+}
+
+/// The bytes of the files.
+struct Files {
+    tis: Vec<u8>,
+    payees: Option<Vec<u8>>,
+    cwr: Vec<u8>,
+    usage: Vec<u8>,
+}
+
+impl Files {
+    /// Reads them in this order.
+    fn load(words: &[String], payees: &Option<String>) -> Result<Files, ExitCode> {
+        let read = |f: &String| read(f).map_err(|_| fail(4, format!("cannot read {f}")));
+        Ok(Files {
+            tis: read(&words[0])?,
+            payees: payees.as_ref().map(read).transpose()?,
+            cwr: read(&words[1])?,
+            usage: read(&words[2])?,
+        })
+    }
+}
+
+/// What was read of a file, or why it is refused.
+fn sound<T>(what: &str, read: Result<T, rows::Fault>) -> Result<T, ExitCode> {
+    read.map_err(|fault| refused(what, fault))
+}
+
+/// The payees of a table, where there is one.
+fn payees_of(table: Option<Vec<u8>>) -> Result<payees::Payees, ExitCode> {
+    match table {
+        Some(mut bytes) => sound("payee", payees::read(&mut bytes)),
+        None => Ok(payees::Payees::new()),
+    }
+}
+
+/// Prints the explanation of a usage line.
+fn explain_main() -> Result<ExitCode, ExitCode> {
+    let Some((words, payees, row)) = explain_words() else {
+        return Err(fail(2, "explain --tis F [--payees F] --cwr F --usage F --row N".into()));
+    };
+    let mut files = Files::load(&words, &payees)?;
+    let mut table = files.tis.clone();
+    let tis = sound("tis", tis::Tis::read(&mut files.tis))?;
+    let payees = payees_of(files.payees)?;
+    let registry = sound("cwr", cwr::Registry::read(&files.cwr, &tis, &payees, ACCOUNTS))?;
+    let usage = sound("usage", usage::Usage::read(files.usage))?;
+    let groups = explain::Groups::read(&mut table);
+    match explain::explain(&groups, &payees, &files.cwr, &registry, &usage, row) {
+        Some(text) if std::io::stdout().write_all(&text).is_ok() => Ok(ExitCode::SUCCESS),
+        Some(_) => Err(fail(4, "cannot write".into())),
+        None => Err(fail(2, format!("the usage list has no row {row}"))),
+    }
+}
+
 fn fail(status: u8, text: String) -> ExitCode {
     eprintln!("plain: {text}");
     ExitCode::from(status)
@@ -69,9 +137,16 @@ fn read(path: &str) -> std::io::Result<Vec<u8>> {
 }
 
 fn main() -> ExitCode {
+    let explain = std::env::args().nth(1).as_deref() == Some("explain");
+    let done = if explain { explain_main() } else { run_main() };
+    done.unwrap_or_else(|failed| failed)
+}
+
+/// Prints the statements of a run.
+fn run_main() -> Result<ExitCode, ExitCode> {
     let Some((words, payees, times, mode)) = words() else {
         let usage = "run --tis F [--payees F] --cwr F --usage F --workers n --readers n --nodes n [--mode m] [--times]";
-        return fail(2, usage.into());
+        return Err(fail(2, usage.into()));
     };
     let number = |i: usize, most: usize| {
         words[i].parse().ok().filter(|n: &usize| (1..=most).contains(n))
@@ -79,7 +154,7 @@ fn main() -> ExitCode {
     let (Some(workers), Some(readers), Some(nodes)) =
         (number(3, 8), number(4, 8), number(5, 64))
     else {
-        return fail(2, "workers and readers are 1 to 8, nodes 1 to 64".into());
+        return Err(fail(2, "workers and readers are 1 to 8, nodes 1 to 64".into()));
     };
     let mut phases: Vec<(&str, Duration)> = Vec::new();
     let begin = Instant::now();
@@ -90,37 +165,16 @@ fn main() -> ExitCode {
         last = now;
     };
 
-    let mut files = Vec::new();
-    for f in words[..1].iter().chain(&payees).chain(&words[1..3]) {
-        match read(f) {
-            Ok(b) => files.push(b),
-            Err(_) => return fail(4, format!("cannot read {f}")),
-        }
-    }
-    let (usage, cwr) = (files.pop().unwrap(), files.pop().unwrap());
-    let paid = payees.and_then(|_| files.pop());
-    let mut tis = files.pop().unwrap();
+    let mut files = Files::load(&words, &payees)?;
     lap("load files");
-    let tis = match tis::Tis::read(&mut tis) {
-        Ok(t) => t,
-        Err(f) => return refused("tis", f),
-    };
+    let tis = sound("tis", tis::Tis::read(&mut files.tis))?;
+    drop(files.tis);
     lap("read tis");
-    let payees = match paid.map(|mut bytes| payees::read(&mut bytes)) {
-        Some(Ok(p)) => p,
-        Some(Err(f)) => return refused("payee", f),
-        None => payees::Payees::new(),
-    };
-    let registry = match cwr::Registry::read(&cwr, &tis, &payees, ACCOUNTS) {
-        Ok(r) => r,
-        Err(f) => return refused("cwr", f),
-    };
-    drop(cwr);
+    let payees = payees_of(files.payees)?;
+    let registry = sound("cwr", cwr::Registry::read(&files.cwr, &tis, &payees, ACCOUNTS))?;
+    drop(files.cwr);
     lap("read cwr");
-    let usage = match usage::Usage::read(usage) {
-        Ok(u) => u,
-        Err(f) => return refused("usage", f),
-    };
+    let usage = sound("usage", usage::Usage::read(files.usage))?;
     lap("read usage");
     let reasons: Vec<_> = usage.lines.iter().map(|_| AtomicU8::new(0)).collect();
     let input = split::Input { tis: &tis, registry: &registry, usage: &usage };
@@ -132,7 +186,7 @@ fn main() -> ExitCode {
         .try_clone_to_owned()
         .and_then(|fd| text::text(&input, &reasons, &book, File::from(fd)));
     let Ok(write) = written else {
-        return fail(4, "cannot write".into());
+        return Err(fail(4, "cannot write".into()));
     };
     lap("text");
     if times {

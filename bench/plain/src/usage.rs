@@ -128,6 +128,11 @@ impl Usage {
         u128::from_be_bytes(*word) & (u128::MAX << (128 - 8 * l.work_len as u32))
     }
 
+    /// The work as it stands in the list.
+    pub fn work(&self, l: &Line) -> &[u8] {
+        &self.buf[l.work_at as usize..][..l.work_len as usize]
+    }
+
     /// The usage text and what follows it, `TEXT` bytes in all.
     #[inline]
     pub fn padded(&self, l: &Line) -> &[u8; TEXT] {

@@ -1,6 +1,6 @@
 -- What share lines come to, line by line.
 use Rattle.std.proofs.Common.{◌≡◌, ◌+◌, ◌==◌, ◌<◌, ◌≤◌, ◌++◌, ◌∷◌, ◌∙◌, ◌&&◌, ◌⊎◌, [], ℕ, suc, Bool, Bor, inl, inr, true, false, List, ap, arith, cond, drop, filter, get_or, length, map, nat_eq, not, refl, sum_by, sym, take, zero-add}
-use Rattle.std.specs.List.{enumerate_from, list_any}
+use Rattle.std.specs.List.{enumerate_from}
 use Rattle.std.specs.Cmp.Lexicographic.{pointwise}
 use Rattle.std.proofs.Math.Seq.{drop-cons}
 use Rattle.std.proofs.lemmas.Bool.{false≢true, ne_eqb}
@@ -9,7 +9,7 @@ use Rattle.std.proofs.lemmas.List.Elements.{filter-append}
 use Rattle.std.proofs.lemmas.List.Sums.{sum_by-cons}
 use Rattle.line_split.proofs.Enumerated.{enumerated_from_more}
 use Rattle.line_split.specs.declared.usage.Right.{Right}
-use Rattle.cwr_share.specs.ClaimsOn.{claim_of, claims_among, covers, deciding, is_alike, share_for}
+use Rattle.cwr_share.specs.ClaimsOn.{claim_of, claims_among, deciding, share_for}
 use Rattle.cwr_share.specs.Registrations.{ShareLine}
 use Rattle.explain_line.specs.Claimed.{claimed_by}
 use Rattle.explain_line.specs.Explanation.{decides}

@@ -1,3 +1,4 @@
 pub mod ClaimedLemmas
+pub mod OneExplanation
 pub mod Postings
 pub mod RowLemmas

@@ -1,5 +1,5 @@
 -- The postings of one line in the statement of an account.
-use Rattle.std.proofs.Common.{◌≡◌, ◌+◌, ◌<◌, ◌==◌, ◌++◌, ◌∷◌, ◌∙◌, [], ℕ, ℤ, suc, Bool, true, false, List, ap, append_assoc, arith, cond, drop, eq-eqb, filter, length, map, refl, subst, sym}
+use Rattle.std.proofs.Common.{◌≡◌, ◌+◌, ◌<◌, ◌==◌, ◌++◌, ◌∷◌, ◌∙◌, [], ℕ, ℤ, Bool, true, false, List, ap, append_assoc, arith, cond, drop, eq-eqb, filter, length, map, refl, subst, sym}
 use Rattle.std.specs.List.{enumerate_from}
 use Rattle.std.proofs.Math.Seq.{drop-append_seam}
 use Rattle.std.proofs.lemmas.Bool.{cond-false, cond-true, ne_eqb}

@@ -1,9 +1,8 @@
 -- The explanation of a usage line: each term by which it is divided, as a row.
-use Rattle.std.specs.Prelude.{ℕ, ℤ, ◌≡◌, ◌≤◌, ◌<◌, ◌+◌, ◌-◌, ◌⊎◌, ◌&&◌, ◌++◌, ◌∷◌, [], Bool, List, codes, decimal, drop, if◌then◌else◌, length, map, not, slice_index, slice_index_or, unsigned_abs, Option, Some, None}
+use Rattle.std.specs.Prelude.{ℕ, ℤ, ◌≡◌, ◌<◌, ◌+◌, ◌⊎◌, ◌&&◌, ◌++◌, ◌∷◌, [], Bool, List, codes, decimal, drop, if◌then◌else◌, length, map, not, slice_index, slice_index_or, unsigned_abs, Option}
 use Rattle.std.specs.Fmt.{signed_decimal}
 use Rattle.std.specs.List.{enumerate_from, list_any}
 use Rattle.std.specs.Option.{option_map_or}
-use Rattle.csv_table.specs.Table.{rows_of}
 use Rattle.csv_table.specs.Written.{text_of}
 use Rattle.cwr_share.specs.ClaimsOn.{claims_by, claims_on, covers, is_alike, reason_against}
 use Rattle.cwr_share.specs.Filed.{last_opening, numbers_from, recorded_share, shares_from}
@@ -16,7 +15,6 @@ use Rattle.line_split.specs.FairSplit.{value_at}
 use Rattle.line_split.specs.LargestRemainder.{contenders_of, portion_of, quota_of, rank_of, remainder_of, units_left}
 use Rattle.line_split.specs.Signs.{with_sign_of}
 use Rattle.line_split.specs.UsageLine.{UsageLine}
-use Rattle.line_split.specs.UsageTable.{IsTableOf}
 use Rattle.line_split.specs.declared.reason.Reason.{Reason}
 use Rattle.line_split.specs.declared.reason.Reason.TheVariants.{Work, Land, Over, Open}
 use Rattle.line_split.specs.declared.usage.Right.{Right}
@@ -80,20 +78,24 @@ abbrev pub base_row : (size : ℕ) → (claims : List (ℕ × ℕ)) → List (Li
 base_row size claims =
     codes "B" ∷ decimal (base_of claims) ∷ decimal (value_at (participants_of claims) (length claims)) ∷ decimal (units_left size (base_of claims) (participants_of claims)) ∷ []
 
--- how a participant comes to its portion; ranks count from 1
+-- the account of a participant, by its place, and its portion
+abbrev pub portion_shown : (amount : ℤ) → (claims : List (ℕ × ℕ)) → ℕ × (ℕ × ℕ) → ℕ × ℤ
+portion_shown amount claims e = (e.1.0, with_sign_of amount (portion_of (unsigned_abs amount) (base_of claims) (participants_of claims) e.0 e.1.1))
+
+-- and how it comes to that; ranks count from 1
 abbrev pub participant_row : Registered → (amount : ℤ) → (claims : List (ℕ × ℕ)) → ℕ × (ℕ × ℕ) → List (List ℕ)
 participant_row registered amount claims e =
     let size = unsigned_abs amount in
     let base = base_of claims in
     let participants = participants_of claims in
-    codes "P" ∷ decimal e.1.0 ∷ payee_at registered e.1.0 ∷ decimal e.1.1 ∷ decimal (quota_of size base e.1.1) ∷ decimal (remainder_of size base e.1.1)
+    let shown = portion_shown amount claims e in
+    codes "P" ∷ decimal shown.0 ∷ payee_at registered shown.0 ∷ decimal e.1.1 ∷ decimal (quota_of size base e.1.1) ∷ decimal (remainder_of size base e.1.1)
     ∷ decimal (rank_of (contenders_of size base participants) (e.0, remainder_of size base e.1.1) + 1)
-    ∷ signed_decimal (with_sign_of amount (portion_of size base participants e.0 e.1.1)) ∷ []
+    ∷ signed_decimal shown.1 ∷ []
 
--- the portions that these rows show, by account
+-- the accounts and portions of these rows
 abbrev pub portions_shown : (amount : ℤ) → (claims : List (ℕ × ℕ)) → List (ℕ × ℤ)
-portions_shown amount claims =
-    map (λ e. (e.1.0, with_sign_of amount (portion_of (unsigned_abs amount) (base_of claims) (participants_of claims) e.0 e.1.1))) (enumerate_from 0 (participants_of claims))
+portions_shown amount claims = map (portion_shown amount claims) (enumerate_from 0 (participants_of claims))
 
 -- the division of an amount by claims
 abbrev pub division_rows : Registered → (amount : ℤ) → (claims : List (ℕ × ℕ)) → List (List (List ℕ))
@@ -127,8 +129,10 @@ pub record IsExplanationOf (territories_file : List ℕ) (payees_file : Option (
   pub at : IsRow lines row line
   pub rows : text ≡ text_of (explanation_rows table registered (lines_of registrations_file) row line)
 
--- a list of usage lines has no such row
-pub record HasNoRow (usage_file : List ℕ) (row : ℕ) : Type 0 where
+-- the inputs are sound, and the usage list has no such row
+pub record HasNoRow (territories_file : List ℕ) (payees_file : Option (List ℕ)) (registrations_file usage_file : List ℕ) (row : ℕ) : Type 0 where
+  pub table : List (ℕ × List ℕ)
+  pub registered : Registered
   pub lines : List UsageLine
-  pub read : IsTableOf (rows_of usage_file) lines
+  pub read : IsReading territories_file payees_file registrations_file usage_file table registered lines
   pub beyond : (row ≡ 0) ⊎ (length lines < row)

@@ -30,7 +30,7 @@ pub fn explain(
     row: u64,
 ) -> Result<Option<Vec<u8>>, Fault>
     ensures explained { IfOk result (λ answer. IfSome answer (λ text. IsExplanationOf tis.now (option_map (λ file. file.now) payees.entry) cwr.now usage.now row text.items)) }
-    ensures none { IfOk result (λ answer. IfNone answer (HasNoRow usage.now row)) }
+    ensures none { IfOk result (λ answer. IfNone answer (HasNoRow tis.now (option_map (λ file. file.now) payees.entry) cwr.now usage.now row)) }
     ensures fault { IfErr result (IsFaultOf tis.now (option_map (λ file. file.now) payees.entry) cwr.now usage.now) }
 {
     let (territories, registry, lines) = read_inputs(alloc, tis, payees, cwr, usage)?;

@@ -1,4 +1,4 @@
-//! The command `run`, over files that the tests make.
+//! The commands `run` and `explain`, over files that the tests make.
 //!
 //! A test gives rows of text, each a question and, after an arrow, its answer (`rows`, `asks`). In a question `@tis`,
 //! `@cwr` and `@usage` stand for the paths of its three files, and `@payees` for that of a table in which B is paid to A.
@@ -148,6 +148,54 @@ r run --tis gone --payees absent --cwr missing --usage @usage --workers 2 --read
 }
 
 #[test]
+fn explains_usage_lines(rt: HostRuntime) -> Result<(), Fail> {
+    assert_rows_over(
+        &rt,
+        "explained",
+        [TERRITORIES, TWO_PARTIES, USES],
+        Ask::Whole,
+        "\
+r explain --tis @tis --cwr @cwr --usage @usage --row 2 -> 0 [U,2,u2,W1,840,P,50|N,1,|C,3,1,A,A,6000,I,2136,yes,no|C,4,1,A,A,0,E,840,yes,yes|C,6,2,B,B,4000,I,2136,yes,yes|A,2,B,4000|B,10000,6000,0|P,2,B,4000,20,0,1,20|P,0,,6000,30,0,2,30|] []
+r explain --row=1 --usage=@usage --cwr @cwr --payees=@payees --tis @tis -> 0 [U,1,u1,W1,276,P,100|N,1,|C,3,1,A,A,6000,I,2136,yes,yes|C,4,1,A,A,0,E,840,no,no|C,6,2,B,A,4000,I,2136,yes,yes|A,1,A,10000|B,10000,0,0|P,1,A,10000,100,0,1,100|P,0,,0,0,0,2,0|] []
+r explain --tis @tis --cwr @cwr --usage @usage --row 4 -> 2 [] [royalty_run: the usage list has no row 4|]
+r explain --tis @tis --cwr @cwr --usage @usage --row 1000000 -> 2 [] [royalty_run: the usage list has no row 1000000|]
+",
+    )
+}
+
+/// The files are those of a run, and an explanation is refused for what a run is.
+#[test]
+fn explains_no_line_of_files_with_a_fault(rt: HostRuntime) -> Result<(), Fail> {
+    assert_rows_over(
+        &rt,
+        "unexplained",
+        [TERRITORIES, SHORT, USES],
+        Ask::Whole,
+        "\
+r explain --tis @tis --payees @usage --cwr @cwr --usage @usage --row 9 -> 1 [] [royalty_run: payee fault 1 at row 0|]
+r explain --tis @usage --payees @usage --cwr @cwr --usage @usage --row 1 -> 1 [] [royalty_run: tis fault 1 at row 0|]
+r explain --tis @tis --cwr @cwr --usage @tis --row 1 -> 1 [] [royalty_run: cwr fault 1 at line 3|]
+r explain --tis @tis --payees absent --cwr missing --usage @usage --row 1 -> 4 [] [royalty_run: cannot read absent|]
+r explain --tis @tis --cwr @cwr --usage absent --row 1 -> 4 [] [royalty_run: cannot read absent|]
+",
+    )
+}
+
+#[test]
+fn an_output_that_refuses_has_the_beginning_of_an_explanation(rt: HostRuntime) -> Result<(), Fail> {
+    assert_rows_over(
+        &rt,
+        "narrow-explained",
+        [TERRITORIES, TWO_PARTIES, USES],
+        Ask::ThroughNarrow,
+        "\
+0 99 r explain --tis @tis --cwr @cwr --usage @usage --row 3 -> 4 [] [royalty_run: cannot write|]
+50 99 r explain --tis @tis --cwr @cwr --usage @usage --row 3 -> 4 [U,3,u3,W9,276,P,7|N,,WORK|B,10000,10000,0|P,0,,100] [royalty_run: cannot write|]
+",
+    )
+}
+
+#[test]
 fn an_output_that_refuses_has_the_beginning(rt: HostRuntime) -> Result<(), Fail> {
     assert_rows_over(
         &rt,
@@ -245,6 +293,10 @@ r run --tis a --cwr a --usage a --workers 1 --readers 1 --nodes 65 -> 2 [] [erro
 r run --tis a --cwr a --usage a --workers 1 --readers 1 -> 2 [] [error..]
 r run --tis a --payees a --payees a --cwr a --usage a --workers 1 --readers 1 --nodes 1 -> 2 [] [error..]
 r run --tis a --payees --cwr a --usage a --workers 1 --readers 1 --nodes 1 -> 2 [] [error..]
+r explain --tis a --cwr a --usage a --row 0 -> 2 [] [error..]
+r explain --tis a --cwr a --usage a --row 1000001 -> 2 [] [error..]
+r explain --tis a --cwr a --usage a --row x -> 2 [] [error..]
+r explain --tis a --cwr a --usage a -> 2 [] [error..]
 ",
     )
 }

@@ -93,6 +93,8 @@ r help split x ['x'] -> 2 err
 r split 5 A=1 --tis x ['--tis'] -> 2 err
 r run --tis a --cwr b --usage c --workers 1 --readers 1 --nodes 65 ['65'] -> 2 err
 r run --tis a --cwr b --usage c --workers 1 --readers 1 --nods 6 ['--nods'] -> 2 err
+r explain --tis a --cwr b --usage c --row 0 ['0'] -> 2 err
+r explain --tis a --cwr b --usage c --workers 1 ['--workers'] -> 2 err
 ",
     )
 }
@@ -109,6 +111,7 @@ fn shows_help(rt: HostRuntime) -> Result<(), Fail> {
 r --help -> 0 [Divide..] []
 r help split -> 0 [Divide..] []
 r split --help -> 0 [Divide..] []
+r explain --help -> 0 [Say wh..] []
 ",
     )
 }
@@ -150,6 +153,15 @@ r run --help [of the residue M,reason,usage,amount] -> 0 out
 r run --help [then T,,count,total] -> 0 out
 r run --help [last R,,lines,amount] -> 0 out
 r run --help [run --tis territories.csv --cwr works.cwr --usage usage.csv] -> 0 out
+r help explain [Usage: royalty_run explain] -> 0 out
+r explain --help [its row below the header, from 1|] -> 0 out
+r explain --help [U,row,usage,work,territory,right,amount] -> 0 out
+r explain --help [no|                                                   claim counts: WORK, LAND or OVER] -> 0 out
+r explain --help [C,line,interest,party,payee,share,mark,territory,contains,decides] -> 0 out
+r explain --help [A,account,payee,claim] -> 0 out
+r explain --help [B,base,residue,left] -> 0 out
+r explain --help [P,account,payee,share,quota,remainder,rank,portion] -> 0 out
+r explain --help [explain --tis territories.csv --cwr works.cwr --usage usage.csv --row 2] -> 0 out
 r split --help [minor units] -> 0 out
 r split --help [from 0 to 1000000000000] -> 0 out
 r split --help [hundredths of a per cent] -> 0 out

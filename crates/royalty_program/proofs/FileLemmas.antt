@@ -5,8 +5,10 @@ use Rattle.std.specs.Prelude.{String, string_bytes}
 use Rattle.std.specs.declared.alloc.Global.{Global}
 use Rattle.std.specs.declared.io.ErrorKind.{ErrorKind}
 use Rattle.std.specs.declared.io.ErrorKind.TheVariants.{OutOfMemory}
-use Rattle.royalty_program.specs.Status.{IsFirst, IsOfFile, IsOfPaths, IsRead, IsReadIfGiven, failure_of_file}
-use Rattle.royalty_program.specs.Files.{HoldsIfGiven}
+use Rattle.royalty_program.specs.Status.{IsFirst, IsOfFile, IsOfPaths, IsRead, IsReadIfGiven, failure_of_file, failure_of_run}
+use Rattle.royalty_program.specs.Files.{HoldsIfGiven, IsFaultOver}
+use Rattle.run_inputs.specs.declared.fault.Fault.{Fault}
+use Rattle.run_inputs.specs.declared.fault.Fault.TheVariants.{Tis, Cwr, Usage, Room, Payee}
 use Rattle.royalty_program.specs.declared.failure.Failure.{Failure}
 
 -- a file that is refused with this kind of error is not read, but for lack of memory
@@ -44,3 +46,11 @@ module _ (holds : List ℕ → List ℕ → Type 0) (refuses : List ℕ → Erro
   pub usage_unread : (tis : List ℕ) (payees : Option (List ℕ)) (cwr : List ℕ) (path : String Global) (failure : Failure) → IsRead holds tis → IsReadIfGiven holds payees → IsRead holds cwr → IsOfFile refuses path failure
       → IsOfPaths holds refuses tis payees cwr (string_bytes path) failure
   usage_unread tis payees cwr path failure read read_too both fails = of_file holds refuses tis payees cwr _ path failure (inr (inr (inr (refl, read, read_too, both)))) fails
+
+-- a fault of the files is why the run fails, where it is no lack of memory
+pub fails : (holds : List ℕ → List ℕ → Type 0) (refuses : List ℕ → ErrorKind → Type 0) (tis : List ℕ) (payees : Option (List ℕ)) (cwr usage : List ℕ) (fault : Fault) → IsFaultOver holds tis payees cwr usage fault → IsOfPaths holds refuses tis payees cwr usage (failure_of_run fault)
+fails holds refuses tis payees cwr usage (Tis fault) is = is
+fails holds refuses tis payees cwr usage (Payee fault) is = is
+fails holds refuses tis payees cwr usage (Cwr fault) is = is
+fails holds refuses tis payees cwr usage (Usage fault) is = is
+fails holds refuses tis payees cwr usage Room is = tt

@@ -3,7 +3,9 @@ pub mod ValueWords
 pub mod NoHelp
 pub mod SplitLemmas
 pub mod Walked
+pub mod OptionLemmas
 pub mod RunLemmas
+pub mod ExplainLemmas
 pub mod RunWalked
 pub mod OverLemmas
 pub mod FileLemmas

@@ -1,16 +1,19 @@
 -- The statements of the files that a run names, by the words that name them.
-use Rattle.std.proofs.Common.{◌≡◌, ◌≢◌, ◌∙◌, ◌⊎◌, ℕ, List, Option, Err, Ok, Result, codes, drop, inl, inr, refl, subst}
+use Rattle.std.proofs.Common.{◌≡◌, ◌≢◌, ◌∙◌, ◌⊎◌, ℕ, List, Option, Err, Ok, Result, codes, drop, inl, inr, refl, subst, sym}
 use Rattle.std.specs.Option.{option_map}
 use Rattle.std.specs.Result.{IfErr, OnOk}
 use Rattle.std.specs.Prelude.{string_bytes}
 use Rattle.std.specs.declared.io.ErrorKind.{ErrorKind}
 use Rattle.pair_split.specs.Pair.{word_at}
-use Rattle.royalty_program.specs.Answered.{AreReadFrom}
-use Rattle.royalty_program.specs.Asked.{AreRunWords, IsDivision, path_given, path_if_given}
-use Rattle.royalty_program.specs.Files.{AreStatementsOver}
-use Rattle.royalty_program.specs.Status.{FailFor, IsOfDivision, IsOfPaths, IsOfRun, IsRefusal, status_of}
+use Rattle.royalty_program.specs.RunCommand.{run_app}
+use Rattle.royalty_program.specs.Answered.{AreExplainedFrom, AreReadFrom}
+use Rattle.royalty_program.specs.Asked.{AreRunWords, IsDivision, number_given, path_given, path_if_given}
+use Rattle.royalty_program.specs.ExplainCommand.{explain_app}
+use Rattle.royalty_program.specs.Files.{AreStatementsOver, IsExplanationOver}
+use Rattle.royalty_program.specs.Status.{FailFor, IsOfDivision, IsOfExplanation, IsOfPaths, IsOfRun, IsRefusal, IsUnexplained, status_of}
 use Rattle.royalty_program.specs.declared.failure.Failure.{Failure}
-use Rattle.royalty_program.specs.declared.failure.Failure.TheVariants.{Words, NotText, Pairs, Input, Room, File, Output}
+use Rattle.royalty_program.specs.declared.failure.Failure.TheVariants.{Words, NotText, Pairs, Input, Row, Room, File, Output}
+use Rattle.royalty_program.specs.declared.explain_command.ExplainWords.{ExplainWords}
 use Rattle.royalty_program.specs.declared.run_command.RunWords.{RunWords}
 use Rattle.royalty_program.proofs.RunLemmas.{cwr_in_order, payees_in_order, tis_in_order, usage_in_order}
 
@@ -26,7 +29,7 @@ at_paths holds text tis tis' payees payees' cwr cwr' usage usage' same_tis same_
 -- by the paths that the options are given
 pub over_given : (holds : List ℕ → List ℕ → Type 0) (words : List (List ℕ)) (asked : RunWords) (text : List ℕ) → AreReadFrom words asked
     → AreStatementsOver holds (string_bytes asked.tis) (option_map string_bytes asked.payees) (string_bytes asked.cwr) (string_bytes asked.usage) text
-    → AreStatementsOver holds (path_given (codes "tis") words) (path_if_given (codes "payees") words) (path_given (codes "cwr") words) (path_given (codes "usage") words) text
+    → AreStatementsOver holds (path_given run_app (codes "tis") words) (path_if_given run_app (codes "payees") words) (path_given run_app (codes "cwr") words) (path_given run_app (codes "usage") words) text
 over_given holds words asked text read over = at_paths holds text _ _ _ _ _ _ _ _ read.tis read.payees read.cwr read.usage over
 
 -- and in the plain form by the values after the options
@@ -40,31 +43,69 @@ over_in_order holds words asked text r read over = at_paths holds text _ _ _ _ _
 pub fails_given : (holds : List ℕ → List ℕ → Type 0) (refuses : List ℕ → ErrorKind → Type 0) (words : List (List ℕ)) (asked : RunWords) → AreReadFrom words asked → (failure : Failure)
     → IsOfPaths holds refuses (string_bytes asked.tis) (option_map string_bytes asked.payees) (string_bytes asked.cwr) (string_bytes asked.usage) failure → IsOfRun holds refuses words failure
 fails_given holds refuses words asked read failure is =
-    let given : IsOfPaths holds refuses (path_given (codes "tis") words) (path_if_given (codes "payees") words) (path_given (codes "cwr") words) (path_given (codes "usage") words) failure =
-    subst (λ (u : List ℕ). IsOfPaths holds refuses (path_given (codes "tis") words) (path_if_given (codes "payees") words) (path_given (codes "cwr") words) u failure) read.usage
-    (subst (λ (c : List ℕ). IsOfPaths holds refuses (path_given (codes "tis") words) (path_if_given (codes "payees") words) c (string_bytes asked.usage) failure) read.cwr
-    (subst (λ (p : Option (List ℕ)). IsOfPaths holds refuses (path_given (codes "tis") words) p (string_bytes asked.cwr) (string_bytes asked.usage) failure) read.payees
+    let given : IsOfPaths holds refuses (path_given run_app (codes "tis") words) (path_if_given run_app (codes "payees") words) (path_given run_app (codes "cwr") words) (path_given run_app (codes "usage") words) failure =
+    subst (λ (u : List ℕ). IsOfPaths holds refuses (path_given run_app (codes "tis") words) (path_if_given run_app (codes "payees") words) (path_given run_app (codes "cwr") words) u failure) read.usage
+    (subst (λ (c : List ℕ). IsOfPaths holds refuses (path_given run_app (codes "tis") words) (path_if_given run_app (codes "payees") words) c (string_bytes asked.usage) failure) read.cwr
+    (subst (λ (p : Option (List ℕ)). IsOfPaths holds refuses (path_given run_app (codes "tis") words) p (string_bytes asked.cwr) (string_bytes asked.usage) failure) read.payees
     (subst (λ (t : List ℕ). IsOfPaths holds refuses t (option_map string_bytes asked.payees) (string_bytes asked.cwr) (string_bytes asked.usage) failure) read.tis is))) in
     as_run failure given
   where
-    as_run : (failure : Failure) → IsOfPaths holds refuses (path_given (codes "tis") words) (path_if_given (codes "payees") words) (path_given (codes "cwr") words) (path_given (codes "usage") words) failure
+    as_run : (failure : Failure) → IsOfPaths holds refuses (path_given run_app (codes "tis") words) (path_if_given run_app (codes "payees") words) (path_given run_app (codes "cwr") words) (path_given run_app (codes "usage") words) failure
         → IsOfRun holds refuses words failure
     as_run (Words error) none = absurd none
     as_run NotText none = none
     as_run (Pairs fault) none = none
+    as_run (Row row) none = none
     as_run (Input fault) over = over
     as_run Room any = any
     as_run (File name) named = named
     as_run Output none = none
 
+-- an explanation is that of the paths and the row that the options are given
+pub explained_given : (holds : List ℕ → List ℕ → Type 0) (words : List (List ℕ)) (asked : ExplainWords) (text : List ℕ) → AreExplainedFrom words asked
+    → IsExplanationOver holds (string_bytes asked.tis) (option_map string_bytes asked.payees) (string_bytes asked.cwr) (string_bytes asked.usage) asked.row text
+    → IsExplanationOver holds (path_given explain_app (codes "tis") words) (path_if_given explain_app (codes "payees") words) (path_given explain_app (codes "cwr") words) (path_given explain_app (codes "usage") words)
+    (number_given explain_app (codes "row") words) text
+explained_given holds words asked text read over = rw (sym read.tis, sym read.payees, sym read.cwr, sym read.usage, sym read.row) over
+
+-- what files fail for is why a line of theirs is not explained
+pub as_unexplained : (holds : List ℕ → List ℕ → Type 0) (refuses : List ℕ → ErrorKind → Type 0) (tis : List ℕ) (payees : Option (List ℕ)) (cwr usage : List ℕ) (row : ℕ) (failure : Failure)
+    → IsOfPaths holds refuses tis payees cwr usage failure → IsUnexplained holds refuses tis payees cwr usage row failure
+as_unexplained holds refuses tis payees cwr usage row (Words error) none = none
+as_unexplained holds refuses tis payees cwr usage row NotText none = none
+as_unexplained holds refuses tis payees cwr usage row (Pairs fault) none = none
+as_unexplained holds refuses tis payees cwr usage row (Row beyond) none = absurd none
+as_unexplained holds refuses tis payees cwr usage row (Input fault) over = over
+as_unexplained holds refuses tis payees cwr usage row Room any = any
+as_unexplained holds refuses tis payees cwr usage row (File name) named = named
+as_unexplained holds refuses tis payees cwr usage row Output none = none
+
+-- and its words fail for that
+pub unexplained_given : (holds : List ℕ → List ℕ → Type 0) (refuses : List ℕ → ErrorKind → Type 0) (words : List (List ℕ)) (asked : ExplainWords) → AreExplainedFrom words asked → (failure : Failure)
+    → IsUnexplained holds refuses (string_bytes asked.tis) (option_map string_bytes asked.payees) (string_bytes asked.cwr) (string_bytes asked.usage) asked.row failure → IsOfExplanation holds refuses words failure
+unexplained_given holds refuses words asked read failure is =
+    as_asked failure (rw (read.tis, read.payees, read.cwr, read.usage, read.row) at is)
+  where
+    as_asked : (failure : Failure)
+        → IsUnexplained holds refuses (path_given explain_app (codes "tis") words) (path_if_given explain_app (codes "payees") words) (path_given explain_app (codes "cwr") words) (path_given explain_app (codes "usage") words) (number_given explain_app (codes "row") words) failure
+        → IsOfExplanation holds refuses words failure
+    as_asked (Words error) none = absurd none
+    as_asked NotText none = none
+    as_asked (Pairs fault) none = none
+    as_asked (Row beyond) is = is
+    as_asked (Input fault) is = is
+    as_asked Room is = is
+    as_asked (File name) is = is
+    as_asked Output none = none
+
 -- how the program ends: an answer ends with 0, or with 4 where the output refuses it, and a failure with its status
 pub ends_with : {T : Type 0} (r : Result T Failure) (status : ℕ) (holds : List ℕ → List ℕ → Type 0) (refuses : List ℕ → ErrorKind → Type 0) (words : List (List ℕ))
     → IfErr r (λ failure. status ≡ status_of failure) → OnOk r ((status ≡ 0) ⊎ (status ≡ 4)) → IfErr r IsRefusal → (IsDivision words → IfErr r (IsOfDivision words))
-    → (word_at words 1 ≡ codes "run" → IfErr r (IsOfRun holds refuses (drop 1 words)))
+    → (word_at words 1 ≡ codes "run" → IfErr r (IsOfRun holds refuses (drop 1 words))) → (word_at words 1 ≡ codes "explain" → IfErr r (IsOfExplanation holds refuses (drop 1 words)))
     → status ≢ 0 → (failure : Failure) × (status ≡ status_of failure) × ((failure ≡ Output) ⊎ FailFor holds refuses words failure)
-ends_with (Ok printed) status holds refuses words is answered refusal division run failed = elim answered [
+ends_with (Ok printed) status holds refuses words is answered refusal division run explanation failed = elim answered [
   | inl none ↦ absurd (failed none)
   | inr refused ↦ (Output, refused, inl refl)
 ]
-ends_with (Err failure) status holds refuses words is answered refusal division run failed =
-    (failure, is, inr (record { refusal = refusal; division = division; run = run }))
+ends_with (Err failure) status holds refuses words is answered refusal division run explanation failed =
+    (failure, is, inr (record { refusal = refusal; division = division; run = run; explanation = explanation }))

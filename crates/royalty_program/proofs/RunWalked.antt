@@ -316,7 +316,7 @@ fault_no_help words r =
     (nodes_after r.tis r.payees r.cwr r.usage r.workers r.readers r.nodes)))
 
 -- so the words ask for no help
-pub no_help : (words : List Text) → AreRunWords words → ¬ AskForHelp words
+pub no_help : (words : List Text) → AreRunWords words → ¬ AskForHelp run_app words
 unfolding AskForHelp
 no_help words r asks = elim asks [
   | inl help ↦ ((fault_no_help words r).asks kinds.DisplayHelp help).0 refl

@@ -2,39 +2,45 @@
 use Rattle.std.specs.Prelude.{ℕ, ◌≡◌, ◌≤◌, List, codes, drop, map, string_bytes, ⊤}
 use Rattle.std.specs.Option.{option_map}
 use Rattle.line_split.specs.declared.TheConstants.{MOST_AMOUNT}
-use Rattle.royalty_program.specs.Asked.{AreRunWords, AskForRun, IsDivision, IsRun, amount_of, number_given, number_in, pairs_of, path_given, path_if_given}
+use Rattle.royalty_program.specs.RunCommand.{run_app}
+use Rattle.royalty_program.specs.Asked.{AreRunWords, AskForExplanation, AskForRun, IsDivision, IsRun, amount_of, number_given, number_in, pairs_of, path_given, path_if_given}
 use Rattle.pair_split.specs.PairFault.{AreSound}
 use Rattle.pair_split.specs.Rows.{split_text}
-use Rattle.royalty_program.specs.Files.{AreStatementsOver}
+use Rattle.royalty_program.specs.ExplainCommand.{explain_app}
+use Rattle.royalty_program.specs.Files.{AreStatementsOver, IsExplanationOver}
 use Rattle.royalty_program.specs.declared.commands.Asked.{Asked}
-use Rattle.royalty_program.specs.declared.commands.Asked.TheVariants.{Division, Run}
+use Rattle.royalty_program.specs.declared.commands.Asked.TheVariants.{Division, Explanation, Run}
+use Rattle.royalty_program.specs.declared.explain_command.ExplainWords.{ExplainWords}
 use Rattle.royalty_program.specs.declared.run_command.RunWords.{RunWords}
 
 -- the command is the one that the word names
 abbrev pub IsNamedBy : List ℕ → Asked → Type 0
 IsNamedBy word (Division asked) = word ≡ codes "split"
 IsNamedBy word (Run asked) = word ≡ codes "run"
+IsNamedBy word (Explanation asked) = word ≡ codes "explain"
 
 -- an amount that is divided is in range
 abbrev pub IsInRange : Asked → Type 0
 IsInRange (Division asked) = asked.amount ≤ MOST_AMOUNT
 IsInRange (Run asked) = ⊤
+IsInRange (Explanation asked) = ⊤
 
 -- the amount and the pairs are those of the words
 abbrev pub IsDivisionOf : List (List ℕ) → Asked → Type 0
 IsDivisionOf words (Division asked) = (asked.amount ≡ amount_of words) × (map string_bytes asked.pairs.items ≡ pairs_of words)
 IsDivisionOf words (Run asked) = ⊥
+IsDivisionOf words (Explanation asked) = ⊥
 
 -- the paths and the numbers are those that the options of a run are given
 pub record AreReadFrom (words : List (List ℕ)) (asked : RunWords) : Type 0 where
-  pub tis : string_bytes asked.tis ≡ path_given (codes "tis") words
-  pub payees : option_map string_bytes asked.payees ≡ path_if_given (codes "payees") words
-  pub cwr : string_bytes asked.cwr ≡ path_given (codes "cwr") words
-  pub usage : string_bytes asked.usage ≡ path_given (codes "usage") words
+  pub tis : string_bytes asked.tis ≡ path_given run_app (codes "tis") words
+  pub payees : option_map string_bytes asked.payees ≡ path_if_given run_app (codes "payees") words
+  pub cwr : string_bytes asked.cwr ≡ path_given run_app (codes "cwr") words
+  pub usage : string_bytes asked.usage ≡ path_given run_app (codes "usage") words
   pub plan : asked.plan ≡ record {
-    workers = number_given (codes "workers") words;
-    readers = number_given (codes "readers") words;
-    nodes = number_given (codes "nodes") words;
+    workers = number_given run_app (codes "workers") words;
+    readers = number_given run_app (codes "readers") words;
+    nodes = number_given run_app (codes "nodes") words;
   }
 
 -- and in the plain form they are the values after the options
@@ -52,10 +58,24 @@ pub record AreReadInOrder (words : List (List ℕ)) (run : AreRunWords words) (a
 abbrev pub IsRunOf : List (List ℕ) → Asked → Type 0
 IsRunOf words (Division asked) = ⊥
 IsRunOf words (Run asked) = AreReadFrom (drop 1 words) asked
+IsRunOf words (Explanation asked) = ⊥
 
 abbrev pub IsRunInOrder : (words : List (List ℕ)) → AreRunWords (drop 1 words) → Asked → Type 0
 IsRunInOrder words run (Division asked) = ⊥
 IsRunInOrder words run (Run asked) = AreReadInOrder (drop 1 words) run asked
+IsRunInOrder words run (Explanation asked) = ⊥
+
+-- the paths and the row are those that the options of an explanation are given
+pub record AreExplainedFrom (words : List (List ℕ)) (asked : ExplainWords) : Type 0 where
+  pub tis : string_bytes asked.tis ≡ path_given explain_app (codes "tis") words
+  pub payees : option_map string_bytes asked.payees ≡ path_if_given explain_app (codes "payees") words
+  pub cwr : string_bytes asked.cwr ≡ path_given explain_app (codes "cwr") words
+  pub usage : string_bytes asked.usage ≡ path_given explain_app (codes "usage") words
+  pub row : asked.row ≡ number_given explain_app (codes "row") words
+
+abbrev pub IsExplanationAsked : List (List ℕ) → Asked → Type 0
+IsExplanationAsked words (Explanation asked) = AreExplainedFrom (drop 1 words) asked
+IsExplanationAsked words _ = ⊥
 
 -- the text answers the division that the words ask for, and nothing is wrong with them
 pub record IsAnswerTo (words : List (List ℕ)) (text : List ℕ) : Type 0 where
@@ -63,9 +83,11 @@ pub record IsAnswerTo (words : List (List ℕ)) (text : List ℕ) : Type 0 where
   pub sound : AreSound (pairs_of words)
   pub rows : text ≡ split_text (amount_of words) (pairs_of words)
 
--- The text answers the words, where a file of a path holds these bytes: those of a division with its rows, those of a run with the statements of the files that its options name.
+-- The text answers the words, where a file of a path holds these bytes: those of a division with its rows, those of a run with the statements of the files that its options name, those of an explanation with that of the line in the row.
 pub record IsAnswered (holds : List ℕ → List ℕ → Type 0) (words : List (List ℕ)) (text : List ℕ) : Type 0 where
   pub division : IsDivision words → IsAnswerTo words text
   pub run : AskForRun words
-      → AreStatementsOver holds (path_given (codes "tis") (drop 1 words)) (path_if_given (codes "payees") (drop 1 words)) (path_given (codes "cwr") (drop 1 words)) (path_given (codes "usage") (drop 1 words)) text
+      → AreStatementsOver holds (path_given run_app (codes "tis") (drop 1 words)) (path_if_given run_app (codes "payees") (drop 1 words)) (path_given run_app (codes "cwr") (drop 1 words)) (path_given run_app (codes "usage") (drop 1 words)) text
+  pub explained : AskForExplanation words
+      → IsExplanationOver holds (path_given explain_app (codes "tis") (drop 1 words)) (path_if_given explain_app (codes "payees") (drop 1 words)) (path_given explain_app (codes "cwr") (drop 1 words)) (path_given explain_app (codes "usage") (drop 1 words)) (number_given explain_app (codes "row") (drop 1 words)) text
   pub in_order : (asked : IsRun words) → AreStatementsOver holds asked.options.tis asked.options.payees asked.options.cwr asked.options.usage text

@@ -1,10 +1,11 @@
 -- What a command line asks for: a division in its plain form, with no options; or a run, its options in any order and form that clap takes.
 use Rattle.std.specs.Prelude.{ℕ, ◌≡◌, ◌≢◌, ◌⊎◌, ◌∷◌, ◌++◌, List, [], All, IfSome, None, Some, drop, codes, slice_index, unwrap_or, Option}
 use Rattle.std.specs.Str.Parse.{digits_value, without_leading_plus}
-use Rattle.clap.specs.Words.{HasKind, IsAmong, fault_of, first_of, matches_of, one_of}
+use Rattle.clap.specs.Words.{App, HasKind, IsAmong, fault_of, first_of, matches_of, one_of}
 use Rattle.clap.specs.declared.error.Error.{Error}
 use Rattle.clap.specs.declared.error.kind.ErrorKind.TheVariants as kinds
 use Rattle.pair_split.specs.Pair.{word_at}
+use Rattle.royalty_program.specs.ExplainCommand.{explain_app}
 use Rattle.royalty_program.specs.RunCommand.{run_app}
 
 -- a value, and no option: the word does not begin with `-`
@@ -27,38 +28,43 @@ amount_of words = number_in (word_at words 2)
 abbrev pub pairs_of : List (List ℕ) → List (List ℕ)
 pairs_of words = drop 3 words
 
--- What follows is of the words of a run from `run` on, as clap reads them by the command's grammar. An option may stand anywhere among them, and its value after a blank or a `=`: this is the path, and the number, that the option of a name is given.
-unfoldable pub path_given : (name : List ℕ) → List (List ℕ) → List ℕ
-path_given name words = unwrap_or (first_of name (matches_of run_app words)) []
+-- What follows is of the words of a command from its name on, as clap reads them by its grammar. An option may stand anywhere among them, and its value after a blank or a `=`: this is the path, and the number, that the option of a name is given.
+unfoldable pub path_given : App → (name : List ℕ) → List (List ℕ) → List ℕ
+path_given app name words = unwrap_or (first_of name (matches_of app words)) []
 
 -- the path of an option that need not be there
-unfoldable pub path_if_given : (name : List ℕ) → List (List ℕ) → Option (List ℕ)
-path_if_given name words = first_of name (matches_of run_app words)
+unfoldable pub path_if_given : App → (name : List ℕ) → List (List ℕ) → Option (List ℕ)
+path_if_given app name words = first_of name (matches_of app words)
 
-unfoldable pub number_given : (name : List ℕ) → List (List ℕ) → ℕ
-number_given name words = number_in (unwrap_or (one_of name (matches_of run_app words)) [])
+unfoldable pub number_given : App → (name : List ℕ) → List (List ℕ) → ℕ
+number_given app name words = number_in (unwrap_or (one_of name (matches_of app words)) [])
 
 -- clap comes upon a word that asks for help, or for the version
-unfoldable pub AskForHelp : List (List ℕ) → Type 0
-AskForHelp words = IsAmong kinds.DisplayHelp (fault_of run_app words) ⊎ IsAmong kinds.DisplayVersion (fault_of run_app words)
+unfoldable pub AskForHelp : App → List (List ℕ) → Type 0
+AskForHelp app words = IsAmong kinds.DisplayHelp (fault_of app words) ⊎ IsAmong kinds.DisplayVersion (fault_of app words)
 
 -- clap finds nothing to refuse, and nothing that asks for help
-unfoldable pub AreAccepted : List (List ℕ) → Type 0
-AreAccepted words = fault_of run_app words ≡ []
+unfoldable pub AreAccepted : App → List (List ℕ) → Type 0
+AreAccepted app words = fault_of app words ≡ []
 
 -- the error is one that clap has for the words, or memory was refused
-unfoldable pub IsErrorOf : List (List ℕ) → Error → Type 0
-IsErrorOf words error = HasKind (fault_of run_app words) error
+unfoldable pub IsErrorOf : App → List (List ℕ) → Error → Type 0
+IsErrorOf app words error = HasKind (fault_of app words) error
 
 -- The words of a command line ask for a run, and for no help.
 pub record AskForRun (words : List (List ℕ)) : Type 0 where
   pub command : word_at words 1 ≡ codes "run"
-  pub no_help : ¬ AskForHelp (drop 1 words)
+  pub no_help : ¬ AskForHelp run_app (drop 1 words)
 
 -- They are a run that clap accepts.
 pub record AreRun (words : List (List ℕ)) : Type 0 where
   pub command : word_at words 1 ≡ codes "run"
-  pub accepted : AreAccepted (drop 1 words)
+  pub accepted : AreAccepted run_app (drop 1 words)
+
+-- The words of a command line ask for the explanation of a line, and for no help.
+pub record AskForExplanation (words : List (List ℕ)) : Type 0 where
+  pub command : word_at words 1 ≡ codes "explain"
+  pub no_help : ¬ AskForHelp explain_app (drop 1 words)
 
 -- the option of a table of payees, where there is one
 abbrev pub payees_words : Option (List ℕ) → List (List ℕ)

@@ -1,6 +1,7 @@
 -- What a run answers over files. `holds path bytes` says that the file of a path has these bytes.
 use Rattle.std.specs.Prelude.{ℕ, ◌≤◌, List, None, Option, Some, length, ⊤}
 use Rattle.std.specs.declared.io.ErrorKind.{ErrorKind}
+use Rattle.explain_line.specs.Explanation.{HasNoRow, IsExplanationOf}
 use Rattle.run_inputs.specs.Inputs.{HaveNoFault, IsFaultOf}
 use Rattle.settle_run.specs.Settled.{AreStatementsOf}
 use Rattle.run_inputs.specs.declared.fault.Fault.{Fault}
@@ -30,6 +31,14 @@ pub record AreInputs (holds : List ℕ → List ℕ → Type 0) (tis : List ℕ)
   pub registrations : holds cwr registrations_file
   pub uses : holds usage usage_file
 
+-- these are the bytes of the files of a run
+pub record AreRead (holds : List ℕ → List ℕ → Type 0) (tis : List ℕ) (payees : Option (List ℕ)) (cwr usage : List ℕ)
+    (territories_file : List ℕ) (payees_file : Option (List ℕ)) (registrations_file usage_file : List ℕ) : Type 0 where
+  pub territories : holds tis territories_file
+  pub paid : HoldsIfGiven holds payees payees_file
+  pub registrations : holds cwr registrations_file
+  pub uses : holds usage usage_file
+
 -- the text is the statements of the files of these paths
 pub record AreStatementsOver (holds : List ℕ → List ℕ → Type 0) (tis : List ℕ) (payees : Option (List ℕ)) (cwr usage text : List ℕ) : Type 0 where
   pub inputs : AreInputs holds tis payees cwr usage
@@ -44,3 +53,13 @@ pub record HaveNoFaultOver (holds : List ℕ → List ℕ → Type 0) (tis : Lis
 pub record IsFaultOver (holds : List ℕ → List ℕ → Type 0) (tis : List ℕ) (payees : Option (List ℕ)) (cwr usage : List ℕ) (fault : Fault) : Type 0 where
   pub inputs : AreInputs holds tis payees cwr usage
   pub fault_of : IsFaultOf inputs.territories_file inputs.payees_file inputs.registrations_file inputs.usage_file fault
+
+-- the text explains the line in a row of the usage list, by the files of these paths
+pub record IsExplanationOver (holds : List ℕ → List ℕ → Type 0) (tis : List ℕ) (payees : Option (List ℕ)) (cwr usage : List ℕ) (row : ℕ) (text : List ℕ) : Type 0 where
+  pub inputs : AreInputs holds tis payees cwr usage
+  pub explanation : IsExplanationOf inputs.territories_file inputs.payees_file inputs.registrations_file inputs.usage_file row text
+
+-- the files of these paths are sound, and the usage list has no such row
+pub record HasNoRowOver (holds : List ℕ → List ℕ → Type 0) (tis : List ℕ) (payees : Option (List ℕ)) (cwr usage : List ℕ) (row : ℕ) : Type 0 where
+  pub inputs : AreInputs holds tis payees cwr usage
+  pub beyond : HasNoRow inputs.territories_file inputs.payees_file inputs.registrations_file inputs.usage_file row

@@ -6,16 +6,18 @@ use Rattle.clap.specs.declared.error.kind.ErrorKind.TheVariants as kinds
 use Rattle.std.specs.declared.io.ErrorKind as io
 use Rattle.std.specs.declared.io.ErrorKind.TheVariants as io_kind
 use Rattle.pair_split.specs.Pair.{word_at}
-use Rattle.royalty_program.specs.Asked.{AreAccepted, IsDivision, pairs_of, path_given, path_if_given}
+use Rattle.royalty_program.specs.RunCommand.{run_app}
+use Rattle.royalty_program.specs.Asked.{AreAccepted, IsDivision, number_given, pairs_of, path_given, path_if_given}
 use Rattle.pair_split.specs.PairFault.{IsFaultOf}
 use Rattle.pair_split.specs.PairFault as pair
 use Rattle.tis_tree.specs.TisRows as tis
 use Rattle.cwr_share.specs.CwrFile as cwr
 use Rattle.cwr_share.specs.PayeeTable as payees
 use Rattle.line_split.specs.UsageTable as usage
-use Rattle.royalty_program.specs.Files.{IsFaultOver}
+use Rattle.royalty_program.specs.ExplainCommand.{explain_app}
+use Rattle.royalty_program.specs.Files.{HasNoRowOver, IsFaultOver}
 use Rattle.royalty_program.specs.declared.failure.Failure.{Failure}
-use Rattle.royalty_program.specs.declared.failure.Failure.TheVariants.{Words, NotText, Pairs, Input, Room, File, Output}
+use Rattle.royalty_program.specs.declared.failure.Failure.TheVariants.{Words, NotText, Pairs, Input, Row, Room, File, Output}
 use Rattle.run_inputs.specs.declared.fault.Fault.{Fault}
 use Rattle.run_inputs.specs.declared.fault.Fault.TheVariants as input
 use Rattle.pair_split.specs.declared.pair_fault.PairFault.{PairFault}
@@ -26,6 +28,7 @@ abbrev pub status_of : Failure → ℕ
 status_of (Words error) = 2
 status_of NotText = 2
 status_of (Pairs fault) = 2
+status_of (Row row) = 2
 status_of (Input fault) = 1
 status_of Room = 3
 status_of (File path) = 4
@@ -47,6 +50,7 @@ text_of (Input (input.Payee f)) = Some (fault_text (codes "payee") (payees.numbe
 text_of (Input (input.Cwr f)) = Some (fault_text (codes "cwr") (cwr.number_of_fault f) (codes "line ") (cwr.place_of_fault f))
 text_of (Input (input.Usage f)) = Some (fault_text (codes "usage") (usage.number_of f) (codes "row ") (usage.place_of f))
 text_of (Input input.Room) = Some (codes "royalty_run: out of room\n")
+text_of (Row row) = Some (codes "royalty_run: the usage list has no row " ++ decimal row ++ codes "\n")
 text_of Room = Some (codes "royalty_run: out of room\n")
 text_of (File path) = Some (codes "royalty_run: cannot read " ++ string_bytes path ++ codes "\n")
 text_of Output = Some (codes "royalty_run: cannot write\n")
@@ -57,6 +61,7 @@ IsRefusal (Words error) =
     (kind_of error ≢ kinds.OutOfMemory) × (kind_of error ≢ kinds.DisplayHelp) × (kind_of error ≢ kinds.DisplayVersion)
 IsRefusal (Pairs f) = f ≢ fault.Memory
 IsRefusal (Input f) = f ≢ input.Room
+IsRefusal (Row row) = ⊤
 IsRefusal Room = ⊤
 IsRefusal (File path) = ⊤
 IsRefusal _ = ⊥
@@ -104,9 +109,21 @@ IsOfPaths holds refuses tis payees cwr usage _ = ⊥
 
 -- and the words of a run fail for that, or for themselves where clap does not accept them
 abbrev pub IsOfRun : (holds : List ℕ → List ℕ → Type 0) (refuses : List ℕ → io.ErrorKind → Type 0) → List (List ℕ) → Failure → Type 0
-IsOfRun holds refuses words (Words error) = ¬ AreAccepted words
+IsOfRun holds refuses words (Words error) = ¬ AreAccepted run_app words
 IsOfRun holds refuses words failure =
-    IsOfPaths holds refuses (path_given (codes "tis") words) (path_if_given (codes "payees") words) (path_given (codes "cwr") words) (path_given (codes "usage") words) failure
+    IsOfPaths holds refuses (path_given run_app (codes "tis") words) (path_if_given run_app (codes "payees") words) (path_given run_app (codes "cwr") words) (path_given run_app (codes "usage") words) failure
+
+-- an explanation over the files of these paths fails for what a run over them fails for, or since the usage list has no such row
+abbrev pub IsUnexplained : (holds : List ℕ → List ℕ → Type 0) (refuses : List ℕ → io.ErrorKind → Type 0) (tis : List ℕ) (payees : Option (List ℕ)) (cwr usage : List ℕ) (row : ℕ) → Failure → Type 0
+IsUnexplained holds refuses tis payees cwr usage row (Row beyond) = (beyond ≡ row) × HasNoRowOver holds tis payees cwr usage row
+IsUnexplained holds refuses tis payees cwr usage row failure = IsOfPaths holds refuses tis payees cwr usage failure
+
+-- and its words for that, or for themselves where clap does not accept them
+abbrev pub IsOfExplanation : (holds : List ℕ → List ℕ → Type 0) (refuses : List ℕ → io.ErrorKind → Type 0) → List (List ℕ) → Failure → Type 0
+IsOfExplanation holds refuses words (Words error) = ¬ AreAccepted explain_app words
+IsOfExplanation holds refuses words failure =
+    IsUnexplained holds refuses (path_given explain_app (codes "tis") words) (path_if_given explain_app (codes "payees") words) (path_given explain_app (codes "cwr") words) (path_given explain_app (codes "usage") words)
+    (number_given explain_app (codes "row") words) failure
 
 -- a division fails for its pairs, which then have that fault, for other words, or for lack of memory
 abbrev pub IsOfDivision : List (List ℕ) → Failure → Type 0
@@ -120,6 +137,7 @@ pub record FailFor (holds : List ℕ → List ℕ → Type 0) (refuses : List �
   pub refusal : IsRefusal failure
   pub division : IsDivision words → IsOfDivision words failure
   pub run : word_at words 1 ≡ codes "run" → IsOfRun holds refuses (drop 1 words) failure
+  pub explanation : word_at words 1 ≡ codes "explain" → IsOfExplanation holds refuses (drop 1 words) failure
 
 -- lack of memory is no fault of the pairs
 abbrev pub failure_of_fault : PairFault → Failure

@@ -5,7 +5,7 @@ ghost use Rattle.std.specs.Io.KnownBytes.{Appends, Keeps};
 ghost use Rattle.royalty_program.specs.Asked.{AreRun, IsDivision};
 ghost use Rattle.royalty_program.specs.Answered.{IsAnswered};
 ghost use Rattle.royalty_program.specs.Files.{for_any_error, on_disk};
-ghost use Rattle.royalty_program.specs.Status.{FailFor, IsOfDivision, IsOfRun, IsRefusal, failure_of_kind, status_of};
+ghost use Rattle.royalty_program.specs.Status.{FailFor, IsOfDivision, IsOfExplanation, IsOfRun, IsRefusal, failure_of_kind, status_of};
 ghost use Rattle.royalty_program.specs.declared.failure.Failure.{Failure};
 ghost use Rattle.royalty_program.specs.declared.failure.Failure.TheVariants.{Output, Room};
 ghost use Rattle.pair_split.specs.Pair.{word_at};
@@ -14,7 +14,7 @@ ghost use Rattle.std.specs.Vec.Iter.{into_iter_items};
 
 use crate::commands::{Asked, read_words};
 use crate::failure::Failure;
-use crate::files::{Disk, Source, settle_files};
+use crate::files::{Disk, Source, explain_files, settle_files};
 use clap::error::ErrorKind;
 use pair_split::split_words;
 use std::alloc::Global;
@@ -87,7 +87,7 @@ fn end<W: Write, E: Write>(answer: Result<io::Result<()>, Failure>, out: &mut W,
     }
 }
 
-/// Prints the rows of a division, the statements of a run over these files, or help.
+/// Prints the rows of a division, the statements of a run or the explanation of a usage line over these files, or help.
 fn answer<R: Threads + Wait + Sync, S: Source, W: Write>(
     rt: &R,
     alloc: Global,
@@ -99,6 +99,7 @@ fn answer<R: Threads + Wait + Sync, S: Source, W: Write>(
         × IsAnswered (S.holds files.now) (map string_bytes words.now) text)) }
     ensures failure { IfErr result IsRefusal }
     ensures run { word_at (map string_bytes words.now) 1 ≡ codes "run" → IfErr result (IsOfRun (S.holds files.now) (S.refuses files.now) (drop 1 (map string_bytes words.now))) }
+    ensures explanation { word_at (map string_bytes words.now) 1 ≡ codes "explain" → IfErr result (IsOfExplanation (S.holds files.now) (S.refuses files.now) (drop 1 (map string_bytes words.now))) }
     ensures pairs { IsDivision (map string_bytes words.now) → IfErr result (IsOfDivision (map string_bytes words.now)) }
     ensures silent { IfErr result (λ _. out.new ≡ out.old) }
 {
@@ -110,6 +111,10 @@ fn answer<R: Threads + Wait + Sync, S: Source, W: Write>(
             }
         }
         Ok(Asked::Run(asked)) => settle_files(rt, alloc, files, asked, out),
+        Ok(Asked::Explanation(asked)) => {
+            let text = explain_files(alloc, files, asked)?;
+            Ok(out.write_all(text.as_slice()))
+        }
         Err(error) if error.kind() == ErrorKind::OutOfMemory => Err(Failure::Room),
         Err(error) if error.use_stderr() => Err(Failure::Words(error)),
         Err(help) => match format!(in alloc; "{help}") {

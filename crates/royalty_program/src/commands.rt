@@ -4,9 +4,12 @@ ghost use Rattle.std.specs.Prelude.{◌≡◌, ◌≢◌, IfOk, IfErr, codes, dr
 ghost use Rattle.clap.specs.Words.{kind_of};
 ghost use Rattle.clap.specs.declared.error.kind.ErrorKind.TheVariants as kinds;
 ghost use Rattle.royalty_program.specs.Asked.{IsDivision, IsErrorOf, IsRun};
-ghost use Rattle.royalty_program.specs.Answered.{IsDivisionOf, IsInRange, IsNamedBy, IsRunInOrder, IsRunOf};
+ghost use Rattle.royalty_program.specs.ExplainCommand.{explain_app};
+ghost use Rattle.royalty_program.specs.RunCommand.{run_app};
+ghost use Rattle.royalty_program.specs.Answered.{IsDivisionOf, IsExplanationAsked, IsInRange, IsNamedBy, IsRunInOrder, IsRunOf};
 ghost use Rattle.pair_split.specs.Pair.{word_at};
 
+use crate::explain_command::{ExplainWords, explain_command, read_explain};
 use crate::run_command::{RunWords, read_run, run_command};
 use crate::split_command::{SplitWords, read_split, split_command};
 use clap::error::ErrorKind;
@@ -19,8 +22,9 @@ const VERSION: &str = "0.1.0\nlogic dac8208d650f15bf";
 
 /// What stands below the help of the whole program.
 const HELP: &str = "\
-`royalty_run run --help` says what the files of a distribution run have in them, and
-`royalty_run split --help` how an amount is divided.
+`royalty_run run --help` says what the files of a distribution run have in them,
+`royalty_run explain --help` how one usage line is explained, and `royalty_run split --help` how an
+amount is divided.
 
 A refusal has a number and a place: the table of faults in docs/FORMATS.md says what to mend.
 
@@ -38,6 +42,8 @@ pub enum Asked {
     Division(SplitWords),
     /// A distribution run.
     Run(RunWords),
+    /// The explanation of a usage line.
+    Explanation(ExplainWords),
 }
 
 /// Reads the words of the command line, the first of which is the program's own name.
@@ -46,8 +52,10 @@ pub fn read_words(alloc: Global, words: &[String]) -> Result<Asked, Error>
     ensures in_range { IfOk result IsInRange }
     ensures division { IsDivision (map string_bytes words.now) → IfOk result (IsDivisionOf (map string_bytes words.now)) }
     ensures run { word_at (map string_bytes words.now) 1 ≡ codes "run" → IfOk result (IsRunOf (map string_bytes words.now)) }
+    ensures explanation { word_at (map string_bytes words.now) 1 ≡ codes "explain" → IfOk result (IsExplanationAsked (map string_bytes words.now)) }
+    ensures unexplained { word_at (map string_bytes words.now) 1 ≡ codes "explain" → IfErr result (IsErrorOf explain_app (drop 1 (map string_bytes words.now))) }
     ensures in_order { (run : IsRun (map string_bytes words.now)) → IfOk result (IsRunInOrder (map string_bytes words.now) run.options) }
-    ensures error { word_at (map string_bytes words.now) 1 ≡ codes "run" → IfErr result (IsErrorOf (drop 1 (map string_bytes words.now))) }
+    ensures error { word_at (map string_bytes words.now) 1 ≡ codes "run" → IfErr result (IsErrorOf run_app (drop 1 (map string_bytes words.now))) }
     ensures no_help { IsDivision (map string_bytes words.now) → IfErr result (λ error. (kind_of error ≢ kinds.DisplayHelp) × (kind_of error ≢ kinds.DisplayVersion)) }
 {
     if words.len() < 2 {
@@ -56,6 +64,7 @@ pub fn read_words(alloc: Global, words: &[String]) -> Result<Asked, Error>
     match word(words, 1) {
         "split" => Ok(Asked::Division(read_split(alloc, &words[1..])?)),
         "run" => Ok(Asked::Run(read_run(alloc, &words[1..])?)),
+        "explain" => Ok(Asked::Explanation(read_explain(alloc, &words[1..])?)),
         _ => Err(refusal(alloc, words)?),
     }
 }
@@ -70,6 +79,7 @@ fn refusal(alloc: Global, words: &[String]) -> Result<Error, AllocError> {
         .subcommand_required(true)
         .arg_required_else_help(true)
         .subcommand(run_command(alloc)?)?
+        .subcommand(explain_command(alloc)?)?
         .subcommand(split_command(alloc)?)?;
     match whole.try_get_matches_from_mut(words) {
         Err(error) => Ok(error),

@@ -22,6 +22,8 @@ pub enum Failure {
     Pairs(PairFault),
     /// An input of a run is refused.
     Input(Fault),
+    /// The usage list has no row with this number.
+    Row(u64),
     /// Memory was refused.
     Room,
     /// The file of this path cannot be read, or is too large.
@@ -52,6 +54,7 @@ impl fmt::Display for Failure {
             Failure::Input(Fault::Usage(fault)) => {
                 write_fault(f, "usage", fault.number(), "row ", fault.place())
             }
+            Failure::Row(row) => { write!(f, "royalty_run: the usage list has no row {row}\n") }
             Failure::Input(Fault::Room) | Failure::Room => {
                 f.write_str("royalty_run: out of room\n")
             }
@@ -120,7 +123,7 @@ impl Failure {
     {
         match self {
             Failure::Input(_) => 1,
-            Failure::Words(_) | Failure::NotText | Failure::Pairs(_) => 2,
+            Failure::Words(_) | Failure::NotText | Failure::Pairs(_) | Failure::Row(_) => 2,
             Failure::Room => 3,
             Failure::File(_) | Failure::Output => 4,
         }

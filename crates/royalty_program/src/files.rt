@@ -5,11 +5,13 @@ ghost use Rattle.std.specs.IoError.{error_kind};
 ghost use Rattle.std.specs.Prelude.{◌≡◌, ◌<◌, ◌≤◌, ◌↔◌, ℕ, List, Option, IfOk, IfErr, IfSome, IsSome, IsTrue, OnOk, length, string_bytes};
 ghost use Rattle.std.specs.Option.{option_map};
 ghost use Rattle.std.specs.declared.io.ErrorKind.{ErrorKind};
-ghost use Rattle.royalty_program.specs.Files.{AreStatementsOver, HaveNoFaultOver, HoldsIfGiven, for_any_error, on_disk};
-ghost use Rattle.royalty_program.specs.Status.{IsOfFile, IsOfPaths, IsRefusal, failure_of_file};
+ghost use Rattle.royalty_program.specs.Files.{AreRead, AreStatementsOver, HaveNoFaultOver, HoldsIfGiven, IsExplanationOver, for_any_error, on_disk};
+ghost use Rattle.royalty_program.specs.Status.{IsOfFile, IsOfPaths, IsRefusal, IsUnexplained, failure_of_file};
 
+use crate::explain_command::ExplainWords;
 use crate::failure::Failure;
 use crate::run_command::RunWords;
+use explain_line::explain;
 use settle_run::settle_to;
 use std::alloc::Global;
 use std::fs::{self, OpenFile};
@@ -100,14 +102,73 @@ pub fn settle_files<R: Threads + Wait + Sync, S: Source, W: Write>(
         usage,
         plan,
     } = asked;
-    let tis = read_file(files, alloc, tis)?;
-    let payees = read_if_given(files, alloc, payees)?;
-    let cwr = read_file(files, alloc, cwr)?;
-    let usage = read_file(files, alloc, usage)?;
+    let (tis, payees, cwr, usage) = read_all(files, alloc, tis, payees, cwr, usage)?;
     match settle_to(rt, alloc, tis, payees, cwr, usage, plan, out) {
         Ok(printed) => Ok(printed),
         Err(fault) => Err(Failure::from(fault)),
     }
+}
+
+/// The explanation of a usage line over the files of a run. All are read, in the order of the fields, before any is parsed.
+pub fn explain_files<S: Source>(
+    alloc: Global,
+    files: &S,
+    asked: ExplainWords,
+) -> Result<Vec<u8>, Failure>
+    ensures explanation { IfOk result (λ text. IsExplanationOver (S.holds files.now) (string_bytes asked.tis) (option_map string_bytes asked.payees) (string_bytes asked.cwr) (string_bytes asked.usage) asked.row text.items) }
+    ensures failure { IfErr result IsRefusal }
+    ensures files { IfErr result (IsUnexplained (S.holds files.now) (S.refuses files.now) (string_bytes asked.tis) (option_map string_bytes asked.payees) (string_bytes asked.cwr) (string_bytes asked.usage) asked.row) }
+{
+    let ExplainWords {
+        tis,
+        payees,
+        cwr,
+        usage,
+        row,
+    } = asked;
+    let (tis, payees, cwr, usage) = read_all(files, alloc, tis, payees, cwr, usage)?;
+    match explain(
+        alloc,
+        tis.as_slice(),
+        lent(&payees),
+        cwr.as_slice(),
+        usage.as_slice(),
+        row,
+    ) {
+        Ok(Some(text)) => Ok(text),
+        Ok(None) => Err(Failure::Row(row)),
+        Err(fault) => Err(Failure::from(fault)),
+    }
+}
+
+/// The bytes of a file, where there is one.
+fn lent(file: &Option<Vec<u8>>) -> Option<&[u8]>
+    ensures { option_map (λ bytes. bytes.now) result ≡ option_map (λ bytes. bytes.items) file.now }
+{
+    match file {
+        Some(bytes) => Some(bytes.as_slice()),
+        None => None,
+    }
+}
+
+/// The bytes of the files of these paths, read in this order.
+fn read_all<S: Source>(
+    files: &S,
+    alloc: Global,
+    tis: String,
+    payees: Option<String>,
+    cwr: String,
+    usage: String,
+) -> Result<(Vec<u8>, Option<Vec<u8>>, Vec<u8>, Vec<u8>), Failure>
+    ensures read { IfOk result (λ bytes. AreRead (S.holds files.now) (string_bytes tis) (option_map string_bytes payees) (string_bytes cwr) (string_bytes usage) bytes.0.items (option_map (λ file. file.items) bytes.1) bytes.2.items bytes.3.items) }
+    ensures failure { IfErr result IsRefusal }
+    ensures files { IfErr result (IsOfPaths (S.holds files.now) (S.refuses files.now) (string_bytes tis) (option_map string_bytes payees) (string_bytes cwr) (string_bytes usage)) }
+{
+    let tis = read_file(files, alloc, tis)?;
+    let payees = read_if_given(files, alloc, payees)?;
+    let cwr = read_file(files, alloc, cwr)?;
+    let usage = read_file(files, alloc, usage)?;
+    Ok((tis, payees, cwr, usage))
 }
 
 /// The bytes of the file of a path, where there is one.

@@ -3,8 +3,10 @@
 
 mod answering;
 mod commands;
+mod explain_command;
 mod failure;
 mod files;
+mod options;
 mod run_command;
 mod split_command;
 

@@ -1,16 +1,12 @@
 //! The grammar of the command `run`, and what its words ask for.
 
-ghost use Rattle.std.specs.Prelude.{◌≡◌, IfOk, IfErr, Some, codes, false, map, string_bytes};
-ghost use Rattle.std.specs.Option.{option_map};
-ghost use Rattle.clap.specs.declared.builder.value_parser.ValueParser.TheVariants as vp;
+ghost use Rattle.std.specs.Prelude.{IfOk, IfErr, map, string_bytes};
 ghost use Rattle.royalty_program.specs.Asked.{IsErrorOf};
 ghost use Rattle.royalty_program.specs.Answered.{AreReadFrom};
-ghost use Rattle.clap.specs.Words.{rule_of};
-ghost use Rattle.royalty_program.specs.RequiredArg.{IsOptionalArg, IsRequiredArg};
-ghost use Rattle.royalty_program.specs.RunCommand.{IsRunCommand, file_rule, optional_rule};
+ghost use Rattle.royalty_program.specs.RunCommand.{IsRunCommand, run_app};
 
-use clap::builder::ValueParser;
-use clap::{Arg, ArgAction, Command, Error, value_parser};
+use crate::options::{file_arg, kept, number_arg, optional_file_arg};
+use clap::{Command, Error, value_parser};
 use split_run::Plan;
 use std::alloc::{AllocError, Global};
 
@@ -58,7 +54,7 @@ pub struct RunWords {
 /// division are.
 pub fn read_run(alloc: Global, words: &[String]) -> Result<RunWords, Error>
     ensures read { IfOk result (AreReadFrom (map string_bytes words.now)) }
-    ensures error { IfErr result (IsErrorOf (map string_bytes words.now)) }
+    ensures error { IfErr result (IsErrorOf run_app (map string_bytes words.now)) }
 {
     let matches = run_command(alloc)?.try_get_matches_from(words)?;
     let tis = String::from_str(alloc, matches.get_str("tis").unwrap())?;
@@ -76,16 +72,6 @@ pub fn read_run(alloc: Global, words: &[String]) -> Result<RunWords, Error>
         usage,
         plan,
     })
-}
-
-/// A text of its own, where there is one.
-fn kept(alloc: Global, text: Option<&str>) -> Result<Option<String>, AllocError>
-    ensures { IfOk result (λ kept. option_map string_bytes kept ≡ option_map (λ text. text.now) text.entry) }
-{
-    match text {
-        Some(text) => Ok(Some(String::from_str(alloc, text)?)),
-        None => Ok(None),
-    }
 }
 
 pub fn run_command<'a>(alloc: Global) -> Result<Command<'a>, AllocError>
@@ -121,44 +107,4 @@ pub fn run_command<'a>(alloc: Global) -> Result<Command<'a>, AllocError>
             value_parser!(u64).range(1..=64),
             "How many postings a worker has under way to an account at most: 1 to 64",
         ))
-}
-
-/// A required option whose value is the path of a file.
-fn file_arg<'a>(alloc: Global, name: &'a str, help: &'a str) -> Arg<'a>
-    ensures needed { IsRequiredArg name.entry.now result }
-    ensures rule { rule_of result ≡ file_rule name.entry.now }
-{
-    Arg::new(alloc, name)
-        .long(name)
-        .value_name("F")
-        .help(help)
-        .required(true)
-        .action(ArgAction::Set)
-}
-
-/// An option whose value is the path of a file, and which need not be there.
-fn optional_file_arg<'a>(alloc: Global, name: &'a str, help: &'a str) -> Arg<'a>
-    ensures optional { IsOptionalArg name.entry.now result }
-    ensures rule { rule_of result ≡ optional_rule name.entry.now }
-{
-    Arg::new(alloc, name)
-        .long(name)
-        .value_name("F")
-        .help(help)
-        .action(ArgAction::Set)
-}
-
-/// A required option whose value is a number, of which clap checks that the parser takes it.
-fn number_arg<'a>(alloc: Global, name: &'a str, parser: ValueParser<'a>, help: &'a str) -> Arg<'a>
-    ensures needed { IsRequiredArg name.entry.now result }
-    ensures in_range { result.value_parser ≡ Some parser.entry }
-    ensures rule { rule_of result ≡ record (file_rule name.entry.now) { parser = Some parser.entry } }
-{
-    Arg::new(alloc, name)
-        .long(name)
-        .value_name("n")
-        .help(help)
-        .required(true)
-        .action(ArgAction::Set)
-        .value_parser(parser)
 }

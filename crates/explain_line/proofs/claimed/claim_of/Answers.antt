@@ -1,5 +1,4 @@
-use Rattle.std.proofs.Common.{◌≡◌, ◌+◌, arith, drop}
-use Rattle.cwr_share.specs.ClaimsOn.{claim_of}
+use Rattle.std.proofs.Common.{arith}
 use Rattle.explain_line.proofs.ClaimedLemmas.{claim_end, claim_from, nothing}
 use Rattle.explain_line.proofs.claimed.claim_of.Goals as goal
 

@@ -1,12 +1,12 @@
 use mir.Val.{SFits}
-use Rattle.std.proofs.Common.{◌≡◌, ◌<◌, ◌++◌, ◌∙◌, ℕ, ℤ, List, ap, append_assoc, arith, length, map, of_z, rules, subst, take, to_z, unsigned_abs, w64}
+use Rattle.std.proofs.Common.{◌≡◌, ◌<◌, ◌++◌, ◌∙◌, ℕ, ℤ, List, ap, append_assoc, arith, length, map, of_z, rules, take, to_z, unsigned_abs, w64}
 use Rattle.std.specs.List.{enumerate_from}
 use Rattle.std.proofs.lemmas.Int.{to_z-of_z}
 use Rattle.std.proofs.lemmas.List.{take_all}
 use Rattle.csv_table.specs.Written.{text_of, text_of_row}
 use Rattle.line_split.specs.Claims.{participants_of}
 use Rattle.line_split.proofs.ClaimLemmas.{length-participants}
-use Rattle.explain_line.specs.Explanation.{base_row, division_rows, participant_row}
+use Rattle.explain_line.specs.Explanation.{base_row, participant_row}
 use Rattle.explain_line.proofs.RowLemmas.{rows_more}
 use Rattle.explain_line.proofs.rows.write_division.Goals as goal
 

@@ -6,4 +6,4 @@ use Rattle.royalty_program.proofs.answering.program.Goals as goal
 
 pub returns-clause-failed : goal.returns-clause-failed
 returns-clause-failed g c = ends_with c.answer-printed.result c.end.result on_disk for_any_error (map string_bytes c.args.words.now)
-    c.end.ensures.failed c.end.ensures.answered c.answer-printed.ensures.failure c.answer-printed.ensures.pairs c.answer-printed.ensures.run
+    c.end.ensures.failed c.end.ensures.answered c.answer-printed.ensures.failure c.answer-printed.ensures.pairs c.answer-printed.ensures.run c.answer-printed.ensures.explanation

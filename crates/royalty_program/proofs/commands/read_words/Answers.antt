@@ -1,7 +1,7 @@
 use Rattle.std.proofs.Common.{All, map, drop, ap, ◌∙◌}
 use Rattle.std.specs.Prelude.{string_bytes}
 use Rattle.royalty_program.specs.Asked.{IsValue, number_in}
-use Rattle.royalty_program.specs.Answered.{AreReadFrom}
+use Rattle.royalty_program.specs.Answered.{AreExplainedFrom, AreReadFrom}
 use Rattle.royalty_program.proofs.RunLemmas.{read_in_order}
 use Rattle.royalty_program.proofs.Shifted.{mapped_others, one_on, others, third, two_on}
 use Rattle.royalty_program.proofs.commands.read_words.Goals as goal
@@ -25,3 +25,9 @@ returns-in_ok-read_run-in-run-clause-in_order c asked =
     let words = c.args.words.now in
     let read : AreReadFrom (map string_bytes (others words)) c.in_ok-read_run-in-run.field-0 = c.in_ok-read_run-in-run.ensures.read in
     read_in_order (drop 1 (map string_bytes words)) c.in_ok-read_run-in-run.field-0 asked.options (rw (mapped_others string_bytes words) at read)
+
+pub returns-in_ok-read_explain-in-explain-clause-explanation : goal.returns-in_ok-read_explain-in-explain-clause-explanation
+returns-in_ok-read_explain-in-explain-clause-explanation c command =
+    let words = c.args.words.now in
+    let read : AreExplainedFrom (map string_bytes (others words)) c.in_ok-read_explain-in-explain.field-0 = c.in_ok-read_explain-in-explain.ensures.read in
+    rw (mapped_others string_bytes words) at read

@@ -7,7 +7,8 @@ use Rattle.clap.specs.declared.builder.command.Command.TheOpen.{Command-F}
 use Rattle.clap.specs.declared.builder.value_parser.ValueParser.TheVariants as vp
 use Rattle.split_run.specs.declared.TheConstants.{MOST_NODES, MOST_THREADS}
 use Rattle.royalty_program.specs.RunCommand.{IsRunCommand}
-use Rattle.royalty_program.proofs.RunLemmas.{HasArgs, adds_seven, has_none, narrowed}
+use Rattle.royalty_program.proofs.OptionLemmas.{HasArgs, has_none, narrowed}
+use Rattle.royalty_program.proofs.RunLemmas.{adds_seven}
 use Rattle.royalty_program.proofs.run_command.run_command.Goals as goal
 
 -- the command has no argument at first

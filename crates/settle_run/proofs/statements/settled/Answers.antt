@@ -10,27 +10,27 @@ use Rattle.settle_run.proofs.statements.settled.Goals as goal
 
 pub reasons_of-requires : goal.reasons_of-requires
 reasons_of-requires g c =
-    let some : 0 < length c.in_ok-book.book = omega (arith, some_accounts c.args.registry.now c.requires.sound, c.in_ok-book.ensures.book.whole) in
+    let some : 0 < length c.in-Ok.book = omega (arith, some_accounts c.args.registry.now c.requires.sound, c.in-Ok.ensures.book.whole) in
     rw c.lines.ensures.postings
-    (book_lines_below (division_by c.args.tis.now c.args.registry.now) c.args.usage.now (length c.args.registry.now.parties) c.in_ok-book.book c.in_ok-book.ensures.book 0 [] some)
+    (book_lines_below (division_by c.args.tis.now c.args.registry.now) c.args.usage.now (length c.args.registry.now.parties) c.in-Ok.book c.in-Ok.ensures.book 0 [] some)
 
 pub returns-clause-lines : goal.returns-clause-lines
 returns-clause-lines g c =
-    book_lines_below (division_by c.args.tis.now c.args.registry.now) c.args.usage.now (length c.args.registry.now.parties) c.in_ok-book.book c.in_ok-book.ensures.book
+    book_lines_below (division_by c.args.tis.now c.args.registry.now) c.args.usage.now (length c.args.registry.now.parties) c.in-Ok.book c.in-Ok.ensures.book
 
 pub returns-clause-statements : goal.returns-clause-statements
 returns-clause-statements g c =
     let table = c.args.tis.now in
     let registered = c.args.registry.now in
     let lines = c.args.usage.now in
-    let book = c.in_ok-book.book in
+    let book = c.in-Ok.book in
     let reasons = c.in_ok-reasons.reasons.items in
     let owns = map (reason_of table registered) lines in
     let residue : residue_rows lines reasons (get_or book 0 []) ≡ residue_rows lines owns (get_or book 0 []) =
     subst (λ postings. residue_rows lines reasons postings ≡ residue_rows lines owns postings) c.lines.ensures.postings c.in_ok-reasons.ensures.rows in
     record {
       statements = book;
-      divided = c.in_ok-book.ensures.book;
-      adds_up = c.in_ok-book.ensures.adds_up;
+      divided = c.in-Ok.ensures.book;
+      adds_up = c.in-Ok.ensures.adds_up;
       rows = ap text_of (book_rows_same book lines registered.parties reasons owns residue);
     }

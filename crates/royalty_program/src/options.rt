@@ -1,0 +1,66 @@
+//! Options that several commands have.
+
+ghost use Rattle.std.specs.Option.{option_map};
+ghost use Rattle.std.specs.Prelude.{◌≡◌, IfOk, Some, string_bytes};
+ghost use Rattle.clap.specs.Words.{rule_of};
+ghost use Rattle.royalty_program.specs.RequiredArg.{IsOptionalArg, IsRequiredArg};
+ghost use Rattle.royalty_program.specs.RunCommand.{file_rule, optional_rule};
+
+use clap::builder::ValueParser;
+use clap::{Arg, ArgAction};
+use std::alloc::{AllocError, Global};
+
+/// A required option whose value is the path of a file.
+pub(crate) fn file_arg<'a>(alloc: Global, name: &'a str, help: &'a str) -> Arg<'a>
+    ensures needed { IsRequiredArg name.entry.now result }
+    ensures rule { rule_of result ≡ file_rule name.entry.now }
+{
+    Arg::new(alloc, name)
+        .long(name)
+        .value_name("F")
+        .help(help)
+        .required(true)
+        .action(ArgAction::Set)
+}
+
+/// An option whose value is the path of a file, and which need not be there.
+pub(crate) fn optional_file_arg<'a>(alloc: Global, name: &'a str, help: &'a str) -> Arg<'a>
+    ensures optional { IsOptionalArg name.entry.now result }
+    ensures rule { rule_of result ≡ optional_rule name.entry.now }
+{
+    Arg::new(alloc, name)
+        .long(name)
+        .value_name("F")
+        .help(help)
+        .action(ArgAction::Set)
+}
+
+/// A required option whose value is a number, of which clap checks that the parser takes it.
+pub(crate) fn number_arg<'a>(
+    alloc: Global,
+    name: &'a str,
+    parser: ValueParser<'a>,
+    help: &'a str,
+) -> Arg<'a>
+    ensures needed { IsRequiredArg name.entry.now result }
+    ensures in_range { result.value_parser ≡ Some parser.entry }
+    ensures rule { rule_of result ≡ record (file_rule name.entry.now) { parser = Some parser.entry } }
+{
+    Arg::new(alloc, name)
+        .long(name)
+        .value_name("n")
+        .help(help)
+        .required(true)
+        .action(ArgAction::Set)
+        .value_parser(parser)
+}
+
+/// A text of its own, where there is one.
+pub(crate) fn kept(alloc: Global, text: Option<&str>) -> Result<Option<String>, AllocError>
+    ensures { IfOk result (λ kept. option_map string_bytes kept ≡ option_map (λ text. text.now) text.entry) }
+{
+    match text {
+        Some(text) => Ok(Some(String::from_str(alloc, text)?)),
+        None => Ok(None),
+    }
+}
