@@ -1,4 +1,5 @@
 pub mod Forms
+pub mod ReadOn
 pub mod Table
 pub mod Walk
 pub mod Written

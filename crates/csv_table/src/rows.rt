@@ -3,7 +3,7 @@
 //! It is the crate `csv` with its default settings and no header handling: the first row is a row
 //! like any other, and rows may have any number of fields.
 
-ghost use Rattle.std.specs.Prelude.{◌≡◌, ◌∷◌, ◌↔◌, [], true, false, IfOk, OnErr, IsTrue, length, map, slice_index_or};
+ghost use Rattle.std.specs.Prelude.{◌≡◌, ◌≤◌, ◌+◌, ◌∷◌, ◌↔◌, [], true, false, IfOk, OnErr, IsTrue, length, map, slice_index_or};
 ghost use Rattle.csv_table.specs.Table.{rows_of};
 
 use csv::{ByteRecord, Reader, ReaderBuilder};
@@ -38,6 +38,7 @@ impl<'a> Rows<'a> {
     pub fn of(alloc: Global, text: &'a [u8]) -> Rows<'a>
         ensures left { result.left ≡ rows_of text.now }
         ensures row { result.row ≡ [] }
+        ensures few { length result.left ≤ length text.now + 1 }
     {
         Rows {
             reader: ReaderBuilder::new()

@@ -1,5 +1,6 @@
 -- Rows are a table of territories in one way only, and a table has no fault but lack of memory.
-use Rattle.std.proofs.Common.{◌≡◌, ◌≤◌, ◌<◌, ◌+◌, ℕ, List, ◌∷◌, ◌++◌, length, map, ap, refl, subst, inl, inr, arith, length-append}
+use Rattle.std.proofs.Common.{◌≡◌, ◌<◌, ◌+◌, ℕ, List, ◌∷◌, ◌++◌, length, map, ap, refl, subst, inl, inr, arith, length-append}
+use Rattle.std.proofs.lemmas.List.{length-map}
 use Rattle.std.proofs.Math.Seq.{get_or-append_seam, take-append_seam}
 use Rattle.tis_tree.specs.TisRows.{AreRows, IsFaultOf, IsFaultOfRow, IsFirstFault, IsTableOf, IsTerritory, territory_of}
 use Rattle.tis_tree.specs.declared.TheConstants.{MOST_ROWS}
@@ -14,7 +15,7 @@ one_table rows table other is too =
 
 -- a row that is a territory is refused for nothing but lack of memory
 sound_row : (earlier : List (ℕ × List ℕ)) (row : List (List ℕ)) (number : ℕ) (fault : TisFault)
-    → IsTerritory earlier row → number ≤ MOST_ROWS → IsFaultOfRow earlier number row fault → fault ≡ Memory
+    → IsTerritory earlier row → length earlier < MOST_ROWS → IsFaultOfRow earlier number row fault → fault ≡ Memory
 sound_row earlier row number (Csv n) good few refused = absurd (refused.2 good.whole)
 sound_row earlier row number (Code n) good few refused = absurd (refused.3 good.code)
 sound_row earlier row number (Twice n) good few refused = absurd (good.new refused.4)
@@ -35,7 +36,7 @@ no_first_fault rows table fault is first =
     let same : is.below ≡ first.before ++ first.row ∷ first.after = cc in
     sound_row (map territory_of first.before) first.row (length first.before + 1) fault
     (row_between first.before first.row first.after (subst AreRows same is.sound))
-    (omega (arith, is.few, ap length same, length-append first.before (first.row ∷ first.after)))
+    (omega (arith, is.few, ap length same, length-append first.before (first.row ∷ first.after), length-map first.before territory_of))
     first.refused
 
 -- rows that are a table are refused for nothing but lack of memory

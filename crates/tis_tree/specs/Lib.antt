@@ -1,3 +1,4 @@
 pub mod Territories
+pub mod TisReading
 pub mod TisRows
 pub mod Compiled

@@ -61,15 +61,15 @@ pub record IsTableOf (rows : List (List (List ℕ))) (table : List (ℕ × List 
   pub sound : AreRows below
   pub same : table ≡ map territory_of below
 
--- what a row is refused for, by its number: the first thing, in this order, that is not as it has to be. Memory may be refused in the middle of the groups.
+-- what a row is refused for, by its number and the earlier rows: the first thing, in this order, that is not as it has to be. Memory may be refused in the middle of the groups.
 abbrev pub IsFaultOfRow : List (ℕ × List ℕ) → ℕ → List (List ℕ) → TisFault → Type 0
-IsFaultOfRow earlier number row Rows = MOST_ROWS < number
-IsFaultOfRow earlier number row (Csv n) = (n ≡ number) × (number ≤ MOST_ROWS) × (¬ (length row ≡ length header))
-IsFaultOfRow earlier number row (Code n) = (n ≡ number) × (number ≤ MOST_ROWS) × (length row ≡ length header) × (¬ HasCode row)
+IsFaultOfRow earlier number row Rows = MOST_ROWS ≤ length earlier
+IsFaultOfRow earlier number row (Csv n) = (n ≡ number) × (length earlier < MOST_ROWS) × (¬ (length row ≡ length header))
+IsFaultOfRow earlier number row (Code n) = (n ≡ number) × (length earlier < MOST_ROWS) × (length row ≡ length header) × (¬ HasCode row)
 IsFaultOfRow earlier number row (Twice n) =
-    (n ≡ number) × (number ≤ MOST_ROWS) × (length row ≡ length header) × HasCode row × IsKnown earlier (number_of (code_field row))
+    (n ≡ number) × (length earlier < MOST_ROWS) × (length row ≡ length header) × HasCode row × IsKnown earlier (number_of (code_field row))
 IsFaultOfRow earlier number row (Group n) =
-    (n ≡ number) × (number ≤ MOST_ROWS) × (length row ≡ length header) × HasCode row × (¬ IsKnown earlier (number_of (code_field row)))
+    (n ≡ number) × (length earlier < MOST_ROWS) × (length row ≡ length header) × HasCode row × (¬ IsKnown earlier (number_of (code_field row)))
     × (¬ HasGroups earlier row)
 IsFaultOfRow earlier number row Memory = ⊤
 

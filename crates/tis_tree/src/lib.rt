@@ -5,11 +5,13 @@ mod code;
 pub mod laws;
 mod places;
 mod tis_fault;
+mod tis_reader;
 mod tis_table;
 mod words;
 
 pub use code::Code;
 pub use tis_fault::TisFault;
+pub use tis_reader::TisReader;
 pub use tis_table::TisTable;
 
 /// The most rows that a table has.

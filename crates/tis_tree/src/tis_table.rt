@@ -1,11 +1,11 @@
 //! The table of territories, with what contains what worked out as it is read.
 
-ghost use Rattle.std.specs.Prelude.{◌≡◌, ◌≤◌, ◌<◌, ◌+◌, ◌↔◌, ◌⊎◌, ◌++◌, ◌∷◌, [], ℕ, true, All, Contains, IfOk, IfErr, IfSome, IfNone, IsTrue, OnOk, length, map};
+ghost use Rattle.std.specs.Prelude.{◌≡◌, ◌≤◌, ◌<◌, ◌+◌, ◌↔◌, ◌⊎◌, ◌++◌, ◌∷◌, [], ℕ, true, All, Contains, IfOk, IfErr, IfSome, IfNone, IsTrue, OnOk, Some, length, map};
 ghost use Rattle.csv_table.specs.Forms.{IsCode, number_of};
-ghost use Rattle.csv_table.specs.Table.{rows_of};
 ghost use Rattle.tis_tree.specs.Compiled.{has_bit};
 ghost use Rattle.tis_tree.specs.Territories.{AreTerritories, Encloses, IsKnown, encloses, row_at};
-ghost use Rattle.tis_tree.specs.TisRows.{IsFaultOf, IsFaultOfRow, IsTableOf, IsTerritory, territory_of, words_of};
+ghost use Rattle.tis_tree.specs.TisRows.{IsFaultOfRow, IsTerritory, place_of_fault, territory_of, words_of};
+ghost use Rattle.tis_tree.specs.declared.tis_fault.TisFault.TheVariants.{Memory};
 
 use crate::places::Places;
 use crate::words::first_word;
@@ -45,29 +45,6 @@ impl Model for TisTable {
 }
 
 impl TisTable {
-    /// Reads a table of territories: CSV with the header `code,groups`. The groups are codes of
-    /// earlier rows, with spaces between them.
-    pub fn read(alloc: Global, bytes: &[u8]) -> Result<TisTable, TisFault>
-        ensures table { IfOk result (IsTableOf (rows_of bytes.now)) }
-        ensures fault { IfErr result (IsFaultOf (rows_of bytes.now)) }
-    {
-        let mut rows = Rows::of(alloc, bytes);
-        if !(rows.next()? && rows.is(&["code", "groups"])) {
-            return Err(TisFault::Csv(0));
-        }
-        let mut table = TisTable::new(alloc)?;
-        for number in 1..=MOST_ROWS as u64 {
-            if !rows.next()? {
-                return Ok(table);
-            }
-            table.add_row(alloc, number, &rows)?;
-        }
-        if rows.next()? {
-            return Err(TisFault::Rows);
-        }
-        Ok(table)
-    }
-
     /// Whether a code has a row.
     pub fn known(&self, code: Code) -> bool
         ensures { IsTrue result ↔ IsKnown self.now code }
@@ -96,7 +73,7 @@ impl TisTable {
     }
 
     /// A table with no rows.
-    fn new(alloc: Global) -> Result<TisTable, AllocError>
+    pub(crate) fn new(alloc: Global) -> Result<TisTable, AllocError>
         ensures { IfOk result (λ table. table ≡ []) }
     {
         let mut places = Vec::new(alloc);
@@ -111,10 +88,16 @@ impl TisTable {
     }
 
     /// Adds the row at hand, which has this number.
-    fn add_row(&mut self, alloc: Global, number: u64, rows: &Rows<'_>) -> Result<(), TisFault>
-        requires { length self.old + 1 ≡ number × (number ≤ MOST_ROWS) }
+    pub(crate) fn add_row(
+        &mut self,
+        alloc: Global,
+        number: u64,
+        rows: &Rows<'_>,
+    ) -> Result<(), TisFault>
+        requires { length self.old < MOST_ROWS }
         ensures added { OnOk result (IsTerritory self.old rows.now.row × (self.new ≡ self.old ++ territory_of rows.now.row ∷ [])) }
         ensures fault { IfErr result (IsFaultOfRow self.old number rows.now.row) }
+        ensures same { IfErr result (λ fault. (fault ≡ Memory) ⊎ ((self.new ≡ self.old) × (place_of_fault fault ≡ Some number))) }
     {
         if rows.len() != 2 {
             return Err(TisFault::Csv(number));

@@ -15,7 +15,7 @@ returns-then-is_some-clause-fault c =
     let (is_code, value) = c.in-Some.ensures.code in
     let found = known_if_found table c.in-Some.code c.place.result c.place.ensures.some c.place.ensures.none in (
       refl,
-      c.requires.1,
+      c.requires,
       omega (arith, c.len.ensures, c.if-len-ne2.false),
       rw c.field.ensures at is_code,
       subst (λ (code : ℕ). IsKnown table code) (value ∙ ap number_of c.field.ensures) (found.0 (sym c.if-is_some.ensures)),
@@ -30,7 +30,7 @@ returns-in_err-groups-clause-fault c =
     let found = known_if_found table c.in-Some.code c.place.result c.place.ensures.some c.place.ensures.none in
     let new = unknown_if_none table c.in-Some.code c.place.result found (sym c.if-is_some.ensures) in
     let new' = subst (λ (code : ℕ). ¬ IsKnown table code) (value ∙ ap number_of c.field.ensures) new in
-    rw (p.1, p.2) (group_fault table c.args.number row c.in_err-groups.field-0.0 c.requires.1 (omega (arith, c.len.ensures, c.if-len-ne2.false)) (rw c.field.ensures at is_code)
+    rw (p.1, p.2) (group_fault table c.args.number row c.in_err-groups.field-0.0 c.requires (omega (arith, c.len.ensures, c.if-len-ne2.false)) (rw c.field.ensures at is_code)
     new' (rw c.field-2.ensures at c.in_err-groups.ensures.fault))
 
 pub push-requires-clause-groups : goal.push-requires-clause-groups

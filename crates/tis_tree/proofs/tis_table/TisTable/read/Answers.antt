@@ -1,18 +1,30 @@
-use Rattle.std.proofs.lemmas.Result.{err_from_is_err_and}
+use Rattle.std.proofs.Common.{[], sym}
 use Rattle.csv_table.specs.Table.{rows_of}
-use Rattle.tis_tree.proofs.TisWalks.{walked_fault, walked_more}
+use Rattle.tis_tree.proofs.TisWalks.{Walked, first_left_out, walked_on, walked_start, walked_table}
 use Rattle.tis_tree.proofs.tis_table.TisTable.read.Goals as goal
+use Rattle.tis_tree.proofs.tis_table.TisTable.read.Goals.{After-next_fault}
 
-pub returns-in_err-add_row-clause-fault : goal.returns-in_err-add_row-clause-fault
-returns-in_err-add_row-clause-fault c =
-    let p = err_from_is_err_and c.from_residual-in_err-add_row.result c.from_residual-in_err-add_row.ensures.1 in
-    let found = c.in_ok-next-2.ensures.found c.if-not-branch.false in
-    rw (p.1, p.2) (walked_fault (rows_of c.args.bytes.now) c.next-in-loop-number.new.self.left c.next-in-loop-number.new.self.row c.loop-number.number c.loop-number.table
-    c.in_err-add_row.field-0.0 (rw found at c.loop-number.invariant) c.in_err-add_row.ensures.fault)
+-- below its header
+begun : (c : After-next_fault) → Walked (rows_of c.args.bytes.now) c.in_ok-reader.reader.left c.in_ok-reader.reader.number c.in_ok-reader.reader.table
+begun c =
+    let from = c.in_ok-reader.reader in
+    let start = c.in_ok-reader.ensures.begun in
+    walked_start (rows_of c.args.bytes.now) from.left from.number from.table (c.in_ok-reader.ensures.headed (sym c.if-not-is_headed.ensures)) (start.0, start.1)
 
-pub loop-number-preserved : goal.loop-number-preserved
-loop-number-preserved c =
-    let found = c.in_ok-next-2.ensures.found c.if-not-branch.false in
-    let (good, grown) = c.in_ok-add_row.ensures.added in
-    walked_more (rows_of c.args.bytes.now) c.next-in-loop-number.new.self.left c.next-in-loop-number.new.self.row c.loop-number.number c.loop-number.table c.add_row.new.self
-    (rw found at c.loop-number.invariant) good grown
+pub returns-in-Some-clause-fault : goal.returns-in-Some-clause-fault
+returns-in-Some-clause-fault c =
+    let start = begun (goal.at.returns-in-Some-clause-fault c).After-next_fault in
+    let from = c.in_ok-reader.reader in
+    let to = c.next_fault.new.self in
+    let on = rw c.in-Some.is at c.in_ok-fault.ensures.fault in
+    first_left_out (rows_of c.args.bytes.now) from.left to.left to.row c.in-Some.fault [] from.number to.number from.table to.table start on
+
+pub returns-in-None-clause-table : goal.returns-in-None-clause-table
+returns-in-None-clause-table c =
+    let start = begun (goal.at.returns-in-None-clause-table c).After-next_fault in
+    let from = c.in_ok-reader.reader in
+    let to = c.next_fault.new.self in
+    let (on, none) = rw c.in-None.is at c.in_ok-fault.ensures.none in
+    rw c.finish.ensures
+    (walked_table (rows_of c.args.bytes.now) to.number to.table
+    (rw none at (walked_on (rows_of c.args.bytes.now) from.left to.left from.number to.number from.table to.table start on)))
