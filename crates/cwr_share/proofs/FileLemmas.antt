@@ -13,7 +13,7 @@ use Rattle.std.proofs.lemmas.List.Elements.{All-cons, All-head, All-nil, All-pus
 use Rattle.std.proofs.lemmas.List.FromFn.{get_or-enumerate_from, length-enumerate_from}
 use Rattle.std.proofs.lemmas.List.Quantifiers.{all_pairs_push}
 use Rattle.std.proofs.lemmas.List.Sums.{AllPass-from_list_all, count_by-le-length, sum_by_push, sum_by-take-le, take_while-cons}
-use Rattle.std.proofs.lemmas.List.{append-nil, get_or_append_left, get_or_push, length-append, length-map, length-set, length_push, reverse-append, same_from_push, take-append-le}
+use Rattle.std.proofs.lemmas.List.{append-nil, get_or_append_left, get_or_push, length-append, length-set, length_push, reverse-append, same_from_push, take-append-le}
 use Rattle.std.proofs.lemmas.Option.{none-some}
 use Rattle.std.proofs.lemmas.Slice.Eq.{bytes_eq-Decides}
 use Rattle.csv_table.proofs.Codes.{code_small}
@@ -21,9 +21,8 @@ use Rattle.csv_table.specs.Forms.{number_of}
 use Rattle.line_split.proofs.Enumerated.{enumerate_from_push}
 use Rattle.line_split.specs.declared.TheConstants.{FULL_SHARE}
 use Rattle.cwr_share.specs.Compiled.{AreWorkNumbers, InterestsRise, WorkNumber}
-use Rattle.cwr_share.specs.CwrFile.{AreSound, HasTooMany, IsFaultOf, IsFaultOfLine, IsFaultOfShare, IsFirstFault, IsOpening, IsShareRecord, IsSound, StandsIn}
+use Rattle.cwr_share.specs.CwrFile.{AreSound, HasTooMany, IsFaultOf, IsFaultOfLine, IsFaultOfShare, IsOpening, IsShareRecord, IsSound, StandsIn}
 use Rattle.cwr_share.specs.Fields.{IsShare, field_of, share_of}
-use Rattle.cwr_share.specs.Lines.{before_line, cut_at_line_feeds, lines_of}
 use Rattle.cwr_share.specs.Reading.{AreShareLines, HasInForce, IsOpenWith, IsReadTo, IsTable, works_of}
 use Rattle.cwr_share.specs.Records.{ends_registration, is_share_line, opens_interest, opens_registration, share_fields, type_of}
 use Rattle.cwr_share.specs.Registered.{IsShareLine}
@@ -32,7 +31,7 @@ use Rattle.cwr_share.specs.declared.numbers.TheConstants.{MOST_WORK_BYTES}
 use Rattle.cwr_share.proofs.FieldLemmas.{field_fits}
 use Rattle.cwr_share.specs.Registrations.{ShareLine, find_work, registrations_of, share_line_of, share_lines_of, shares_in_force, work_of}
 use Rattle.cwr_share.specs.declared.TheConstants.{MOST_SHARES}
-use Rattle.cwr_share.specs.declared.cwr_fault.CwrFault.TheVariants.{Short, Share, Mark, Land, Party, Work, Many, Accounts, Memory}
+use Rattle.cwr_share.specs.declared.cwr_fault.CwrFault.TheVariants.{Accounts, Memory}
 use Rattle.cwr_share.specs.declared.cwr_fault.CwrFault.{CwrFault}
 use Rattle.cwr_share.specs.declared.fields.ShareFields.{ShareFields}
 use Rattle.cwr_share.specs.declared.reading.Open.{Open}
@@ -917,87 +916,6 @@ fault_of_share before line number reading registration fault was is refused read
     )
 
 -- The lines of a file
-
-length_before_line : (byte : ℕ) (lines : List (List ℕ)) → length (before_line byte lines) ≤ length lines + 1
-length_before_line byte [] = omega arith
-length_before_line byte (line ∷ lines) = omega arith
-
-length_cut : (bytes : List ℕ) → length (cut_at_line_feeds bytes) ≤ length bytes
-unfolding cut_at_line_feeds
-length_cut [] = omega arith
-length_cut (byte ∷ rest) = by (eqb byte 10) (length_cut rest)
-  where
-    by : (b : Bool) → length (cut_at_line_feeds rest) ≤ length rest
-        → length (cond b ([] ∷ cut_at_line_feeds rest) (before_line byte (cut_at_line_feeds rest))) ≤ length (byte ∷ rest)
-    by true few = omega arith
-    by false few = let more = length_before_line byte (cut_at_line_feeds rest) in omega (arith, more)
-
--- no more lines than bytes
-pub length_lines : (bytes : List ℕ) → length (lines_of bytes) ≤ length bytes
-length_lines bytes = let few = length_cut bytes in rw length-map (omega arith)
-
--- the lines that were read so far, and those that are left
-pub record Walked (lines left : List (List ℕ)) (number : ℕ) (reading : Reading) : Type 0 where
-  pub before : List (List ℕ)
-  pub split : lines ≡ before ++ left
-  pub read : IsReadTo before reading
-  pub count : length before + 1 ≡ number
-
-pub walked_start : (lines left : List (List ℕ)) (reading : Reading) → left ≡ lines → IsReadTo [] reading → Walked lines left 1 reading
-walked_start lines left reading is read = record { before = []; split = sym is; read = read; count = refl }
-
-pub walked_more : (lines left : List (List ℕ)) (line : List ℕ) (number : ℕ) (old new : Reading) → Walked lines (line ∷ left) number old
-    → ((before : List (List ℕ)) → IsReadTo before old → IsReadTo (before ++ line ∷ []) new) → Walked lines left (number + 1) new
-walked_more lines left line number old new walked goes = record {
-  before = walked.before ++ line ∷ [];
-  split = walked.split ∙ sym (append_assoc walked.before (line ∷ []) left);
-  read = goes walked.before walked.read;
-  count = rw (length_push walked.before line, walked.count) refl;
-}
-
-pub walked_all : (lines left : List (List ℕ)) (number : ℕ) (reading : Reading) → left ≡ [] → Walked lines left number reading → IsReadTo lines reading
-walked_all lines left number reading none walked =
-    subst (λ (l : List (List ℕ)). IsReadTo l reading) (sym (walked.split ∙ (ap (λ (l : List (List ℕ)). walked.before ++ l) none ∙ append-nil walked.before))) walked.read
-
--- after as many lines as bytes none is left
-pub none_left : (bytes : List ℕ) (left : List (List ℕ)) (number : ℕ) (reading : Reading) → length bytes < number → Walked (lines_of bytes) left number reading → left ≡ []
-none_left bytes [] number reading last walked = refl
-none_left bytes (line ∷ left) number reading last walked =
-    let few = length_lines bytes in
-    let whole = ap length walked.split ∙ length-append walked.before (line ∷ left) in
-    absurd (omega (arith, few, whole, walked.count, last))
-
-first_fault : (lines left : List (List ℕ)) (line : List ℕ) (number : ℕ) (reading : Reading) (fault : CwrFault) → Walked lines (line ∷ left) number reading
-    → ((before : List (List ℕ)) → IsReadTo before reading → IsFaultOfLine before line number fault) → IsFirstFault lines fault
-first_fault lines left line number reading fault walked refused = record {
-  before = walked.before;
-  line = line;
-  after = left;
-  split = walked.split;
-  sound = walked.read.0;
-  refused = subst (λ (n : ℕ). IsFaultOfLine walked.before line n fault) (sym walked.count) (refused walked.before walked.read);
-}
-
--- the lines are refused for the line at hand
-pub walked_fault : (rows : List (List ℕ × List ℕ)) (lines left : List (List ℕ)) (line : List ℕ) (number : ℕ) (reading : Reading) (fault : CwrFault) → Walked lines (line ∷ left) number reading
-    → (fault ≡ Memory) ⊎ ((before : List (List ℕ)) → IsReadTo before reading → IsFaultOfLine before line number fault) → IsFaultOf rows lines fault
-walked_fault rows lines left line number reading fault walked (inl memory) = subst (λ (f : CwrFault). IsFaultOf rows lines f) (sym memory) tt
-walked_fault rows lines left line number reading fault walked (inr refused) = by fault refused
-  where
-    by : (f : CwrFault) → ((before : List (List ℕ)) → IsReadTo before reading → IsFaultOfLine before line number f) → IsFaultOf rows lines f
-    by (Short n) refused = first_fault lines left line number reading (Short n) walked refused
-    by (Share n) refused = first_fault lines left line number reading (Share n) walked refused
-    by (Mark n) refused = first_fault lines left line number reading (Mark n) walked refused
-    by (Land n) refused = first_fault lines left line number reading (Land n) walked refused
-    by (Party n) refused = first_fault lines left line number reading (Party n) walked refused
-    by (Work n) refused = first_fault lines left line number reading (Work n) walked refused
-    by (Many n) refused = first_fault lines left line number reading (Many n) walked refused
-    by Accounts refused = absurd (no_line (refused walked.before walked.read))
-      where
-        no_line : IsFaultOfLine walked.before line number Accounts → ⊥
-        no_line (inl opening) = opening.1
-        no_line (inr share) = share.3
-    by Memory refused = tt
 
 -- the lines are refused for their payees
 pub payees_fault : (rows : List (List ℕ × List ℕ)) (lines : List (List ℕ)) (reading : Reading) (fault : CwrFault) → IsReadTo lines reading

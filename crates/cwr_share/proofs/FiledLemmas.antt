@@ -1,13 +1,13 @@
 -- Registrations as they stand in their file.
-use Rattle.std.proofs.Common.{◌≡◌, ◌≤◌, ◌<◌, ◌+◌, ◌⊎◌, ◌∷◌, ◌++◌, ◌&&◌, ℕ, suc, nat_eq, Bool, true, false, cond, not, List, [], All, Bor, IfNone, IfSome, None, Option, Some, count_by, drop, length, map, reverse, slice_index_or, take, ap, sym, refl, subst, ◌∙◌, append_assoc, inl, inr, arith}
-use Rattle.std.specs.List.{enumerate_from, filter, find, take_while}
+use Rattle.std.proofs.Common.{◌≡◌, ◌≤◌, ◌<◌, ◌+◌, ◌∷◌, ◌++◌, ◌&&◌, ℕ, suc, nat_eq, Bool, true, false, cond, not, List, [], All, Bor, IfSome, None, Option, Some, count_by, drop, length, map, reverse, slice_index_or, take, ap, sym, refl, subst, ◌∙◌, append_assoc, arith}
+use Rattle.std.specs.List.{enumerate_from, filter, find}
 use Rattle.std.specs.Cmp.Lexicographic.{pointwise}
 use Rattle.std.specs.Option.{option_map, option_or}
 use Rattle.std.proofs.Math.Seq.{drop-append_seam, drop-cons, get_or-append_seam, take-append_seam}
-use Rattle.std.proofs.lemmas.Bool.{cond-false, cond-true, not_from_false, not_from_true, true≢false, false≢true}
+use Rattle.std.proofs.lemmas.Bool.{cond-false, cond-true, not_from_false, not_from_true, false≢true}
 use Rattle.std.proofs.lemmas.List.Folds.{find-append}
-use Rattle.std.proofs.lemmas.List.Elements.{All-push, All-weaker, filter-append}
-use Rattle.std.proofs.lemmas.List.{append-nil, length-append, length-drop, length-take-le, length_push, map-append, reverse-append, take-append-drop, take_all, take_more}
+use Rattle.std.proofs.lemmas.List.Elements.{All-weaker, filter-append}
+use Rattle.std.proofs.lemmas.List.{append-nil, length-append, length-drop, length-take-le, length_push, map-append, reverse-append, take_more}
 use Rattle.std.proofs.lemmas.Option.{none-some}
 use Rattle.line_split.proofs.Enumerated.{enumerate_from_push}
 use Rattle.cwr_share.specs.CwrFile.{AreSound, IsShareRecord, IsSound}

@@ -1,6 +1,7 @@
 pub mod Answered
 pub mod ClaimLemmas
 pub mod CompiledLemmas
+pub mod CwrReadings
 pub mod FieldLemmas
 pub mod Groups
 pub mod FileLemmas

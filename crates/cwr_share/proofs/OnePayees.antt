@@ -1,5 +1,6 @@
 -- Rows are a table of payees in one way only, and a table has no fault but lack of memory.
-use Rattle.std.proofs.Common.{◌≡◌, ◌≤◌, ◌<◌, ◌+◌, ℕ, List, ◌∷◌, ◌++◌, length, map, ap, refl, subst, inl, inr, arith, length-append}
+use Rattle.std.proofs.Common.{◌≡◌, ◌<◌, ◌+◌, ℕ, List, ◌∷◌, ◌++◌, length, map, ap, refl, subst, inl, inr, arith, length-append}
+use Rattle.std.proofs.lemmas.List.{length-map}
 use Rattle.std.proofs.Math.Seq.{get_or-append_seam, take-append_seam}
 use Rattle.cwr_share.specs.PayeeTable.{AreRows, IsFaultOf, IsFaultOfRow, IsFirstFault, IsPayeeRow, IsTableOf, payee_row_of}
 use Rattle.cwr_share.specs.declared.payees.TheConstants.{MOST_PAYEES}
@@ -14,7 +15,7 @@ one_table rows payees other is too =
 
 -- a row that names a payee is refused for nothing but lack of memory
 sound_row : (earlier : List (List ℕ × List ℕ)) (row : List (List ℕ)) (number : ℕ) (fault : PayeeFault)
-    → IsPayeeRow earlier row → number ≤ MOST_PAYEES → IsFaultOfRow earlier number row fault → fault ≡ Memory
+    → IsPayeeRow earlier row → length earlier < MOST_PAYEES → IsFaultOfRow earlier number row fault → fault ≡ Memory
 sound_row earlier row number (Csv n) good few refused = absurd (refused.2 good.whole)
 sound_row earlier row number (Fields n) good few refused = absurd (refused.3 good.names)
 sound_row earlier row number (Twice n) good few refused = absurd (good.new refused.4)
@@ -34,7 +35,7 @@ no_first_fault rows payees fault is first =
     let same : is.below ≡ first.before ++ first.row ∷ first.after = cc in
     sound_row (map payee_row_of first.before) first.row (length first.before + 1) fault
     (row_between first.before first.row first.after (subst AreRows same is.sound))
-    (omega (arith, is.few, ap length same, length-append first.before (first.row ∷ first.after)))
+    (omega (arith, is.few, ap length same, length-append first.before (first.row ∷ first.after), length-map first.before payee_row_of))
     first.refused
 
 -- rows that are a table are refused for nothing but lack of memory

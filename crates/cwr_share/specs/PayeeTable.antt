@@ -43,13 +43,13 @@ pub record IsTableOf (rows : List (List (List ℕ))) (payees : List (List ℕ ×
   pub sound : AreRows below
   pub same : payees ≡ map payee_row_of below
 
--- what a row is refused for, by its number: the first thing, in this order, that is not as it has to be
+-- what a row is refused for, by its number and the earlier rows: the first thing, in this order, that is not as it has to be
 abbrev pub IsFaultOfRow : List (List ℕ × List ℕ) → ℕ → List (List ℕ) → PayeeFault → Type 0
-IsFaultOfRow earlier number row Rows = MOST_PAYEES < number
-IsFaultOfRow earlier number row (Csv n) = (n ≡ number) × (number ≤ MOST_PAYEES) × (¬ (length row ≡ length header))
-IsFaultOfRow earlier number row (Fields n) = (n ≡ number) × (number ≤ MOST_PAYEES) × (length row ≡ length header) × (¬ HasNames row)
+IsFaultOfRow earlier number row Rows = MOST_PAYEES ≤ length earlier
+IsFaultOfRow earlier number row (Csv n) = (n ≡ number) × (length earlier < MOST_PAYEES) × (¬ (length row ≡ length header))
+IsFaultOfRow earlier number row (Fields n) = (n ≡ number) × (length earlier < MOST_PAYEES) × (length row ≡ length header) × (¬ HasNames row)
 IsFaultOfRow earlier number row (Twice n) =
-    (n ≡ number) × (number ≤ MOST_PAYEES) × (length row ≡ length header) × HasNames row × HasRow earlier (party_field row)
+    (n ≡ number) × (length earlier < MOST_PAYEES) × (length row ≡ length header) × HasNames row × HasRow earlier (party_field row)
 IsFaultOfRow earlier number row Memory = ⊤
 
 -- a row that is refused stands below a header and rows that name payees

@@ -5,7 +5,7 @@ ghost use Rattle.std.specs.Prelude.{◌≡◌, ◌≤◌, ◌+◌, ◌∷◌, �
 ghost use Rattle.cwr_share.specs.CwrFile.{AreSound, IsShareRecord};
 ghost use Rattle.cwr_share.specs.Filed.{AreShareRecords, IsFiled, IsFiledTo, body_of, last_opening as number_of_opening, opens_work, share_numbers};
 ghost use Rattle.cwr_share.specs.Lines.{lines_of};
-ghost use Rattle.cwr_share.specs.Records.{ends_registration, is_share_line, share_fields};
+ghost use Rattle.cwr_share.specs.Records.{ends_registration, is_share_line, opens_registration, share_fields};
 ghost use Rattle.cwr_share.specs.Registrations.{share_line_of, share_lines_of};
 ghost use Rattle.cwr_share.specs.declared.TheConstants.{MOST_SHARES};
 
@@ -41,6 +41,20 @@ pub fn filed_registration(
         Some((line, after)) => Ok(Some(registration_after(alloc, line, after)?)),
         None => Ok(None),
     }
+}
+
+/// How many registrations there are in a file, each NWR and REV, whether another takes its place later or not.
+pub fn count_registrations(bytes: &[u8]) -> u64
+    ensures { result ≡ count_by opens_registration (lines_of bytes.now) }
+{
+    let mut lines = Lines::of(bytes);
+    let mut count = 0;
+    while let Some(line) = lines.next() {
+        if record_type(line) == RecordType::Registration {
+            count += 1;
+        }
+    }
+    count
 }
 
 /// The number of the last line that begins a registration of a work, and the text after that line.

@@ -9,6 +9,7 @@
 
 mod claim_line;
 mod cwr_fault;
+mod cwr_reader;
 pub mod fields;
 mod filed;
 pub mod laws;
@@ -17,6 +18,7 @@ mod name;
 mod numbers;
 mod parties;
 mod payee_fault;
+mod payee_reader;
 mod payees;
 mod reading;
 mod record_type;
@@ -26,10 +28,12 @@ mod registry;
 mod share_line;
 
 pub use cwr_fault::CwrFault;
-pub use filed::{FiledRegistration, filed_registration};
+pub use cwr_reader::CwrReader;
+pub use filed::{FiledRegistration, count_registrations, filed_registration};
 pub use payee_fault::PayeeFault;
+pub use payee_reader::PayeeReader;
 pub use payees::{MOST_NAME_BYTES, MOST_PAYEES, Payees};
-pub use record_type::RecordType;
+pub use record_type::{RecordType, record_type};
 pub use registry::{Registry, Work};
 pub use share_line::ShareRecord;
 

@@ -1,10 +1,10 @@
 //! The table of payees: who is paid what a party claims.
 
-ghost use Rattle.std.specs.Prelude.{ℕ, ◌≡◌, ◌≤◌, ◌<◌, ◌+◌, ◌↔◌, ◌++◌, ◌∷◌, [], IfErr, IfNone, IfOk, IfSome, IsTrue, OnOk, length};
+ghost use Rattle.std.specs.Prelude.{ℕ, ◌≡◌, ◌≤◌, ◌<◌, ◌+◌, ◌↔◌, ◌⊎◌, ◌++◌, ◌∷◌, [], IfErr, IfNone, IfOk, IfSome, IsTrue, OnOk, Some, length};
 ghost use Rattle.csv_table.specs.Forms.{IsPrintable};
-ghost use Rattle.csv_table.specs.Table.{rows_of};
 ghost use Rattle.cwr_share.specs.Fields.{trimmed as trimmed_text};
-ghost use Rattle.cwr_share.specs.PayeeTable.{IsFaultOf, IsFaultOfRow, IsPayeeRow, IsTableOf, payee_row_of};
+ghost use Rattle.cwr_share.specs.PayeeTable.{IsFaultOfRow, IsPayeeRow, payee_row_of, place_of_fault};
+ghost use Rattle.cwr_share.specs.declared.payee_fault.PayeeFault.TheVariants.{Memory};
 ghost use Rattle.cwr_share.specs.Payees.{AreNames, payee_of};
 ghost use Rattle.cwr_share.specs.declared.payees.TheConstants.{MOST_NAME_BYTES};
 
@@ -51,29 +51,6 @@ impl Payees {
         }
     }
 
-    /// Reads a table of payees: CSV with the header `party,payee`. The spaces at the ends of a field
-    /// do not count.
-    pub fn read(alloc: Global, bytes: &[u8]) -> Result<Payees, PayeeFault>
-        ensures payees { IfOk result (IsTableOf (rows_of bytes.now)) }
-        ensures fault { IfErr result (IsFaultOf (rows_of bytes.now)) }
-    {
-        let mut rows = Rows::of(alloc, bytes);
-        if !(rows.next()? && rows.is(&["party", "payee"])) {
-            return Err(PayeeFault::Csv(0));
-        }
-        let mut payees = Payees::none(alloc);
-        for number in 1..=MOST_PAYEES as u64 {
-            if !rows.next()? {
-                return Ok(payees);
-            }
-            payees.add_row(alloc, number, &rows)?;
-        }
-        if rows.next()? {
-            return Err(PayeeFault::Rows);
-        }
-        Ok(payees)
-    }
-
     /// The payee of a party: that of its row, or else the party itself. It is not looked up again.
     pub fn payee_of<'a>(&'a self, party: &'a [u8]) -> &'a [u8]
         ensures payee { result.now ≡ payee_of self.now party.now }
@@ -94,10 +71,16 @@ impl Payees {
     }
 
     /// Adds the row at hand, which has this number.
-    fn add_row(&mut self, alloc: Global, number: u64, rows: &Rows<'_>) -> Result<(), PayeeFault>
-        requires { number ≤ MOST_PAYEES }
+    pub(crate) fn add_row(
+        &mut self,
+        alloc: Global,
+        number: u64,
+        rows: &Rows<'_>,
+    ) -> Result<(), PayeeFault>
+        requires { length self.old < MOST_PAYEES }
         ensures added { OnOk result (IsPayeeRow self.old rows.now.row × (self.new ≡ self.old ++ payee_row_of rows.now.row ∷ [])) }
         ensures fault { IfErr result (IsFaultOfRow self.old number rows.now.row) }
+        ensures same { IfErr result (λ fault. (fault ≡ Memory) ⊎ ((self.new ≡ self.old) × (place_of_fault fault ≡ Some number))) }
     {
         if rows.len() != 2 {
             return Err(PayeeFault::Csv(number));
@@ -108,10 +91,11 @@ impl Payees {
         let Some(payee) = name(rows.field(1)) else {
             return Err(PayeeFault::Fields(number));
         };
-        let (party, payee) = (Name::of(alloc, party)?, Name::of(alloc, payee)?);
-        if self.rows.insert(party, payee)?.is_some() {
+        if self.rows.get(Sought(party)).is_some() {
             return Err(PayeeFault::Twice(number));
         }
+        let (party, payee) = (Name::of(alloc, party)?, Name::of(alloc, payee)?);
+        self.rows.insert(party, payee)?;
         Ok(())
     }
 }

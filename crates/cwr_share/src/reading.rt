@@ -1,8 +1,8 @@
 //! A CWR file as it is read, line by line.
 
-ghost use Rattle.std.specs.Prelude.{◌≡◌, ◌<◌, ◌+◌, ◌++◌, ◌∷◌, ◌⊎◌, [], ℕ, List, All, IfOk, IfErr, IfSome, None, OnOk, length, ◌^◌, true};
+ghost use Rattle.std.specs.Prelude.{◌≡◌, ◌<◌, ◌+◌, ◌++◌, ◌∷◌, ◌⊎◌, [], ℕ, List, All, IfOk, IfErr, IfSome, None, OnOk, Some, length, ◌^◌, true};
 ghost use Rattle.cwr_share.specs.Compiled.{AreWorkNumbers};
-ghost use Rattle.cwr_share.specs.CwrFile.{HasTooMany, IsFaultOfLine, IsFaultOfOpening, IsFileOf};
+ghost use Rattle.cwr_share.specs.CwrFile.{HasTooMany, IsFaultOfLine, IsFaultOfOpening, IsFileOf, place_of_fault};
 ghost use Rattle.cwr_share.specs.Parties.{HasManyFound};
 ghost use Rattle.cwr_share.specs.Payees.{payee_of};
 ghost use Rattle.cwr_share.specs.Reading.{AreShareLines, HasInForce, IsReadTo, IsTable, works_of};
@@ -53,9 +53,10 @@ impl Reading {
 
     /// Goes on by the next line, which has this number.
     pub(crate) fn add(&mut self, alloc: Global, number: u64, line: &[u8]) -> Result<(), CwrFault>
-        requires { (before : List (List ℕ)) × IsReadTo before self.old × (length before + 1 ≡ number) }
+        requires { (before : List (List ℕ)) × IsReadTo before self.old × (length before < number) }
         ensures read { OnOk result ((before : List (List ℕ)) → IsReadTo before self.old → IsReadTo (before ++ line.now ∷ []) self.new) }
         ensures fault { IfErr result (λ fault. (fault ≡ Memory) ⊎ ((before : List (List ℕ)) → IsReadTo before self.old → IsFaultOfLine before line.now number fault)) }
+        ensures same { IfErr result (λ fault. (fault ≡ Memory) ⊎ ((self.new ≡ self.old) × (place_of_fault fault ≡ Some number))) }
     {
         match record_type(line) {
             RecordType::Registration => self.begin(alloc, number, line),
@@ -76,6 +77,7 @@ impl Reading {
         requires table { IsTable self.old }
         ensures read { OnOk result ((before : List (List ℕ)) → IsReadTo before self.old → IsReadTo (before ++ line.now ∷ []) self.new) }
         ensures fault { IfErr result (λ fault. (fault ≡ Memory) ⊎ IsFaultOfOpening line.now number fault) }
+        ensures same { IfErr result (λ fault. (fault ≡ Memory) ⊎ ((self.new ≡ self.old) × (place_of_fault fault ≡ Some number))) }
     {
         if line.len() < WORK.first {
             return Err(CwrFault::Short(number));
@@ -114,6 +116,7 @@ impl Reading {
         requires { (is_share_line line.now ≡ true) × (fields.now ≡ share_fields line.now) }
         ensures read { OnOk result ((before : List (List ℕ)) → IsReadTo before self.old → IsReadTo (before ++ line.now ∷ []) self.new) }
         ensures fault { IfErr result (λ fault. (fault ≡ Memory) ⊎ ((before : List (List ℕ)) → IsReadTo before self.old → IsFaultOfLine before line.now number fault)) }
+        ensures same { IfErr result (λ fault. (fault ≡ Memory) ⊎ ((self.new ≡ self.old) × (place_of_fault fault ≡ Some number))) }
     {
         let Some(open) = self.open.as_mut() else {
             return Ok(());

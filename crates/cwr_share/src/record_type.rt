@@ -25,7 +25,7 @@ pub enum RecordType {
 }
 
 /// The type of the record that a line is.
-pub(crate) fn record_type(line: &[u8]) -> RecordType
+pub fn record_type(line: &[u8]) -> RecordType
     ensures { result ≡ type_of line.now }
 {
     if line.len() < TYPE.last {

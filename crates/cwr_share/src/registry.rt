@@ -5,19 +5,14 @@ ghost use Rattle.line_split.specs.declared.TheConstants.{MOST_CLAIMS};
 ghost use Rattle.line_split.specs.UsageLine.{usage_line_of};
 ghost use Rattle.cwr_share.specs.ClaimsOn.{claims_on, is_known, reason_against};
 ghost use Rattle.cwr_share.specs.Compiled.{AreKept, registered_as};
-ghost use Rattle.cwr_share.specs.CwrFile.{IsFaultOf, IsFileOf};
 ghost use Rattle.cwr_share.specs.Found.{IsLookUp};
-ghost use Rattle.cwr_share.specs.Lines.{lines_of};
 ghost use Rattle.cwr_share.specs.Payees.{HasRow, payee_of};
 ghost use Rattle.cwr_share.specs.Registered.{IsRegistered};
 
 use crate::claim_line::{ClaimLine, claims};
-use crate::lines::Lines;
 use crate::numbers::{PartyNumber, WorkNumber, in_place_if_short};
 use crate::parties::{Parties, account_of};
-use crate::reading::Reading;
 use crate::registrations::Registrations;
-use crate::{CwrFault, Payees};
 use indexmap::IndexSet;
 use line_split::{Account, Claims, Line, MOST_CLAIMS, Reason};
 use std::alloc::{AllocError, Global};
@@ -47,34 +42,6 @@ impl Model for Registry {
 }
 
 impl Registry {
-    /// Reads a CWR 2.2 file with line ends of either kind, LF or CR LF. Of several registrations (NWR,
-    /// REV) of a work the last one is in force. Each party is paid itself.
-    pub fn read(alloc: Global, bytes: &[u8]) -> Result<Registry, CwrFault>
-        ensures registrations { IfOk result (IsFileOf [] (lines_of bytes.now)) }
-        ensures sound { IfOk result IsRegistered }
-        ensures fault { IfErr result (IsFaultOf [] (lines_of bytes.now)) }
-    {
-        Registry::paid(alloc, bytes, &Payees::none(alloc))
-    }
-
-    /// The same where what a party claims is paid to its payee. Several parties may be paid to one
-    /// account: their claims are added before an amount is divided.
-    pub fn paid(alloc: Global, bytes: &[u8], payees: &Payees) -> Result<Registry, CwrFault>
-        ensures registrations { IfOk result (IsFileOf payees.now (lines_of bytes.now)) }
-        ensures sound { IfOk result IsRegistered }
-        ensures fault { IfErr result (IsFaultOf payees.now (lines_of bytes.now)) }
-    {
-        let mut lines = Lines::of(bytes);
-        let mut reading = Reading::new(alloc);
-        for number in 1..=bytes.len() as u64 {
-            let Some(line) = lines.next() else {
-                return reading.finish(alloc, payees);
-            };
-            reading.add(alloc, number, line)?;
-        }
-        reading.finish(alloc, payees)
-    }
-
     /// The registry of these parts.
     pub(crate) fn of(
         works: IndexSet<WorkNumber>,
@@ -136,6 +103,13 @@ impl Registry {
         let number: PartyNumber = in_place_if_short(party)?;
         let account = accounts.get(&number)?;
         Some(self.parties.payees[*account as usize].as_slice())
+    }
+
+    /// How many parties the registrations in force have.
+    pub fn claimants(&self) -> usize
+        ensures { result ≡ length self.now.payees }
+    {
+        self.parties.accounts.len()
     }
 
     /// How many works have a registration in force.

@@ -1,8 +1,8 @@
 //! Share lines: who collects which share of a work, in which territory.
 
-ghost use Rattle.std.specs.Prelude.{◌≡◌, ◌↔◌, ◌<◌, ◌+◌, ◌==◌, [], ℕ, List, IfOk, IfErr, IfSome, IfNone, IsTrue, not, reverse, slice_index, slice_index_or};
+ghost use Rattle.std.specs.Prelude.{◌≡◌, ◌↔◌, ◌<◌, ◌+◌, ◌==◌, [], ℕ, List, IfOk, IfErr, IfSome, IfNone, IsTrue, Some, not, reverse, slice_index, slice_index_or};
 ghost use Rattle.csv_table.specs.Forms.{IsCode, number_of};
-ghost use Rattle.cwr_share.specs.CwrFile.{IsFaultOfShare, IsShareRecord};
+ghost use Rattle.cwr_share.specs.CwrFile.{IsFaultOfShare, IsShareRecord, place_of_fault};
 ghost use Rattle.cwr_share.specs.Fields.{HasShares, IsFilled, IsMark, IsShare, field_of, share_of, trimmed as trimmed_text, without_spaces_before as from_first_byte};
 ghost use Rattle.cwr_share.specs.Registrations.{share_line_of};
 ghost use Rattle.cwr_share.specs.ClaimsOn.{is_alike, share_for};
@@ -86,6 +86,7 @@ impl ShareRecord {
         requires party { fields.now.party.last < fields.now.party.first + MOST_PARTY_BYTES }
         ensures share { IfOk result (λ share. IsShareRecord earlier fields.now line.now × (share ≡ share_line_of interest fields.now line.now)) }
         ensures fault { IfErr result (λ fault. IsFaultOfShare earlier fields.now line.now number fault) }
+        ensures placed { IfErr result (λ fault. place_of_fault fault ≡ Some number) }
     {
         if line.len() < fields.territory.last {
             return Err(CwrFault::Short(number));

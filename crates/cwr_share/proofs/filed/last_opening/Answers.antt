@@ -1,4 +1,4 @@
-use Rattle.std.proofs.Common.{◌≤◌, ◌∷◌, ◌∙◌, List, [], length, sym, arith}
+use Rattle.std.proofs.Common.{◌∙◌, length, sym, arith}
 use Rattle.cwr_share.specs.Lines.{lines_of}
 use Rattle.cwr_share.proofs.FiledLemmas.{found_few, next_line, sought_no, sought_yes}
 use Rattle.cwr_share.proofs.LineLemmas.{lines_count}

@@ -1,4 +1,4 @@
-use Rattle.std.proofs.Common.{◌≡◌, ◌+◌, ◌++◌, ◌∷◌, ◌∙◌, [], ℕ, List, true, false, refl, sym, ap}
+use Rattle.std.proofs.Common.{◌≡◌, ◌+◌, ◌++◌, ◌∷◌, ◌∙◌, [], ℕ, List, false, refl, sym, ap}
 use Rattle.cwr_share.specs.Filed.{IsFiledTo}
 use Rattle.cwr_share.specs.Records.{ends_registration, share_fields}
 use Rattle.cwr_share.specs.Registrations.{share_line_of}

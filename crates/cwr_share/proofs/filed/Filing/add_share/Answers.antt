@@ -1,4 +1,4 @@
-use Rattle.std.proofs.Common.{ℕ, ◌+◌, ◌∙◌, Ok, Err, length, subst, sym}
+use Rattle.std.proofs.Common.{ℕ, ◌+◌, ◌∙◌, subst, sym}
 use Rattle.cwr_share.specs.CwrFile.{IsShareRecord}
 use Rattle.cwr_share.proofs.FieldLemmas.{party_fits}
 use Rattle.cwr_share.proofs.OneRegistry.{share_stands}

@@ -1,4 +1,4 @@
-use Rattle.std.proofs.Common.{◌≡◌, ◌<◌, ◌+◌, arith, ℕ, List, Some, inr, length, refl, subst, sym, true, ◌∙◌, ap, ◌∷◌, ◌++◌, []}
+use Rattle.std.proofs.Common.{◌≡◌, ℕ, List, Some, inr, length, refl, subst, sym, true, ◌∙◌, ap, ◌∷◌, ◌++◌, []}
 use Rattle.std.proofs.lemmas.Result.{err_from_is_err_and}
 use Rattle.cwr_share.specs.CwrFile.{IsFaultOfLine, IsFaultOfShare, IsShareRecord}
 use Rattle.cwr_share.specs.Reading.{IsReadTo}
