@@ -1,7 +1,7 @@
 -- Usage lines that are kept in two lists.
 use Rattle.std.proofs.Common.{◌≡◌, ◌<◌, ◌≤◌, ◌+◌, ◌++◌, ◌∷◌, [], ℕ, List, zero, suc, ap, arith, get_or, length, refl, subst, sym}
-use Rattle.std.proofs.lemmas.List.{length-append}
-use Rattle.std.proofs.lemmas.List.Elements.{All-append}
+use Rattle.std.proofs.lemmas.List.{length-append, length_push}
+use Rattle.std.proofs.lemmas.List.Elements.{All-append, All-push}
 use Rattle.std.specs.List.{slice_get}
 use Rattle.std.specs.declared.option.Option.TheVariants.{Some}
 use Rattle.line_split.specs.KeptLines.{line_with, lines_of}
@@ -49,5 +49,17 @@ joined_keep names more details others paired alike first second few = (
   subst AreUsageLines (sym (lines_append names more details others paired)) record {
     few = omega (arith, few, length-append (lines_of names details) (lines_of more others));
     each = All-append IsUsageLine (lines_of names details) (lines_of more others) first.each second.each;
+  },
+)
+
+-- and keep to them with one more
+pub pushed_keep : (names : List (List ℕ)) (details : List UsageDetail) (name : List ℕ) (detail : UsageDetail) (line : UsageLine) → length names ≡ length details → AreUsageLines (lines_of names details)
+    → length (lines_of names details) < MOST_LINES → IsUsageLine line → line_with name detail ≡ line
+    → (length (names ++ name ∷ []) ≡ length (details ++ detail ∷ [])) × AreUsageLines (lines_of (names ++ name ∷ []) (details ++ detail ∷ []))
+pushed_keep names details name detail line paired are few sound same = (
+  omega (arith, paired, length_push names name, length_push details detail),
+  subst AreUsageLines (sym (lines_push names details name detail paired)) record {
+    few = omega (arith, few, length_push (lines_of names details) (line_with name detail));
+    each = All-push IsUsageLine (lines_of names details) (line_with name detail) are.each (rw same sound);
   },
 )

@@ -10,6 +10,7 @@ pub mod FirstPlaces
 pub mod ByAccount
 pub mod Over
 mod UsageRows
+pub mod UsageReadings
 pub mod OneTable
 mod KeptLemmas
 pub mod PortionAccounts

@@ -1,5 +1,5 @@
 -- Rows are a table of usage lines in one way only, and a table has no fault but lack of memory.
-use Rattle.std.proofs.Common.{◌≡◌, ◌≤◌, ◌<◌, ◌+◌, ℕ, List, ◌∷◌, ◌++◌, length, All, ap, refl, subst, inl, inr, arith, length-append}
+use Rattle.std.proofs.Common.{◌≡◌, ◌<◌, ◌+◌, ℕ, List, ◌∷◌, ◌++◌, length, All, ap, refl, subst, inl, inr, arith, length-append}
 use Rattle.std.proofs.Math.Seq.{get_or-append_seam}
 use Rattle.std.proofs.lemmas.List.{length-map}
 use Rattle.line_split.specs.UsageLine.{UsageLine, line_of}
@@ -15,14 +15,14 @@ one_table rows lines other is too =
     rw (is.same, too.same, same) refl
 
 -- a row that is a line is refused for nothing but lack of memory
-sound_row : (row : List (List ℕ)) (number : ℕ) (fault : LineFault) → IsLine row → number ≤ MOST_LINES → IsFaultOfRow number row fault → fault ≡ Memory
-sound_row row number (Csv n) line few refused = absurd (refused.2 line.whole)
-sound_row row number (Fields n) line few refused = absurd (refused.3 line.texts)
-sound_row row number (Territory n) line few refused = absurd (refused.4 line.territory)
-sound_row row number (Right n) line few refused = absurd (refused.5 line.right)
-sound_row row number (Amount n) line few refused = absurd (refused.6 line.amount)
-sound_row row number Lines line few refused = absurd (omega arith)
-sound_row row number Memory line few refused = refl
+sound_row : (row : List (List ℕ)) (earlier number : ℕ) (fault : LineFault) → IsLine row → earlier < MOST_LINES → IsFaultOfRow earlier number row fault → fault ≡ Memory
+sound_row row earlier number (Csv n) line few refused = absurd (refused.2 line.whole)
+sound_row row earlier number (Fields n) line few refused = absurd (refused.3 line.texts)
+sound_row row earlier number (Territory n) line few refused = absurd (refused.4 line.territory)
+sound_row row earlier number (Right n) line few refused = absurd (refused.5 line.right)
+sound_row row earlier number (Amount n) line few refused = absurd (refused.6 line.amount)
+sound_row row earlier number Lines line few refused = absurd (omega arith)
+sound_row row earlier number Memory line few refused = refl
 
 -- among rows that are lines, each is one
 row_between : (before : List (List (List ℕ))) (row : List (List ℕ)) (after : List (List (List ℕ))) → All IsLine (before ++ row ∷ after) → IsLine row
@@ -34,7 +34,7 @@ row_between before row after sound =
 no_first_fault : (rows : List (List (List ℕ))) (lines : List UsageLine) (fault : LineFault) → IsTableOf rows lines → IsFirstFault rows fault → fault ≡ Memory
 no_first_fault rows lines fault is first =
     let same : is.rows_below ≡ first.before ++ first.row ∷ first.after = cc in
-    sound_row first.row (length first.before + 1) fault
+    sound_row first.row (length first.before) (length first.before + 1) fault
     (row_between first.before first.row first.after (subst (All IsLine) same is.sound))
     (omega (arith, is.few, ap length is.same, length-map is.rows_below line_of, ap length same, length-append first.before (first.row ∷ first.after)))
     first.refused

@@ -68,14 +68,14 @@ walked_all rows number lines walked few =
     }
 
 pub walked_fault : (rows left : List (List (List ℕ))) (row : List (List ℕ)) (number : ℕ) (lines : List UsageLine) (fault : LineFault)
-    → Walked rows (row ∷ left) number lines → IsFaultOfRow number row fault → IsFaultIn rows fault
+    → Walked rows (row ∷ left) number lines → ((earlier : ℕ) → earlier + 1 ≡ number → IsFaultOfRow earlier number row fault) → IsFaultIn rows fault
 walked_fault rows left row number lines fault walked refused = inr record {
   before = walked.below;
   row = row;
   after = left;
   split = walked.split;
   sound = walked.sound;
-  refused = rw walked.count refused;
+  refused = rw walked.count (refused (length walked.below) walked.count);
 }
 
 -- a fault that is not memory's is a row's
@@ -204,21 +204,21 @@ module _ (rows : List (List (List ℕ))) (lines : List UsageLine) (are : AreLine
   -- a fault of the rows behind
   module _ (fault : LineFault) (is : IsFirstFaultIn more fault) where
     -- its row, among all
-    among : (moved : LineFault) → IsFaultOfRow (length rows + (length is.before + 1)) is.row moved → IsFirstFaultIn (rows ++ more) moved
+    among : (moved : LineFault) → IsFaultOfRow (length rows + length is.before) (length rows + length is.before + 1) is.row moved → IsFirstFaultIn (rows ++ more) moved
     among moved refused = record {
       before = rows ++ is.before;
       row = is.row;
       after = is.after;
       split = ap (λ (l : List (List (List ℕ))). rows ++ l) is.split ∙ sym (append_assoc rows is.before (is.row ∷ is.after));
       sound = All-append IsLine rows is.before are.sound is.sound;
-      refused = subst (λ (k : ℕ). IsFaultOfRow k is.row moved) (omega (arith, length-append rows is.before)) refused;
+      refused = subst (λ (k : ℕ). IsFaultOfRow k (k + 1) is.row moved) (sym (length-append rows is.before)) refused;
     }
 
     -- of a fault of a row
-    moves : (make : ℕ → LineFault) (Q : Type 0) (row : ℕ) (moved : LineFault) → ((k : ℕ) → k ≤ MOST_LINES → Q → IsFaultOfRow k is.row (make k)) → row ≡ length is.before + 1 → Q
+    moves : (make : ℕ → LineFault) (Q : Type 0) (row : ℕ) (moved : LineFault) → ((k earlier : ℕ) → earlier < MOST_LINES → Q → IsFaultOfRow earlier k is.row (make k)) → row ≡ length is.before + 1 → Q
         → IsMoved (length lines) row make moved → IsFaultIn (rows ++ more) moved
     moves make Q row moved refuses row_is q goes = elim (cases_lt MOST_LINES (length lines + row)) [
-      | inr few ↦ inr (subst (IsFirstFaultIn (rows ++ more)) (sym (goes.0 few)) (among (make (length lines + row)) (subst (λ (k : ℕ). IsFaultOfRow k is.row (make (length lines + row))) (omega (arith, as_many, row_is)) (refuses (length lines + row) few q))))
+      | inr few ↦ inr (subst (IsFirstFaultIn (rows ++ more)) (sym (goes.0 few)) (among (make (length lines + row)) (subst (λ (k : ℕ). IsFaultOfRow (length rows + length is.before) k is.row (make (length lines + row))) (omega (arith, as_many, row_is)) (refuses (length lines + row) (length rows + length is.before) (omega (arith, few, as_many, row_is)) q))))
       | inl many ↦ inr (subst (IsFirstFaultIn (rows ++ more)) (sym (goes.1 many)) (among Lines (omega (arith, many, as_many, row_is))))
     ]
 
@@ -229,16 +229,16 @@ module _ (rows : List (List (List ℕ))) (lines : List UsageLine) (are : AreLine
       inr (subst (IsFirstFaultIn (rows ++ more)) (sym goes) (among Lines first Lines (omega (arith, first.refused))))
   fault_behind (Csv n) moved goes is =
       let first = row_fault more (Csv n) is (λ e. cc e) in
-      moves (Csv n) first Csv _ n moved (λ k few q. (refl, few, q)) first.refused.0 first.refused.2 goes
+      moves (Csv n) first Csv _ n moved (λ k earlier few q. (refl, few, q)) first.refused.0 first.refused.2 goes
   fault_behind (Fields n) moved goes is =
       let first = row_fault more (Fields n) is (λ e. cc e) in
-      moves (Fields n) first Fields ((length first.row ≡ length header) × (¬ HasTexts first.row)) n moved (λ k few q. (refl, few, q.0, q.1)) first.refused.0 (first.refused.2, first.refused.3) goes
+      moves (Fields n) first Fields ((length first.row ≡ length header) × (¬ HasTexts first.row)) n moved (λ k earlier few q. (refl, few, q.0, q.1)) first.refused.0 (first.refused.2, first.refused.3) goes
   fault_behind (Territory n) moved goes is =
       let first = row_fault more (Territory n) is (λ e. cc e) in
-      moves (Territory n) first Territory ((length first.row ≡ length header) × HasTexts first.row × (¬ HasTerritory first.row)) n moved (λ k few q. (refl, few, q.0, q.1, q.2)) first.refused.0 (first.refused.2, first.refused.3, first.refused.4) goes
+      moves (Territory n) first Territory ((length first.row ≡ length header) × HasTexts first.row × (¬ HasTerritory first.row)) n moved (λ k earlier few q. (refl, few, q.0, q.1, q.2)) first.refused.0 (first.refused.2, first.refused.3, first.refused.4) goes
   fault_behind (Right n) moved goes is =
       let first = row_fault more (Right n) is (λ e. cc e) in
-      moves (Right n) first Right ((length first.row ≡ length header) × HasTexts first.row × HasTerritory first.row × (¬ HasRight first.row)) n moved (λ k few q. (refl, few, q.0, q.1, q.2, q.3)) first.refused.0 (first.refused.2, first.refused.3, first.refused.4, first.refused.5) goes
+      moves (Right n) first Right ((length first.row ≡ length header) × HasTexts first.row × HasTerritory first.row × (¬ HasRight first.row)) n moved (λ k earlier few q. (refl, few, q.0, q.1, q.2, q.3)) first.refused.0 (first.refused.2, first.refused.3, first.refused.4, first.refused.5) goes
   fault_behind (Amount n) moved goes is =
       let first = row_fault more (Amount n) is (λ e. cc e) in
-      moves (Amount n) first Amount ((length first.row ≡ length header) × HasTexts first.row × HasTerritory first.row × HasRight first.row × (¬ HasAmount first.row)) n moved (λ k few q. (refl, few, q.0, q.1, q.2, q.3, q.4)) first.refused.0 (first.refused.2, first.refused.3, first.refused.4, first.refused.5, first.refused.6) goes
+      moves (Amount n) first Amount ((length first.row ≡ length header) × HasTexts first.row × HasTerritory first.row × HasRight first.row × (¬ HasAmount first.row)) n moved (λ k earlier few q. (refl, few, q.0, q.1, q.2, q.3, q.4)) first.refused.0 (first.refused.2, first.refused.3, first.refused.4, first.refused.5, first.refused.6) goes

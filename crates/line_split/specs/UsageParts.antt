@@ -19,7 +19,7 @@ pub record IsFirstFaultIn (rows : List (List (List ℕ))) (fault : LineFault) : 
   pub after : List (List (List ℕ))
   pub split : rows ≡ before ++ row ∷ after
   pub sound : All IsLine before
-  pub refused : IsFaultOfRow (length before + 1) row fault
+  pub refused : IsFaultOfRow (length before) (length before + 1) row fault
 
 -- what they are refused for: memory, or else the first row that is no line
 abbrev pub IsFaultIn : List (List (List ℕ)) → LineFault → Type 0

@@ -24,17 +24,17 @@ pub record IsTableOf (rows : List (List (List ℕ))) (lines : List UsageLine) : 
   pub sound : All IsLine rows_below
   pub same : lines ≡ map line_of rows_below
 
--- what a row is refused for, by its number: the first thing, in this order, that is not as it has to be. Memory is asked for after all that.
-abbrev pub IsFaultOfRow : ℕ → List (List ℕ) → LineFault → Type 0
-IsFaultOfRow number row Lines = MOST_LINES < number
-IsFaultOfRow number row (Csv n) = (n ≡ number) × (number ≤ MOST_LINES) × (¬ (length row ≡ length header))
-IsFaultOfRow number row (Fields n) = (n ≡ number) × (number ≤ MOST_LINES) × (length row ≡ length header) × (¬ HasTexts row)
-IsFaultOfRow number row (Territory n) = (n ≡ number) × (number ≤ MOST_LINES) × (length row ≡ length header) × HasTexts row × (¬ HasTerritory row)
-IsFaultOfRow number row (Right n) =
-    (n ≡ number) × (number ≤ MOST_LINES) × (length row ≡ length header) × HasTexts row × HasTerritory row × (¬ HasRight row)
-IsFaultOfRow number row (Amount n) =
-    (n ≡ number) × (number ≤ MOST_LINES) × (length row ≡ length header) × HasTexts row × HasTerritory row × HasRight row × (¬ HasAmount row)
-IsFaultOfRow number row Memory = (number ≤ MOST_LINES) × IsLine row
+-- What a row is refused for, by how many earlier lines there are and by its number: the first thing, in this order, that is not as it has to be. Memory is asked for after all that.
+abbrev pub IsFaultOfRow : (earlier : ℕ) → (number : ℕ) → List (List ℕ) → LineFault → Type 0
+IsFaultOfRow earlier number row Lines = MOST_LINES ≤ earlier
+IsFaultOfRow earlier number row (Csv n) = (n ≡ number) × (earlier < MOST_LINES) × (¬ (length row ≡ length header))
+IsFaultOfRow earlier number row (Fields n) = (n ≡ number) × (earlier < MOST_LINES) × (length row ≡ length header) × (¬ HasTexts row)
+IsFaultOfRow earlier number row (Territory n) = (n ≡ number) × (earlier < MOST_LINES) × (length row ≡ length header) × HasTexts row × (¬ HasTerritory row)
+IsFaultOfRow earlier number row (Right n) =
+    (n ≡ number) × (earlier < MOST_LINES) × (length row ≡ length header) × HasTexts row × HasTerritory row × (¬ HasRight row)
+IsFaultOfRow earlier number row (Amount n) =
+    (n ≡ number) × (earlier < MOST_LINES) × (length row ≡ length header) × HasTexts row × HasTerritory row × HasRight row × (¬ HasAmount row)
+IsFaultOfRow earlier number row Memory = (earlier < MOST_LINES) × IsLine row
 
 -- a row that is refused stands below a header and rows that are lines
 pub record IsFirstFault (rows : List (List (List ℕ))) (fault : LineFault) : Type 0 where
@@ -43,7 +43,7 @@ pub record IsFirstFault (rows : List (List (List ℕ))) (fault : LineFault) : Ty
   pub after : List (List (List ℕ))
   pub split : rows ≡ header ∷ (before ++ row ∷ after)
   pub sound : All IsLine before
-  pub refused : IsFaultOfRow (length before + 1) row fault
+  pub refused : IsFaultOfRow (length before) (length before + 1) row fault
 
 -- the first row is not the header, or there is none
 abbrev pub HasNoHeader : List (List (List ℕ)) → Type 0

@@ -10,6 +10,7 @@ ghost use Rattle.line_split.specs.Claims.{base_of, participants_of, total_of};
 ghost use Rattle.line_split.specs.FairSplit.{IsFairSplit};
 ghost use Rattle.line_split.specs.Signs.{signed_portions_of};
 ghost use Rattle.line_split.specs.UsageLine.{UsageLine};
+ghost use Rattle.line_split.specs.UsageReading.{IsReadWithout};
 ghost use Rattle.line_split.specs.UsageTable.{IsFaultOf, IsTableOf};
 
 /// The portions add up to the amount; each is its exact share rounded towards zero or away from it, and none
@@ -48,6 +49,16 @@ pub fn law_rows_are_one_list_of_lines()
 /// Rows that are a table of usage lines are refused for nothing but lack of memory.
 pub fn law_a_table_of_lines_has_no_fault()
     ensures { (rows : List (List (List ℕ))) (lines : List UsageLine) (fault : LineFault) → IsTableOf rows lines → IsFaultOf rows fault → fault ≡ Memory }
+{}
+
+/// Where rows are read on past those that are refused, and none is, they are the lines that were read.
+pub fn law_a_list_read_on_without_faults()
+    ensures { (rows : List (List (List ℕ))) (lines : List UsageLine) → IsReadWithout rows [] lines → IsTableOf rows lines }
+{}
+
+/// The first row that is left out is what the whole table is refused for.
+pub fn law_the_first_row_left_out_is_the_fault()
+    ensures { (rows : List (List (List ℕ))) (row : List (List ℕ)) (fault : LineFault) (more : List (List (List ℕ) × LineFault)) (lines : List UsageLine) → IsReadWithout rows ((row, fault) ∷ more) lines → IsFaultOf rows fault }
 {}
 
 /// The residue's account and the limits, as numbers: claims in hundredths of a per cent, the sizes of amounts in

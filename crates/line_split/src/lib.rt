@@ -15,6 +15,7 @@ mod portions;
 mod reason;
 mod text;
 mod usage;
+mod usage_reader;
 
 pub use by_rank::{Working, base_for, portion_by_rank, units_left_of, working_of};
 pub use claims::{ClaimFault, Claims};
@@ -22,6 +23,7 @@ pub use line_fault::LineFault;
 pub use portions::{Portions, split};
 pub use reason::Reason;
 pub use usage::{Line, MOST_LINES, MOST_TEXT_BYTES, Right, Usage};
+pub use usage_reader::UsageReader;
 
 /// Who a claim or a portion belongs to, by number. 0 is the residue account.
 pub type Account = u16;

@@ -4,5 +4,6 @@ pub mod Enclosing
 mod GroupWords
 pub mod OneTable
 pub mod Pieces
+pub mod TisReadings
 mod TisWalks
 pub mod WorkedOut

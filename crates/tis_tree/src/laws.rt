@@ -6,6 +6,7 @@ ghost use Rattle.tis_tree.specs.declared.TheConstants.{MOST_ROWS};
 ghost use Rattle.tis_tree.specs.declared.tis_fault.TisFault.{TisFault};
 ghost use Rattle.tis_tree.specs.declared.tis_fault.TisFault.TheVariants.{Memory};
 ghost use Rattle.tis_tree.specs.Territories.{AreTerritories, Encloses, IsKnown, encloses};
+ghost use Rattle.tis_tree.specs.TisReading.{IsReadWithout};
 ghost use Rattle.tis_tree.specs.TisRows.{IsFaultOf, IsTableOf};
 
 /// A code contains itself where it has a row, and only there.
@@ -46,6 +47,16 @@ pub fn law_rows_are_one_table()
 /// Rows that are a table of territories are refused for nothing but lack of memory.
 pub fn law_a_table_has_no_fault()
     ensures { (rows : List (List (List ℕ))) (table : List (ℕ × List ℕ)) (fault : TisFault) → IsTableOf rows table → IsFaultOf rows fault → fault ≡ Memory }
+{}
+
+/// Where rows are read on past those that are refused, and none is, they are the table that was read.
+pub fn law_a_table_read_on_without_faults()
+    ensures { (rows : List (List (List ℕ))) (table : List (ℕ × List ℕ)) → IsReadWithout rows [] table → IsTableOf rows table }
+{}
+
+/// The first row that is left out is what the whole table is refused for.
+pub fn law_the_first_row_left_out_is_the_fault()
+    ensures { (rows : List (List (List ℕ))) (row : List (List ℕ)) (fault : TisFault) (more : List (List (List ℕ) × TisFault)) (table : List (ℕ × List ℕ)) → IsReadWithout rows ((row, fault) ∷ more) table → IsFaultOf rows fault }
 {}
 
 /// A table has at most 2,048 rows.

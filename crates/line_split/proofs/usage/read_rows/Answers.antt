@@ -1,5 +1,6 @@
 use Rattle.std.proofs.Common.{◌≡◌, rules, true, arith}
 use Rattle.std.proofs.lemmas.List.{length_push}
+use Rattle.std.proofs.lemmas.Result.{err_from_is_err_and}
 use Rattle.std.specs.Result.{is_ok}
 use Rattle.line_split.specs.KeptLines.{line_with, lines_of}
 use Rattle.line_split.specs.declared.line_fault.LineFault.TheVariants.{Lines}
@@ -24,8 +25,9 @@ pub returns-in_err-name-clause-fault : goal.returns-in_err-name-clause-fault
 returns-in_err-name-clause-fault c =
     let found = c.in_ok-next.ensures.found c.if-not-branch.false in
     let refused = walked_fault c.args.rows.left c.next.new.self.left c.next.new.self.row c.loop-number.number
-    (lines_of c.loop-number.names.items c.loop-number.details.items) c.in_err-name.field-0.0 (rw found at c.loop-number.invariant.walked) c.in_err-name.ensures.fault in
-    search rules
+    (lines_of c.loop-number.names.items c.loop-number.details.items) c.in_err-name.field-0.0 (rw found at c.loop-number.invariant.walked) (λ earlier is. c.in_err-name.ensures.fault earlier (omega (arith, is, c.loop-number-test.true))) in
+    let p = err_from_is_err_and c.from_residual-in_err-name.result c.from_residual-in_err-name.ensures.1 in
+    rw (p.1, p.2) refused
 
 pub loop-number-preserved : goal.loop-number-preserved
 loop-number-preserved c =
@@ -61,4 +63,4 @@ pub returns-then-branch-clause-fault : goal.returns-then-branch-clause-fault
 returns-then-branch-clause-fault c =
     let found = c.in_ok-next-2.ensures.found c.if-branch.true in
     walked_fault c.args.rows.left c.next-2.new.self.left c.next-2.new.self.row c.loop-number.number (lines_of c.loop-number.names.items c.loop-number.details.items) Lines
-    (rw found at c.loop-number.invariant.walked) (omega (arith, c.loop-number.auto.number-end))
+    (rw found at c.loop-number.invariant.walked) (λ earlier is. omega (arith, is, c.loop-number.auto.number-end))

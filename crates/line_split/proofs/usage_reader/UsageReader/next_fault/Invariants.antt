@@ -1,0 +1,14 @@
+use Rattle.std.proofs.Common.{◌≡◌, ◌<◌, ◌+◌, [], false, length}
+use Rattle.std.specs.Prelude.{◌^◌}
+use Rattle.csv_table.specs.ReadOn.{ReadsOn}
+use Rattle.line_split.specs.UsageReading.{Reads, Refuses, Stops}
+use Rattle.line_split.proofs.usage_reader.UsageReader.next_fault.Given as goal
+
+abbrev pub invariant-loop-self : goal.invariant-loop-self
+invariant-loop-self l =
+    (l.self-inside.has_stopped ≡ false)
+    × (l.self-inside.number + length l.self-inside.rows.left < 2 ^ 64)
+    × ReadsOn Reads Refuses Stops l.fn.self.lines l.fn.self.number l.fn.self.left [] l.self-inside.lines l.self-inside.number l.self-inside.rows.left
+
+abbrev pub decreases-loop-self : goal.decreases-loop-self
+decreases-loop-self l = length l.self-inside.rows.left

@@ -1,0 +1,101 @@
+//! A list of usage lines as it is read, row by row.
+
+ghost use Rattle.std.specs.Prelude.{◌≡◌, ◌∷◌, [], false, true, IfNone, IfOk, IfSome, drop};
+ghost use Rattle.csv_table.specs.Table.{rows_of};
+ghost use Rattle.line_split.specs.UsageReading.{HasReadOn};
+ghost use Rattle.line_split.specs.UsageTable.{HasNoHeader, header};
+
+use crate::usage::{HEADER, room_for};
+use crate::{LineFault, MOST_LINES, Usage};
+use csv_table::Rows;
+use std::alloc::{AllocError, Global};
+use std::marker::Model;
+
+/// A list of usage lines that is read row by row. A row that is refused is left out, and reading can go on.
+#[derive(Drop)]
+pub struct UsageReader<'a> {
+    rows: Rows<'a>,
+    /// The number of the next row.
+    number: u64,
+    is_headed: bool,
+    /// A row more than a list has lines was found, and no more are read.
+    has_stopped: bool,
+    lines: Usage,
+}
+
+impl<'a> Model for UsageReader<'a> {
+    ghost use Rattle.std.specs.Prelude.{◌<◌, ◌+◌, ◌^◌, [], if◌then◌else◌, length};
+    ghost use Rattle.line_split.specs.UsageReading.{UsageReading};
+
+    ghost Value = { UsageReading };
+
+    ghost view = { λ r. record { row = r.rows.row; number = r.number; left = if r.has_stopped then [] else r.rows.left; is_headed = r.is_headed; lines = r.lines } };
+
+    ghost invariant = { λ r. r.number + length r.rows.left < 2 ^ 64 };
+}
+
+impl<'a> UsageReader<'a> {
+    /// A text below its first row, which has to be `usage,work,territory,right,amount`.
+    pub fn of(alloc: Global, bytes: &'a [u8]) -> Result<UsageReader<'a>, AllocError>
+        ensures begun { IfOk result (λ reader. (reader.lines ≡ []) × (reader.number ≡ 1) × (reader.left ≡ drop 1 (rows_of bytes.now))) }
+        ensures headed { IfOk result (λ reader. reader.is_headed ≡ true → rows_of bytes.now ≡ header ∷ reader.left) }
+        ensures headless { IfOk result (λ reader. reader.is_headed ≡ false → HasNoHeader (rows_of bytes.now)) }
+    {
+        let mut rows = Rows::of(alloc, bytes);
+        let is_headed = rows.next()? && rows.is(&HEADER);
+        Ok(UsageReader {
+            rows,
+            number: 1,
+            is_headed,
+            has_stopped: false,
+            lines: Usage::with_room(alloc, room_for(bytes))?,
+        })
+    }
+
+    /// Whether the first row is the header. Where it is not, the text is refused for `LineFault::Csv(0)`.
+    pub fn is_headed(&self) -> bool
+        ensures { result ≡ self.now.is_headed }
+    {
+        self.is_headed
+    }
+
+    /// Reads on to the next row that is refused, and leaves it out. None: there is no such row, and all are read. Where
+    /// there are more rows than a list has lines, no more are read.
+    pub fn next_fault(&mut self, alloc: Global) -> Result<Option<LineFault>, AllocError>
+        ensures fault { IfOk result (λ found. IfSome found (λ fault. HasReadOn self.old ((self.new.row, fault) ∷ []) self.new)) }
+        ensures none { IfOk result (λ found. IfNone found (HasReadOn self.old [] self.new × (self.new.left ≡ []))) }
+    {
+        if self.has_stopped {
+            return Ok(None);
+        }
+        while self.rows.next()? {
+            if self.lines.len() as u64 >= MOST_LINES {
+                self.has_stopped = true;
+                return Ok(Some(LineFault::Lines));
+            }
+            let number = self.number;
+            self.number += 1;
+            if let Err(fault) = self.lines.add_row(alloc, number, &self.rows) {
+                if fault.place().is_none() {
+                    return Err(AllocError);
+                }
+                return Ok(Some(fault));
+            }
+        }
+        Ok(None)
+    }
+
+    /// The row at hand, which is the one that was refused last.
+    pub fn row(&self) -> &Rows<'a>
+        ensures { result.now.row ≡ self.now.row }
+    {
+        &self.rows
+    }
+
+    /// The lines that were read.
+    pub fn finish(self) -> Usage
+        ensures { result ≡ self.entry.lines }
+    {
+        self.lines
+    }
+}
