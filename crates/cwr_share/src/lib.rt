@@ -33,7 +33,7 @@ pub use filed::{FiledRegistration, count_registrations, filed_registration};
 pub use payee_fault::PayeeFault;
 pub use payee_reader::PayeeReader;
 pub use payees::{MOST_NAME_BYTES, MOST_PAYEES, Payees};
-pub use record_type::{RecordType, record_type};
+pub use record_type::{RecordType, share_fields_of};
 pub use registry::{Registry, Work};
 pub use share_line::ShareRecord;
 

@@ -3,9 +3,9 @@
 ghost use Rattle.std.specs.Prelude.{◌≡◌, map, nat_eq};
 ghost use Rattle.std.specs.List.{list_any};
 ghost use Rattle.std.specs.Cmp.Lexicographic.{pointwise};
-ghost use Rattle.cwr_share.specs.Records.{type_of};
+ghost use Rattle.cwr_share.specs.Records.{share_fields, type_of};
 
-use crate::fields::TYPE;
+use crate::fields::{SPT, SWT, ShareFields, TYPE};
 
 /// What a record is, by its first three bytes.
 #[derive(Clone, Copy, Debug, PartialEq, Eq)]
@@ -25,7 +25,7 @@ pub enum RecordType {
 }
 
 /// The type of the record that a line is.
-pub fn record_type(line: &[u8]) -> RecordType
+pub(crate) fn record_type(line: &[u8]) -> RecordType
     ensures { result ≡ type_of line.now }
 {
     if line.len() < TYPE.last {
@@ -47,6 +47,16 @@ pub fn record_type(line: &[u8]) -> RecordType
         RecordType::Closing
     } else {
         RecordType::Other
+    }
+}
+
+/// Where the fields of a share line stand, by its type.
+pub fn share_fields_of(line: &[u8]) -> ShareFields
+    ensures { result ≡ share_fields line.now }
+{
+    match record_type(line) {
+        RecordType::WriterShare => SWT,
+        _ => SPT,
     }
 }
 
