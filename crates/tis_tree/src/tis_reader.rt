@@ -63,6 +63,7 @@ impl<'a> TisReader<'a> {
     pub fn next_fault(&mut self, alloc: Global) -> Result<Option<TisFault>, AllocError>
         ensures fault { IfOk result (λ found. IfSome found (λ fault. HasReadOn self.old ((self.new.row, fault) ∷ []) self.new)) }
         ensures none { IfOk result (λ found. IfNone found (HasReadOn self.old [] self.new × (self.new.left ≡ []))) }
+        ensures kept { IfOk result (λ _. self.new.is_headed ≡ self.old.is_headed) }
     {
         if self.has_stopped {
             return Ok(None);

@@ -18,6 +18,7 @@ loop-self-init c = (
   c.self.invariant,
   subst (λ (at : PayeeReading). ReadsOn Reads Refuses Stops at.payees at.number at.left [] c.self.inside.payees c.self.inside.number c.self.inside.rows.left) c.self.view_is
       (rw c.if-self.false (here c.self.inside.payees c.self.inside.number c.self.inside.rows.left)),
+  ap (λ (at : PayeeReading). at.is_headed) c.self.view_is,
 )
 
 pub invariant_of-self : goal.invariant_of-self
@@ -47,6 +48,7 @@ loop-self-preserved c =
       omega (arith, c.loop-self.invariant.1, ap length found),
       and_read Reads Refuses Stops c.args.self.now.payees at.payees c.add_row.new.self c.args.self.now.number at.number c.args.self.now.left at.rows.left c.next.new.self.left c.next.new.self.row
           c.loop-self.invariant.2 found (few, c.in_default.ensures.added.0, c.in_default.ensures.added.1),
+      c.loop-self.invariant.3,
     )
 
 pub returns-in-Err : goal.returns-in-Err
@@ -60,4 +62,5 @@ returns-in-Err c =
           (and_left_out Reads Refuses Stops c.args.self.now.payees at.payees c.args.self.now.number at.number c.args.self.now.left at.rows.left c.next.new.self.left c.next.new.self.row c.in-Err.fault
           c.loop-self.invariant.2 found refused);
       none = tt;
+      kept = c.loop-self.invariant.3;
     }

@@ -9,6 +9,7 @@ invariant-loop-self l =
     (l.self-inside.has_stopped ≡ false)
     × (l.self-inside.number + length l.self-inside.rows.left < 2 ^ 64)
     × ReadsOn Reads Refuses Stops l.fn.self.table l.fn.self.number l.fn.self.left [] l.self-inside.table l.self-inside.number l.self-inside.rows.left
+    × (l.self-inside.is_headed ≡ l.fn.self.is_headed)
 
 abbrev pub decreases-loop-self : goal.decreases-loop-self
 decreases-loop-self l = length l.self-inside.rows.left
