@@ -1,0 +1,3 @@
+pub mod GoingOn
+pub mod Reporting
+pub mod Telling

@@ -1,0 +1,52 @@
+-- The faults of a file, told one after another.
+use Rattle.std.proofs.Common.{◌≡◌, ◌≤◌, ◌<◌, ◌+◌, ◌-◌, ◌++◌, ◌∷◌, ◌∙◌, [], ℕ, List, Bool, true, false, ap, append_assoc, codes, decimal, flat_map, length, nat_lt, refl, subst, sym, take, arith}
+use Rattle.std.specs.Prelude.{if◌then◌else◌}
+use Rattle.std.proofs.lemmas.Bool.{le-ltb}
+use Rattle.std.proofs.lemmas.List.{append-nil, flat_map_more, length_push, take_all, take-append-le}
+use Rattle.check_inputs.specs.Messages.{fact_line, fault_line, place_text, shown, shown_byte}
+use Rattle.check_inputs.specs.Report.{fault_lines, more_line}
+use Rattle.check_inputs.specs.Told.{IsTold}
+use Rattle.check_inputs.specs.declared.words.TheConstants.{MOST_FAULTS, MOST_SHOWN}
+
+-- one of the first hundred more
+pub told_one : {X : Type 0} (line : X → List ℕ) (e : X) (before after : List ℕ) (count : ℕ) (faults : List X) → IsTold line before count faults → count < MOST_FAULTS
+    → after ≡ before ++ line e → IsTold line after (count + 1) (faults ++ e ∷ [])
+told_one line e before after count faults told few wrote = record {
+  lines =
+      let all : take MOST_FAULTS faults ≡ faults = take_all MOST_FAULTS faults (omega (arith, told.all, few)) in
+      let more : take MOST_FAULTS (faults ++ e ∷ []) ≡ faults ++ e ∷ [] = take_all MOST_FAULTS (faults ++ e ∷ []) (omega (arith, told.all, few, length_push faults e)) in
+      wrote ∙ (ap (λ (l : List ℕ). l ++ line e) (told.lines ∙ ap (flat_map line) all) ∙ (flat_map_more line [] faults e ∙ ap (flat_map line) (sym more)));
+  all = rw (length_push faults e, told.all) refl;
+}
+
+-- and one that is only counted
+pub told_over : {X : Type 0} (line : X → List ℕ) (e : X) (text : List ℕ) (count : ℕ) (faults : List X) → IsTold line text count faults → MOST_FAULTS ≤ count
+    → IsTold line text (count + 1) (faults ++ e ∷ [])
+told_over line e text count faults told many = record {
+  lines = told.lines ∙ ap (flat_map line) (sym (take-append-le MOST_FAULTS faults (e ∷ []) (omega (arith, told.all, many))));
+  all = rw (length_push faults e, told.all) refl;
+}
+
+-- the line of a fault, in three parts
+pub told_in_parts : {X : Type 0} (line : X → List ℕ) (e : X) (before begun said after path colon place message open' number close : List ℕ) (count counted : ℕ) (faults : List X) → IsTold line before count faults
+    → count < MOST_FAULTS → begun ≡ before ++ (path ++ colon ++ place) → said ≡ begun ++ message → after ≡ said ++ (open' ++ number ++ close) → counted ≡ count + 1
+    → line e ≡ path ++ colon ++ place ++ message ++ open' ++ number ++ close → IsTold line after counted (faults ++ e ∷ [])
+told_in_parts line e before begun said after path colon place message open' number close count counted faults told few one two three more is =
+    rw more (told_one line e before after count faults told few (rw (three, two, one, is) (simp (append_assoc) refl)))
+
+-- how many more there are
+pub told_whole : {X : Type 0} (line : X → List ℕ) (path before after : List ℕ) (count : ℕ) (faults : List X) → IsTold line before count faults → after ≡ before ++ more_line path count
+    → after ≡ fault_lines line path faults
+told_whole line path before after count faults told wrote = wrote ∙ rw (told.lines, told.all) refl
+
+-- a field that is not long is shown whole
+pub shown_whole : (field before after : List ℕ) (end : ℕ) → length field ≤ MOST_SHOWN → after ≡ before ++ flat_map shown_byte (take end field) → end ≡ length field → after ≡ before ++ shown field
+shown_whole field before after end short wrote whole =
+    let all : take MOST_SHOWN field ≡ field = take_all MOST_SHOWN field short in
+    let here : take end field ≡ field = take_all end field (omega (arith, whole)) in
+    wrote ∙ rw (here, all, le-ltb MOST_SHOWN (length field) short) (ap (λ (l : List ℕ). before ++ l) (sym (append-nil (flat_map shown_byte field))))
+
+-- four texts behind another
+pub four_behind : (start one two three four first second third fourth : List ℕ) → one ≡ start ++ first → two ≡ one ++ second → three ≡ two ++ third → four ≡ three ++ fourth
+    → four ≡ start ++ (first ++ second ++ third ++ fourth)
+four_behind start one two three four first second third fourth a b c d = rw (d, c, b, a) (simp (append_assoc) refl)

@@ -1,0 +1,49 @@
+-- What is found in the inputs of a run where each is read on past what is refused in it.
+use Rattle.std.specs.Prelude.{ℕ, ◌≡◌, List, [], Option, Some, None}
+use Rattle.csv_table.specs.Table.{rows_of}
+use Rattle.cwr_share.specs.CwrReading as cwr
+use Rattle.cwr_share.specs.Lines.{lines_of}
+use Rattle.cwr_share.specs.PayeeReading as payees
+use Rattle.cwr_share.specs.Registered.{IsRegistered, Registered}
+use Rattle.cwr_share.specs.declared.cwr_fault.CwrFault.{CwrFault}
+use Rattle.cwr_share.specs.declared.payee_fault.PayeeFault.{PayeeFault}
+use Rattle.line_split.specs.UsageLine.{UsageLine}
+use Rattle.line_split.specs.UsageReading as usage
+use Rattle.line_split.specs.declared.line_fault.LineFault.{LineFault}
+use Rattle.tis_tree.specs.TisReading as tis
+use Rattle.tis_tree.specs.declared.tis_fault.TisFault.{TisFault}
+
+-- a table of payees that need not be there is read without these rows
+abbrev pub ArePayeesWithout : Option (List ℕ) → List (List (List ℕ) × PayeeFault) → List (List ℕ × List ℕ) → Type 0
+ArePayeesWithout None out rows = (out ≡ []) × (rows ≡ [])
+ArePayeesWithout (Some file) out rows = payees.IsReadWithout (rows_of file) out rows
+
+-- a CWR file is read without these lines, and what is left has registrations, if not too many payees
+abbrev pub AreRegistrationsWithout : List (List ℕ × List ℕ) → List (List ℕ) → List (List ℕ × CwrFault) → Option Registered → Type 0
+AreRegistrationsWithout rows lines out (Some registered) = cwr.IsReadWithout rows lines out registered × IsRegistered registered
+AreRegistrationsWithout rows lines out None = cwr.HasTooManyWithout rows lines out
+
+-- the inputs of a run
+pub record Files : Type 0 where
+  pub territories : List ℕ
+  pub payees : Option (List ℕ)
+  pub registrations : List ℕ
+  pub usage : List ℕ
+
+-- the faults of each, and what the rest was read as
+pub record Found : Type 0 where
+  pub of_territories : List (List (List ℕ) × TisFault)
+  pub of_payees : List (List (List ℕ) × PayeeFault)
+  pub of_registrations : List (List ℕ × CwrFault)
+  pub of_usage : List (List (List ℕ) × LineFault)
+  pub table : List (ℕ × List ℕ)
+  pub rows : List (List ℕ × List ℕ)
+  pub registered : Option Registered
+  pub lines : List UsageLine
+
+-- Each input is read whatever stands in the others: the payees are those of the rows that were read.
+pub record IsFoundIn (files : Files) (found : Found) : Type 0 where
+  pub territories : tis.IsReadWithout (rows_of files.territories) found.of_territories found.table
+  pub payees : ArePayeesWithout files.payees found.of_payees found.rows
+  pub registrations : AreRegistrationsWithout found.rows (lines_of files.registrations) found.of_registrations found.registered
+  pub usage : usage.IsReadWithout (rows_of files.usage) found.of_usage found.lines

@@ -1,0 +1,5 @@
+pub mod Checked
+pub mod Found
+pub mod Messages
+pub mod Report
+pub mod Told

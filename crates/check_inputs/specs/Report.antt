@@ -1,0 +1,94 @@
+-- The report on the inputs of a run: every fault, and what is in the files that have none.
+use Rattle.std.specs.Prelude.{ℕ, ◌≡◌, ◌-◌, ◌==◌, ◌&&◌, ◌++◌, [], Bool, List, Option, Some, None, codes, count_by, decimal, flat_map, if◌then◌else◌, length, nat_lt, take}
+use Rattle.std.specs.Option.{option_map_or}
+use Rattle.cwr_share.specs.CwrFile as cwr
+use Rattle.cwr_share.specs.Lines.{lines_of}
+use Rattle.cwr_share.specs.PayeeTable as payees
+use Rattle.cwr_share.specs.Records.{opens_registration}
+use Rattle.cwr_share.specs.Registered.{Registered}
+use Rattle.cwr_share.specs.declared.cwr_fault.CwrFault.{CwrFault}
+use Rattle.cwr_share.specs.declared.payee_fault.PayeeFault.{PayeeFault}
+use Rattle.line_split.specs.UsageLine.{UsageLine}
+use Rattle.line_split.specs.UsageTable as usage
+use Rattle.line_split.specs.declared.line_fault.LineFault.{LineFault}
+use Rattle.tis_tree.specs.TisRows as tis
+use Rattle.tis_tree.specs.declared.tis_fault.TisFault.{TisFault}
+use Rattle.check_inputs.specs.Found.{Files, Found}
+use Rattle.check_inputs.specs.Messages.{cwr_message, fact_line, fault_line, payee_message, tis_message, usage_message}
+use Rattle.check_inputs.specs.declared.words.TheConstants.{MOST_FAULTS}
+
+-- the paths of the files
+pub record Paths : Type 0 where
+  pub territories : List ℕ
+  pub payees : List ℕ
+  pub registrations : List ℕ
+  pub usage : List ℕ
+
+-- how many more faults there are than the first hundred
+abbrev pub more_line : (path : List ℕ) → (count : ℕ) → List ℕ
+more_line path count = if nat_lt MOST_FAULTS count then fact_line path (count - MOST_FAULTS) (codes " faults more\n") else []
+
+-- the first hundred faults of a file, each as a line, and how many more there are
+abbrev pub fault_lines : {X : Type 0} → (line : X → List ℕ) → (path : List ℕ) → List X → List ℕ
+fault_lines line path faults = flat_map line (take MOST_FAULTS faults) ++ more_line path (length faults)
+
+abbrev pub tis_line : (path : List ℕ) → List (List ℕ) × TisFault → List ℕ
+tis_line path e = fault_line path (codes "row ") (tis.place_of_fault e.1) (tis_message e.0 e.1) (tis.number_of_fault e.1)
+
+abbrev pub payee_line : (path : List ℕ) → List (List ℕ) × PayeeFault → List ℕ
+payee_line path e = fault_line path (codes "row ") (payees.place_of_fault e.1) (payee_message e.0 e.1) (payees.number_of_fault e.1)
+
+abbrev pub cwr_line : (path : List ℕ) → List ℕ × CwrFault → List ℕ
+cwr_line path e = fault_line path (codes "line ") (cwr.place_of_fault e.1) (cwr_message e.0 e.1) (cwr.number_of_fault e.1)
+
+abbrev pub usage_line : (path : List ℕ) → List (List ℕ) × LineFault → List ℕ
+usage_line path e = fault_line path (codes "row ") (usage.place_of e.1) (usage_message e.0 e.1) (usage.number_of e.1)
+
+-- all faults, in the order in which a run reads the files
+abbrev pub faults_text : Paths → Found → List ℕ
+faults_text paths found =
+    fault_lines (tis_line paths.territories) paths.territories found.of_territories
+    ++ fault_lines (payee_line paths.payees) paths.payees found.of_payees
+    ++ fault_lines (cwr_line paths.registrations) paths.registrations found.of_registrations
+    ++ fault_lines (usage_line paths.usage) paths.usage found.of_usage
+
+-- a text about a file that has so many faults: there is one where it has none
+abbrev pub if_none : (faults : ℕ) → List ℕ → List ℕ
+if_none faults text = if faults == 0 then text else []
+
+abbrev pub tis_facts : (path : List ℕ) → (faults : ℕ) → List (ℕ × List ℕ) → List ℕ
+tis_facts path faults table = if_none faults (fact_line path (length table) (codes " territories\n"))
+
+abbrev pub payees_facts : (path : List ℕ) → (faults : ℕ) → List (List ℕ × List ℕ) → List ℕ
+payees_facts path faults rows = if_none faults (fact_line path (length rows) (codes " parties with a payee\n"))
+
+-- Of the registrations that are in the file, those that are not in force were replaced by later ones. The residue's account is one of the accounts.
+abbrev pub cwr_numbers : (path : List ℕ) → (registrations : ℕ) → Registered → List ℕ
+cwr_numbers path registrations registered =
+    fact_line path (length registered.works) (codes " works with a registration in force\n")
+    ++ fact_line path (registrations - length registered.works) (codes " registrations replaced by later ones\n")
+    ++ fact_line path (length registered.payees) (codes " parties in force\n")
+    ++ fact_line path (length registered.parties) (codes " accounts, the residue's included\n")
+
+abbrev pub cwr_facts : (path bytes : List ℕ) → (faults : ℕ) → Option Registered → List ℕ
+cwr_facts path bytes faults registered =
+    if_none faults (option_map_or (cwr_numbers path (count_by opens_registration (lines_of bytes))) registered [])
+
+abbrev pub usage_facts : (path : List ℕ) → (faults : ℕ) → List UsageLine → List ℕ
+usage_facts path faults lines = if_none faults (fact_line path (length lines) (codes " usage lines\n"))
+
+-- what is in the files that have no fault; nothing is said of a table of payees that is not there
+abbrev pub facts_text : Paths → Files → Found → List ℕ
+facts_text paths files found =
+    tis_facts paths.territories (length found.of_territories) found.table
+    ++ option_map_or (λ _. payees_facts paths.payees (length found.of_payees) found.rows) files.payees []
+    ++ cwr_facts paths.registrations files.registrations (length found.of_registrations) found.registered
+    ++ usage_facts paths.usage (length found.of_usage) found.lines
+
+-- the report
+abbrev pub report_of : Paths → Files → Found → List ℕ
+report_of paths files found = faults_text paths found ++ facts_text paths files found
+
+-- no file has a fault
+abbrev pub is_sound : Found → Bool
+is_sound found = (length found.of_territories == 0) && (length found.of_payees == 0) && (length found.of_registrations == 0) && (length found.of_usage == 0)

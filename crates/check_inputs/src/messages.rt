@@ -1,0 +1,164 @@
+//! What is wrong with a row or a line, in words.
+
+ghost use Rattle.std.specs.Prelude.{◌≡◌, ◌++◌, OnOk};
+ghost use Rattle.check_inputs.specs.Messages.{cwr_message, payee_message, tis_message, usage_message};
+
+use crate::words::{add, add_around, add_both};
+use csv_table::Rows;
+use cwr_share::fields::{Field, ShareFields, TYPE, WORK};
+use cwr_share::{CwrFault, PayeeFault, share_fields_of};
+use line_split::LineFault;
+use std::alloc::AllocError;
+use tis_tree::TisFault;
+
+/// What is wrong with a row of the table of territories.
+pub(crate) fn add_tis(
+    text: &mut Vec<u8>,
+    row: &Rows<'_>,
+    fault: TisFault,
+) -> Result<(), AllocError>
+    ensures { OnOk result (text.new.items ≡ text.old.items ++ tis_message row.now.row fault) }
+{
+    match fault {
+        TisFault::Csv(0) => add(text, "the first row is not code,groups"),
+        TisFault::Csv(_) => add(text, "the row has not 2 fields"),
+        TisFault::Code(_) => add_around(
+            text,
+            "code '",
+            row.field(0),
+            "' is not a number from 1 to 9999",
+        ),
+        TisFault::Twice(_) => add_around(text, "code '", row.field(0), "' has an earlier row"),
+        TisFault::Group(_) => add_around(
+            text,
+            "groups '",
+            row.field(1),
+            "' are not all codes of earlier rows",
+        ),
+        TisFault::Rows => add(text, "there are more than 2048 rows"),
+        TisFault::Memory => Ok(()),
+    }
+}
+
+/// What is wrong with a row of the table of payees.
+pub(crate) fn add_payee(
+    text: &mut Vec<u8>,
+    row: &Rows<'_>,
+    fault: PayeeFault,
+) -> Result<(), AllocError>
+    ensures { OnOk result (text.new.items ≡ text.old.items ++ payee_message row.now.row fault) }
+{
+    match fault {
+        PayeeFault::Csv(0) => add(text, "the first row is not party,payee"),
+        PayeeFault::Csv(_) => add(text, "the row has not 2 fields"),
+        PayeeFault::Fields(_) => add_both(
+            text,
+            "party '",
+            row.field(0),
+            "' and payee '",
+            row.field(1),
+            "' are not both 1 to 64 printable characters",
+        ),
+        PayeeFault::Twice(_) => add_around(text, "party '", row.field(0), "' has an earlier row"),
+        PayeeFault::Rows => add(text, "there are more than 65536 rows"),
+        PayeeFault::Memory => Ok(()),
+    }
+}
+
+/// What is wrong with a row of the usage list.
+pub(crate) fn add_usage(
+    text: &mut Vec<u8>,
+    row: &Rows<'_>,
+    fault: LineFault,
+) -> Result<(), AllocError>
+    ensures { OnOk result (text.new.items ≡ text.old.items ++ usage_message row.now.row fault) }
+{
+    match fault {
+        LineFault::Csv(0) => add(
+            text,
+            "the first row is not usage,work,territory,right,amount",
+        ),
+        LineFault::Csv(_) => add(text, "the row has not 5 fields"),
+        LineFault::Fields(_) => add_both(
+            text,
+            "usage '",
+            row.field(0),
+            "' and work '",
+            row.field(1),
+            "' are not both 1 to 64 printable characters",
+        ),
+        LineFault::Territory(_) => add_around(
+            text,
+            "territory '",
+            row.field(2),
+            "' is not a number from 1 to 9999",
+        ),
+        LineFault::Right(_) => add_around(text, "right '", row.field(3), "' is not P, M or S"),
+        LineFault::Amount(_) => add_around(
+            text,
+            "amount '",
+            row.field(4),
+            "' is not a whole number from -1000000000000 to 1000000000000",
+        ),
+        LineFault::Lines => add(text, "there are more than 1000000 usage lines"),
+        LineFault::Memory => Ok(()),
+    }
+}
+
+/// What is wrong with a line of the CWR file.
+pub(crate) fn add_cwr(text: &mut Vec<u8>, line: &[u8], fault: CwrFault) -> Result<(), AllocError>
+    ensures { OnOk result (text.new.items ≡ text.old.items ++ cwr_message line.now fault) }
+{
+    let fields = share_fields_of(line);
+    match fault {
+        CwrFault::Short(_) => add_around(
+            text,
+            "record '",
+            TYPE.of(line),
+            "' ends before its last field: NWR and REV take 82 bytes, SPT 54, SWT 48",
+        ),
+        CwrFault::Share(_) => add_around(
+            text,
+            "shares '",
+            three_shares(fields).of(line),
+            "' are not three times five digits up to 10000, or five spaces",
+        ),
+        CwrFault::Mark(_) => add_around(
+            text,
+            "indicator '",
+            fields.mark.of(line),
+            "' is not I, E or a space",
+        ),
+        CwrFault::Land(_) => add_around(
+            text,
+            "territory '",
+            fields.territory.of(line),
+            "' is not four digits from 0001 on",
+        ),
+        CwrFault::Party(_) => add_around(
+            text,
+            "interested party number '",
+            fields.party.of(line),
+            "' is blank or not printable",
+        ),
+        CwrFault::Work(_) => add_around(
+            text,
+            "submitter work number '",
+            WORK.of(line),
+            "' is blank or not printable",
+        ),
+        CwrFault::Many(_) => add(text, "the registration has 256 share lines before this one"),
+        CwrFault::Accounts => add(text, "the parties in force have more than 16383 payees"),
+        CwrFault::Memory => Ok(()),
+    }
+}
+
+/// The three shares of a share line, which stand side by side.
+fn three_shares(fields: ShareFields) -> Field
+    ensures { result ≡ record { first = fields.performing.first; last = fields.synchronisation.last } }
+{
+    Field {
+        first: fields.performing.first,
+        last: fields.synchronisation.last,
+    }
+}

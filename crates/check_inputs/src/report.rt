@@ -1,0 +1,263 @@
+//! The report on the inputs of a run.
+
+ghost use Rattle.std.specs.Option.{option_map, option_map_or};
+ghost use Rattle.std.specs.Prelude.{◌≡◌, ◌++◌, [], ◌==◌, ◌&&◌, ℕ, List, IfOk, OnOk, Option, codes, count_by, length, string_bytes};
+ghost use Rattle.csv_table.specs.Table.{rows_of};
+ghost use Rattle.cwr_share.specs.Lines.{lines_of};
+ghost use Rattle.cwr_share.specs.Records.{opens_registration};
+ghost use Rattle.cwr_share.specs.Registered.{Registered};
+ghost use Rattle.cwr_share.specs.declared.cwr_fault.CwrFault.{CwrFault};
+ghost use Rattle.cwr_share.specs.declared.payee_fault.PayeeFault.{PayeeFault};
+ghost use Rattle.line_split.specs.UsageLine.{UsageLine};
+ghost use Rattle.line_split.specs.UsageReading as usage;
+ghost use Rattle.line_split.specs.declared.line_fault.LineFault.{LineFault};
+ghost use Rattle.tis_tree.specs.TisReading as tis;
+ghost use Rattle.tis_tree.specs.declared.tis_fault.TisFault.{TisFault};
+ghost use Rattle.check_inputs.specs.Checked.{GoesOn, IsReportOn, files_of, path_if_given, paths_of, payee_facts};
+ghost use Rattle.check_inputs.specs.Found.{ArePayeesWithout, AreRegistrationsWithout};
+ghost use Rattle.check_inputs.specs.Messages.{fact_line};
+ghost use Rattle.check_inputs.specs.Report.{cwr_facts, cwr_line, cwr_numbers, fault_lines, if_none, payee_line, tis_facts, tis_line, usage_facts, usage_line};
+
+use crate::reading::{read_cwr, read_payees, read_tis, read_usage};
+use crate::told::Told;
+use crate::words::add_fact;
+use cwr_share::{Payees, Registry, count_registrations};
+use std::alloc::{AllocError, Global};
+
+/// A report on inputs.
+#[derive(Drop)]
+pub struct Checked {
+    /// Its lines.
+    pub text: Vec<u8>,
+    /// No file has a fault.
+    pub is_sound: bool,
+}
+
+/// An input, with the path that it has in the report.
+#[derive(Drop)]
+pub struct File {
+    /// Its path.
+    pub path: String,
+    /// What is in it.
+    pub bytes: Vec<u8>,
+}
+
+/// Reports on the inputs of a run: a table of territories, a table of payees where there is one, a CWR file and a usage list. Each is
+/// read whatever stands in the others, past each row or line that is refused. The report has the first hundred faults of each, and what is in
+/// those that have none.
+pub fn check(
+    alloc: Global,
+    tis: &File,
+    payees: &Option<File>,
+    cwr: &File,
+    usage: &File,
+) -> Result<Checked, AllocError>
+    ensures { IfOk result (λ checked. IsReportOn (paths_of tis.now payees.now cwr.now usage.now) (files_of tis.now payees.now cwr.now usage.now) checked.text.items checked.is_sound) }
+{
+    let mut sheet = Sheet {
+        faults: Vec::new(alloc),
+        facts: Vec::new(alloc),
+        is_sound: true,
+    };
+    sheet.tis(alloc, tis)?;
+    let rows = sheet.payees(alloc, payees)?;
+    sheet.cwr(alloc, cwr, &rows)?;
+    sheet.usage(alloc, usage)?;
+    sheet.whole()
+}
+
+/// The report so far.
+#[derive(Drop)]
+struct Sheet {
+    faults: Vec<u8>,
+    /// What is in the files that have no fault.
+    facts: Vec<u8>,
+    is_sound: bool,
+}
+
+impl Sheet {
+    /// Goes on by a table of territories.
+    fn tis(&mut self, alloc: Global, file: &File) -> Result<(), AllocError>
+        ensures { OnOk result ((out : List (List (List ℕ) × TisFault)) × (table : List (ℕ × List ℕ)) × tis.IsReadWithout (rows_of file.now.bytes.items) out table
+            × GoesOn self.old self.new (length out) (fault_lines (tis_line (string_bytes file.now.path)) (string_bytes file.now.path) out) (tis_facts (string_bytes file.now.path) (length out) table)) }
+    {
+        let path = file.path.as_str();
+        let (told, table) = read_tis(alloc, path, file.bytes.as_slice())?;
+        self.add_faults(&told)?;
+        add_fact_if_none(
+            &mut self.facts,
+            told.count,
+            path,
+            table.len() as u64,
+            " territories\n",
+        )?;
+        Ok(())
+    }
+
+    /// By a table of payees, where there is one.
+    fn payees(&mut self, alloc: Global, file: &Option<File>) -> Result<Payees, AllocError>
+        ensures { IfOk result (λ rows. (out : List (List (List ℕ) × PayeeFault)) × ArePayeesWithout (option_map (λ file. file.bytes.items) file.now) out rows
+            × GoesOn self.old self.new (length out) (fault_lines (payee_line (path_if_given file.now)) (path_if_given file.now) out) (payee_facts file.now (length out) rows)) }
+    {
+        let (told, rows) = read_payees_if_given(alloc, file)?;
+        self.add_faults(&told)?;
+        add_payee_facts(&mut self.facts, file, told.count, rows.len() as u64)?;
+        Ok(rows)
+    }
+
+    /// By a CWR file.
+    fn cwr(&mut self, alloc: Global, file: &File, payees: &Payees) -> Result<(), AllocError>
+        ensures { OnOk result ((out : List (List ℕ × CwrFault)) × (registered : Option Registered) × AreRegistrationsWithout payees.now (lines_of file.now.bytes.items) out registered
+            × GoesOn self.old self.new (length out) (fault_lines (cwr_line (string_bytes file.now.path)) (string_bytes file.now.path) out) (cwr_facts (string_bytes file.now.path) file.now.bytes.items (length out) registered)) }
+    {
+        let (told, registry) =
+            read_cwr(alloc, file.path.as_str(), file.bytes.as_slice(), payees)?;
+        self.add_faults(&told)?;
+        add_cwr_facts(&mut self.facts, file, told.count, &registry)?;
+        Ok(())
+    }
+
+    /// By a usage list.
+    fn usage(&mut self, alloc: Global, file: &File) -> Result<(), AllocError>
+        ensures { OnOk result ((out : List (List (List ℕ) × LineFault)) × (lines : List UsageLine) × usage.IsReadWithout (rows_of file.now.bytes.items) out lines
+            × GoesOn self.old self.new (length out) (fault_lines (usage_line (string_bytes file.now.path)) (string_bytes file.now.path) out) (usage_facts (string_bytes file.now.path) (length out) lines)) }
+    {
+        let path = file.path.as_str();
+        let (told, lines) = read_usage(alloc, path, file.bytes.as_slice())?;
+        self.add_faults(&told)?;
+        add_fact_if_none(
+            &mut self.facts,
+            told.count,
+            path,
+            lines.len() as u64,
+            " usage lines\n",
+        )?;
+        Ok(())
+    }
+
+    /// Adds the faults of a file.
+    fn add_faults(&mut self, told: &Told<'_>) -> Result<(), AllocError>
+        ensures told { OnOk result ((self.new.faults.items ≡ self.old.faults.items ++ told.now.text.items) × (self.new.is_sound ≡ (self.old.is_sound && (told.now.count == 0)))) }
+        ensures facts { self.new.facts ≡ self.old.facts }
+    {
+        self.faults.extend_from_slice(told.text.as_slice())?;
+        self.is_sound = self.is_sound && told.count == 0;
+        Ok(())
+    }
+
+    /// The whole report.
+    fn whole(self) -> Result<Checked, AllocError>
+        ensures { IfOk result (λ checked. (checked.text.items ≡ self.faults.items ++ self.facts.items) × (checked.is_sound ≡ self.is_sound)) }
+    {
+        let mut text = self.faults;
+        text.extend_from_slice(self.facts.as_slice())?;
+        Ok(Checked {
+            text,
+            is_sound: self.is_sound,
+        })
+    }
+}
+
+/// Says how many there are of something in the file of a path, where it has no fault.
+fn add_fact_if_none(
+    text: &mut Vec<u8>,
+    faults: u64,
+    path: &str,
+    number: u64,
+    what: &str,
+) -> Result<(), AllocError>
+    ensures { OnOk result (text.new.items ≡ text.old.items ++ if_none faults (fact_line path.now number what.now)) }
+{
+    if faults == 0 {
+        add_fact(text, path, number, what)?;
+    }
+    Ok(())
+}
+
+/// Reads a table of payees, where there is one.
+fn read_payees_if_given<'a>(
+    alloc: Global,
+    file: &'a Option<File>,
+) -> Result<(Told<'a>, Payees), AllocError>
+    ensures { IfOk result (λ read. (out : List (List (List ℕ) × PayeeFault)) × ArePayeesWithout (option_map (λ file. file.bytes.items) file.entry.now) out read.1
+        × (read.0.text.items ≡ fault_lines (payee_line (path_if_given file.entry.now)) (path_if_given file.entry.now) out) × (read.0.count ≡ length out)) }
+{
+    match file {
+        Some(file) => read_payees(alloc, file.path.as_str(), file.bytes.as_slice()),
+        None => Ok((Told::none(alloc, ""), Payees::none(alloc))),
+    }
+}
+
+/// What is in a table of payees, where there is one that has no fault.
+fn add_payee_facts(
+    text: &mut Vec<u8>,
+    file: &Option<File>,
+    faults: u64,
+    rows: u64,
+) -> Result<(), AllocError>
+    ensures { OnOk result (text.new.items ≡ text.old.items ++ option_map_or (λ file. if_none faults (fact_line (string_bytes file.path) rows (codes " parties with a payee\n"))) file.now []) }
+{
+    let Some(file) = file else {
+        return Ok(());
+    };
+    add_fact_if_none(
+        text,
+        faults,
+        file.path.as_str(),
+        rows,
+        " parties with a payee\n",
+    )?;
+    Ok(())
+}
+
+/// What is in a CWR file that has no fault.
+fn add_cwr_facts(
+    text: &mut Vec<u8>,
+    file: &File,
+    faults: u64,
+    registry: &Option<Registry>,
+) -> Result<(), AllocError>
+    ensures { OnOk result (text.new.items ≡ text.old.items
+        ++ if_none faults (option_map_or (cwr_numbers (string_bytes file.now.path) (count_by opens_registration (lines_of file.now.bytes.items))) registry.now [])) }
+{
+    if faults > 0 {
+        return Ok(());
+    }
+    let Some(registry) = registry else {
+        return Ok(());
+    };
+    add_cwr_numbers(
+        text,
+        file.path.as_str(),
+        count_registrations(file.bytes.as_slice()),
+        registry,
+    )?;
+    Ok(())
+}
+
+/// What is in a CWR file that has so many registrations.
+fn add_cwr_numbers(
+    text: &mut Vec<u8>,
+    path: &str,
+    registrations: u64,
+    registry: &Registry,
+) -> Result<(), AllocError>
+    ensures { OnOk result (text.new.items ≡ text.old.items ++ cwr_numbers path.now registrations registry.now) }
+{
+    let works = registry.works() as u64;
+    add_fact(text, path, works, " works with a registration in force\n")?;
+    add_fact(
+        text,
+        path,
+        registrations.saturating_sub(works),
+        " registrations replaced by later ones\n",
+    )?;
+    add_fact(text, path, registry.claimants() as u64, " parties in force\n")?;
+    add_fact(
+        text,
+        path,
+        u64::from(registry.accounts()),
+        " accounts, the residue's included\n",
+    )?;
+    Ok(())
+}

@@ -1,0 +1,148 @@
+//! The faults of one file, in words.
+
+ghost use Rattle.std.specs.Prelude.{◌≡◌, ◌<◌, ◌+◌, ◌++◌, ◌∷◌, ◌^◌, [], ℕ, List, OnOk, Option, codes, decimal};
+ghost use Rattle.cwr_share.specs.declared.cwr_fault.CwrFault.{CwrFault};
+ghost use Rattle.cwr_share.specs.declared.payee_fault.PayeeFault.{PayeeFault};
+ghost use Rattle.line_split.specs.declared.line_fault.LineFault.{LineFault};
+ghost use Rattle.tis_tree.specs.declared.tis_fault.TisFault.{TisFault};
+ghost use Rattle.check_inputs.specs.Messages.{place_text};
+ghost use Rattle.check_inputs.specs.Report.{cwr_line, more_line, payee_line, tis_line, usage_line};
+ghost use Rattle.check_inputs.specs.Told.{IsTold};
+
+use crate::messages::{add_cwr, add_payee, add_tis, add_usage};
+use crate::words::{MOST_FAULTS, add, add_fact, add_number, add_place};
+use csv_table::Rows;
+use cwr_share::{CwrFault, PayeeFault};
+use line_split::LineFault;
+use std::alloc::{AllocError, Global};
+use tis_tree::TisFault;
+
+/// The faults of a file so far: the first hundred as lines, and how many there are.
+#[derive(Drop)]
+pub(crate) struct Told<'a> {
+    /// The path of the file.
+    pub(crate) path: &'a str,
+    pub(crate) text: Vec<u8>,
+    pub(crate) count: u64,
+}
+
+impl<'a> Told<'a> {
+    /// No faults yet.
+    pub(crate) fn none(alloc: Global, path: &'a str) -> Told<'a>
+        ensures none { (result.text.items ≡ []) × (result.count ≡ 0) }
+        ensures path { result.path.now ≡ path.now }
+    {
+        Told {
+            path,
+            text: Vec::new(alloc),
+            count: 0,
+        }
+    }
+
+    /// Tells one more of a table of territories.
+    pub(crate) fn tis(&mut self, row: &Rows<'_>, fault: TisFault) -> Result<(), AllocError>
+        requires { self.old.count + 1 < 2 ^ 64 }
+        ensures told { OnOk result ((faults : List (List (List ℕ) × TisFault)) → IsTold (tis_line self.old.path.now) self.old.text.items self.old.count faults
+            → IsTold (tis_line self.old.path.now) self.new.text.items self.new.count (faults ++ (row.now.row, fault) ∷ [])) }
+        ensures path { self.new.path.now ≡ self.old.path.now }
+    {
+        if self.count >= MOST_FAULTS {
+            self.count += 1;
+            return Ok(());
+        }
+        self.begin("row ", fault.place())?;
+        add_tis(&mut self.text, row, fault)?;
+        self.end(fault.number())?;
+        Ok(())
+    }
+
+    /// Tells one more of a table of payees.
+    pub(crate) fn payee(&mut self, row: &Rows<'_>, fault: PayeeFault) -> Result<(), AllocError>
+        requires { self.old.count + 1 < 2 ^ 64 }
+        ensures told { OnOk result ((faults : List (List (List ℕ) × PayeeFault)) → IsTold (payee_line self.old.path.now) self.old.text.items self.old.count faults
+            → IsTold (payee_line self.old.path.now) self.new.text.items self.new.count (faults ++ (row.now.row, fault) ∷ [])) }
+        ensures path { self.new.path.now ≡ self.old.path.now }
+    {
+        if self.count >= MOST_FAULTS {
+            self.count += 1;
+            return Ok(());
+        }
+        self.begin("row ", fault.place())?;
+        add_payee(&mut self.text, row, fault)?;
+        self.end(fault.number())?;
+        Ok(())
+    }
+
+    /// Tells one more of a CWR file.
+    pub(crate) fn cwr(&mut self, line: &[u8], fault: CwrFault) -> Result<(), AllocError>
+        requires { self.old.count + 1 < 2 ^ 64 }
+        ensures told { OnOk result ((faults : List (List ℕ × CwrFault)) → IsTold (cwr_line self.old.path.now) self.old.text.items self.old.count faults
+            → IsTold (cwr_line self.old.path.now) self.new.text.items self.new.count (faults ++ (line.now, fault) ∷ [])) }
+        ensures path { self.new.path.now ≡ self.old.path.now }
+    {
+        if self.count >= MOST_FAULTS {
+            self.count += 1;
+            return Ok(());
+        }
+        self.begin("line ", fault.place())?;
+        add_cwr(&mut self.text, line, fault)?;
+        self.end(fault.number())?;
+        Ok(())
+    }
+
+    /// Tells one more of a usage list.
+    pub(crate) fn usage(&mut self, row: &Rows<'_>, fault: LineFault) -> Result<(), AllocError>
+        requires { self.old.count + 1 < 2 ^ 64 }
+        ensures told { OnOk result ((faults : List (List (List ℕ) × LineFault)) → IsTold (usage_line self.old.path.now) self.old.text.items self.old.count faults
+            → IsTold (usage_line self.old.path.now) self.new.text.items self.new.count (faults ++ (row.now.row, fault) ∷ [])) }
+        ensures path { self.new.path.now ≡ self.old.path.now }
+    {
+        if self.count >= MOST_FAULTS {
+            self.count += 1;
+            return Ok(());
+        }
+        self.begin("row ", fault.place())?;
+        add_usage(&mut self.text, row, fault)?;
+        self.end(fault.number())?;
+        Ok(())
+    }
+
+    /// Says how many more there are than were told.
+    pub(crate) fn close(&mut self) -> Result<(), AllocError>
+        ensures text { OnOk result (self.new.text.items ≡ self.old.text.items ++ more_line self.old.path.now self.old.count) }
+        ensures count { self.new.count ≡ self.old.count }
+    {
+        if self.count > MOST_FAULTS {
+            add_fact(
+                &mut self.text,
+                self.path,
+                self.count - MOST_FAULTS,
+                " faults more\n",
+            )?;
+        }
+        Ok(())
+    }
+
+    /// Begins the line of a fault.
+    fn begin(&mut self, kind: &str, place: Option<u64>) -> Result<(), AllocError>
+        ensures text { OnOk result (self.new.text.items ≡ self.old.text.items ++ (self.old.path.now ++ codes ": " ++ place_text kind.now place)) }
+        ensures same { (self.new.count ≡ self.old.count) × (self.new.path.now ≡ self.old.path.now) }
+    {
+        add(&mut self.text, self.path)?;
+        add(&mut self.text, ": ")?;
+        add_place(&mut self.text, kind, place)
+    }
+
+    /// Ends it, and counts the fault.
+    fn end(&mut self, number: u8) -> Result<(), AllocError>
+        requires { self.old.count + 1 < 2 ^ 64 }
+        ensures text { OnOk result (self.new.text.items ≡ self.old.text.items ++ (codes " (fault " ++ decimal number ++ codes ")\n")) }
+        ensures count { self.new.count ≡ self.old.count + 1 }
+        ensures path { self.new.path.now ≡ self.old.path.now }
+    {
+        self.count += 1;
+        add(&mut self.text, " (fault ")?;
+        add_number(&mut self.text, u64::from(number))?;
+        add(&mut self.text, ")\n")
+    }
+}

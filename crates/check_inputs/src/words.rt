@@ -1,0 +1,137 @@
+//! The words of a report.
+
+ghost use Rattle.std.specs.Prelude.{◌≡◌, ◌<◌, ◌++◌, ◌∷◌, [], OnOk, Option, codes, decimal, flat_map, if◌then◌else◌, length, nat_lt, take};
+ghost use Rattle.check_inputs.specs.Messages.{around, fact_line, hex, place_text, shown, shown_byte};
+ghost use Rattle.check_inputs.specs.declared.words.TheConstants.{MOST_SHOWN};
+
+use itoa::Buffer;
+use std::alloc::AllocError;
+
+/// The most bytes of a field that are shown.
+pub(crate) const MOST_SHOWN: usize = 64;
+
+/// The most faults of a file that are named.
+pub(crate) const MOST_FAULTS: u64 = 100;
+
+/// Adds a text.
+pub(crate) fn add(text: &mut Vec<u8>, more: &str) -> Result<(), AllocError>
+    ensures { OnOk result (text.new.items ≡ text.old.items ++ more.now) }
+{
+    text.extend_from_slice(more.as_bytes())?;
+    Ok(())
+}
+
+/// Adds a number.
+pub(crate) fn add_number(text: &mut Vec<u8>, number: u64) -> Result<(), AllocError>
+    ensures { OnOk result (text.new.items ≡ text.old.items ++ decimal number) }
+{
+    let mut digits = Buffer::new();
+    text.extend_from_slice(digits.format(number).as_bytes())?;
+    Ok(())
+}
+
+/// Adds a field between words.
+pub(crate) fn add_around(
+    text: &mut Vec<u8>,
+    before: &str,
+    field: &[u8],
+    after: &str,
+) -> Result<(), AllocError>
+    ensures { OnOk result (text.new.items ≡ text.old.items ++ around before.now field.now after.now) }
+{
+    add(text, before)?;
+    add_shown(text, field)?;
+    add(text, after)
+}
+
+/// Adds two fields between words.
+pub(crate) fn add_both(
+    text: &mut Vec<u8>,
+    before: &str,
+    first: &[u8],
+    between: &str,
+    second: &[u8],
+    after: &str,
+) -> Result<(), AllocError>
+    ensures { OnOk result (text.new.items ≡ text.old.items ++ (around before.now first.now between.now ++ around [] second.now after.now)) }
+{
+    add_around(text, before, first, between)?;
+    add_shown(text, second)?;
+    add(text, after)?;
+    Ok(())
+}
+
+/// Adds a field as it stands, but for bytes that cannot be printed, and for what is long.
+fn add_shown(text: &mut Vec<u8>, field: &[u8]) -> Result<(), AllocError>
+    ensures { OnOk result (text.new.items ≡ text.old.items ++ shown field.now) }
+{
+    let end = field.len().min(MOST_SHOWN);
+    add_bytes(text, &field[..end])?;
+    if field.len() > MOST_SHOWN {
+        return add(text, "..");
+    }
+    Ok(())
+}
+
+/// Adds bytes, each as it is shown.
+fn add_bytes(text: &mut Vec<u8>, bytes: &[u8]) -> Result<(), AllocError>
+    ensures { OnOk result (text.new.items ≡ text.old.items ++ flat_map shown_byte bytes.now) }
+{
+    for place in 0..bytes.len() {
+        add_byte(text, bytes[place])?;
+    }
+    Ok(())
+}
+
+/// Adds a byte, or its two digits to the base 16 where it cannot be printed.
+fn add_byte(text: &mut Vec<u8>, byte: u8) -> Result<(), AllocError>
+    ensures { OnOk result (text.new.items ≡ text.old.items ++ shown_byte byte) }
+{
+    if byte >= 32 && byte <= 126 {
+        text.push(byte)?;
+        return Ok(());
+    }
+    add(text, "\\x")?;
+    text.push(hex_digit(byte / 16))?;
+    text.push(hex_digit(byte % 16))?;
+    Ok(())
+}
+
+/// A digit to the base 16.
+fn hex_digit(n: u8) -> u8
+    requires { n < 16 }
+    ensures { result ≡ hex n }
+{
+    if n < 10 { n + b'0' } else { n + b'a' - 10 }
+}
+
+/// Adds where a fault stands, if it stands anywhere.
+pub(crate) fn add_place(
+    text: &mut Vec<u8>,
+    kind: &str,
+    place: Option<u64>,
+) -> Result<(), AllocError>
+    ensures { OnOk result (text.new.items ≡ text.old.items ++ place_text kind.now place) }
+{
+    if let Some(place) = place {
+        add(text, kind)?;
+        add_number(text, place)?;
+        add(text, ": ")?;
+    }
+    Ok(())
+}
+
+/// Adds a line that says how many there are of something in the file of a path.
+pub(crate) fn add_fact(
+    text: &mut Vec<u8>,
+    path: &str,
+    number: u64,
+    what: &str,
+) -> Result<(), AllocError>
+    ensures { OnOk result (text.new.items ≡ text.old.items ++ fact_line path.now number what.now) }
+{
+    add(text, path)?;
+    add(text, ": ")?;
+    add_number(text, number)?;
+    add(text, what)
+}
