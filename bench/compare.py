@@ -4,7 +4,10 @@ payees, and compares statuses, statements and messages; then the same for the ex
 lines, one row past the last among them at times; and each portion that an explanation shows has to be a row of the statements. Half of the inputs are small; the others are realistic, with up
 to 2,000 parties and 6,000 usage lines, so that some of these are read in parts.
 
-    python3 compare.py --program PATH [--cases 2000] [--explained 3] [--seed 1]
+Then it compares the reports of `check`, half of them over files that were spoilt further, all over. What a run is refused for has to be the first
+fault of the report, and where a run gives statements the report has no fault.
+
+    python3 compare.py --program PATH [--cases 2000] [--explained 3] [--checked 1] [--seed 1]
 """
 import argparse
 import csv
@@ -149,6 +152,148 @@ def case(rng, folder):
     return files
 
 
+# what a field is changed to in any column
+ODD = [b"", b" ", b"x" * 70, b"caf\xc3\xa9", b"\xc3", b"a\tb", b"\x00", b"\x7f", b"'", b"\\x41", b'"x"']
+
+# what else a field of a row is changed to, and its place in the row, counted from the end
+WRONG = {
+    "tis": [(-2, [b"0", b"DE", b"10000", b"2136"]), (-1, [b"9998", b"2136 9998", b"DE", b"2136,", b"0"])],
+    "usage": [(-5, []), (-4, []), (-3, [b"0", b"DE", b"00276"]), (-2, [b"p", b"PM"]),
+              (-1, [b"12x4", b"+1", b"1.00", b"1000000000001", b"-1000000000001", b"-"])],
+    "payees": [(-2, [b"A", b" A "]), (-1, [])],
+}
+
+# the first rows of the tables
+HEADERS = {"tis": b"code,groups", "usage": b"usage,work,territory,right,amount", "payees": b"party,payee"}
+
+
+def spoilt_row(rng, name, row):
+    """A row of a table after an accident to it."""
+    fields = row.split(b",")
+    accident = rng.randrange(6)
+    if accident == 0:
+        fields.insert(rng.randrange(len(fields) + 1), rng.choice([b"", b"x"]))
+    elif accident == 1:
+        del fields[rng.randrange(len(fields))]
+    else:
+        place, wrong = rng.choice(WRONG[name])
+        if len(fields) >= -place:
+            fields[place] = rng.choice(wrong if wrong and rng.random() < 0.7 else ODD)
+    return b",".join(fields)
+
+
+def spoilt_line(rng, line):
+    """A line of a CWR file after an accident to it, if it is one of a registration or of a share."""
+    to = lambda place, wrong: line[:place] + wrong + line[place + len(wrong):]
+    if line[:3] in (b"NWR", b"REV"):
+        return rng.choice([line[:rng.randint(3, 84)], line[:81], to(81, b" " * 14), to(83, b"\xc3"), to(82, b"\x1b"), to(81, b"caf\xc3\xa9")])
+    if line[:3] not in (b"SPT", b"SWT"):
+        return line
+    shares = 34 if line[:3] == b"SPT" else 28
+    return rng.choice([
+        line[:rng.randint(3, shares + 20)], line[:shares + 19],
+        to(19, b" " * 9), to(20, b"\xc3"), to(19, b"\t"),
+        to(shares + 5 * rng.randrange(3), rng.choice([b"10001", b"0500O", b" 5000", b"+5000"])),
+        to(shares + 15, rng.choice([b"X", b"i", b"\xff"])),
+        to(shares + 16, rng.choice([b"0000", b"DE  ", b" 276"])),
+    ])
+
+
+def spoilt(rng, name, data):
+    """A file after an accident that `check` has words for, or that leaves it sound."""
+    lines = data.split(b"\n")
+    kinds = (b"NWR", b"REV", b"SPT", b"SWT")
+    places = [n for n, line in enumerate(lines) if line[:3] in kinds] if name == "cwr" else range(1, len(lines))
+    place = rng.choice(places) if places else 0
+    once = lambda line: spoilt_line(rng, line) if name == "cwr" else spoilt_row(rng, name, line)
+    accident = rng.random()
+    if accident < 0.6:
+        for n in range(place, min(len(lines), place + rng.choice([1, 1, 4]))):
+            lines[n] = once(lines[n])
+    elif accident < 0.7:
+        again = lines[place]
+        if name == "payees" and rng.random() < 0.5:
+            again = again.split(b",")[0] + rng.choice([b",A", b",Z", b",OTHER"])
+        lines.insert(rng.randint(place, len(lines)), again)
+    elif accident < 0.8 and name == "cwr":
+        lines[place:place] = [lines[place]] * rng.choice([255, 256, 257, 260, 355, 356, 357, 400])
+    elif accident < 0.8:
+        header = HEADERS[name]
+        lines[:1] = rng.choice([[], [header[:-1]], [header + b",x"], [b" " + header], [header.upper()],
+                                [b"\xef\xbb\xbf" + header], [b"", b'"' + header.replace(b",", b'","') + b'"'], [header, b"", b"\r"]])
+    elif accident < 0.9:
+        # about as many faults as are told, and many more
+        count = rng.choice([98, 99, 100, 101, 102, 250])
+        lines[place:place] = [once(lines[place]) for _ in range(count)] if name == "cwr" else [lines[place] + b",x,y,z"] * count
+    elif accident < 0.95:
+        # all over the file
+        lines = [line if rng.random() < 0.7 else once(line) for line in lines]
+    else:
+        del lines[place]
+    return b"\n".join(lines)
+
+
+def filled(rng, name):
+    """A file with as many rows or accounts as there may be, and more."""
+    more = rng.choice([0, 1, 2, 50])
+    if name == "tis":
+        return b"code,groups\n" + b"".join(b"%d,\n" % n for n in range(1, 2049 + more))
+    if name == "payees":
+        return b"party,payee\n" + b"".join(b"P%d,Q\n" % n for n in range(65_536 + more))
+    lines = []
+    for n in range(16_383 + more):
+        if n % 256 == 0:
+            lines.append(b"NWR%016d%-62sW%d" % (0, b"SONG", n))
+        lines.append(b"SWT%016dP%08d100001000010000I2136" % (0, n))
+    return b"\n".join(lines)
+
+
+def all_spoilt(rng, files):
+    """The files of a case, by name, after a few accidents all over."""
+    files = dict(files)
+    if rng.random() < 0.05:
+        name = rng.choice([name for name in files if name != "usage"])
+        files[name] = filled(rng, name)
+    for _ in range(rng.randint(1, 5)):
+        name = rng.choice(list(files))
+        files[name] = spoilt(rng, name, files[name])
+    return files
+
+
+def written(folder, files):
+    """The paths of the files, which are written to a folder."""
+    os.makedirs(folder, exist_ok=True)
+    paths = []
+    for name, data in files.items():
+        paths.append(os.path.join(folder, name))
+        with open(paths[-1], "wb") as f:
+            f.write(data)
+    return paths
+
+
+REFUSED = re.compile(rb"(tis|payee|cwr|usage) fault (\d+)(?: at (row|line) (\d+))?\n")
+
+
+def contradicts(report, paths, refusal):
+    """Whether a report with its status does not fit how a run over the same files ended."""
+    status, text, message = report
+    if refusal[0] != 1:
+        return (status, b"(fault " in text) != (refusal[0], False) or (status != 0 and message != refusal[2])
+    what, number, unit, place = REFUSED.fullmatch(refusal[2]).groups()
+    path = dict(zip(NAMES, paths))["payees" if what == b"payee" else what.decode()]
+    first = text.split(b"\n")[0]
+    begin = path.encode() + b": " + (unit + b" " + place + b": " if place else b"there are " if what != b"cwr" else b"the parties ")
+    return status != 1 or message != b"" or not (first.startswith(begin) and first.endswith(b" (fault " + number + b")"))
+
+
+def first_difference(ours, theirs):
+    """The statuses of two reports, what else they said, and their first lines that differ."""
+    lines = [outcome[1].split(b"\n") for outcome in (ours, theirs)]
+    shorter = min(map(len, lines))
+    at = next((n for n in range(shorter) if lines[0][n] != lines[1][n]), shorter)
+    return " and ".join(f"{o[0]} {o[2]!r} {b''.join(l[at:at + 1])!r}" for o, l in zip((ours, theirs), lines)) + f" in line {at + 1}"
+
+
 def run_options(paths, plan):
     """The options of a run: its files, and its workers, readers and nodes."""
     return [*zip(NAMES, paths), *zip(("workers", "readers", "nodes"), plan)]
@@ -192,18 +337,16 @@ def main():
     parser.add_argument("--program", required=True)
     parser.add_argument("--cases", type=int, default=2000)
     parser.add_argument("--explained", type=int, default=3, help="usage lines explained in each case")
+    parser.add_argument("--checked", type=int, default=1, help="reports on each case")
     parser.add_argument("--seed", type=int, default=1)
     a = parser.parse_args()
     plain, program = build_plain(), os.path.abspath(a.program)
-    statuses, rows, explained, differing = {}, 0, 0, 0
+    statuses, rows, explained, checked, faulty, differing = {}, 0, 0, 0, 0, 0
     with tempfile.TemporaryDirectory() as folder:
         for n in range(a.cases):
             rng = random.Random(a.seed * 1_000_003 + n)
-            used = []
-            for name, data in zip(NAMES, case(rng, os.path.join(folder, "made"))):
-                used.append(os.path.join(folder, name))
-                with open(used[-1], "wb") as f:
-                    f.write(data)
+            files = dict(zip(NAMES, case(rng, os.path.join(folder, "made"))))
+            used = written(folder, files)
             if rng.random() < 0.02:
                 used[rng.randrange(len(used))] = os.path.join(folder, "absent")
             plan = rng.randint(1, 8), rng.randint(1, 8), rng.randint(1, 64)
@@ -225,8 +368,22 @@ def main():
                 if ours != theirs:
                     differing += 1
                     print(f"case {n} of seed {a.seed} differs, {command} {options[len(used):]}: {ours} and {theirs}")
+            for k in range(a.checked):
+                paths = used
+                if rng.random() < 0.5:
+                    paths = written(os.path.join(folder, "spoilt"), all_spoilt(rng, files))
+                ours, theirs = (run(words_of(p, "check", [*zip(NAMES, paths)])) for p in (program, plain))
+                checked += 1
+                faulty += ours[0] == 1
+                if ours != theirs:
+                    differing += 1
+                    print(f"case {n} of seed {a.seed}, check {k} differs: {first_difference(ours, theirs)}")
+                refusal = run(words_of(program, "run", run_options(paths, plan)))
+                if contradicts(ours, paths, refusal):
+                    differing += 1
+                    print(f"case {n} of seed {a.seed}, check {k}: {ours[0]} {ours[1][:300]!r}, but a run {refusal[0]} {refusal[2]!r}")
     by_status = ", ".join(f"{count} with status {s}" for s, count in sorted(statuses.items()))
-    print(f"{a.cases} cases ({by_status}; {rows} rows, {explained} lines explained): {differing} differ")
+    print(f"{a.cases} cases ({by_status}; {rows} rows, {explained} lines explained, {checked} reports compared, {faulty} of them told of a fault): {differing} differ")
     return 1 if differing else 0
 
 

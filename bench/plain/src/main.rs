@@ -1,9 +1,10 @@
-//! `royalty_run run` and `explain` once more, as one would write them by hand in Rust, with no proofs. The words and the
+//! `royalty_run run`, `explain` and `check` once more, as one would write them by hand in Rust, with no proofs. The words and the
 //! text that comes out are the same. `--mode` says how the book is filled: one (where there is no such word), threads, channels,
 //! batches, linked, pool or bells. With `--times` it says how long each phase took.
 
 mod bells;
 mod book;
+mod check;
 mod cwr;
 mod explain;
 mod linked;
@@ -64,6 +65,18 @@ fn explain_words() -> Option<(Vec<String>, Option<String>, usize)> {
     Some((values.into_iter().collect::<Option<_>>()?, payees, row))
 }
 
+/// `check`: the values of the options that have to be there, and the path of the payees.
+fn check_words() -> Option<(Vec<String>, Option<String>)> {
+    let names = ["--tis", "--cwr", "--usage", "--payees"];
+    let mut values: Vec<Option<String>> = vec![None; names.len()];
+    let mut args = std::env::args().skip(2);
+    while let Some(name) = args.next() {
+        values[names.iter().position(|n| *n == name)?] = Some(args.next()?);
+    }
+    let payees = values.pop()?;
+    Some((values.into_iter().collect::<Option<_>>()?, payees))
+}
+
 /// The bytes of the files.
 struct Files {
     tis: Vec<u8>,
@@ -117,6 +130,25 @@ fn explain_main() -> Result<ExitCode, ExitCode> {
     }
 }
 
+/// Prints the report on the files.
+fn check_main() -> Result<ExitCode, ExitCode> {
+    let Some((words, payees)) = check_words() else {
+        return Err(fail(2, "check --tis F [--payees F] --cwr F --usage F".into()));
+    };
+    let mut files = Files::load(&words, &payees)?;
+    let table = payees.as_deref().zip(files.payees.as_deref_mut());
+    let (text, sound) = check::check(
+        (&words[0], &mut files.tis),
+        table,
+        (&words[1], &mut files.cwr),
+        (&words[2], &mut files.usage),
+    );
+    match std::io::stdout().write_all(text.as_bytes()) {
+        Ok(()) => Ok(ExitCode::from(!sound as u8)),
+        Err(_) => Err(fail(4, "cannot write".into())),
+    }
+}
+
 fn fail(status: u8, text: String) -> ExitCode {
     eprintln!("plain: {text}");
     ExitCode::from(status)
@@ -137,8 +169,11 @@ fn read(path: &str) -> std::io::Result<Vec<u8>> {
 }
 
 fn main() -> ExitCode {
-    let explain = std::env::args().nth(1).as_deref() == Some("explain");
-    let done = if explain { explain_main() } else { run_main() };
+    let done = match std::env::args().nth(1).as_deref() {
+        Some("explain") => explain_main(),
+        Some("check") => check_main(),
+        _ => run_main(),
+    };
     done.unwrap_or_else(|failed| failed)
 }
 

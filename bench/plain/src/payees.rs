@@ -7,7 +7,8 @@ use std::collections::HashMap;
 /// The payee of each party that has a row.
 pub type Payees = HashMap<Vec<u8>, Vec<u8>>;
 
-const LONGEST: usize = 64;
+/// The longest name.
+pub const LONGEST: usize = 64;
 
 pub fn read(bytes: &mut [u8]) -> Result<Payees, Fault> {
     let mut rows = Rows::new(bytes);

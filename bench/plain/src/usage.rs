@@ -44,7 +44,7 @@ fn kinds(t: &[u8]) -> (u8, u8) {
 }
 
 #[inline]
-fn amount(field: &[u8]) -> Option<i64> {
+pub fn amount(field: &[u8]) -> Option<i64> {
     match field.strip_prefix(b"-") {
         Some(digits) => size(digits).map(|n| -n),
         None => size(field),

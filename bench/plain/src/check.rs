@@ -1,0 +1,275 @@
+//! `check`, as one would write it by hand and slowly: every fault of every file in words, and what is in the files that have none.
+//! A row or a line that has a fault is left out, and the next one is looked at as if it were not there.
+
+use crate::cwr::{name, share};
+use crate::payees::{LONGEST, Payees};
+use crate::rows::{Field, MOST, Rows, code};
+use crate::usage::amount;
+use std::collections::{BTreeMap, BTreeSet, HashSet};
+
+/// How many faults of a file are told.
+const TOLD: usize = 100;
+
+/// How many bytes of a field are shown.
+const SHOWN: usize = 64;
+
+/// What is wrong: the number of the fault, and the message.
+type Wrong = (u8, String);
+
+/// What is told of a file.
+struct Sheet<'a> {
+    path: &'a str,
+    /// What its places are called.
+    unit: &'a str,
+    faults: usize,
+    told: String,
+    facts: String,
+}
+
+impl<'a> Sheet<'a> {
+    fn new(path: &'a str, unit: &'a str) -> Sheet<'a> {
+        Sheet { path, unit, faults: 0, told: String::new(), facts: String::new() }
+    }
+
+    fn fault(&mut self, place: Option<usize>, (number, message): Wrong) {
+        self.faults += 1;
+        if self.faults <= TOLD {
+            let place = place.map(|n| format!("{} {n}: ", self.unit)).unwrap_or_default();
+            self.told += &format!("{}: {place}{message} (fault {number})\n", self.path);
+        }
+    }
+
+    fn fact(&mut self, number: usize, what: &str) {
+        self.facts += &format!("{}: {number} {what}\n", self.path);
+    }
+}
+
+/// A field between quotes, its first bytes as they stand where they are printable.
+fn shown(field: &[u8]) -> String {
+    let byte = |&b: &u8| match b {
+        b' '..=b'~' => char::from(b).to_string(),
+        _ => format!("\\x{b:02x}"),
+    };
+    let text: String = field.iter().take(SHOWN).map(byte).collect();
+    let more = if field.len() > SHOWN { ".." } else { "" };
+    format!("'{text}{more}'")
+}
+
+/// Reads a table, and answers how many rows are sound. `many` is what is wrong where there are more of them than `most`; `read`
+/// takes a row with the right number of fields, or says what is wrong with it.
+fn table(
+    sheet: &mut Sheet,
+    bytes: &mut [u8],
+    header: &[&str],
+    most: usize,
+    many: Wrong,
+    mut read: impl FnMut(&[&[u8]]) -> Result<(), Wrong>,
+) -> usize {
+    let mut rows = Rows::new(bytes);
+    if !rows.header(header) {
+        sheet.fault(Some(0), (1, format!("the first row is not {}", header.join(","))));
+    }
+    let mut f = [Field::default(); MOST];
+    let (mut number, mut sound) = (0, 0);
+    while let Some(count) = rows.next(&mut f) {
+        number += 1;
+        if sound == most {
+            sheet.fault(None, many);
+            break;
+        }
+        let fields: Vec<&[u8]> = f.iter().take(count).map(|&f| rows.get(f)).collect();
+        let done = if count == header.len() {
+            read(&fields)
+        } else {
+            Err((1, format!("the row has not {} fields", header.len())))
+        };
+        match done {
+            Ok(()) => sound += 1,
+            Err(wrong) => sheet.fault(Some(number), wrong),
+        }
+    }
+    sound
+}
+
+fn territories(sheet: &mut Sheet, bytes: &mut [u8]) {
+    let mut known = HashSet::new();
+    let many = (5, "there are more than 2048 rows".into());
+    let count = table(sheet, bytes, &["code", "groups"], 2048, many, |row| {
+        let Some(c) = code(row[0]) else {
+            return Err((2, format!("code {} is not a number from 1 to 9999", shown(row[0]))));
+        };
+        if known.contains(&c) {
+            return Err((3, format!("code {} has an earlier row", shown(row[0]))));
+        }
+        let mut words = row[1].split(|&b| b == b' ').filter(|word| !word.is_empty());
+        if !words.all(|word| code(word).is_some_and(|group| known.contains(&group))) {
+            return Err((4, format!("groups {} are not all codes of earlier rows", shown(row[1]))));
+        }
+        known.insert(c);
+        Ok(())
+    });
+    sheet.fact(count, "territories");
+}
+
+/// The payees of the sound rows.
+fn payees(sheet: &mut Sheet, bytes: &mut [u8]) -> Payees {
+    let mut payees = Payees::new();
+    let many = (4, "there are more than 65536 rows".into());
+    let count = table(sheet, bytes, &["party", "payee"], 65_536, many, |row| {
+        let field = |n: usize| name(row[n]).filter(|text| text.len() <= LONGEST);
+        let (Some(party), Some(payee)) = (field(0), field(1)) else {
+            let (party, payee) = (shown(row[0]), shown(row[1]));
+            return Err((2, format!("party {party} and payee {payee} are not both 1 to 64 printable characters")));
+        };
+        if payees.contains_key(party) {
+            return Err((3, format!("party {} has an earlier row", shown(row[0]))));
+        }
+        payees.insert(party.to_vec(), payee.to_vec());
+        Ok(())
+    });
+    sheet.fact(count, "parties with a payee");
+    payees
+}
+
+/// The party of a share line whose shares begin at a place, after so many others of its registration.
+fn party_of(line: &[u8], shares: usize, earlier: usize) -> Result<&[u8], Wrong> {
+    if line.len() < shares + 20 {
+        return Err(short(line));
+    }
+    let field = &line[19..28];
+    let party = name(field)
+        .ok_or_else(|| (5, format!("interested party number {} is blank or not printable", shown(field))))?;
+    let field = &line[shares..shares + 15];
+    if field.chunks(5).any(|field| share(field).is_none()) {
+        let text = "are not three times five digits up to 10000, or five spaces";
+        return Err((2, format!("shares {} {text}", shown(field))));
+    }
+    let field = &line[shares + 15..shares + 16];
+    if !matches!(field, b"I" | b"E" | b" ") {
+        return Err((3, format!("indicator {} is not I, E or a space", shown(field))));
+    }
+    let field = &line[shares + 16..shares + 20];
+    if code(field).is_none() {
+        return Err((4, format!("territory {} is not four digits from 0001 on", shown(field))));
+    }
+    if earlier >= 256 {
+        return Err((7, "the registration has 256 share lines before this one".into()));
+    }
+    Ok(party)
+}
+
+/// The work that a registration begins with.
+fn work_of(line: &[u8]) -> Result<&[u8], Wrong> {
+    if line.len() < 82 {
+        return Err(short(line));
+    }
+    let field = &line[81..line.len().min(95)];
+    name(field).ok_or_else(|| (6, format!("submitter work number {} is blank or not printable", shown(field))))
+}
+
+fn short(line: &[u8]) -> Wrong {
+    let text = "ends before its last field: NWR and REV take 82 bytes, SPT 54, SWT 48";
+    (1, format!("record {} {text}", shown(&line[..3])))
+}
+
+fn registrations(sheet: &mut Sheet, bytes: &[u8], payees: &Payees) {
+    // Of each work the parties of the share lines of its last registration; and the work of the open one.
+    let mut works: BTreeMap<&[u8], Vec<&[u8]>> = BTreeMap::new();
+    let mut open: Option<&[u8]> = None;
+    let mut registrations = 0;
+    for (n, line) in bytes.split(|&b| b == b'\n').enumerate() {
+        let line = line.strip_suffix(b"\r").unwrap_or(line);
+        let done = match line.get(..3) {
+            Some(b"NWR" | b"REV") => work_of(line).map(|work| {
+                registrations += 1;
+                works.insert(work, Vec::new());
+                open = Some(work);
+            }),
+            Some(kind @ (b"SPT" | b"SWT")) => match open {
+                Some(work) => {
+                    let parties = works.get_mut(work).unwrap();
+                    let shares = if kind == b"SPT" { 34 } else { 28 };
+                    party_of(line, shares, parties.len()).map(|party| parties.push(party))
+                }
+                None => Ok(()),
+            },
+            Some(b"HDR" | b"GRH" | b"GRT" | b"TRL" | b"AGR" | b"ACK" | b"ISW" | b"EXC") => {
+                open = None;
+                Ok(())
+            }
+            _ => Ok(()),
+        };
+        if let Err(wrong) = done {
+            sheet.fault(Some(n + 1), wrong);
+        }
+    }
+    let parties: BTreeSet<&[u8]> = works.values().flatten().copied().collect();
+    let accounts: BTreeSet<&[u8]> =
+        parties.iter().map(|&party| payees.get(party).map_or(party, |payee| payee)).collect();
+    if accounts.len() > 16_383 {
+        sheet.fault(None, (8, "the parties in force have more than 16383 payees".into()));
+    }
+    sheet.fact(works.len(), "works with a registration in force");
+    sheet.fact(registrations - works.len(), "registrations replaced by later ones");
+    sheet.fact(parties.len(), "parties in force");
+    sheet.fact(accounts.len() + 1, "accounts, the residue's included");
+}
+
+fn usage(sheet: &mut Sheet, bytes: &mut [u8]) {
+    let header = ["usage", "work", "territory", "right", "amount"];
+    let many = (6, "there are more than 1000000 usage lines".into());
+    let text = |field: &[u8]| {
+        (1..=64).contains(&field.len()) && field.iter().all(|b| (b' '..=b'~').contains(&b))
+    };
+    let count = table(sheet, bytes, &header, 1_000_000, many, |row| {
+        if !text(row[0]) || !text(row[1]) {
+            let (usage, work) = (shown(row[0]), shown(row[1]));
+            return Err((2, format!("usage {usage} and work {work} are not both 1 to 64 printable characters")));
+        }
+        if code(row[2]).is_none() {
+            return Err((3, format!("territory {} is not a number from 1 to 9999", shown(row[2]))));
+        }
+        if !matches!(row[3], b"P" | b"M" | b"S") {
+            return Err((4, format!("right {} is not P, M or S", shown(row[3]))));
+        }
+        if amount(row[4]).is_none() {
+            let text = "is not a whole number from -1000000000000 to 1000000000000";
+            return Err((5, format!("amount {} {text}", shown(row[4]))));
+        }
+        Ok(())
+    });
+    sheet.fact(count, "usage lines");
+}
+
+/// A file: its path and its bytes.
+pub type File<'a> = (&'a str, &'a mut [u8]);
+
+/// The report, and whether no file has a fault.
+pub fn check(tis: File, payees_file: Option<File>, cwr: File, usage_file: File) -> (String, bool) {
+    let mut sheets = vec![Sheet::new(tis.0, "row")];
+    territories(&mut sheets[0], tis.1);
+    let mut table = Payees::new();
+    if let Some((path, bytes)) = payees_file {
+        let mut sheet = Sheet::new(path, "row");
+        table = payees(&mut sheet, bytes);
+        sheets.push(sheet);
+    }
+    let mut sheet = Sheet::new(cwr.0, "line");
+    registrations(&mut sheet, cwr.1, &table);
+    sheets.push(sheet);
+    let mut sheet = Sheet::new(usage_file.0, "row");
+    usage(&mut sheet, usage_file.1);
+    sheets.push(sheet);
+
+    let mut text = String::new();
+    for sheet in &sheets {
+        text += &sheet.told;
+        if sheet.faults > TOLD {
+            text += &format!("{}: {} faults more\n", sheet.path, sheet.faults - TOLD);
+        }
+    }
+    for sheet in sheets.iter().filter(|sheet| sheet.faults == 0) {
+        text += &sheet.facts;
+    }
+    (text, sheets.iter().all(|sheet| sheet.faults == 0))
+}
