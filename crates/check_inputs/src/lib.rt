@@ -7,4 +7,4 @@ mod report;
 mod told;
 mod words;
 
-pub use report::{Checked, check};
+pub use report::{Checked, File, check};

@@ -5,7 +5,9 @@ pub mod SplitLemmas
 pub mod Walked
 pub mod OptionLemmas
 pub mod RunLemmas
+pub mod CheckLemmas
 pub mod ExplainLemmas
 pub mod RunWalked
+pub mod EndLemmas
 pub mod OverLemmas
 pub mod FileLemmas

@@ -1,20 +1,23 @@
 -- The statements of the files that a run names, by the words that name them.
-use Rattle.std.proofs.Common.{◌≡◌, ◌≢◌, ◌∙◌, ◌⊎◌, ℕ, List, Option, Err, Ok, Result, codes, drop, inl, inr, refl, subst, sym}
+use Rattle.std.proofs.Common.{◌≡◌, ◌≢◌, ◌∙◌, ◌⊎◌, ℕ, List, Bool, true, false, Option, Err, Ok, Result, codes, drop, inl, inr, refl, subst, sym}
 use Rattle.std.specs.Option.{option_map}
-use Rattle.std.specs.Result.{IfErr, OnOk}
+use Rattle.std.specs.Result.{IfErr, IfOk}
 use Rattle.std.specs.Prelude.{string_bytes}
 use Rattle.std.specs.declared.io.ErrorKind.{ErrorKind}
 use Rattle.pair_split.specs.Pair.{word_at}
 use Rattle.royalty_program.specs.RunCommand.{run_app}
-use Rattle.royalty_program.specs.Answered.{AreExplainedFrom, AreReadFrom}
+use Rattle.royalty_program.specs.Answered.{AreCheckedFrom, AreExplainedFrom, AreReadFrom}
 use Rattle.royalty_program.specs.Asked.{AreRunWords, IsDivision, number_given, path_given, path_if_given}
+use Rattle.royalty_program.specs.CheckCommand.{check_app}
 use Rattle.royalty_program.specs.ExplainCommand.{explain_app}
-use Rattle.royalty_program.specs.Files.{AreStatementsOver, IsExplanationOver}
-use Rattle.royalty_program.specs.Status.{FailFor, IsOfDivision, IsOfExplanation, IsOfPaths, IsOfRun, IsRefusal, IsUnexplained, status_of}
+use Rattle.royalty_program.specs.Files.{AreStatementsOver, IsExplanationOver, IsReportOver}
+use Rattle.royalty_program.specs.Status.{FailFor, IsOfCheck, IsOfDivision, IsOfExplanation, IsOfNoInput, IsOfPaths, IsOfRun, IsRefusal, IsUnexplained, status_of}
 use Rattle.royalty_program.specs.declared.failure.Failure.{Failure}
 use Rattle.royalty_program.specs.declared.failure.Failure.TheVariants.{Words, NotText, Pairs, Input, Row, Room, File, Output}
+use Rattle.royalty_program.specs.declared.check_command.CheckWords.{CheckWords}
 use Rattle.royalty_program.specs.declared.explain_command.ExplainWords.{ExplainWords}
 use Rattle.royalty_program.specs.declared.run_command.RunWords.{RunWords}
+use Rattle.royalty_program.proofs.EndLemmas.{IsThrough}
 use Rattle.royalty_program.proofs.RunLemmas.{cwr_in_order, payees_in_order, tis_in_order, usage_in_order}
 
 -- statements stay those of paths that are the same
@@ -98,14 +101,39 @@ unexplained_given holds refuses words asked read failure is =
     as_asked (File name) is = is
     as_asked Output none = none
 
--- how the program ends: an answer ends with 0, or with 4 where the output refuses it, and a failure with its status
-pub ends_with : {T : Type 0} (r : Result T Failure) (status : ℕ) (holds : List ℕ → List ℕ → Type 0) (refuses : List ℕ → ErrorKind → Type 0) (words : List (List ℕ))
-    → IfErr r (λ failure. status ≡ status_of failure) → OnOk r ((status ≡ 0) ⊎ (status ≡ 4)) → IfErr r IsRefusal → (IsDivision words → IfErr r (IsOfDivision words))
+-- a check reports on the paths that the options are given
+pub reported_given : (holds : List ℕ → List ℕ → Type 0) (words : List (List ℕ)) (asked : CheckWords) (sound : Bool) (text : List ℕ) → AreCheckedFrom words asked
+    → IsReportOver holds (string_bytes asked.tis) (option_map string_bytes asked.payees) (string_bytes asked.cwr) (string_bytes asked.usage) sound text
+    → IsReportOver holds (path_given check_app (codes "tis") words) (path_if_given check_app (codes "payees") words) (path_given check_app (codes "cwr") words) (path_given check_app (codes "usage") words) sound text
+reported_given holds words asked sound text read over = rw (sym read.tis, sym read.payees, sym read.cwr, sym read.usage) over
+
+-- and fails for what is not read of them
+pub unchecked_given : (holds : List ℕ → List ℕ → Type 0) (refuses : List ℕ → ErrorKind → Type 0) (words : List (List ℕ)) (asked : CheckWords) → AreCheckedFrom words asked → (failure : Failure)
+    → IsOfPaths holds refuses (string_bytes asked.tis) (option_map string_bytes asked.payees) (string_bytes asked.cwr) (string_bytes asked.usage) failure → IsOfNoInput failure → IsOfCheck holds refuses words failure
+unchecked_given holds refuses words asked read failure is none =
+    as_asked failure (rw (read.tis, read.payees, read.cwr, read.usage) at is) none
+  where
+    as_asked : (failure : Failure)
+        → IsOfPaths holds refuses (path_given check_app (codes "tis") words) (path_if_given check_app (codes "payees") words) (path_given check_app (codes "cwr") words) (path_given check_app (codes "usage") words) failure
+        → IsOfNoInput failure → IsOfCheck holds refuses words failure
+    as_asked (Words error) never none = absurd never
+    as_asked NotText is none = (is, none)
+    as_asked (Pairs fault) is none = (is, none)
+    as_asked (Row beyond) is none = (is, none)
+    as_asked (Input fault) is none = (is, none)
+    as_asked Room is none = (is, none)
+    as_asked (File name) is none = (is, none)
+    as_asked Output is none = (is, none)
+
+-- how the program ends: an answer ends with 0, a report that tells of a fault with 1, both with 4 where the output refuses them, and a failure with its status
+pub ends_with : {T E : Type 0} (r : Result (Result T E × Bool) Failure) (status : ℕ) (holds : List ℕ → List ℕ → Type 0) (refuses : List ℕ → ErrorKind → Type 0) (words : List (List ℕ)) (mid new : Option (List ℕ))
+    → IfErr r (λ failure. status ≡ status_of failure) → IfOk r (IsThrough {T = T} {E = E} status mid new) → IfOk r (λ done. ¬ (word_at words 1 ≡ codes "check") → done.1 ≡ true) → IfErr r IsRefusal → (IsDivision words → IfErr r (IsOfDivision words))
     → (word_at words 1 ≡ codes "run" → IfErr r (IsOfRun holds refuses (drop 1 words))) → (word_at words 1 ≡ codes "explain" → IfErr r (IsOfExplanation holds refuses (drop 1 words)))
-    → status ≢ 0 → (failure : Failure) × (status ≡ status_of failure) × ((failure ≡ Output) ⊎ FailFor holds refuses words failure)
-ends_with (Ok printed) status holds refuses words is answered refusal division run explanation failed = elim answered [
-  | inl none ↦ absurd (failed none)
-  | inr refused ↦ (Output, refused, inl refl)
-]
-ends_with (Err failure) status holds refuses words is answered refusal division run explanation failed =
-    (failure, is, inr (record { refusal = refusal; division = division; run = run; explanation = explanation }))
+    → (word_at words 1 ≡ codes "check" → IfErr r (IsOfCheck holds refuses (drop 1 words)))
+    → status ≢ 0 → ¬ ((status ≡ 1) × (word_at words 1 ≡ codes "check")) → (failure : Failure) × (status ≡ status_of failure) × ((failure ≡ Output) ⊎ FailFor holds refuses words failure)
+ends_with (Ok done) status holds refuses words mid new is (inl refused) others refusal division run explanation checked failed no_report = (Output, refused, inl refl)
+ends_with (Ok (printed, true)) status holds refuses words mid new is (inr (told, ok, kept)) others refusal division run explanation checked failed no_report = absurd (failed told)
+ends_with (Ok (printed, false)) status holds refuses words mid new is (inr (told, ok, kept)) others refusal division run explanation checked failed no_report =
+    cc (others (λ check. no_report (told, check)))
+ends_with (Err failure) status holds refuses words mid new is through others refusal division run explanation checked failed no_report =
+    (failure, is, inr (record { refusal = refusal; division = division; run = run; explanation = explanation; checked = checked }))

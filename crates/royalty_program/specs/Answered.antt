@@ -1,15 +1,18 @@
 -- What is read of a command line, and what answers it.
-use Rattle.std.specs.Prelude.{ℕ, ◌≡◌, ◌≤◌, List, codes, drop, map, string_bytes, ⊤}
+use Rattle.std.specs.Prelude.{ℕ, ◌≡◌, ◌≤◌, Bool, true, List, codes, drop, map, string_bytes, ⊤}
 use Rattle.std.specs.Option.{option_map}
 use Rattle.line_split.specs.declared.TheConstants.{MOST_AMOUNT}
 use Rattle.royalty_program.specs.RunCommand.{run_app}
-use Rattle.royalty_program.specs.Asked.{AreRunWords, AskForExplanation, AskForRun, IsDivision, IsRun, amount_of, number_given, number_in, pairs_of, path_given, path_if_given}
+use Rattle.royalty_program.specs.Asked.{AreRunWords, AskForCheck, AskForExplanation, AskForRun, IsDivision, IsRun, amount_of, number_given, number_in, pairs_of, path_given, path_if_given}
 use Rattle.pair_split.specs.PairFault.{AreSound}
+use Rattle.pair_split.specs.Pair.{word_at}
 use Rattle.pair_split.specs.Rows.{split_text}
+use Rattle.royalty_program.specs.CheckCommand.{check_app}
 use Rattle.royalty_program.specs.ExplainCommand.{explain_app}
-use Rattle.royalty_program.specs.Files.{AreStatementsOver, IsExplanationOver}
+use Rattle.royalty_program.specs.Files.{AreStatementsOver, IsExplanationOver, IsReportOver}
+use Rattle.royalty_program.specs.declared.check_command.CheckWords.{CheckWords}
 use Rattle.royalty_program.specs.declared.commands.Asked.{Asked}
-use Rattle.royalty_program.specs.declared.commands.Asked.TheVariants.{Division, Explanation, Run}
+use Rattle.royalty_program.specs.declared.commands.Asked.TheVariants.{Check, Division, Explanation, Run}
 use Rattle.royalty_program.specs.declared.explain_command.ExplainWords.{ExplainWords}
 use Rattle.royalty_program.specs.declared.run_command.RunWords.{RunWords}
 
@@ -18,18 +21,21 @@ abbrev pub IsNamedBy : List ℕ → Asked → Type 0
 IsNamedBy word (Division asked) = word ≡ codes "split"
 IsNamedBy word (Run asked) = word ≡ codes "run"
 IsNamedBy word (Explanation asked) = word ≡ codes "explain"
+IsNamedBy word (Check asked) = word ≡ codes "check"
 
 -- an amount that is divided is in range
 abbrev pub IsInRange : Asked → Type 0
 IsInRange (Division asked) = asked.amount ≤ MOST_AMOUNT
 IsInRange (Run asked) = ⊤
 IsInRange (Explanation asked) = ⊤
+IsInRange (Check asked) = ⊤
 
 -- the amount and the pairs are those of the words
 abbrev pub IsDivisionOf : List (List ℕ) → Asked → Type 0
 IsDivisionOf words (Division asked) = (asked.amount ≡ amount_of words) × (map string_bytes asked.pairs.items ≡ pairs_of words)
 IsDivisionOf words (Run asked) = ⊥
 IsDivisionOf words (Explanation asked) = ⊥
+IsDivisionOf words (Check asked) = ⊥
 
 -- the paths and the numbers are those that the options of a run are given
 pub record AreReadFrom (words : List (List ℕ)) (asked : RunWords) : Type 0 where
@@ -59,11 +65,13 @@ abbrev pub IsRunOf : List (List ℕ) → Asked → Type 0
 IsRunOf words (Division asked) = ⊥
 IsRunOf words (Run asked) = AreReadFrom (drop 1 words) asked
 IsRunOf words (Explanation asked) = ⊥
+IsRunOf words (Check asked) = ⊥
 
 abbrev pub IsRunInOrder : (words : List (List ℕ)) → AreRunWords (drop 1 words) → Asked → Type 0
 IsRunInOrder words run (Division asked) = ⊥
 IsRunInOrder words run (Run asked) = AreReadInOrder (drop 1 words) run asked
 IsRunInOrder words run (Explanation asked) = ⊥
+IsRunInOrder words run (Check asked) = ⊥
 
 -- the paths and the row are those that the options of an explanation are given
 pub record AreExplainedFrom (words : List (List ℕ)) (asked : ExplainWords) : Type 0 where
@@ -77,17 +85,31 @@ abbrev pub IsExplanationAsked : List (List ℕ) → Asked → Type 0
 IsExplanationAsked words (Explanation asked) = AreExplainedFrom (drop 1 words) asked
 IsExplanationAsked words _ = ⊥
 
+-- the paths are those that the options of a check are given
+pub record AreCheckedFrom (words : List (List ℕ)) (asked : CheckWords) : Type 0 where
+  pub tis : string_bytes asked.tis ≡ path_given check_app (codes "tis") words
+  pub payees : option_map string_bytes asked.payees ≡ path_if_given check_app (codes "payees") words
+  pub cwr : string_bytes asked.cwr ≡ path_given check_app (codes "cwr") words
+  pub usage : string_bytes asked.usage ≡ path_given check_app (codes "usage") words
+
+abbrev pub IsCheckAsked : List (List ℕ) → Asked → Type 0
+IsCheckAsked words (Check asked) = AreCheckedFrom (drop 1 words) asked
+IsCheckAsked words _ = ⊥
+
 -- the text answers the division that the words ask for, and nothing is wrong with them
 pub record IsAnswerTo (words : List (List ℕ)) (text : List ℕ) : Type 0 where
   pub in_range : amount_of words ≤ MOST_AMOUNT
   pub sound : AreSound (pairs_of words)
   pub rows : text ≡ split_text (amount_of words) (pairs_of words)
 
--- The text answers the words, where a file of a path holds these bytes: those of a division with its rows, those of a run with the statements of the files that its options name, those of an explanation with that of the line in the row.
-pub record IsAnswered (holds : List ℕ → List ℕ → Type 0) (words : List (List ℕ)) (text : List ℕ) : Type 0 where
+-- The text answers the words, where a file of a path holds these bytes: those of a division with its rows, those of a run with the statements of the files that its options name, those of an explanation with that of the line in the row, those of a check with the report on the files. Only a report may tell of a fault.
+pub record IsAnswered (holds : List ℕ → List ℕ → Type 0) (words : List (List ℕ)) (sound : Bool) (text : List ℕ) : Type 0 where
   pub division : IsDivision words → IsAnswerTo words text
   pub run : AskForRun words
       → AreStatementsOver holds (path_given run_app (codes "tis") (drop 1 words)) (path_if_given run_app (codes "payees") (drop 1 words)) (path_given run_app (codes "cwr") (drop 1 words)) (path_given run_app (codes "usage") (drop 1 words)) text
   pub explained : AskForExplanation words
       → IsExplanationOver holds (path_given explain_app (codes "tis") (drop 1 words)) (path_if_given explain_app (codes "payees") (drop 1 words)) (path_given explain_app (codes "cwr") (drop 1 words)) (path_given explain_app (codes "usage") (drop 1 words)) (number_given explain_app (codes "row") (drop 1 words)) text
+  pub checked : AskForCheck words
+      → IsReportOver holds (path_given check_app (codes "tis") (drop 1 words)) (path_if_given check_app (codes "payees") (drop 1 words)) (path_given check_app (codes "cwr") (drop 1 words)) (path_given check_app (codes "usage") (drop 1 words)) sound text
+  pub others : ¬ (word_at words 1 ≡ codes "check") → sound ≡ true
   pub in_order : (asked : IsRun words) → AreStatementsOver holds asked.options.tis asked.options.payees asked.options.cwr asked.options.usage text

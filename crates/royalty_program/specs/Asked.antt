@@ -5,6 +5,7 @@ use Rattle.clap.specs.Words.{App, HasKind, IsAmong, fault_of, first_of, matches_
 use Rattle.clap.specs.declared.error.Error.{Error}
 use Rattle.clap.specs.declared.error.kind.ErrorKind.TheVariants as kinds
 use Rattle.pair_split.specs.Pair.{word_at}
+use Rattle.royalty_program.specs.CheckCommand.{check_app}
 use Rattle.royalty_program.specs.ExplainCommand.{explain_app}
 use Rattle.royalty_program.specs.RunCommand.{run_app}
 
@@ -65,6 +66,11 @@ pub record AreRun (words : List (List ℕ)) : Type 0 where
 pub record AskForExplanation (words : List (List ℕ)) : Type 0 where
   pub command : word_at words 1 ≡ codes "explain"
   pub no_help : ¬ AskForHelp explain_app (drop 1 words)
+
+-- The words of a command line ask for a check of the files, and for no help.
+pub record AskForCheck (words : List (List ℕ)) : Type 0 where
+  pub command : word_at words 1 ≡ codes "check"
+  pub no_help : ¬ AskForHelp check_app (drop 1 words)
 
 -- the option of a table of payees, where there is one
 abbrev pub payees_words : Option (List ℕ) → List (List ℕ)

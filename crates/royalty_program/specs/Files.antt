@@ -1,6 +1,9 @@
 -- What a run answers over files. `holds path bytes` says that the file of a path has these bytes.
-use Rattle.std.specs.Prelude.{ℕ, ◌≤◌, List, None, Option, Some, length, ⊤}
+use Rattle.std.specs.Prelude.{ℕ, ◌≤◌, Bool, List, [], None, Option, Some, length, unwrap_or, ⊤}
 use Rattle.std.specs.declared.io.ErrorKind.{ErrorKind}
+use Rattle.check_inputs.specs.Checked.{IsReportOn}
+use Rattle.check_inputs.specs.Found.{Files}
+use Rattle.check_inputs.specs.Report.{Paths}
 use Rattle.explain_line.specs.Explanation.{HasNoRow, IsExplanationOf}
 use Rattle.run_inputs.specs.Inputs.{HaveNoFault, IsFaultOf}
 use Rattle.settle_run.specs.Settled.{AreStatementsOf}
@@ -39,6 +42,15 @@ pub record AreRead (holds : List ℕ → List ℕ → Type 0) (tis : List ℕ) (
   pub registrations : holds cwr registrations_file
   pub uses : holds usage usage_file
 
+-- the paths as a report has them; where there is no table of payees it names none
+abbrev pub paths_at : (tis : List ℕ) → (payees : Option (List ℕ)) → (cwr usage : List ℕ) → Paths
+paths_at tis payees cwr usage = record { territories = tis; payees = unwrap_or payees []; registrations = cwr; usage = usage }
+
+-- what is in the files
+abbrev pub files_read : (territories_file : List ℕ) → (payees_file : Option (List ℕ)) → (registrations_file usage_file : List ℕ) → Files
+files_read territories_file payees_file registrations_file usage_file =
+    record { territories = territories_file; payees = payees_file; registrations = registrations_file; usage = usage_file }
+
 -- the text is the statements of the files of these paths
 pub record AreStatementsOver (holds : List ℕ → List ℕ → Type 0) (tis : List ℕ) (payees : Option (List ℕ)) (cwr usage text : List ℕ) : Type 0 where
   pub inputs : AreInputs holds tis payees cwr usage
@@ -63,3 +75,8 @@ pub record IsExplanationOver (holds : List ℕ → List ℕ → Type 0) (tis : L
 pub record HasNoRowOver (holds : List ℕ → List ℕ → Type 0) (tis : List ℕ) (payees : Option (List ℕ)) (cwr usage : List ℕ) (row : ℕ) : Type 0 where
   pub inputs : AreInputs holds tis payees cwr usage
   pub beyond : HasNoRow inputs.territories_file inputs.payees_file inputs.registrations_file inputs.usage_file row
+
+-- the text is the report on the files of these paths, and tells whether they are sound
+pub record IsReportOver (holds : List ℕ → List ℕ → Type 0) (tis : List ℕ) (payees : Option (List ℕ)) (cwr usage : List ℕ) (sound : Bool) (text : List ℕ) : Type 0 where
+  pub inputs : AreInputs holds tis payees cwr usage
+  pub report : IsReportOn (paths_at tis payees cwr usage) (files_read inputs.territories_file inputs.payees_file inputs.registrations_file inputs.usage_file) text sound

@@ -1,5 +1,6 @@
 pub mod Answered
 pub mod Asked
+pub mod CheckCommand
 pub mod ExplainCommand
 pub mod Files
 pub mod RequiredArg

@@ -14,6 +14,7 @@ use Rattle.tis_tree.specs.TisRows as tis
 use Rattle.cwr_share.specs.CwrFile as cwr
 use Rattle.cwr_share.specs.PayeeTable as payees
 use Rattle.line_split.specs.UsageTable as usage
+use Rattle.royalty_program.specs.CheckCommand.{check_app}
 use Rattle.royalty_program.specs.ExplainCommand.{explain_app}
 use Rattle.royalty_program.specs.Files.{HasNoRowOver, IsFaultOver}
 use Rattle.royalty_program.specs.declared.failure.Failure.{Failure}
@@ -125,6 +126,18 @@ IsOfExplanation holds refuses words failure =
     IsUnexplained holds refuses (path_given explain_app (codes "tis") words) (path_if_given explain_app (codes "payees") words) (path_given explain_app (codes "cwr") words) (path_given explain_app (codes "usage") words)
     (number_given explain_app (codes "row") words) failure
 
+-- no input is refused: a check tells of what is wrong with it
+abbrev pub IsOfNoInput : Failure → Type 0
+IsOfNoInput (Input fault) = ⊥
+IsOfNoInput _ = ⊤
+
+-- the words of a check fail for lack of memory, for the first file that cannot be read, or for themselves where clap does not accept them
+abbrev pub IsOfCheck : (holds : List ℕ → List ℕ → Type 0) (refuses : List ℕ → io.ErrorKind → Type 0) → List (List ℕ) → Failure → Type 0
+IsOfCheck holds refuses words (Words error) = ¬ AreAccepted check_app words
+IsOfCheck holds refuses words failure =
+    IsOfPaths holds refuses (path_given check_app (codes "tis") words) (path_if_given check_app (codes "payees") words) (path_given check_app (codes "cwr") words) (path_given check_app (codes "usage") words) failure
+    × IsOfNoInput failure
+
 -- a division fails for its pairs, which then have that fault, for other words, or for lack of memory
 abbrev pub IsOfDivision : List (List ℕ) → Failure → Type 0
 IsOfDivision words (Pairs fault) = IsFaultOf (pairs_of words) fault
@@ -138,6 +151,7 @@ pub record FailFor (holds : List ℕ → List ℕ → Type 0) (refuses : List �
   pub division : IsDivision words → IsOfDivision words failure
   pub run : word_at words 1 ≡ codes "run" → IsOfRun holds refuses (drop 1 words) failure
   pub explanation : word_at words 1 ≡ codes "explain" → IsOfExplanation holds refuses (drop 1 words) failure
+  pub checked : word_at words 1 ≡ codes "check" → IsOfCheck holds refuses (drop 1 words) failure
 
 -- lack of memory is no fault of the pairs
 abbrev pub failure_of_fault : PairFault → Failure

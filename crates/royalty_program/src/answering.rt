@@ -1,11 +1,11 @@
 //! What the program does with its words, and the status that it answers.
 
-ghost use Rattle.std.specs.Prelude.{◌≡◌, ◌≢◌, ◌≤◌, ◌⊎◌, ℕ, List, IfOk, IfErr, IsOk, OnErr, OnOk, codes, drop, map, string_bytes};
+ghost use Rattle.std.specs.Prelude.{◌≡◌, ◌≢◌, ◌≤◌, ◌⊎◌, ℕ, List, true, false, IfOk, IfErr, IsOk, OnErr, OnOk, codes, drop, if◌then◌else◌, map, string_bytes};
 ghost use Rattle.std.specs.Io.KnownBytes.{Appends, Keeps};
 ghost use Rattle.royalty_program.specs.Asked.{AreRun, IsDivision};
 ghost use Rattle.royalty_program.specs.Answered.{IsAnswered};
 ghost use Rattle.royalty_program.specs.Files.{for_any_error, on_disk};
-ghost use Rattle.royalty_program.specs.Status.{FailFor, IsOfDivision, IsOfExplanation, IsOfRun, IsRefusal, failure_of_kind, status_of};
+ghost use Rattle.royalty_program.specs.Status.{FailFor, IsOfCheck, IsOfDivision, IsOfExplanation, IsOfRun, IsRefusal, failure_of_kind, status_of};
 ghost use Rattle.royalty_program.specs.declared.failure.Failure.{Failure};
 ghost use Rattle.royalty_program.specs.declared.failure.Failure.TheVariants.{Output, Room};
 ghost use Rattle.pair_split.specs.Pair.{word_at};
@@ -14,7 +14,7 @@ ghost use Rattle.std.specs.Vec.Iter.{into_iter_items};
 
 use crate::commands::{Asked, read_words};
 use crate::failure::Failure;
-use crate::files::{Disk, Source, explain_files, settle_files};
+use crate::files::{Disk, Source, check_files, explain_files, settle_files};
 use clap::error::ErrorKind;
 use pair_split::split_words;
 use std::alloc::Global;
@@ -49,7 +49,7 @@ fn no_words(kind: io::ErrorKind) -> Failure
 
 /// Does what the words ask for, of which the first is the program's own name. The answer goes to
 /// `out`, and what went wrong to `err`. The status is 0 where the answer was printed or help was
-/// asked for, 1 where an input file is refused for what is in it, 2 where the words are refused, 3 for
+/// asked for, 1 where an input file is refused for what is in it or a report tells of a fault, 2 where the words are refused, 3 for
 /// lack of memory, and 4 where a file cannot be read or `out` refused a write.
 pub fn program<R: Files + Threads + Wait + Sync, W: Write, E: Write>(
     rt: &R,
@@ -59,66 +59,77 @@ pub fn program<R: Files + Threads + Wait + Sync, W: Write, E: Write>(
     err: &mut E,
 ) -> u8
     ensures known { result ≤ 4 }
-    ensures printed { result ≡ 0 → (text : List ℕ) × Appends (W.contents out.old) (W.contents out.new) text × IsAnswered on_disk (map string_bytes words.now) text }
-    ensures quiet { result ≡ 0 → err.new ≡ err.old }
-    ensures silent { (result ≡ 1) ⊎ ((result ≡ 2) ⊎ (result ≡ 3)) → out.new ≡ out.old }
+    ensures printed { result ≡ 0 → (text : List ℕ) × Appends (W.contents out.old) (W.contents out.new) text × IsAnswered on_disk (map string_bytes words.now) true text }
+    ensures told { result ≡ 1 → word_at (map string_bytes words.now) 1 ≡ codes "check" → (text : List ℕ) × Appends (W.contents out.old) (W.contents out.new) text × IsAnswered on_disk (map string_bytes words.now) false text }
+    ensures quiet { (result ≡ 0) ⊎ ((result ≡ 1) × (word_at (map string_bytes words.now) 1 ≡ codes "check")) → err.new ≡ err.old }
+    ensures silent { ((result ≡ 1) × ¬ (word_at (map string_bytes words.now) 1 ≡ codes "check")) ⊎ ((result ≡ 2) ⊎ (result ≡ 3)) → out.new ≡ out.old }
     ensures accepted { AreRun (map string_bytes words.now) → result ≢ 2 }
-    ensures failed { result ≢ 0 → (failure : Failure) × (result ≡ status_of failure) × ((failure ≡ Output) ⊎ FailFor on_disk for_any_error (map string_bytes words.now) failure) }
+    ensures failed { result ≢ 0 → ¬ ((result ≡ 1) × (word_at (map string_bytes words.now) 1 ≡ codes "check")) → (failure : Failure) × (result ≡ status_of failure) × ((failure ≡ Output) ⊎ FailFor on_disk for_any_error (map string_bytes words.now) failure) }
 {
     let printed = answer(rt, alloc, &Disk { rt }, words, out);
     end(printed, out, err)
 }
 
 /// Sees an answer through to the output, or says what failed, and answers the status.
-fn end<W: Write, E: Write>(answer: Result<io::Result<()>, Failure>, out: &mut W, err: &mut E) -> u8
+fn end<W: Write, E: Write>(
+    answer: Result<(io::Result<()>, bool), Failure>,
+    out: &mut W,
+    err: &mut E,
+) -> u8
     ensures failed { IfErr answer (λ failure. result ≡ status_of failure) }
     ensures silent { OnErr answer (out.new ≡ out.old) }
-    ensures answered { OnOk answer ((result ≡ 0) ⊎ (result ≡ 4)) }
-    ensures printed { result ≡ 0 → IfOk answer IsOk }
-    ensures kept { result ≡ 0 → Keeps (W.contents out.old) (W.contents out.new) }
-    ensures quiet { result ≡ 0 → err.new ≡ err.old }
+    ensures answered { IfOk answer (λ done. (result ≡ 4) ⊎ ((result ≡ (if done.1 then 0 else 1)) × IsOk done.0 × Keeps (W.contents out.old) (W.contents out.new))) }
+    ensures quiet { IfOk answer (λ _. result ≢ 4 → err.new ≡ err.old) }
 {
     match answer {
-        Ok(printed) => match flush_after(printed, out) {
-            Ok(()) => 0,
+        Ok((printed, is_sound)) => match flush_after(printed, out) {
+            Ok(()) if is_sound => 0,
+            Ok(()) => 1,
             Err(_) => Failure::Output.report(err),
         },
         Err(failure) => failure.report(err),
     }
 }
 
-/// Prints the rows of a division, the statements of a run or the explanation of a usage line over these files, or help.
+/// Prints the rows of a division, the statements of a run, the explanation of a usage line or a report over these files, or help;
+/// and answers whether no report tells of a fault.
 fn answer<R: Threads + Wait + Sync, S: Source, W: Write>(
     rt: &R,
     alloc: Global,
     files: &S,
     words: &[String],
     out: &mut W,
-) -> Result<io::Result<()>, Failure>
-    ensures answered { IfOk result (λ printed. OnOk printed ((text : List ℕ) × Appends (W.contents out.old) (W.contents out.new) text
-        × IsAnswered (S.holds files.now) (map string_bytes words.now) text)) }
+) -> Result<(io::Result<()>, bool), Failure>
+    ensures answered { IfOk result (λ done. OnOk done.0 ((text : List ℕ) × Appends (W.contents out.old) (W.contents out.new) text
+        × IsAnswered (S.holds files.now) (map string_bytes words.now) done.1 text)) }
+    ensures others { IfOk result (λ done. ¬ (word_at (map string_bytes words.now) 1 ≡ codes "check") → done.1 ≡ true) }
     ensures failure { IfErr result IsRefusal }
     ensures run { word_at (map string_bytes words.now) 1 ≡ codes "run" → IfErr result (IsOfRun (S.holds files.now) (S.refuses files.now) (drop 1 (map string_bytes words.now))) }
     ensures explanation { word_at (map string_bytes words.now) 1 ≡ codes "explain" → IfErr result (IsOfExplanation (S.holds files.now) (S.refuses files.now) (drop 1 (map string_bytes words.now))) }
+    ensures checked { word_at (map string_bytes words.now) 1 ≡ codes "check" → IfErr result (IsOfCheck (S.holds files.now) (S.refuses files.now) (drop 1 (map string_bytes words.now))) }
     ensures pairs { IsDivision (map string_bytes words.now) → IfErr result (IsOfDivision (map string_bytes words.now)) }
     ensures silent { IfErr result (λ _. out.new ≡ out.old) }
 {
     match read_words(alloc, words) {
         Ok(Asked::Division(asked)) => {
             match split_words(alloc, asked.amount, asked.pairs.as_slice()) {
-                Ok(text) => Ok(out.write_all(text.as_slice())),
+                Ok(text) => Ok((out.write_all(text.as_slice()), true)),
                 Err(fault) => Err(Failure::from(fault)),
             }
         }
-        Ok(Asked::Run(asked)) => settle_files(rt, alloc, files, asked, out),
+        Ok(Asked::Run(asked)) => Ok((settle_files(rt, alloc, files, asked, out)?, true)),
         Ok(Asked::Explanation(asked)) => {
             let text = explain_files(alloc, files, asked)?;
-            Ok(out.write_all(text.as_slice()))
+            Ok((out.write_all(text.as_slice()), true))
+        }
+        Ok(Asked::Check(asked)) => {
+            let checked = check_files(alloc, files, asked)?;
+            Ok((out.write_all(checked.text.as_slice()), checked.is_sound))
         }
         Err(error) if error.kind() == ErrorKind::OutOfMemory => Err(Failure::Room),
         Err(error) if error.use_stderr() => Err(Failure::Words(error)),
         Err(help) => match format!(in alloc; "{help}") {
-            Ok(text) => Ok(out.write_all(text.as_bytes())),
+            Ok(text) => Ok((out.write_all(text.as_bytes()), true)),
             Err(_) => Err(Failure::Room),
         },
     }

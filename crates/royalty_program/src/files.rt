@@ -2,15 +2,19 @@
 
 ghost use Rattle.std.specs.Io.KnownBytes.{Appends};
 ghost use Rattle.std.specs.IoError.{error_kind};
-ghost use Rattle.std.specs.Prelude.{◌≡◌, ◌<◌, ◌≤◌, ◌↔◌, ℕ, List, Option, IfOk, IfErr, IfSome, IsSome, IsTrue, OnOk, length, string_bytes};
+ghost use Rattle.std.specs.Prelude.{◌≡◌, ◌<◌, ◌≤◌, ◌↔◌, ℕ, List, [], Option, IfOk, IfErr, IfSome, IsSome, IsTrue, OnOk, length, string_bytes, unwrap_or};
 ghost use Rattle.std.specs.Option.{option_map};
 ghost use Rattle.std.specs.declared.io.ErrorKind.{ErrorKind};
-ghost use Rattle.royalty_program.specs.Files.{AreRead, AreStatementsOver, HaveNoFaultOver, HoldsIfGiven, IsExplanationOver, for_any_error, on_disk};
-ghost use Rattle.royalty_program.specs.Status.{IsOfFile, IsOfPaths, IsRefusal, IsUnexplained, failure_of_file};
+ghost use Rattle.check_inputs.specs.Checked.{IsReportOn, files_of, path_if_given, paths_of};
+ghost use Rattle.royalty_program.specs.Files.{AreRead, AreStatementsOver, HaveNoFaultOver, HoldsIfGiven, IsExplanationOver, IsReportOver, for_any_error, on_disk};
+ghost use Rattle.royalty_program.specs.declared.failure.Failure.TheVariants.{Room};
+ghost use Rattle.royalty_program.specs.Status.{IsOfFile, IsOfNoInput, IsOfPaths, IsRefusal, IsUnexplained, failure_of_file};
 
+use crate::check_command::CheckWords;
 use crate::explain_command::ExplainWords;
 use crate::failure::Failure;
 use crate::run_command::RunWords;
+use check_inputs::{Checked, File, check};
 use explain_line::explain;
 use settle_run::settle_to;
 use std::alloc::Global;
@@ -138,6 +142,76 @@ pub fn explain_files<S: Source>(
         Ok(Some(text)) => Ok(text),
         Ok(None) => Err(Failure::Row(row)),
         Err(fault) => Err(Failure::from(fault)),
+    }
+}
+
+/// The report on the files of a run. All are read, in the order of the fields, before any is parsed.
+pub fn check_files<S: Source>(
+    alloc: Global,
+    files: &S,
+    asked: CheckWords,
+) -> Result<Checked, Failure>
+    ensures report { IfOk result (λ checked. IsReportOver (S.holds files.now) (string_bytes asked.tis) (option_map string_bytes asked.payees) (string_bytes asked.cwr) (string_bytes asked.usage) checked.is_sound checked.text.items) }
+    ensures failure { IfErr result IsRefusal }
+    ensures files { IfErr result (IsOfPaths (S.holds files.now) (S.refuses files.now) (string_bytes asked.tis) (option_map string_bytes asked.payees) (string_bytes asked.cwr) (string_bytes asked.usage)) }
+    ensures no_input { IfErr result IsOfNoInput }
+{
+    let CheckWords {
+        tis,
+        payees,
+        cwr,
+        usage,
+    } = asked;
+    let tis = file_of(files, alloc, tis)?;
+    let payees = file_if_given(files, alloc, payees)?;
+    let cwr = file_of(files, alloc, cwr)?;
+    let usage = file_of(files, alloc, usage)?;
+    check_read(alloc, tis, payees, cwr, usage)
+}
+
+/// The report on files that were read.
+fn check_read(
+    alloc: Global,
+    tis: File,
+    payees: Option<File>,
+    cwr: File,
+    usage: File,
+) -> Result<Checked, Failure>
+    ensures report { IfOk result (λ checked. IsReportOn (paths_of tis payees cwr usage) (files_of tis payees cwr usage) checked.text.items checked.is_sound) }
+    ensures failure { IfErr result (λ failure. failure ≡ Room) }
+{
+    match check(alloc, &tis, &payees, &cwr, &usage) {
+        Ok(checked) => Ok(checked),
+        Err(_) => Err(Failure::Room),
+    }
+}
+
+/// The file of a path.
+fn file_of<S: Source>(files: &S, alloc: Global, path: String) -> Result<File, Failure>
+    ensures bytes { IfOk result (λ file. S.holds files.now (string_bytes path) file.bytes.items) }
+    ensures path { IfOk result (λ file. string_bytes file.path ≡ string_bytes path) }
+    ensures failure { IfErr result (IsOfFile (S.refuses files.now) path) }
+{
+    match files.read(alloc, path.as_str()) {
+        Ok(bytes) => Ok(File { path, bytes }),
+        Err(error) => Err(unread(error.kind(), path)),
+    }
+}
+
+/// The file of a path, where there is one.
+fn file_if_given<S: Source>(
+    files: &S,
+    alloc: Global,
+    path: Option<String>,
+) -> Result<Option<File>, Failure>
+    ensures bytes { IfOk result (λ file. HoldsIfGiven (S.holds files.now) (option_map string_bytes path) (option_map (λ file. file.bytes.items) file)) }
+    ensures path { IfOk result (λ file. path_if_given file ≡ unwrap_or (option_map string_bytes path) []) }
+    ensures failure { IfErr result (λ failure. IfSome path (λ path. IsOfFile (S.refuses files.now) path failure)) }
+    ensures given { IfErr result (λ failure. IsSome path) }
+{
+    match path {
+        Some(path) => Ok(Some(file_of(files, alloc, path)?)),
+        None => Ok(None),
     }
 }
 

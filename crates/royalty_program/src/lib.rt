@@ -2,6 +2,7 @@
 #![tactic(auto)]
 
 mod answering;
+mod check_command;
 mod commands;
 mod explain_command;
 mod failure;

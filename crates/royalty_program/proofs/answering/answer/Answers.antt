@@ -1,4 +1,4 @@
-use Rattle.std.proofs.Common.{◌≡◌, ◌≢◌, ℕ, List, drop, map, codes, false, true, rules}
+use Rattle.std.proofs.Common.{◌≡◌, ◌≢◌, ℕ, List, Bool, refl, drop, map, codes, false, true, rules}
 use Rattle.std.proofs.lemmas.Result.{IfErr-weaker, IfOk-weaker, on_ok_weaker}
 use Rattle.std.specs.Option.{option_map}
 use Rattle.std.specs.Prelude.{string_bytes}
@@ -8,15 +8,17 @@ use Rattle.pair_split.specs.Pair.{word_at}
 use Rattle.pair_split.specs.PairFault.{IsFaultOf}
 use Rattle.pair_split.specs.declared.pair_fault.PairFault.{PairFault}
 use Rattle.pair_split.specs.declared.pair_fault.PairFault.TheVariants.{Pair, Name, Share, Many, Memory}
+use Rattle.royalty_program.specs.CheckCommand.{check_app}
 use Rattle.royalty_program.specs.ExplainCommand.{explain_app}
 use Rattle.royalty_program.specs.RunCommand.{run_app}
-use Rattle.royalty_program.specs.Answered.{AreExplainedFrom, AreReadFrom, IsAnswerTo, IsAnswered}
+use Rattle.royalty_program.specs.Answered.{AreCheckedFrom, AreExplainedFrom, AreReadFrom, IsAnswerTo, IsAnswered}
 use Rattle.royalty_program.specs.Asked.{AskForHelp, IsDivision, pairs_of}
-use Rattle.royalty_program.specs.Files.{AreStatementsOver, IsExplanationOver}
+use Rattle.royalty_program.specs.Files.{AreStatementsOver, IsExplanationOver, IsReportOver}
 use Rattle.royalty_program.specs.Status.{IsOfDivision, failure_of_fault}
+use Rattle.royalty_program.specs.declared.check_command.CheckWords.{CheckWords}
 use Rattle.royalty_program.specs.declared.explain_command.ExplainWords.{ExplainWords}
 use Rattle.royalty_program.specs.declared.run_command.RunWords.{RunWords}
-use Rattle.royalty_program.proofs.OverLemmas.{explained_given, fails_given, over_given, over_in_order}
+use Rattle.royalty_program.proofs.OverLemmas.{explained_given, fails_given, over_given, over_in_order, reported_given, unchecked_given}
 use Rattle.royalty_program.proofs.OptionLemmas.{accepted_is_memory, no_help_given}
 use Rattle.royalty_program.proofs.RunWalked.{no_help}
 use Rattle.royalty_program.proofs.answering.answer.Goals as goal
@@ -37,34 +39,53 @@ returns-in-Ok-Division-clause-pairs g c asked =
     rw c.from.ensures (fault_stands (map string_bytes c.args.words.now) c.in-Err-split_words.fault of_words)
 
 -- words that ask for a division ask for no other
-no_other : {holds : List ℕ → List ℕ → Type 0} (words : List (List ℕ)) (text : List ℕ) → ¬ (word_at words 1 ≡ codes "run") → ¬ (word_at words 1 ≡ codes "explain") → (IsDivision words → IsAnswerTo words text)
-    → IsAnswered holds words text
-no_other words text no_run no_explanation division = record {
+no_other : {holds : List ℕ → List ℕ → Type 0} (words : List (List ℕ)) (text : List ℕ) → ¬ (word_at words 1 ≡ codes "run") → ¬ (word_at words 1 ≡ codes "explain") → ¬ (word_at words 1 ≡ codes "check") → (IsDivision words → IsAnswerTo words text)
+    → IsAnswered holds words true text
+no_other words text no_run no_explanation no_check division = record {
   division = division;
   run = λ asked. absurd (no_run asked.command);
   explained = λ asked. absurd (no_explanation asked.command);
+  checked = λ asked. absurd (no_check asked.command);
+  others = λ other. refl;
   in_order = λ asked. absurd (no_run asked.command);
 }
 
 -- those that ask for a run are answered by its statements
-answers_run : (holds : List ℕ → List ℕ → Type 0) (words : List (List ℕ)) (asked : RunWords) (text : List ℕ) → ¬ IsDivision words → ¬ (word_at words 1 ≡ codes "explain")
+answers_run : (holds : List ℕ → List ℕ → Type 0) (words : List (List ℕ)) (asked : RunWords) (text : List ℕ) → ¬ IsDivision words → ¬ (word_at words 1 ≡ codes "explain") → ¬ (word_at words 1 ≡ codes "check")
     → (word_at words 1 ≡ codes "run" → AreReadFrom (drop 1 words) asked)
-    → AreStatementsOver holds (string_bytes asked.tis) (option_map string_bytes asked.payees) (string_bytes asked.cwr) (string_bytes asked.usage) text → IsAnswered holds words text
-answers_run holds words asked text no_division no_explanation read over = record {
+    → AreStatementsOver holds (string_bytes asked.tis) (option_map string_bytes asked.payees) (string_bytes asked.cwr) (string_bytes asked.usage) text → IsAnswered holds words true text
+answers_run holds words asked text no_division no_explanation no_check read over = record {
   division = λ division. absurd (no_division division);
   run = λ run. over_given holds (drop 1 words) asked text (read run.command) over;
   explained = λ explain. absurd (no_explanation explain.command);
+  checked = λ check. absurd (no_check check.command);
+  others = λ other. refl;
   in_order = λ run. over_in_order holds (drop 1 words) asked text run.options (read run.command) over;
 }
 
 -- and those that ask for an explanation by it
-answers_explanation : (holds : List ℕ → List ℕ → Type 0) (words : List (List ℕ)) (asked : ExplainWords) (text : List ℕ) → ¬ IsDivision words → ¬ (word_at words 1 ≡ codes "run")
+answers_explanation : (holds : List ℕ → List ℕ → Type 0) (words : List (List ℕ)) (asked : ExplainWords) (text : List ℕ) → ¬ IsDivision words → ¬ (word_at words 1 ≡ codes "run") → ¬ (word_at words 1 ≡ codes "check")
     → (word_at words 1 ≡ codes "explain" → AreExplainedFrom (drop 1 words) asked)
-    → IsExplanationOver holds (string_bytes asked.tis) (option_map string_bytes asked.payees) (string_bytes asked.cwr) (string_bytes asked.usage) asked.row text → IsAnswered holds words text
-answers_explanation holds words asked text no_division no_run read over = record {
+    → IsExplanationOver holds (string_bytes asked.tis) (option_map string_bytes asked.payees) (string_bytes asked.cwr) (string_bytes asked.usage) asked.row text → IsAnswered holds words true text
+answers_explanation holds words asked text no_division no_run no_check read over = record {
   division = λ division. absurd (no_division division);
   run = λ run. absurd (no_run run.command);
   explained = λ explain. explained_given holds (drop 1 words) asked text (read explain.command) over;
+  checked = λ check. absurd (no_check check.command);
+  others = λ other. refl;
+  in_order = λ run. absurd (no_run run.command);
+}
+
+-- and those that ask for a check by its report
+answers_check : (holds : List ℕ → List ℕ → Type 0) (words : List (List ℕ)) (asked : CheckWords) (sound : Bool) (text : List ℕ) → ¬ IsDivision words → ¬ (word_at words 1 ≡ codes "run") → ¬ (word_at words 1 ≡ codes "explain")
+    → word_at words 1 ≡ codes "check" → AreCheckedFrom (drop 1 words) asked
+    → IsReportOver holds (string_bytes asked.tis) (option_map string_bytes asked.payees) (string_bytes asked.cwr) (string_bytes asked.usage) sound text → IsAnswered holds words sound text
+answers_check holds words asked sound text no_division no_run no_explanation command read over = record {
+  division = λ division. absurd (no_division division);
+  run = λ run. absurd (no_run run.command);
+  explained = λ explain. absurd (no_explanation explain.command);
+  checked = λ check. reported_given holds (drop 1 words) asked sound text read over;
+  others = λ other. absurd (other command);
   in_order = λ run. absurd (no_run run.command);
 }
 
@@ -74,8 +95,9 @@ returns-in-Ok-clause-answered g c =
     let text = c.as_slice-in-Ok.result.now in
     let no_run_asked : ¬ (word_at words 1 ≡ codes "run") = λ command. rw (c.in-Ok-Division.is, c.in-Ok-Division.field-0-is) at (c.read_words.ensures.run command) in
     let no_explanation_asked : ¬ (word_at words 1 ≡ codes "explain") = λ command. rw (c.in-Ok-Division.is, c.in-Ok-Division.field-0-is) at (c.read_words.ensures.explanation command) in
+    let no_check_asked : ¬ (word_at words 1 ≡ codes "check") = λ command. rw (c.in-Ok-Division.is, c.in-Ok-Division.field-0-is) at (c.read_words.ensures.checked command) in
     let rows : IsDivision words → IsAnswerTo words text = search rules in
-    on_ok_weaker c.write_all.result (λ wrote. (text, wrote, no_other words text no_run_asked no_explanation_asked rows)) c.write_all.ensures.bytes
+    on_ok_weaker c.write_all.result (λ wrote. (text, wrote, no_other words text no_run_asked no_explanation_asked no_check_asked rows)) c.write_all.ensures.bytes
 
 pub returns-in-Ok-Run-clause-answered : goal.returns-in-Ok-Run-clause-answered
 returns-in-Ok-Run-clause-answered g c =
@@ -95,10 +117,14 @@ returns-in-Ok-format-clause-answered g c =
     let bad : false ≡ true = c.if-use_stderr.ensures.1 (no_help_given run_app (drop 1 words) c.in-Err.error (c.in-Err.ensures.error command) none) in cc in
     let no_explain_help : word_at words 1 ≡ codes "explain" → ¬ AskForHelp explain_app (drop 1 words) → ⊥ = λ command none.
     let bad : false ≡ true = c.if-use_stderr.ensures.1 (no_help_given explain_app (drop 1 words) c.in-Err.error (c.in-Err.ensures.unexplained command) none) in cc in
-    let answered : IsAnswered (g.S.Source.holds c.args.files.now) words c.as_bytes.result.now = record {
+    let no_check_help : word_at words 1 ≡ codes "check" → ¬ AskForHelp check_app (drop 1 words) → ⊥ = λ command none.
+    let bad : false ≡ true = c.if-use_stderr.ensures.1 (no_help_given check_app (drop 1 words) c.in-Err.error (c.in-Err.ensures.unchecked command) none) in cc in
+    let answered : IsAnswered (g.S.Source.holds c.args.files.now) words true c.as_bytes.result.now = record {
       division = λ asked. let bad : false ≡ true = c.if-use_stderr.ensures.1 (c.in-Err.ensures.no_help asked) in cc;
       run = λ asked. absurd (no_help_asked asked.command asked.no_help);
       explained = λ asked. absurd (no_explain_help asked.command asked.no_help);
+      checked = λ asked. absurd (no_check_help asked.command asked.no_help);
+      others = λ other. refl;
       in_order = λ asked. absurd (no_help_asked asked.command (no_help (drop 1 words) asked.options));
     } in
     on_ok_weaker c.write_all-in-Ok-format.result (λ wrote. (c.as_bytes.result.now, wrote, answered)) c.write_all-in-Ok-format.ensures.bytes
@@ -114,6 +140,12 @@ returns-in-Err-2-clause-explanation g c command accepted =
     let words = map string_bytes c.args.words.now in
     let not_memory : kind_of c.in-Err-2.error ≢ kinds.OutOfMemory = search rules in
     not_memory (accepted_is_memory explain_app (drop 1 words) c.in-Err-2.error (c.in-Err-2.ensures.unexplained command) accepted)
+
+pub returns-in-Err-2-clause-checked : goal.returns-in-Err-2-clause-checked
+returns-in-Err-2-clause-checked g c command accepted =
+    let words = map string_bytes c.args.words.now in
+    let not_memory : kind_of c.in-Err-2.error ≢ kinds.OutOfMemory = search rules in
+    not_memory (accepted_is_memory check_app (drop 1 words) c.in-Err-2.error (c.in-Err-2.ensures.unchecked command) accepted)
 
 pub returns-in-Ok-Run-clause-run : goal.returns-in-Ok-Run-clause-run
 returns-in-Ok-Run-clause-run g c command =
@@ -136,5 +168,6 @@ returns-in-Ok-Explanation-clause-answered g c =
     let no_division : ¬ IsDivision words = λ division. rw (c.in-Ok-Explanation.is, c.in-Ok-Explanation.field-0-is) at (c.read_words.ensures.division division) in
     let no_run : ¬ (word_at words 1 ≡ codes "run") = λ command. rw (c.in-Ok-Explanation.is, c.in-Ok-Explanation.field-0-is) at (c.read_words.ensures.run command) in
     let read : word_at words 1 ≡ codes "explain" → AreExplainedFrom (drop 1 words) asked = λ command. rw (c.in-Ok-Explanation.is, c.in-Ok-Explanation.field-0-is) at (c.read_words.ensures.explanation command) in
-    let answered : IsAnswered holds words text = answers_explanation holds words asked text no_division no_run read c.in_ok-text-in-Ok-Explanation.ensures.explanation in
+    let no_check : ¬ (word_at words 1 ≡ codes "check") = λ command. rw (c.in-Ok-Explanation.is, c.in-Ok-Explanation.field-0-is) at (c.read_words.ensures.checked command) in
+    let answered : IsAnswered holds words true text = answers_explanation holds words asked text no_division no_run no_check read c.in_ok-text-in-Ok-Explanation.ensures.explanation in
     on_ok_weaker c.write_all-in-Ok-Explanation.result (λ wrote. (text, wrote, answered)) (rw c.as_slice-in-Ok-Explanation.ensures.value at c.write_all-in-Ok-Explanation.ensures.bytes)
