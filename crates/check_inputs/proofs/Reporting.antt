@@ -4,7 +4,7 @@ use Rattle.std.specs.Prelude.{◌==◌, ◌&&◌}
 use Rattle.std.specs.Option.{option_map, option_map_or}
 use Rattle.check_inputs.specs.Checked.{GoesOn, IsReportOn, path_if_given, payee_facts}
 use Rattle.check_inputs.specs.Found.{Files, Found, IsFoundIn}
-use Rattle.check_inputs.specs.Report.{Paths, cwr_facts, cwr_line, fault_lines, is_sound, payee_line, payees_facts, report_of, tis_facts, tis_line, usage_facts, usage_line}
+use Rattle.check_inputs.specs.Report.{Paths, cwr_facts, cwr_line, fault_lines, payee_line, payees_facts, tis_facts, tis_line, usage_facts, usage_line}
 use Rattle.check_inputs.specs.declared.report.File.{File}
 use Rattle.check_inputs.specs.declared.report.Sheet.{Sheet}
 
@@ -23,9 +23,9 @@ pub put_together : (paths : Paths) (files : Files) (found : Found) (none one two
     → (none.faults.items ≡ []) × (none.facts.items ≡ []) × (none.is_sound ≡ true)
     → GoesOn none one (length found.of_territories) (fault_lines (tis_line paths.territories) paths.territories found.of_territories) (tis_facts paths.territories (length found.of_territories) found.table)
     → GoesOn one two (length found.of_payees) (fault_lines (payee_line paths.payees) paths.payees found.of_payees)
-        (option_map_or (λ _. payees_facts paths.payees (length found.of_payees) found.rows) files.payees [])
+    (option_map_or (λ _. payees_facts paths.payees (length found.of_payees) found.rows) files.payees [])
     → GoesOn two three (length found.of_registrations) (fault_lines (cwr_line paths.registrations) paths.registrations found.of_registrations)
-        (cwr_facts paths.registrations files.registrations (length found.of_registrations) found.registered)
+    (cwr_facts paths.registrations files.registrations (length found.of_registrations) found.registered)
     → GoesOn three four (length found.of_usage) (fault_lines (usage_line paths.usage) paths.usage found.of_usage) (usage_facts paths.usage (length found.of_usage) found.lines)
     → IsFoundIn files found → (text ≡ four.faults.items ++ four.facts.items) × (sound ≡ four.is_sound) → IsReportOn paths files text sound
 put_together paths files found none one two three four text sound (no_faults, no_facts, so_far) first second third fourth is (written, told) = record {
@@ -33,12 +33,14 @@ put_together paths files found none one two three four text sound (no_faults, no
   inputs = is;
   written =
       written
-      ∙ rw (in_order none.faults.items _ _ _ _ one.faults.items two.faults.items three.faults.items four.faults.items no_faults first.in_words second.in_words third.in_words fourth.in_words,
-        in_order none.facts.items _ _ _ _ one.facts.items two.facts.items three.facts.items four.facts.items no_facts first.in_numbers second.in_numbers third.in_numbers fourth.in_numbers) refl;
+      ∙ rw (
+        in_order none.faults.items _ _ _ _ one.faults.items two.faults.items three.faults.items four.faults.items no_faults first.in_words second.in_words third.in_words fourth.in_words,
+        in_order none.facts.items _ _ _ _ one.facts.items two.facts.items three.facts.items four.facts.items no_facts first.in_numbers second.in_numbers third.in_numbers fourth.in_numbers,
+      ) refl;
   told =
       told
       ∙ rw (fourth.sound, third.sound, second.sound, first.sound, so_far)
-        (all_four (length found.of_territories == 0) (length found.of_payees == 0) (length found.of_registrations == 0) (length found.of_usage == 0));
+      (all_four (length found.of_territories == 0) (length found.of_payees == 0) (length found.of_registrations == 0) (length found.of_usage == 0));
 }
 
 -- what is said of a table of payees, by whether it is there

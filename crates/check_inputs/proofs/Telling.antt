@@ -1,9 +1,8 @@
 -- The faults of a file, told one after another.
-use Rattle.std.proofs.Common.{◌≡◌, ◌≤◌, ◌<◌, ◌+◌, ◌-◌, ◌++◌, ◌∷◌, ◌∙◌, [], ℕ, List, Bool, true, false, ap, append_assoc, codes, decimal, flat_map, length, nat_lt, refl, subst, sym, take, arith}
-use Rattle.std.specs.Prelude.{if◌then◌else◌}
+use Rattle.std.proofs.Common.{◌≡◌, ◌≤◌, ◌<◌, ◌+◌, ◌++◌, ◌∷◌, ◌∙◌, [], ℕ, List, ap, append_assoc, flat_map, length, refl, sym, take, arith}
 use Rattle.std.proofs.lemmas.Bool.{le-ltb}
 use Rattle.std.proofs.lemmas.List.{append-nil, flat_map_more, length_push, take_all, take-append-le}
-use Rattle.check_inputs.specs.Messages.{fact_line, fault_line, place_text, shown, shown_byte}
+use Rattle.check_inputs.specs.Messages.{shown, shown_byte}
 use Rattle.check_inputs.specs.Report.{fault_lines, more_line}
 use Rattle.check_inputs.specs.Told.{IsTold}
 use Rattle.check_inputs.specs.declared.words.TheConstants.{MOST_FAULTS, MOST_SHOWN}

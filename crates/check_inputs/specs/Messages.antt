@@ -1,5 +1,5 @@
 -- What is wrong with a row or a line, in words, with the field as it stands.
-use Rattle.std.specs.Prelude.{ℕ, ◌<◌, ◌≤◌, ◌+◌, ◌-◌, ◌/◌, ◌%◌, ◌&&◌, ◌==◌, ◌++◌, ◌∷◌, List, [], codes, decimal, flat_map, if◌then◌else◌, length, nat_le, nat_lt, slice_index_or, take, Option, Some, None}
+use Rattle.std.specs.Prelude.{ℕ, ◌+◌, ◌/◌, ◌%◌, ◌&&◌, ◌==◌, ◌++◌, ◌∷◌, List, [], codes, decimal, flat_map, if◌then◌else◌, length, nat_le, nat_lt, slice_index_or, take, Option, Some, None}
 use Rattle.cwr_share.specs.Fields.{field_of}
 use Rattle.cwr_share.specs.Records.{share_fields}
 use Rattle.cwr_share.specs.declared.fields.Field.{Field}

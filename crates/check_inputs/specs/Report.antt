@@ -1,5 +1,5 @@
 -- The report on the inputs of a run: every fault, and what is in the files that have none.
-use Rattle.std.specs.Prelude.{ℕ, ◌≡◌, ◌-◌, ◌==◌, ◌&&◌, ◌++◌, [], Bool, List, Option, Some, None, codes, count_by, decimal, flat_map, if◌then◌else◌, length, nat_lt, take}
+use Rattle.std.specs.Prelude.{ℕ, ◌-◌, ◌==◌, ◌&&◌, ◌++◌, [], Bool, List, Option, codes, count_by, flat_map, if◌then◌else◌, length, nat_lt, take}
 use Rattle.std.specs.Option.{option_map_or}
 use Rattle.cwr_share.specs.CwrFile as cwr
 use Rattle.cwr_share.specs.Lines.{lines_of}

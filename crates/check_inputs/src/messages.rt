@@ -12,11 +12,7 @@ use std::alloc::AllocError;
 use tis_tree::TisFault;
 
 /// What is wrong with a row of the table of territories.
-pub(crate) fn add_tis(
-    text: &mut Vec<u8>,
-    row: &Rows<'_>,
-    fault: TisFault,
-) -> Result<(), AllocError>
+pub(crate) fn add_tis(text: &mut Vec<u8>, row: &Rows<'_>, fault: TisFault) -> Result<(), AllocError>
     ensures { OnOk result (text.new.items ≡ text.old.items ++ tis_message row.now.row fault) }
 {
     match fault {

@@ -110,8 +110,7 @@ impl Sheet {
         ensures { OnOk result ((out : List (List ℕ × CwrFault)) × (registered : Option Registered) × AreRegistrationsWithout payees.now (lines_of file.now.bytes.items) out registered
             × GoesOn self.old self.new (length out) (fault_lines (cwr_line (string_bytes file.now.path)) (string_bytes file.now.path) out) (cwr_facts (string_bytes file.now.path) file.now.bytes.items (length out) registered)) }
     {
-        let (told, registry) =
-            read_cwr(alloc, file.path.as_str(), file.bytes.as_slice(), payees)?;
+        let (told, registry) = read_cwr(alloc, file.path.as_str(), file.bytes.as_slice(), payees)?;
         self.add_faults(&told)?;
         add_cwr_facts(&mut self.facts, file, told.count, &registry)?;
         Ok(())
@@ -252,7 +251,12 @@ fn add_cwr_numbers(
         registrations.saturating_sub(works),
         " registrations replaced by later ones\n",
     )?;
-    add_fact(text, path, registry.claimants() as u64, " parties in force\n")?;
+    add_fact(
+        text,
+        path,
+        registry.claimants() as u64,
+        " parties in force\n",
+    )?;
     add_fact(
         text,
         path,

@@ -1,6 +1,6 @@
 -- What a parse of the words of a check gives.
-use Rattle.std.proofs.Common.{◌≡◌, ℕ, List, [], ◌∷◌, Option, Some, true, refl, arith, codes, is_some}
-use Rattle.clap.specs.Words.{AddsArg, IsParsedFrom, Text, first_value, found_of, is_simple, is_simple_and_free, matches_of, new_app, rows_of, rule_of}
+use Rattle.std.proofs.Common.{◌≡◌, List, [], ◌∷◌, true, refl, arith, codes, is_some}
+use Rattle.clap.specs.Words.{AddsArg, IsParsedFrom, Text, first_value, found_of, is_simple, is_simple_and_free, new_app, rule_of}
 use Rattle.clap.specs.declared.builder.arg.Arg.{Arg}
 use Rattle.clap.specs.declared.builder.command.Command.{Command}
 use Rattle.clap.specs.declared.parser.matches.ArgMatches.{ArgMatches}

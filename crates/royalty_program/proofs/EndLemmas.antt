@@ -1,5 +1,5 @@
 -- How the program ends, by what its words were answered with.
-use Rattle.std.proofs.Common.{◌≡◌, ◌≢◌, ◌⊎◌, ◌∙◌, ℕ, List, Bool, true, false, Err, Ok, Result, Option, Some, None, inl, inr, refl, sym, subst}
+use Rattle.std.proofs.Common.{◌≡◌, ◌≢◌, ◌⊎◌, ◌∙◌, ℕ, List, Bool, true, false, Err, Ok, Result, Option, Some, None, inl, inr, sym}
 use Rattle.std.specs.Prelude.{if◌then◌else◌}
 use Rattle.std.specs.Io.KnownBytes.{Appends, Keeps}
 use Rattle.std.specs.Result.{IfErr, IfOk, IsOk, OnErr, OnOk}
@@ -49,7 +49,7 @@ module _ {T E : Type 0} where
   printed_whole (Err failure) status sound Answers old mid new answered through is other same = absurd (other (sym is ∙ same))
   printed_whole (Ok (Err e, was)) status true Answers old mid new answered (inl refused) is other same = cc
   printed_whole (Ok (Err e, was)) status false Answers old mid new answered (inl refused) is other same = cc
-  printed_whole (Ok (Err e, was)) status sound Answers old mid new answered (inr (told, ok, kept)) is other same = absurd ok
+  printed_whole (Ok (Err e, was)) status sound Answers old mid new answered (inr (told, ok, kept)) is other same = cc ok
   printed_whole (Ok (Ok t, was)) status true Answers old mid new answered (inl refused) is other same = cc
   printed_whole (Ok (Ok t, was)) status false Answers old mid new answered (inl refused) is other same = cc
   printed_whole (Ok (Ok t, true)) status true Answers old mid new (text, added, is_answer) (inr (told, ok, kept)) is other same = (text, sent_on old mid new text added kept, is_answer)
@@ -77,3 +77,8 @@ module _ {T E : Type 0} where
   silent_then (Ok (t, false)) status Report Same mid new (inr (told, ok, kept)) others same (inl (one, none)) = cc (others none)
   silent_then (Ok (t, false)) status Report Same mid new (inr (told, ok, kept)) others same (inr (inl two)) = cc
   silent_then (Ok (t, false)) status Report Same mid new (inr (told, ok, kept)) others same (inr (inr three)) = cc
+
+-- an output that is left alone twice is as it was
+pub left_alone : {X W : Type 0} (r : Result X Failure) (old mid new : W) → OnErr r (new ≡ mid) → IfErr r (λ _. mid ≡ old) → OnErr r (new ≡ old)
+left_alone (Ok x) old mid new second first = tt
+left_alone (Err failure) old mid new second first = second ∙ first

@@ -5,7 +5,7 @@ use Rattle.std.specs.Prelude.{String, string_bytes}
 use Rattle.std.specs.declared.alloc.Global.{Global}
 use Rattle.std.specs.declared.io.ErrorKind.{ErrorKind}
 use Rattle.std.specs.declared.io.ErrorKind.TheVariants.{OutOfMemory}
-use Rattle.royalty_program.specs.Status.{IsFirst, IsOfFile, IsOfPaths, IsRead, IsReadIfGiven, failure_of_file, failure_of_run}
+use Rattle.royalty_program.specs.Status.{IsFirst, IsOfFile, IsOfNoInput, IsOfPaths, IsRead, IsReadIfGiven, failure_of_file, failure_of_run}
 use Rattle.royalty_program.specs.Files.{HoldsIfGiven, IsFaultOver}
 use Rattle.run_inputs.specs.declared.fault.Fault.{Fault}
 use Rattle.run_inputs.specs.declared.fault.Fault.TheVariants.{Tis, Cwr, Usage, Room, Payee}
@@ -54,3 +54,15 @@ fails holds refuses tis payees cwr usage (Payee fault) is = is
 fails holds refuses tis payees cwr usage (Cwr fault) is = is
 fails holds refuses tis payees cwr usage (Usage fault) is = is
 fails holds refuses tis payees cwr usage Room is = tt
+
+-- what a file fails for is no fault of an input
+pub no_input : (refuses : List ℕ → ErrorKind → Type 0) (path : String Global) (failure : Failure) → IsOfFile refuses path failure → IsOfNoInput failure
+no_input refuses path failure fails = subst IsOfNoInput (sym fails.2) (by fails.0)
+  where
+    by : (kind : ErrorKind) → IsOfNoInput (failure_of_file kind path)
+    by OutOfMemory = tt
+    by kind = tt
+
+pub no_input_if_given : (refuses : List ℕ → ErrorKind → Type 0) (path : Option (String Global)) (failure : Failure) → IsSome path → IfSome path (λ path. IsOfFile refuses path failure) → IsOfNoInput failure
+no_input_if_given refuses None failure there fails = cc
+no_input_if_given refuses (Some path) failure there fails = no_input refuses path failure fails

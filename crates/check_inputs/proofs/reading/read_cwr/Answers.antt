@@ -1,4 +1,4 @@
-use Rattle.std.proofs.Common.{◌≡◌, ◌≤◌, ◌++◌, ◌∷◌, ◌∙◌, ◌⊎◌, [], inl, inr, ℕ, List, ap, arith, length, refl, subst, sym}
+use Rattle.std.proofs.Common.{◌≡◌, ◌++◌, ◌∷◌, ◌∙◌, ◌⊎◌, [], inl, inr, arith, refl}
 use Rattle.cwr_share.specs.CwrReading.{Reads, Refuses, Stops}
 use Rattle.cwr_share.specs.Lines.{lines_of}
 use Rattle.cwr_share.specs.declared.cwr_fault.CwrFault.{CwrFault}
@@ -21,9 +21,11 @@ loop-reader-init c =
     let begun = c.of-reader.ensures.begun in
     let now = c.none-told.result in (
       c.of-reader.ensures.stands,
-      ([],
-      c.of-reader.ensures.none_read,
-      goes_start Reads Refuses Stops (cwr_line path) [] [] (lines_of c.args.bytes.now) from.lines [] now.text.items now.count from.number (none_told (cwr_line path) now.text.items now.count c.none-told.ensures.none) refl begun.0 begun.1),
+      (
+        [],
+        c.of-reader.ensures.none_read,
+        goes_start Reads Refuses Stops (cwr_line path) [] [] (lines_of c.args.bytes.now) from.lines [] now.text.items now.count from.number (none_told (cwr_line path) now.text.items now.count c.none-told.ensures.none) refl begun.0 begun.1,
+      ),
       c.none-told.ensures.path,
     )
 
@@ -47,9 +49,11 @@ loop-reader-preserved c =
     let (more, done, way) = on kept read in
     let tells = rw (c.loop-reader.invariant.2, c.line.ensures) at c.in_ok-cwr.ensures.told in (
       c.in_ok-fault.ensures.stands,
-      (more,
-      done,
-      goes_on Reads Refuses Stops (cwr_line c.args.path.now) [] kept more (lines_of c.args.bytes.now) at.lines to.lines [] told.text.items now.text.items told.count now.count at.number to.number (to.line.now, c.in-Some.fault) goes way tells),
+      (
+        more,
+        done,
+        goes_on Reads Refuses Stops (cwr_line c.args.path.now) [] kept more (lines_of c.args.bytes.now) at.lines to.lines [] told.text.items now.text.items told.count now.count at.number to.number (to.line.now, c.in-Some.fault) goes way tells,
+      ),
       c.cwr.ensures.path ∙ c.loop-reader.invariant.2,
     )
 

@@ -1,12 +1,11 @@
-use Rattle.std.proofs.Common.{◌≡◌, ◌≤◌, ◌++◌, ◌∷◌, ◌∙◌, [], ℕ, List, ap, arith, drop, length, refl, subst, sym}
+use Rattle.std.proofs.Common.{◌∷◌, ◌∙◌, [], ℕ, List, arith, drop, refl, sym}
 use Rattle.csv_table.specs.Table.{rows_of}
 use Rattle.cwr_share.specs.PayeeReading.{Reads, Refuses, Stops}
 use Rattle.cwr_share.specs.PayeeTable.{header}
 use Rattle.cwr_share.specs.declared.payee_fault.PayeeFault.{PayeeFault}
 use Rattle.cwr_share.specs.declared.payee_fault.PayeeFault.TheVariants.{Csv}
-use Rattle.check_inputs.specs.Report.{fault_lines, payee_line}
-use Rattle.check_inputs.specs.Told.{IsTold}
-use Rattle.check_inputs.proofs.GoingOn.{Goes, below_few, goes_few, goes_on, goes_start, goes_whole, head_few, headed_told, headless_told, none_told, of_header, out_few, table_read}
+use Rattle.check_inputs.specs.Report.{payee_line}
+use Rattle.check_inputs.proofs.GoingOn.{below_few, goes_few, goes_on, goes_start, goes_whole, head_few, headed_told, headless_told, none_told, of_header, out_few, table_read}
 use Rattle.check_inputs.proofs.Telling.{told_whole}
 use Rattle.check_inputs.proofs.reading.read_payees.Goals as goal
 use Rattle.check_inputs.proofs.reading.read_payees.Goals.{then-not-is_headed+in_ok-payee, else-not-is_headed}
@@ -22,23 +21,29 @@ loop-reader-init c =
       | then-not-is_headed+in_ok-payee w ↦
           let now = w.payee.new.self in
           let told = rw c.none-told.ensures.path at (w.in_ok-payee.ensures.told [] none) in
-          rw w.told-is
-          (goes_start Reads Refuses Stops (payee_line path) [] from.payees rows from.left (of_header from.is_headed ([], Csv 0)) now.text.items now.count from.number
-          (headless_told (payee_line path) from.is_headed (w.row.result.now.row, Csv 0) ([], Csv 0) now.text.items now.count (sym w.if-not-is_headed.ensures) told refl) begun.0 begun.1 begun.2,
-          w.payee.ensures.path ∙ c.none-told.ensures.path)
+          rw w.told-is (
+            goes_start Reads Refuses Stops (payee_line path) [] from.payees rows from.left (of_header from.is_headed ([], Csv 0)) now.text.items now.count from.number
+                (headless_told (payee_line path) from.is_headed (w.row.result.now.row, Csv 0) ([], Csv 0) now.text.items now.count (sym w.if-not-is_headed.ensures) told refl) begun.0 begun.1 begun.2,
+            w.payee.ensures.path ∙ c.none-told.ensures.path,
+          )
       | else-not-is_headed w ↦
           let now = c.none-told.result in
-          rw w.told-is
-          (goes_start Reads Refuses Stops (payee_line path) [] from.payees rows from.left (of_header from.is_headed ([], Csv 0)) now.text.items now.count from.number
-          (headed_told (payee_line path) from.is_headed ([], Csv 0) now.text.items now.count (sym w.if-not-is_headed.ensures) (rw c.none-told.ensures.path at none)) begun.0 begun.1 begun.2,
-          c.none-told.ensures.path)
+          rw w.told-is (
+            goes_start Reads Refuses Stops (payee_line path) [] from.payees rows from.left (of_header from.is_headed ([], Csv 0)) now.text.items now.count from.number
+                (headed_told (payee_line path) from.is_headed ([], Csv 0) now.text.items now.count (sym w.if-not-is_headed.ensures) (rw c.none-told.ensures.path at none)) begun.0 begun.1 begun.2,
+            c.none-told.ensures.path,
+          )
     ]
 
 pub payee-requires-in-Some : goal.payee-requires-in-Some
 payee-requires-in-Some c =
     let at = c.loop-reader.reader in
-    omega (arith, below_few c.args.bytes.now, head_few {R = List ℕ} {F = PayeeFault} c.in_ok-reader.reader.is_headed ([], Csv 0),
-    goes_few Reads Refuses Stops (payee_line c.args.path.now) [] at.payees (drop 1 (rows_of c.args.bytes.now)) at.left _ c.loop-reader.told.text.items c.loop-reader.told.count at.number c.loop-reader.invariant.0)
+    omega (
+      arith,
+      below_few c.args.bytes.now,
+      head_few {R = List ℕ} {F = PayeeFault} c.in_ok-reader.reader.is_headed ([], Csv 0),
+      goes_few Reads Refuses Stops (payee_line c.args.path.now) [] at.payees (drop 1 (rows_of c.args.bytes.now)) at.left _ c.loop-reader.told.text.items c.loop-reader.told.count at.number c.loop-reader.invariant.0,
+    )
 
 pub loop-reader-smaller : goal.loop-reader-smaller
 loop-reader-smaller c =
@@ -57,7 +62,7 @@ loop-reader-preserved c =
     let on = rw c.in-Some.is at c.in_ok-fault.ensures.fault in
     let tells = rw (c.loop-reader.invariant.1, c.row-in-Some.ensures) at c.in_ok-payee-2.ensures.told in (
       goes_on Reads Refuses Stops (payee_line c.args.path.now) [] at.payees to.payees (drop 1 (rows_of c.args.bytes.now)) at.left to.left (of_header c.in_ok-reader.reader.is_headed ([], Csv 0))
-      told.text.items now.text.items told.count now.count at.number to.number (to.row, fault) c.loop-reader.invariant.0 on tells,
+          told.text.items now.text.items told.count now.count at.number to.number (to.row, fault) c.loop-reader.invariant.0 on tells,
       c.payee-in-Some.ensures.path ∙ c.loop-reader.invariant.1,
     )
 

@@ -28,6 +28,6 @@ returns c =
     } in
     IfOk-weaker c.whole.result _ (λ (checked : Checked). IsReportOn (paths_of tis payees cwr usage) (files_of tis payees cwr usage) checked.text.items checked.is_sound)
     (λ checked whole. put_together (paths_of tis payees cwr usage) (files_of tis payees cwr usage) found _ c.tis.new.self c.payees.new.self c.cwr.new.self c.usage.new.self checked.text.items checked.is_sound
-      (c.new.ensures.items, c.new-2.ensures.items, refl) first
+    (c.new.ensures.items, c.new-2.ensures.items, refl) first
     (rw (facts_given payees (length of_payees) c.in_ok-rows.rows) at second) third fourth record { territories = is_tis; payees = is_payees; registrations = is_cwr; usage = is_usage } whole)
     c.whole.ensures

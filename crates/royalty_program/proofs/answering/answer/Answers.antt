@@ -1,5 +1,5 @@
 use Rattle.std.proofs.Common.{◌≡◌, ◌≢◌, ℕ, List, Bool, refl, drop, map, codes, false, true, rules}
-use Rattle.std.proofs.lemmas.Result.{IfErr-weaker, IfOk-weaker, on_ok_weaker}
+use Rattle.std.proofs.lemmas.Result.{on_ok_weaker}
 use Rattle.std.specs.Option.{option_map}
 use Rattle.std.specs.Prelude.{string_bytes}
 use Rattle.clap.specs.Words.{kind_of}
@@ -18,7 +18,7 @@ use Rattle.royalty_program.specs.Status.{IsOfDivision, failure_of_fault}
 use Rattle.royalty_program.specs.declared.check_command.CheckWords.{CheckWords}
 use Rattle.royalty_program.specs.declared.explain_command.ExplainWords.{ExplainWords}
 use Rattle.royalty_program.specs.declared.run_command.RunWords.{RunWords}
-use Rattle.royalty_program.proofs.OverLemmas.{explained_given, fails_given, over_given, over_in_order, reported_given, unchecked_given}
+use Rattle.royalty_program.proofs.OverLemmas.{explained_given, over_given, over_in_order, reported_given}
 use Rattle.royalty_program.proofs.OptionLemmas.{accepted_is_memory, no_help_given}
 use Rattle.royalty_program.proofs.RunWalked.{no_help}
 use Rattle.royalty_program.proofs.answering.answer.Goals as goal
@@ -107,8 +107,8 @@ returns-in-Ok-Run-clause-answered g c =
     let no_division : ¬ IsDivision words = λ division. rw (c.in-Ok-Run.is, c.in-Ok-Run.field-0-is) at (c.read_words.ensures.division division) in
     let no_explanation : ¬ (word_at words 1 ≡ codes "explain") = λ command. rw (c.in-Ok-Run.is, c.in-Ok-Run.field-0-is) at (c.read_words.ensures.explanation command) in
     let read : word_at words 1 ≡ codes "run" → AreReadFrom (drop 1 words) asked = λ command. rw (c.in-Ok-Run.is, c.in-Ok-Run.field-0-is) at (c.read_words.ensures.run command) in
-    IfOk-weaker c.settle_files.result _ _
-    (λ printed statements. on_ok_weaker printed (λ wrote. (wrote.0, wrote.1, answers_run holds words asked wrote.0 no_division no_explanation read wrote.2)) statements) c.settle_files.ensures.statements
+    let no_check : ¬ (word_at words 1 ≡ codes "check") = λ command. rw (c.in-Ok-Run.is, c.in-Ok-Run.field-0-is) at (c.read_words.ensures.checked command) in
+    on_ok_weaker c.in_ok-settle_files-in-Ok-Run.field-0 (λ wrote. (wrote.0, wrote.1, answers_run holds words asked wrote.0 no_division no_explanation no_check read wrote.2)) c.in_ok-settle_files-in-Ok-Run.ensures.statements
 
 pub returns-in-Ok-format-clause-answered : goal.returns-in-Ok-format-clause-answered
 returns-in-Ok-format-clause-answered g c =
@@ -147,13 +147,6 @@ returns-in-Err-2-clause-checked g c command accepted =
     let not_memory : kind_of c.in-Err-2.error ≢ kinds.OutOfMemory = search rules in
     not_memory (accepted_is_memory check_app (drop 1 words) c.in-Err-2.error (c.in-Err-2.ensures.unchecked command) accepted)
 
-pub returns-in-Ok-Run-clause-run : goal.returns-in-Ok-Run-clause-run
-returns-in-Ok-Run-clause-run g c command =
-    let words = map string_bytes c.args.words.now in
-    let asked = c.in-Ok-Run.asked in
-    let read : AreReadFrom (drop 1 words) asked = rw (c.in-Ok-Run.is, c.in-Ok-Run.field-0-is) at (c.read_words.ensures.run command) in
-    IfErr-weaker c.settle_files.result _ _ (fails_given (g.S.Source.holds c.args.files.now) (g.S.Source.refuses c.args.files.now) (drop 1 words) asked read) c.settle_files.ensures.files
-
 pub returns-in-Ok-Run-clause-pairs : goal.returns-in-Ok-Run-clause-pairs
 returns-in-Ok-Run-clause-pairs g c division =
     let none : ⊥ = rw (c.in-Ok-Run.is, c.in-Ok-Run.field-0-is) at (c.read_words.ensures.division division) in
@@ -171,3 +164,17 @@ returns-in-Ok-Explanation-clause-answered g c =
     let no_check : ¬ (word_at words 1 ≡ codes "check") = λ command. rw (c.in-Ok-Explanation.is, c.in-Ok-Explanation.field-0-is) at (c.read_words.ensures.checked command) in
     let answered : IsAnswered holds words true text = answers_explanation holds words asked text no_division no_run no_check read c.in_ok-text-in-Ok-Explanation.ensures.explanation in
     on_ok_weaker c.write_all-in-Ok-Explanation.result (λ wrote. (text, wrote, answered)) (rw c.as_slice-in-Ok-Explanation.ensures.value at c.write_all-in-Ok-Explanation.ensures.bytes)
+
+pub returns-in-Ok-Check-clause-answered : goal.returns-in-Ok-Check-clause-answered
+returns-in-Ok-Check-clause-answered g c =
+    let words = map string_bytes c.args.words.now in
+    let holds = g.S.Source.holds c.args.files.now in
+    let asked = c.in-Ok-Check.asked in
+    let checked = c.in_ok-checked-in-Ok-Check.checked in
+    let no_division : ¬ IsDivision words = λ division. rw (c.in-Ok-Check.is, c.in-Ok-Check.field-0-is) at (c.read_words.ensures.division division) in
+    let no_run : ¬ (word_at words 1 ≡ codes "run") = λ command. rw (c.in-Ok-Check.is, c.in-Ok-Check.field-0-is) at (c.read_words.ensures.run command) in
+    let no_explanation : ¬ (word_at words 1 ≡ codes "explain") = λ command. rw (c.in-Ok-Check.is, c.in-Ok-Check.field-0-is) at (c.read_words.ensures.explanation command) in
+    let command : word_at words 1 ≡ codes "check" = rw (c.in-Ok-Check.is, c.in-Ok-Check.field-0-is) at c.read_words.ensures.named in
+    let read : AreCheckedFrom (drop 1 words) asked = rw (c.in-Ok-Check.is, c.in-Ok-Check.field-0-is) at (c.read_words.ensures.checked command) in
+    let answered : IsAnswered holds words checked.is_sound checked.text.items = answers_check holds words asked checked.is_sound checked.text.items no_division no_run no_explanation command read c.in_ok-checked-in-Ok-Check.ensures.report in
+    on_ok_weaker c.write_all-in-Ok-Check.result (λ wrote. (checked.text.items, wrote, answered)) (rw c.as_slice-in-Ok-Check.ensures.value at c.write_all-in-Ok-Check.ensures.bytes)
