@@ -58,8 +58,8 @@ check 'the version' 0 "royalty_run 0.1.0\nlogic ${kit##* logic }\n" '' "$program
 check 'a bad table' 1 '' 'royalty_run: tis fault 1 at row 0\n' "$program" run --tis usage.csv --cwr works.cwr --usage usage.csv "${plan[@]}"
 facts='territories.csv: 22 territories\nworks.cwr: 3 works with a registration in force\nworks.cwr: 1 registrations replaced by later ones\nworks.cwr: 6 parties in force\nworks.cwr: 7 accounts, the residue'"'"'s included\n'
 check 'a check' 0 "${facts}usage.csv: 9 usage lines\n" '' "$program" check "${files[@]}"
-sed -e '2s/,[^,]*$/,12,5/' -e '4s/,P,/,p,/' usage.csv >spoilt.csv
-check 'a check that tells of faults' 1 "spoilt.csv: row 1: the row has not 5 fields (fault 1)\nspoilt.csv: row 3: right 'p' is not P, M or S (fault 4)\n$facts" '' \
+sed -e '2s/,[^,]*$/,12,5/' -e '4s/,M,/,m,/' usage.csv >spoilt.csv
+check 'a check that tells of faults' 1 "spoilt.csv: row 1: the row has not 5 fields (fault 1)\nspoilt.csv: row 3: right 'm' is not P, M or S (fault 4)\n$facts" '' \
     "$program" check --usage spoilt.csv --tis territories.csv --cwr works.cwr
 check 'a check of a file that is not there' 4 '' 'royalty_run: cannot read absent\n' "$program" check --usage absent --tis territories.csv --cwr works.cwr
 check 'a report to an output that is full' 4 '' 'royalty_run: cannot write\n' bash -c '"$0" check --usage spoilt.csv --tis territories.csv --cwr works.cwr >/dev/full' "$program"
