@@ -1,0 +1,3 @@
+pub mod ByKeyLemmas
+pub mod ResidueLemmas
+pub mod TotalLemmas

@@ -1,0 +1,52 @@
+-- What amounts come to by what they are of, such as a work, and where most of the money is.
+use Rattle.std.specs.Prelude.{ℕ, ℤ, ◌≡◌, ◌+◌, ◌+ℤ◌, Bool, List, [], ◌∷◌, Option, None, Some, filter, length, pos, take, unsigned_abs, unwrap_or}
+use Rattle.std.specs.List.{IsDistinct}
+use Rattle.std.specs.List.Sorted.{IsPermutation, IsSorted}
+use Rattle.std.specs.Map.{keys_of, lookup}
+use Rattle.std.specs.Ordering.{nat_cmp, ordering_then}
+use Rattle.std.specs.declared.cmp.Ordering.{Ordering}
+use Rattle.line_split.specs.Signs.{int_sum_by}
+use Rattle.usage_totals.specs.declared.total.Total.{Total}
+
+-- how many amounts there are, and what they come to
+abbrev pub total_of : {K : Type 0} → List (K × ℤ) → Total
+total_of amounts = record { lines = length amounts; amount = int_sum_by (λ amount. amount.1) amounts }
+
+-- the same, where there are some
+abbrev pub total_if_any : {K : Type 0} → List (K × ℤ) → Option Total
+total_if_any [] = None
+total_if_any (amount ∷ amounts) = Some (total_of (amount ∷ amounts))
+
+-- with one amount more
+abbrev pub total_with : Total → ℤ → Total
+total_with total amount = record { lines = total.lines + 1; amount = total.amount +ℤ amount }
+
+-- what is kept for a key: nothing so far, or a total
+abbrev pub total_so_far : {K : Type 0} → (K → K → Bool) → K → List (K × Total) → Total
+total_so_far eq key totals = unwrap_or (lookup (eq key) totals) (record { lines = 0; amount = pos 0 })
+
+-- the amounts of a key
+abbrev pub amounts_at : {K : Type 0} → (K → K → Bool) → K → List (K × ℤ) → List (K × ℤ)
+amounts_at eq key amounts = filter (λ amount. eq key amount.0) amounts
+
+-- the keys of these amounts, each once, and what the amounts of each come to
+pub record AreTotals {K : Type 0} (eq : K → K → Bool) (amounts : List (K × ℤ)) (totals : List (K × Total)) : Type 0 where
+  pub once : IsDistinct eq (keys_of totals)
+  pub each : (key : K) → lookup (eq key) totals ≡ total_if_any (amounts_at eq key amounts)
+
+-- more money comes first, paid or taken back; among as much, the lesser key
+abbrev pub by_money : {K : Type 0} → (K → K → Ordering) → K × Total → K × Total → Ordering
+by_money cmp total other = ordering_then (nat_cmp (unsigned_abs other.1.amount) (unsigned_abs total.1.amount)) (cmp total.0 other.0)
+
+-- the first of a list in an order, so many at most
+pub record AreFirst {X : Type 0} (cmp : X → X → Ordering) (most : ℕ) (all shown : List X) : Type 0 where
+  pub sorted : List X
+  pub same : IsPermutation all sorted
+  pub order : IsSorted cmp sorted
+  pub first : shown ≡ take most sorted
+
+-- so many keys at most, those with most money, and what the amounts of each come to
+pub record AreGreatest {K : Type 0} (eq : K → K → Bool) (cmp : K → K → Ordering) (most : ℕ) (amounts : List (K × ℤ)) (shown : List (K × Total)) : Type 0 where
+  pub all : List (K × Total)
+  pub totals : AreTotals eq amounts all
+  pub greatest : AreFirst (by_money cmp) most all shown

@@ -1,0 +1,12 @@
+//! What a run makes of usage lines: how many have each reason, what they come to, and where most of the money is that nobody can claim.
+#![tactic(auto)]
+
+mod by_key;
+mod name;
+mod reasons;
+mod total;
+mod totals;
+
+pub use name::Name;
+pub use total::Total;
+pub use totals::{MOST_SHOWN, Totals, totals_of};

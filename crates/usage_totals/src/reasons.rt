@@ -1,0 +1,109 @@
+//! The reason of each usage line, and the lines of one reason.
+
+ghost use Rattle.std.specs.Prelude.{◌≡◌, ◌+◌, ◌≤◌, ◌<◌, IfOk, filter, length, map, unsigned_abs};
+ghost use Rattle.std.specs.List.{list_any};
+ghost use Rattle.cwr_share.specs.ClaimsOn.{is_known};
+ghost use Rattle.csv_table.specs.declared.forms.TheConstants.{MOST_CODE};
+ghost use Rattle.line_split.specs.Signs.{int_sum_by, signed_portions_of};
+ghost use Rattle.line_split.specs.UsageLine.{UsageLine};
+ghost use Rattle.line_split.specs.declared.TheConstants.{MOST_AMOUNT, MOST_CLAIMS, RESIDUE};
+ghost use Rattle.line_split.specs.declared.reason.Reason.{Reason};
+ghost use Rattle.line_split.specs.declared.reason.Reason.TheVariants.{Open};
+ghost use Rattle.payee_book.specs.Run.{portion_of};
+ghost use Rattle.usage_totals.specs.Totals.{is_same as are_same, lines_for, reason_of, residue_of, total_of_lines};
+
+use crate::total::Total;
+use cwr_share::Registry;
+use line_split::{Claims, MOST_CLAIMS, Portions, Reason, Usage, split};
+use std::alloc::{AllocError, Global};
+use tis_tree::{Code, TisTable};
+
+/// The reason of each line, and what is the residue's of those that are divided.
+pub(crate) fn reasons_of(
+    alloc: Global,
+    tis: &TisTable,
+    registry: &Registry,
+    usage: &Usage,
+) -> Result<(Vec<Reason>, i64), AllocError>
+    ensures reasons { IfOk result (λ found. found.0.items ≡ map (reason_of tis.now registry.now) usage.now) }
+    ensures residue { IfOk result (λ found. found.1 ≡ int_sum_by (residue_of tis.now registry.now) (lines_for tis.now registry.now Open usage.now)) }
+{
+    let mut claims = registry.scratch(alloc)?;
+    let mut portions = Portions::room(alloc, MOST_CLAIMS + 1)?;
+    let mut reasons = Vec::with_capacity(alloc, usage.len())?;
+    let mut residue = 0;
+    for place in 0..usage.len() {
+        let line = usage.line(place);
+        let reason = registry
+            .claims(tis, &line, &mut claims)
+            .unwrap_or(Reason::Open);
+        if is_same(Reason::Open, reason) {
+            residue += residue_portion(line.amount, &claims, &mut portions);
+        }
+        reasons.push(reason)?;
+    }
+    Ok((reasons, residue))
+}
+
+/// The residue's portion of an amount.
+fn residue_portion(amount: i64, claims: &Claims, portions: &mut Portions) -> i64
+    requires in_range { unsigned_abs amount ≤ MOST_AMOUNT }
+    requires room { MOST_CLAIMS + 1 ≤ portions.old.room }
+    ensures portion { result ≡ portion_of RESIDUE (signed_portions_of amount claims.now.list) }
+    ensures small { unsigned_abs result ≤ MOST_AMOUNT }
+    ensures room { portions.new.room ≡ portions.old.room }
+{
+    let place = claims.list().len();
+    split(amount, claims, portions);
+    portions.list()[place].1
+}
+
+/// What the lines of a reason come to.
+pub(crate) fn total_for(usage: &Usage, reasons: &[Reason], reason: Reason) -> Total
+    requires { length reasons.now ≡ length usage.now }
+    ensures { (given : UsageLine → Reason) → reasons.now ≡ map given usage.now → result ≡ total_of_lines (filter (λ line. are_same reason (given line)) usage.now) }
+{
+    let mut total = Total::none();
+    for place in 0..usage.len() {
+        if is_same(reason, reasons[place]) {
+            total = total.with(usage.line(place).amount);
+        }
+    }
+    total
+}
+
+/// Whether two reasons are the same.
+pub(crate) fn is_same(reason: Reason, other: Reason) -> bool
+    ensures { result ≡ are_same reason other }
+{
+    match (reason, other) {
+        (Reason::Work, Reason::Work)
+        | (Reason::Land, Reason::Land)
+        | (Reason::Over, Reason::Over)
+        | (Reason::Open, Reason::Open) => true,
+        _ => false,
+    }
+}
+
+/// Whether the table has the territory of some line.
+pub(crate) fn knows_one(tis: &TisTable, usage: &Usage) -> bool
+    ensures { result ≡ list_any (λ line. is_known tis.now line.territory) usage.now }
+{
+    for place in 0..usage.len() {
+        if knows(tis, usage.line(place).territory) {
+            return true;
+        }
+    }
+    false
+}
+
+/// Whether the table has a territory.
+fn knows(tis: &TisTable, territory: u16) -> bool
+    requires { (0 < territory) × (territory ≤ MOST_CODE) }
+    ensures { result ≡ is_known tis.now territory }
+{
+    let Some(code) = Code::of(territory) else {
+        unreachable!()
+    };
+    tis.known(code)
+}
