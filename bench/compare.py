@@ -4,7 +4,8 @@ payees, and compares statuses, statements and messages; then the same for the ex
 lines, one row past the last among them at times; and each portion that an explanation shows has to be a row of the statements. Half of the inputs are small; the others are realistic, with up
 to 2,000 parties and 6,000 usage lines, so that some of these are read in parts.
 
-Then it compares the reports of `check`, half of them over files that were spoilt further, all over. What a run is refused for has to be the first
+Then it compares the reports of `check`, half of them over files that were spoilt further, all over, and a quarter over usage lists with many lines of
+works and territories that are unknown. What a run is refused for has to be the first
 fault of the report, and where a run gives statements the report has no fault.
 
     python3 compare.py --program PATH [--cases 2000] [--explained 3] [--checked 1] [--seed 1]
@@ -260,6 +261,30 @@ def all_spoilt(rng, files):
     return files
 
 
+# works that no registration has
+UNKNOWN = [b"X%d" % n for n in range(40)] + [b"X" * 64, b"W1 ", b"W", b"X'1", b"\\x41", b'"X,1"', b'"X"""']
+
+
+def strange(rng, files):
+    """The files of a case, by name, with more usage lines, of works and territories that are unknown or known. They have few
+    amounts, so that what several come to is as much, either way, or 0. Half of the time there are no other usage lines."""
+    registered = [line[81:95].strip() for line in files["cwr"].split(b"\n") if line[:3] in (b"NWR", b"REV")]
+    codes = [line.split(b",")[0] for line in files["tis"].split(b"\n")[1:]]
+    listed = [code for code in codes if code.isdigit()]
+    works = rng.sample(UNKNOWN, rng.choice([1, 10, 11, 12, 40]))
+    lands = [b"%0*d" % (rng.choice([1, 4]), code) for code in rng.sample(range(1, 10_000), rng.choice([1, 10, 11, 12, 40]))]
+    amounts = rng.choice([[0], [5, -5], [0, 5, 5, -5, 7, -12], [10**12, -10**12], range(-1000, 1001)])
+    known = [rng.choice([0, 0.5, 0.5, 0.9]) for _ in range(2)]
+    rows = []
+    for n in range(rng.choice([1, 12, 80, 300])):
+        work = rng.choice(registered if registered and rng.random() < known[0] else works)
+        land = rng.choice(listed if listed and rng.random() < known[1] else lands)
+        rows.append(b"s%d,%b,%b,%b,%d" % (n, work, land, rng.choice([b"P", b"M", b"S"]), rng.choice(amounts)))
+    lines = files["usage"].split(b"\n")
+    others = lines[1:] if rng.random() < 0.5 else []
+    return {**files, "usage": b"\n".join(lines[:1] + rows + others)}
+
+
 def written(folder, files):
     """The paths of the files, which are written to a folder."""
     os.makedirs(folder, exist_ok=True)
@@ -369,9 +394,11 @@ def main():
                     differing += 1
                     print(f"case {n} of seed {a.seed} differs, {command} {options[len(used):]}: {ours} and {theirs}")
             for k in range(a.checked):
-                paths = used
-                if rng.random() < 0.5:
+                paths, kind = used, rng.random()
+                if kind < 0.5:
                     paths = written(os.path.join(folder, "spoilt"), all_spoilt(rng, files))
+                elif kind < 0.75:
+                    paths = written(os.path.join(folder, "strange"), strange(rng, files))
                 ours, theirs = (run(words_of(p, "check", [*zip(NAMES, paths)])) for p in (program, plain))
                 checked += 1
                 faulty += ours[0] == 1

@@ -1,14 +1,24 @@
-//! `check`, as one would write it by hand and slowly: every fault of every file in words, and what is in the files that have none.
+//! `check`, as one would write it by hand and slowly: every fault of every file in words, what is in the files that have none, and
+//! what a run makes of the usage lines where no file has one.
 //! A row or a line that has a fault is left out, and the next one is looked at as if it were not there.
 
-use crate::cwr::{name, share};
+use crate::ACCOUNTS;
+use crate::cwr::{Registry, name, share};
 use crate::payees::{LONGEST, Payees};
 use crate::rows::{Field, MOST, Rows, code};
-use crate::usage::amount;
+use crate::split::{BLOCK, Input, LAND, OPEN, OVER, Scratch, WORK};
+use crate::tis::{NONE, Tis};
+use crate::usage::{Usage, amount};
+use std::cmp::Reverse;
 use std::collections::{BTreeMap, BTreeSet, HashSet};
+use std::fmt;
+use std::sync::atomic::{AtomicU8, Ordering::Relaxed};
 
 /// How many faults of a file are told.
 const TOLD: usize = 100;
+
+/// How many works that are not registered are told, and how many territories that are not in the table.
+const GREATEST: usize = 10;
 
 /// How many bytes of a field are shown.
 const SHOWN: usize = 64;
@@ -39,8 +49,12 @@ impl<'a> Sheet<'a> {
         }
     }
 
-    fn fact(&mut self, number: usize, what: &str) {
-        self.facts += &format!("{}: {number} {what}\n", self.path);
+    fn fact(&mut self, label: &str, number: usize) {
+        self.facts += &format!("{}: {label}: {number}\n", self.path);
+    }
+
+    fn remark(&mut self, text: &str) {
+        self.facts += &format!("{}: remark: {text}\n", self.path);
     }
 }
 
@@ -59,13 +73,15 @@ fn shown(field: &[u8]) -> String {
 /// takes a row with the right number of fields, or says what is wrong with it.
 fn table(
     sheet: &mut Sheet,
-    bytes: &mut [u8],
+    bytes: &[u8],
     header: &[&str],
     most: usize,
     many: Wrong,
     mut read: impl FnMut(&[&[u8]]) -> Result<(), Wrong>,
 ) -> usize {
-    let mut rows = Rows::new(bytes);
+    // The reader takes quotes out in place.
+    let mut bytes = bytes.to_vec();
+    let mut rows = Rows::new(&mut bytes);
     if !rows.header(header) {
         sheet.fault(Some(0), (1, format!("the first row is not {}", header.join(","))));
     }
@@ -81,7 +97,8 @@ fn table(
         let done = if count == header.len() {
             read(&fields)
         } else {
-            Err((1, format!("the row has not {} fields", header.len())))
+            let (wanted, first) = (header.len(), shown(fields[0]));
+            Err((1, format!("the number of fields is {count}, not {wanted}; the first is {first}")))
         };
         match done {
             Ok(()) => sound += 1,
@@ -91,7 +108,7 @@ fn table(
     sound
 }
 
-fn territories(sheet: &mut Sheet, bytes: &mut [u8]) {
+fn territories(sheet: &mut Sheet, bytes: &[u8]) {
     let mut known = HashSet::new();
     let many = (5, "there are more than 2048 rows".into());
     let count = table(sheet, bytes, &["code", "groups"], 2048, many, |row| {
@@ -108,18 +125,19 @@ fn territories(sheet: &mut Sheet, bytes: &mut [u8]) {
         known.insert(c);
         Ok(())
     });
-    sheet.fact(count, "territories");
+    sheet.fact("territories", count);
 }
 
 /// The payees of the sound rows.
-fn payees(sheet: &mut Sheet, bytes: &mut [u8]) -> Payees {
+fn payees(sheet: &mut Sheet, bytes: &[u8]) -> Payees {
     let mut payees = Payees::new();
     let many = (4, "there are more than 65536 rows".into());
     let count = table(sheet, bytes, &["party", "payee"], 65_536, many, |row| {
         let field = |n: usize| name(row[n]).filter(|text| text.len() <= LONGEST);
         let (Some(party), Some(payee)) = (field(0), field(1)) else {
             let (party, payee) = (shown(row[0]), shown(row[1]));
-            return Err((2, format!("party {party} and payee {payee} are not both 1 to 64 printable characters")));
+            let text = "are not both 1 to 64 printable ASCII characters";
+            return Err((2, format!("party {party} and payee {payee} {text}")));
         };
         if payees.contains_key(party) {
             return Err((3, format!("party {} has an earlier row", shown(row[0]))));
@@ -127,7 +145,7 @@ fn payees(sheet: &mut Sheet, bytes: &mut [u8]) -> Payees {
         payees.insert(party.to_vec(), payee.to_vec());
         Ok(())
     });
-    sheet.fact(count, "parties with a payee");
+    sheet.fact("parties with a payee", count);
     payees
 }
 
@@ -137,12 +155,13 @@ fn party_of(line: &[u8], shares: usize, earlier: usize) -> Result<&[u8], Wrong> 
         return Err(short(line));
     }
     let field = &line[19..28];
-    let party = name(field)
-        .ok_or_else(|| (5, format!("interested party number {} is blank or not printable", shown(field))))?;
-    let field = &line[shares..shares + 15];
-    if field.chunks(5).any(|field| share(field).is_none()) {
-        let text = "are not three times five digits up to 10000, or five spaces";
-        return Err((2, format!("shares {} {text}", shown(field))));
+    let text = "is blank or not printable ASCII";
+    let party = name(field).ok_or_else(|| (5, format!("interested party number {} {text}", shown(field))))?;
+    let fields = [0, 5, 10].map(|n| &line[shares + n..shares + n + 5]);
+    if fields.iter().any(|field| share(field).is_none()) {
+        let [pr, mr, sr] = fields.map(shown);
+        let text = "are not each five digits up to 10000, or five spaces";
+        return Err((2, format!("PR, MR and SR shares {pr}, {mr} and {sr} {text}")));
     }
     let field = &line[shares + 15..shares + 16];
     if !matches!(field, b"I" | b"E" | b" ") {
@@ -164,7 +183,8 @@ fn work_of(line: &[u8]) -> Result<&[u8], Wrong> {
         return Err(short(line));
     }
     let field = &line[81..line.len().min(95)];
-    name(field).ok_or_else(|| (6, format!("submitter work number {} is blank or not printable", shown(field))))
+    let text = "is blank or not printable ASCII";
+    name(field).ok_or_else(|| (6, format!("submitter work number {} {text}", shown(field))))
 }
 
 fn short(line: &[u8]) -> Wrong {
@@ -172,7 +192,8 @@ fn short(line: &[u8]) -> Wrong {
     (1, format!("record {} {text}", shown(&line[..3])))
 }
 
-fn registrations(sheet: &mut Sheet, bytes: &[u8], payees: &Payees) {
+/// `payees` are those of the sound rows; the accounts are told where all rows are sound.
+fn registrations(sheet: &mut Sheet, bytes: &[u8], payees: &Payees, all: bool) {
     // Of each work the parties of the share lines of its last registration; and the work of the open one.
     let mut works: BTreeMap<&[u8], Vec<&[u8]>> = BTreeMap::new();
     let mut open: Option<&[u8]> = None;
@@ -209,13 +230,18 @@ fn registrations(sheet: &mut Sheet, bytes: &[u8], payees: &Payees) {
     if accounts.len() > 16_383 {
         sheet.fault(None, (8, "the parties in force have more than 16383 payees".into()));
     }
-    sheet.fact(works.len(), "works with a registration in force");
-    sheet.fact(registrations - works.len(), "registrations replaced by later ones");
-    sheet.fact(parties.len(), "parties in force");
-    sheet.fact(accounts.len() + 1, "accounts, the residue's included");
+    sheet.fact("works with a registration in force", works.len());
+    sheet.fact("registrations replaced by later ones", registrations - works.len());
+    sheet.fact("parties in force", parties.len());
+    if all {
+        sheet.fact("accounts, the residue's included", accounts.len() + 1);
+    }
+    if registrations == 0 {
+        sheet.remark("no line is an NWR or REV");
+    }
 }
 
-fn usage(sheet: &mut Sheet, bytes: &mut [u8]) {
+fn usage(sheet: &mut Sheet, bytes: &[u8]) {
     let header = ["usage", "work", "territory", "right", "amount"];
     let many = (6, "there are more than 1000000 usage lines".into());
     let text = |field: &[u8]| {
@@ -224,7 +250,8 @@ fn usage(sheet: &mut Sheet, bytes: &mut [u8]) {
     let count = table(sheet, bytes, &header, 1_000_000, many, |row| {
         if !text(row[0]) || !text(row[1]) {
             let (usage, work) = (shown(row[0]), shown(row[1]));
-            return Err((2, format!("usage {usage} and work {work} are not both 1 to 64 printable characters")));
+            let text = "are not both 1 to 64 printable ASCII characters";
+            return Err((2, format!("usage {usage} and work {work} {text}")));
         }
         if code(row[2]).is_none() {
             return Err((3, format!("territory {} is not a number from 1 to 9999", shown(row[2]))));
@@ -238,24 +265,114 @@ fn usage(sheet: &mut Sheet, bytes: &mut [u8]) {
         }
         Ok(())
     });
-    sheet.fact(count, "usage lines");
+    sheet.fact("usage lines", count);
+    if count == 0 {
+        sheet.remark("there are no usage lines");
+    }
+}
+
+/// How many usage lines there are of a kind, and what their amounts come to.
+#[derive(Clone, Copy, Default)]
+struct Tally {
+    lines: usize,
+    amount: i64,
+}
+
+impl Tally {
+    fn add(&mut self, amount: i64) {
+        self.lines += 1;
+        self.amount += amount;
+    }
+}
+
+impl fmt::Display for Tally {
+    fn fmt(&self, f: &mut fmt::Formatter) -> fmt::Result {
+        write!(f, "lines {}, amount {}", self.lines, self.amount)
+    }
+}
+
+/// Those whose amounts come to most, either way; of as much, first the lowest.
+fn greatest<K: Ord>(tallies: BTreeMap<K, Tally>) -> Vec<(K, Tally)> {
+    let mut list: Vec<(K, Tally)> = tallies.into_iter().collect();
+    // Those of the same size stay in order.
+    list.sort_by_key(|(_, tally)| Reverse(tally.amount.abs()));
+    list.truncate(GREATEST);
+    list
+}
+
+/// What a run makes of the usage lines of files that have no fault.
+fn summary(tis_file: File, payees: &Payees, cwr_file: File, usage_file: File) -> String {
+    let tis = Tis::read(&mut tis_file.1.to_vec()).unwrap();
+    let registry = Registry::read(cwr_file.1, &tis, payees, ACCOUNTS).unwrap();
+    let usage = Usage::read(usage_file.1.to_vec()).unwrap();
+    let input = Input { tis: &tis, registry: &registry, usage: &usage };
+
+    let lines = &usage.lines;
+    let reasons: Vec<AtomicU8> = lines.iter().map(|_| AtomicU8::new(WORK)).collect();
+    let mut residue = vec![0; lines.len()];
+    let mut scratch = Scratch::new();
+    for block in 0..lines.len().div_ceil(BLOCK) {
+        input.block(block, &reasons, &mut scratch, |account, line, portion| {
+            if account == 0 {
+                residue[line as usize] = portion;
+            }
+        });
+    }
+
+    let mut by_reason = [Tally::default(); 4];
+    let mut to_the_residue = 0;
+    let mut works: BTreeMap<&[u8], Tally> = BTreeMap::new();
+    let mut lands: BTreeMap<u16, Tally> = BTreeMap::new();
+    for ((line, reason), portion) in lines.iter().zip(&reasons).zip(residue) {
+        let reason = reason.load(Relaxed);
+        by_reason[reason as usize].add(line.amount);
+        match reason {
+            WORK => works.entry(usage.work(line)).or_default().add(line.amount),
+            LAND => lands.entry(line.territory).or_default().add(line.amount),
+            OPEN => to_the_residue += portion,
+            _ => {}
+        }
+    }
+
+    let of = |reason: u8| by_reason[reason as usize];
+    let mut told = vec![
+        format!("OPEN, divided: {}, to the residue {to_the_residue}", of(OPEN)),
+        format!("WORK, not registered: {}", of(WORK)),
+        format!("LAND, territory not in the table: {}", of(LAND)),
+        format!("OVER, claims over 100.06 per cent: {}", of(OVER)),
+    ];
+    for (work, tally) in greatest(works) {
+        told.push(format!("work {} is not registered: {tally}", shown(work)));
+    }
+    for (land, tally) in greatest(lands) {
+        told.push(format!("territory {land} is not in the table: {tally}"));
+    }
+    let mut text: String = told.iter().map(|line| format!("{}: {line}\n", usage_file.0)).collect();
+    if !lines.is_empty() && of(WORK).lines == lines.len() {
+        text += &format!("{}: remark: it has the work of no usage line\n", cwr_file.0);
+    }
+    if !lines.is_empty() && lines.iter().all(|line| tis.row(line.territory) == NONE) {
+        text += &format!("{}: remark: it has the territory of no usage line\n", tis_file.0);
+    }
+    text
 }
 
 /// A file: its path and its bytes.
-pub type File<'a> = (&'a str, &'a mut [u8]);
+pub type File<'a> = (&'a str, &'a [u8]);
 
 /// The report, and whether no file has a fault.
 pub fn check(tis: File, payees_file: Option<File>, cwr: File, usage_file: File) -> (String, bool) {
     let mut sheets = vec![Sheet::new(tis.0, "row")];
     territories(&mut sheets[0], tis.1);
-    let mut table = Payees::new();
+    let (mut table, mut all) = (Payees::new(), true);
     if let Some((path, bytes)) = payees_file {
         let mut sheet = Sheet::new(path, "row");
         table = payees(&mut sheet, bytes);
+        all = sheet.faults == 0;
         sheets.push(sheet);
     }
     let mut sheet = Sheet::new(cwr.0, "line");
-    registrations(&mut sheet, cwr.1, &table);
+    registrations(&mut sheet, cwr.1, &table, all);
     sheets.push(sheet);
     let mut sheet = Sheet::new(usage_file.0, "row");
     usage(&mut sheet, usage_file.1);
@@ -265,11 +382,15 @@ pub fn check(tis: File, payees_file: Option<File>, cwr: File, usage_file: File) 
     for sheet in &sheets {
         text += &sheet.told;
         if sheet.faults > TOLD {
-            text += &format!("{}: {} faults more\n", sheet.path, sheet.faults - TOLD);
+            text += &format!("{}: further faults: {}\n", sheet.path, sheet.faults - TOLD);
         }
     }
     for sheet in sheets.iter().filter(|sheet| sheet.faults == 0) {
         text += &sheet.facts;
     }
-    (text, sheets.iter().all(|sheet| sheet.faults == 0))
+    let sound = sheets.iter().all(|sheet| sheet.faults == 0);
+    if sound {
+        text += &summary(tis, &table, cwr, usage_file);
+    }
+    (text, sound)
 }

@@ -135,14 +135,10 @@ fn check_main() -> Result<ExitCode, ExitCode> {
     let Some((words, payees)) = check_words() else {
         return Err(fail(2, "check --tis F [--payees F] --cwr F --usage F".into()));
     };
-    let mut files = Files::load(&words, &payees)?;
-    let table = payees.as_deref().zip(files.payees.as_deref_mut());
-    let (text, sound) = check::check(
-        (&words[0], &mut files.tis),
-        table,
-        (&words[1], &mut files.cwr),
-        (&words[2], &mut files.usage),
-    );
+    let files = Files::load(&words, &payees)?;
+    let table = payees.as_deref().zip(files.payees.as_deref());
+    let (text, sound) =
+        check::check((&words[0], &files.tis), table, (&words[1], &files.cwr), (&words[2], &files.usage));
     match std::io::stdout().write_all(text.as_bytes()) {
         Ok(()) => Ok(ExitCode::from(!sound as u8)),
         Err(_) => Err(fail(4, "cannot write".into())),
