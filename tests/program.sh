@@ -56,10 +56,51 @@ check 'help' 0 '*' '' "$program" --help
 kit=$(rt version)
 check 'the version' 0 "royalty_run 0.1.0\nlogic ${kit##* logic }\n" '' "$program" --version
 check 'a bad table' 1 '' 'royalty_run: tis fault 1 at row 0\n' "$program" run --tis usage.csv --cwr works.cwr --usage usage.csv "${plan[@]}"
-facts='territories.csv: 22 territories\nworks.cwr: 3 works with a registration in force\nworks.cwr: 1 registrations replaced by later ones\nworks.cwr: 6 parties in force\nworks.cwr: 7 accounts, the residue'"'"'s included\n'
-check 'a check' 0 "${facts}usage.csv: 9 usage lines\n" '' "$program" check "${files[@]}"
+facts='territories.csv: territories: 22
+works.cwr: works with a registration in force: 3
+works.cwr: registrations replaced by later ones: 1
+works.cwr: parties in force: 6
+works.cwr: accounts, the residue'"'"'s included: 7
+'
+check 'a check' 0 "${facts}usage.csv: usage lines: 9
+usage.csv: OPEN, divided: lines 6, amount 557912, to the residue 10000
+usage.csv: WORK, not registered: lines 1, amount 300
+usage.csv: LAND, territory not in the table: lines 1, amount 750
+usage.csv: OVER, claims over 100.06 per cent: lines 1, amount 5000
+usage.csv: work 'NT0009' is not registered: lines 1, amount 300
+usage.csv: territory 999 is not in the table: lines 1, amount 750
+" '' "$program" check "${files[@]}"
+# Reversed whole, the list has the same lines again with the opposite amounts.
+{ cat usage.csv; tail -n +2 usage.csv | sed 's/,\([0-9]*\)$/,-\1/'; } >reversed.csv
+check 'a check of lines that are taken back' 0 "${facts}reversed.csv: usage lines: 18
+reversed.csv: OPEN, divided: lines 12, amount 0, to the residue 0
+reversed.csv: WORK, not registered: lines 2, amount 0
+reversed.csv: LAND, territory not in the table: lines 2, amount 0
+reversed.csv: OVER, claims over 100.06 per cent: lines 2, amount 0
+reversed.csv: work 'NT0009' is not registered: lines 2, amount 0
+reversed.csv: territory 999 is not in the table: lines 2, amount 0
+" '' "$program" check --usage reversed.csv --tis territories.csv --cwr works.cwr
+head -n 1 territories.csv >none.csv
+check 'a check of files of another kind' 0 "none.csv: territories: 0
+usage.csv: works with a registration in force: 0
+usage.csv: registrations replaced by later ones: 0
+usage.csv: parties in force: 0
+usage.csv: accounts, the residue's included: 1
+usage.csv: remark: no line is an NWR or REV
+usage.csv: usage lines: 9
+usage.csv: OPEN, divided: lines 0, amount 0, to the residue 0
+usage.csv: WORK, not registered: lines 9, amount 563962
+usage.csv: LAND, territory not in the table: lines 0, amount 0
+usage.csv: OVER, claims over 100.06 per cent: lines 0, amount 0
+usage.csv: work 'NT0001' is not registered: lines 5, amount 517661
+usage.csv: work 'NT0002' is not registered: lines 2, amount 41001
+usage.csv: work 'NT0003' is not registered: lines 1, amount 5000
+usage.csv: work 'NT0009' is not registered: lines 1, amount 300
+usage.csv: remark: it has the work of no usage line
+none.csv: remark: it has the territory of no usage line
+" '' "$program" check --tis none.csv --cwr usage.csv --usage usage.csv
 sed -e '2s/,[^,]*$/,12,5/' -e '4s/,M,/,m,/' usage.csv >spoilt.csv
-check 'a check that tells of faults' 1 "spoilt.csv: row 1: the row has not 5 fields (fault 1)\nspoilt.csv: row 3: right 'm' is not P, M or S (fault 4)\n$facts" '' \
+check 'a check that tells of faults' 1 "spoilt.csv: row 1: the number of fields is 6, not 5; the first is 'RADIO-DE-01' (fault 1)\nspoilt.csv: row 3: right 'm' is not P, M or S (fault 4)\n$facts" '' \
     "$program" check --usage spoilt.csv --tis territories.csv --cwr works.cwr
 check 'a check of a file that is not there' 4 '' 'royalty_run: cannot read absent\n' "$program" check --usage absent --tis territories.csv --cwr works.cwr
 check 'a report to an output that is full' 4 '' 'royalty_run: cannot write\n' bash -c '"$0" check --usage spoilt.csv --tis territories.csv --cwr works.cwr >/dev/full' "$program"

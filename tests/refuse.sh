@@ -1,9 +1,9 @@
 #!/usr/bin/env bash
 # Runs a program with what it asks of the system refused: each allocation, each thread, and each read and write in turn; and with reads and
-# writes that are cut short or interrupted. It divides one amount, and runs on the examples with several plans and on 2,000 usage lines, whose rows
-# are written by four threads. Each run has to end within a minute: with the whole answer; where memory or a thread was refused, with status 3 and nothing
+# writes that are cut short or interrupted. It divides one amount, checks the examples, explains a line of them, and runs on them with several plans and on
+# 2,000 usage lines, whose rows are written by four threads. Each run has to end within a minute: with the whole answer; where memory or a thread was refused, with status 3 and nothing
 # printed; where a read or a write was, with status 4, what the output took, and a message that says which. It takes a C compiler, and half a
-# minute; `quick`, the division and a run on the examples with one plan, some seconds. Usage: tests/refuse.sh PROGRAM [quick]
+# minute; `quick`, all but the other plans and the many lines, some seconds. Usage: tests/refuse.sh PROGRAM [quick]
 set -euo pipefail
 program=$(realpath "$1")
 plans=('1 1 1' '2 2 16' '3 1 2' '8 8 64')
@@ -95,6 +95,15 @@ set_run() {
 words=(split 100 A=3333 B=3333 C=3333) name='a division' whole=$room/portions
 printf 'P,A,34\nP,B,33\nP,C,33\nM,,0\n' > "$whole"
 sweep_all 0
+
+# The report and the explanation are those of runs in which nothing is refused; tests/program.sh has their texts.
+files=(--tis "$examples/territories.csv" --cwr "$examples/works.cwr" --usage "$examples/usage.csv")
+for words_of in 'check' 'explain --row 2'; do
+    read -ra begin <<< "$words_of"
+    words=("${begin[@]}" "${files[@]}") name=$words_of whole=$room/whole
+    "$program" "${words[@]}" > "$whole"
+    sweep_all 0
+done
 
 whole=$examples/statements.csv
 for plan in "${plans[@]}"; do

@@ -1,10 +1,10 @@
--- A report, put together from its four files.
+-- A report, put together from its four files and what a run makes of them.
 use Rattle.std.proofs.Common.{◌≡◌, ◌++◌, ◌∙◌, [], ℕ, List, Bool, Option, Some, None, true, false, append_assoc, length, refl}
 use Rattle.std.specs.Prelude.{◌==◌, ◌&&◌}
 use Rattle.std.specs.Option.{option_map, option_map_or}
-use Rattle.check_inputs.specs.Checked.{GoesOn, IsReportOn, path_if_given, payee_facts}
-use Rattle.check_inputs.specs.Found.{Files, Found, IsFoundIn}
-use Rattle.check_inputs.specs.Report.{Paths, cwr_facts, cwr_line, fault_lines, payee_line, payees_facts, tis_facts, tis_line, usage_facts, usage_line}
+use Rattle.check_inputs.specs.Checked.{Adds, GoesOn, IsReportOn, path_if_given, payee_facts}
+use Rattle.check_inputs.specs.Found.{Files, Found, IsFoundIn, is_sound}
+use Rattle.check_inputs.specs.Report.{Paths, cwr_facts, cwr_line, fault_lines, payee_line, payees_facts, tis_facts, tis_line, totals_text, usage_facts, usage_line}
 use Rattle.check_inputs.specs.declared.report.File.{File}
 use Rattle.check_inputs.specs.declared.report.Sheet.{Sheet}
 
@@ -15,32 +15,41 @@ all_four true true false d = refl
 all_four true false c d = refl
 all_four false b c d = refl
 
+-- five texts, one after another
+all_in_order : (none a b c d e one two three four five : List ℕ) → none ≡ [] → one ≡ none ++ a → two ≡ one ++ b → three ≡ two ++ c → four ≡ three ++ d → five ≡ four ++ e → five ≡ a ++ b ++ c ++ d ++ e
+all_in_order none a b c d e one two three four five is w x y z v = rw (v, z, y, x, w, is) (simp (append_assoc) refl)
+
 -- four texts, one after another
 in_order : (none a b c d one two three four : List ℕ) → none ≡ [] → one ≡ none ++ a → two ≡ one ++ b → three ≡ two ++ c → four ≡ three ++ d → four ≡ a ++ b ++ c ++ d
 in_order none a b c d one two three four is w x y z = rw (z, y, x, w, is) (simp (append_assoc) refl)
 
-pub put_together : (paths : Paths) (files : Files) (found : Found) (none one two three four : Sheet) (text : List ℕ) (sound : Bool)
+-- whether the files so far have no fault
+pub sound_of_four : (found : Found) (none one two three four : Sheet) → none.is_sound ≡ true → one.is_sound ≡ (none.is_sound && (length found.of_territories == 0))
+    → two.is_sound ≡ (one.is_sound && (length found.of_payees == 0)) → three.is_sound ≡ (two.is_sound && (length found.of_registrations == 0))
+    → four.is_sound ≡ (three.is_sound && (length found.of_usage == 0)) → four.is_sound ≡ is_sound found
+sound_of_four found none one two three four so_far first second third fourth =
+    rw (fourth, third, second, first, so_far) (all_four (length found.of_territories == 0) (length found.of_payees == 0) (length found.of_registrations == 0) (length found.of_usage == 0))
+
+pub put_together : (paths : Paths) (files : Files) (found : Found) (none one two three four five : Sheet) (text : List ℕ) (sound : Bool)
     → (none.faults.items ≡ []) × (none.facts.items ≡ []) × (none.is_sound ≡ true)
     → GoesOn none one (length found.of_territories) (fault_lines (tis_line paths.territories) paths.territories found.of_territories) (tis_facts paths.territories (length found.of_territories) found.table)
     → GoesOn one two (length found.of_payees) (fault_lines (payee_line paths.payees) paths.payees found.of_payees)
     (option_map_or (λ _. payees_facts paths.payees (length found.of_payees) found.rows) files.payees [])
     → GoesOn two three (length found.of_registrations) (fault_lines (cwr_line paths.registrations) paths.registrations found.of_registrations)
-    (cwr_facts paths.registrations files.registrations (length found.of_registrations) found.registered)
+    (cwr_facts paths.registrations files.registrations (length found.of_registrations) (length found.of_payees) found.registered)
     → GoesOn three four (length found.of_usage) (fault_lines (usage_line paths.usage) paths.usage found.of_usage) (usage_facts paths.usage (length found.of_usage) found.lines)
-    → IsFoundIn files found → (text ≡ four.faults.items ++ four.facts.items) × (sound ≡ four.is_sound) → IsReportOn paths files text sound
-put_together paths files found none one two three four text sound (no_faults, no_facts, so_far) first second third fourth is (written, told) = record {
+    → Adds four five (option_map_or (totals_text paths.territories paths.registrations paths.usage (length found.lines)) found.totals [])
+    → IsFoundIn files found → (text ≡ five.faults.items ++ five.facts.items) × (sound ≡ five.is_sound) → IsReportOn paths files text sound
+put_together paths files found none one two three four five text sound begun first second third fourth last is (written, told) = record {
   found = found;
   inputs = is;
   written =
       written
       ∙ rw (
-        in_order none.faults.items _ _ _ _ one.faults.items two.faults.items three.faults.items four.faults.items no_faults first.in_words second.in_words third.in_words fourth.in_words,
-        in_order none.facts.items _ _ _ _ one.facts.items two.facts.items three.facts.items four.facts.items no_facts first.in_numbers second.in_numbers third.in_numbers fourth.in_numbers,
+        last.in_words ∙ in_order none.faults.items _ _ _ _ one.faults.items two.faults.items three.faults.items four.faults.items begun.0 first.in_words second.in_words third.in_words fourth.in_words,
+        all_in_order none.facts.items _ _ _ _ _ one.facts.items two.facts.items three.facts.items four.facts.items five.facts.items begun.1 first.in_numbers second.in_numbers third.in_numbers fourth.in_numbers last.in_numbers,
       ) refl;
-  told =
-      told
-      ∙ rw (fourth.sound, third.sound, second.sound, first.sound, so_far)
-      (all_four (length found.of_territories == 0) (length found.of_payees == 0) (length found.of_registrations == 0) (length found.of_usage == 0));
+  told = told ∙ last.sound ∙ sound_of_four found none one two three four begun.2 first.sound second.sound third.sound fourth.sound;
 }
 
 -- what is said of a table of payees, by whether it is there

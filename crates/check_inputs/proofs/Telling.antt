@@ -45,7 +45,16 @@ shown_whole field before after end short wrote whole =
     let here : take end field ≡ field = take_all end field (omega (arith, whole)) in
     wrote ∙ rw (here, all, le-ltb MOST_SHOWN (length field) short) (ap (λ (l : List ℕ). before ++ l) (sym (append-nil (flat_map shown_byte field))))
 
+-- five texts behind another
+pub five_behind : (start one two three four five first second third fourth fifth : List ℕ) → one ≡ start ++ first → two ≡ one ++ second → three ≡ two ++ third → four ≡ three ++ fourth → five ≡ four ++ fifth
+    → five ≡ start ++ (first ++ second ++ third ++ fourth ++ fifth)
+five_behind start one two three four five first second third fourth fifth a b c d e = rw (e, d, c, b, a) (simp (append_assoc) refl)
+
 -- four texts behind another
 pub four_behind : (start one two three four first second third fourth : List ℕ) → one ≡ start ++ first → two ≡ one ++ second → three ≡ two ++ third → four ≡ three ++ fourth
     → four ≡ start ++ (first ++ second ++ third ++ fourth)
 four_behind start one two three four first second third fourth a b c d = rw (d, c, b, a) (simp (append_assoc) refl)
+
+-- three texts behind another
+pub three_behind : (start one two three first second third : List ℕ) → one ≡ start ++ first → two ≡ one ++ second → three ≡ two ++ third → three ≡ start ++ (first ++ second ++ third)
+three_behind start one two three first second third a b c = rw (c, b, a) (simp (append_assoc) refl)

@@ -1,8 +1,8 @@
 -- What a report on the inputs of a run has to be.
 use Rattle.std.specs.Prelude.{ℕ, ◌≡◌, ◌==◌, ◌&&◌, ◌++◌, Bool, List, [], Option, string_bytes}
 use Rattle.std.specs.Option.{option_map, option_map_or}
-use Rattle.check_inputs.specs.Found.{Files, Found, IsFoundIn}
-use Rattle.check_inputs.specs.Report.{Paths, is_sound, payees_facts, report_of}
+use Rattle.check_inputs.specs.Found.{Files, Found, IsFoundIn, is_sound}
+use Rattle.check_inputs.specs.Report.{Paths, payees_facts, report_of}
 use Rattle.check_inputs.specs.declared.report.File.{File}
 use Rattle.check_inputs.specs.declared.report.Sheet.{Sheet}
 
@@ -36,6 +36,12 @@ pub record GoesOn (before after : Sheet) (faults : ℕ) (told facts : List ℕ) 
   pub in_words : after.faults.items ≡ before.faults.items ++ told
   pub in_numbers : after.facts.items ≡ before.facts.items ++ facts
   pub sound : after.is_sound ≡ (before.is_sound && (faults == 0))
+
+-- it has more facts
+pub record Adds (before after : Sheet) (facts : List ℕ) : Type 0 where
+  pub in_words : after.faults.items ≡ before.faults.items
+  pub in_numbers : after.facts.items ≡ before.facts.items ++ facts
+  pub sound : after.is_sound ≡ before.is_sound
 
 -- the text is the report, and tells whether no file has a fault
 pub record IsReportOn (paths : Paths) (files : Files) (text : List ℕ) (sound : Bool) : Type 0 where

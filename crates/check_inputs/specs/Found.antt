@@ -1,5 +1,5 @@
 -- What is found in the inputs of a run where each is read on past what is refused in it.
-use Rattle.std.specs.Prelude.{ℕ, ◌≡◌, List, [], Option, Some, None}
+use Rattle.std.specs.Prelude.{ℕ, ◌≡◌, ◌==◌, ◌&&◌, Bool, true, false, List, [], Option, Some, None, length}
 use Rattle.csv_table.specs.Table.{rows_of}
 use Rattle.cwr_share.specs.CwrReading as cwr
 use Rattle.cwr_share.specs.Lines.{lines_of}
@@ -12,6 +12,8 @@ use Rattle.line_split.specs.UsageReading as usage
 use Rattle.line_split.specs.declared.line_fault.LineFault.{LineFault}
 use Rattle.tis_tree.specs.TisReading as tis
 use Rattle.tis_tree.specs.declared.tis_fault.TisFault.{TisFault}
+use Rattle.usage_totals.specs.Totals.{AreTotalsOf}
+use Rattle.usage_totals.specs.declared.totals.Totals.{Totals}
 
 -- a table of payees that need not be there is read without these rows
 abbrev pub ArePayeesWithout : Option (List ℕ) → List (List (List ℕ) × PayeeFault) → List (List ℕ × List ℕ) → Type 0
@@ -40,6 +42,19 @@ pub record Found : Type 0 where
   pub rows : List (List ℕ × List ℕ)
   pub registered : Option Registered
   pub lines : List UsageLine
+  -- what a run makes of the lines
+  pub totals : Option Totals
+
+-- there are totals where there are registrations and no file has a fault
+abbrev pub AreTotalsIfSound : (sound : Bool) → List (ℕ × List ℕ) → Option Registered → List UsageLine → Option Totals → Type 0
+AreTotalsIfSound true table (Some registered) lines (Some totals) = AreTotalsOf table registered lines totals
+AreTotalsIfSound true table (Some registered) lines None = ⊥
+AreTotalsIfSound true table None lines totals = totals ≡ None
+AreTotalsIfSound false table registered lines totals = totals ≡ None
+
+-- no file has a fault
+abbrev pub is_sound : Found → Bool
+is_sound found = (length found.of_territories == 0) && (length found.of_payees == 0) && (length found.of_registrations == 0) && (length found.of_usage == 0)
 
 -- Each input is read whatever stands in the others: the payees are those of the rows that were read.
 pub record IsFoundIn (files : Files) (found : Found) : Type 0 where
@@ -47,3 +62,4 @@ pub record IsFoundIn (files : Files) (found : Found) : Type 0 where
   pub payees : ArePayeesWithout files.payees found.of_payees found.rows
   pub registrations : AreRegistrationsWithout found.rows (lines_of files.registrations) found.of_registrations found.registered
   pub usage : usage.IsReadWithout (rows_of files.usage) found.of_usage found.lines
+  pub totals : AreTotalsIfSound (is_sound found) found.table found.registered found.lines found.totals

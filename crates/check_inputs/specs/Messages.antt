@@ -1,8 +1,8 @@
 -- What is wrong with a row or a line, in words, with the field as it stands.
 use Rattle.std.specs.Prelude.{ℕ, ◌+◌, ◌/◌, ◌%◌, ◌&&◌, ◌==◌, ◌++◌, ◌∷◌, List, [], codes, decimal, flat_map, if◌then◌else◌, length, nat_le, nat_lt, slice_index_or, take, Option, Some, None}
+use Rattle.std.specs.Fmt.{signed_decimal}
 use Rattle.cwr_share.specs.Fields.{field_of}
 use Rattle.cwr_share.specs.Records.{share_fields}
-use Rattle.cwr_share.specs.declared.fields.Field.{Field}
 use Rattle.cwr_share.specs.declared.fields.TheConstants.{TYPE, WORK}
 use Rattle.cwr_share.specs.declared.cwr_fault.CwrFault.{CwrFault}
 use Rattle.cwr_share.specs.declared.cwr_fault.CwrFault.TheVariants as cwr
@@ -12,6 +12,7 @@ use Rattle.line_split.specs.declared.line_fault.LineFault.{LineFault}
 use Rattle.line_split.specs.declared.line_fault.LineFault.TheVariants as line
 use Rattle.tis_tree.specs.declared.tis_fault.TisFault.{TisFault}
 use Rattle.tis_tree.specs.declared.tis_fault.TisFault.TheVariants as tis
+use Rattle.usage_totals.specs.declared.total.Total.{Total}
 use Rattle.check_inputs.specs.declared.words.TheConstants.{MOST_SHOWN}
 
 -- a digit to the base 16
@@ -33,8 +34,13 @@ around before field after = before ++ shown field ++ after
 abbrev pub at : List (List ℕ) → ℕ → List ℕ
 at row place = slice_index_or row place []
 
+-- the row has another number of fields than it should
+abbrev pub fields_message : (wanted : ℕ) → List (List ℕ) → List ℕ
+fields_message wanted row =
+    codes "the number of fields is " ++ decimal (length row) ++ codes ", not " ++ decimal wanted ++ around (codes "; the first is '") (at row 0) (codes "'")
+
 abbrev pub tis_message : List (List ℕ) → TisFault → List ℕ
-tis_message row (tis.Csv n) = if n == 0 then codes "the first row is not code,groups" else codes "the row has not 2 fields"
+tis_message row (tis.Csv n) = if n == 0 then codes "the first row is not code,groups" else fields_message 2 row
 tis_message row (tis.Code n) = around (codes "code '") (at row 0) (codes "' is not a number from 1 to 9999")
 tis_message row (tis.Twice n) = around (codes "code '") (at row 0) (codes "' has an earlier row")
 tis_message row (tis.Group n) = around (codes "groups '") (at row 1) (codes "' are not all codes of earlier rows")
@@ -42,34 +48,37 @@ tis_message row tis.Rows = codes "there are more than 2048 rows"
 tis_message row tis.Memory = []
 
 abbrev pub payee_message : List (List ℕ) → PayeeFault → List ℕ
-payee_message row (payee.Csv n) = if n == 0 then codes "the first row is not party,payee" else codes "the row has not 2 fields"
+payee_message row (payee.Csv n) = if n == 0 then codes "the first row is not party,payee" else fields_message 2 row
 payee_message row (payee.Fields n) =
-    around (codes "party '") (at row 0) (codes "' and payee '") ++ around [] (at row 1) (codes "' are not both 1 to 64 printable characters")
+    around (codes "party '") (at row 0) (codes "' and payee '") ++ around [] (at row 1) (codes "' are not both 1 to 64 printable ASCII characters")
 payee_message row (payee.Twice n) = around (codes "party '") (at row 0) (codes "' has an earlier row")
 payee_message row payee.Rows = codes "there are more than 65536 rows"
 payee_message row payee.Memory = []
 
 abbrev pub usage_message : List (List ℕ) → LineFault → List ℕ
-usage_message row (line.Csv n) = if n == 0 then codes "the first row is not usage,work,territory,right,amount" else codes "the row has not 5 fields"
+usage_message row (line.Csv n) = if n == 0 then codes "the first row is not usage,work,territory,right,amount" else fields_message 5 row
 usage_message row (line.Fields n) =
-    around (codes "usage '") (at row 0) (codes "' and work '") ++ around [] (at row 1) (codes "' are not both 1 to 64 printable characters")
+    around (codes "usage '") (at row 0) (codes "' and work '") ++ around [] (at row 1) (codes "' are not both 1 to 64 printable ASCII characters")
 usage_message row (line.Territory n) = around (codes "territory '") (at row 2) (codes "' is not a number from 1 to 9999")
 usage_message row (line.Right n) = around (codes "right '") (at row 3) (codes "' is not P, M or S")
 usage_message row (line.Amount n) = around (codes "amount '") (at row 4) (codes "' is not a whole number from -1000000000000 to 1000000000000")
 usage_message row line.Lines = codes "there are more than 1000000 usage lines"
 usage_message row line.Memory = []
 
--- the three shares of a share line, which stand side by side
-abbrev pub three_shares : List ℕ → Field
-three_shares record' = record { first = (share_fields record').performing.first; last = (share_fields record').synchronisation.last }
+-- the three shares of a share line, between words
+abbrev pub shares_message : List ℕ → List ℕ
+shares_message record' =
+    around (codes "PR, MR and SR shares '") (field_of (share_fields record').performing record') (codes "', '")
+    ++ around [] (field_of (share_fields record').mechanical record') (codes "' and '")
+    ++ around [] (field_of (share_fields record').synchronisation record') (codes "' are not each five digits up to 10000, or five spaces")
 
 abbrev pub cwr_message : List ℕ → CwrFault → List ℕ
 cwr_message record' (cwr.Short n) = around (codes "record '") (field_of TYPE record') (codes "' ends before its last field: NWR and REV take 82 bytes, SPT 54, SWT 48")
-cwr_message record' (cwr.Share n) = around (codes "shares '") (field_of (three_shares record') record') (codes "' are not three times five digits up to 10000, or five spaces")
+cwr_message record' (cwr.Share n) = shares_message record'
 cwr_message record' (cwr.Mark n) = around (codes "indicator '") (field_of (share_fields record').mark record') (codes "' is not I, E or a space")
 cwr_message record' (cwr.Land n) = around (codes "territory '") (field_of (share_fields record').territory record') (codes "' is not four digits from 0001 on")
-cwr_message record' (cwr.Party n) = around (codes "interested party number '") (field_of (share_fields record').party record') (codes "' is blank or not printable")
-cwr_message record' (cwr.Work n) = around (codes "submitter work number '") (field_of WORK record') (codes "' is blank or not printable")
+cwr_message record' (cwr.Party n) = around (codes "interested party number '") (field_of (share_fields record').party record') (codes "' is blank or not printable ASCII")
+cwr_message record' (cwr.Work n) = around (codes "submitter work number '") (field_of WORK record') (codes "' is blank or not printable ASCII")
 cwr_message record' (cwr.Many n) = codes "the registration has 256 share lines before this one"
 cwr_message record' cwr.Accounts = codes "the parties in force have more than 16383 payees"
 cwr_message record' cwr.Memory = []
@@ -84,5 +93,17 @@ abbrev pub fault_line : (path kind : List ℕ) → Option ℕ → (message : Lis
 fault_line path kind place message number = path ++ codes ": " ++ place_text kind place ++ message ++ codes " (fault " ++ decimal number ++ codes ")\n"
 
 -- a number of things in it
-abbrev pub fact_line : (path : List ℕ) → (number : ℕ) → (what : List ℕ) → List ℕ
-fact_line path number what = path ++ codes ": " ++ decimal number ++ what
+abbrev pub fact_line : (path what : List ℕ) → (number : ℕ) → List ℕ
+fact_line path what number = path ++ codes ": " ++ what ++ codes ": " ++ decimal number ++ codes "\n"
+
+-- what a run does not notice
+abbrev pub remark_line : (path remark : List ℕ) → List ℕ
+remark_line path remark = path ++ codes ": remark: " ++ remark ++ codes "\n"
+
+-- how many usage lines there are, and what they come to
+abbrev pub total_text : Total → List ℕ
+total_text total = codes ": lines " ++ decimal total.lines ++ codes ", amount " ++ signed_decimal total.amount
+
+-- the same of some usage lines of the list of a path
+abbrev pub total_line : (path whose : List ℕ) → Total → (more : List ℕ) → List ℕ
+total_line path whose total more = path ++ codes ": " ++ whose ++ total_text total ++ more ++ codes "\n"

@@ -1,5 +1,6 @@
 -- The report on the inputs of a run: every fault, and what is in the files that have none.
-use Rattle.std.specs.Prelude.{ℕ, ◌-◌, ◌==◌, ◌&&◌, ◌++◌, [], Bool, List, Option, codes, count_by, flat_map, if◌then◌else◌, length, nat_lt, take}
+use Rattle.std.specs.Prelude.{ℕ, ◌-◌, ◌==◌, ◌&&◌, ◌++◌, [], List, Option, codes, count_by, decimal, flat_map, if◌then◌else◌, length, nat_lt, not, take}
+use Rattle.std.specs.Fmt.{signed_decimal}
 use Rattle.std.specs.Option.{option_map_or}
 use Rattle.cwr_share.specs.CwrFile as cwr
 use Rattle.cwr_share.specs.Lines.{lines_of}
@@ -13,8 +14,10 @@ use Rattle.line_split.specs.UsageTable as usage
 use Rattle.line_split.specs.declared.line_fault.LineFault.{LineFault}
 use Rattle.tis_tree.specs.TisRows as tis
 use Rattle.tis_tree.specs.declared.tis_fault.TisFault.{TisFault}
+use Rattle.usage_totals.specs.declared.total.Total.{Total}
+use Rattle.usage_totals.specs.declared.totals.Totals.{Totals}
 use Rattle.check_inputs.specs.Found.{Files, Found}
-use Rattle.check_inputs.specs.Messages.{cwr_message, fact_line, fault_line, payee_message, tis_message, usage_message}
+use Rattle.check_inputs.specs.Messages.{around, cwr_message, fact_line, fault_line, payee_message, remark_line, tis_message, total_line, usage_message}
 use Rattle.check_inputs.specs.declared.words.TheConstants.{MOST_FAULTS}
 
 -- the paths of the files
@@ -26,7 +29,7 @@ pub record Paths : Type 0 where
 
 -- how many more faults there are than the first hundred
 abbrev pub more_line : (path : List ℕ) → (count : ℕ) → List ℕ
-more_line path count = if nat_lt MOST_FAULTS count then fact_line path (count - MOST_FAULTS) (codes " faults more\n") else []
+more_line path count = if nat_lt MOST_FAULTS count then fact_line path (codes "further faults") (count - MOST_FAULTS) else []
 
 -- the first hundred faults of a file, each as a line, and how many more there are
 abbrev pub fault_lines : {X : Type 0} → (line : X → List ℕ) → (path : List ℕ) → List X → List ℕ
@@ -57,38 +60,66 @@ abbrev pub if_none : (faults : ℕ) → List ℕ → List ℕ
 if_none faults text = if faults == 0 then text else []
 
 abbrev pub tis_facts : (path : List ℕ) → (faults : ℕ) → List (ℕ × List ℕ) → List ℕ
-tis_facts path faults table = if_none faults (fact_line path (length table) (codes " territories\n"))
+tis_facts path faults table = if_none faults (fact_line path (codes "territories") (length table))
 
 abbrev pub payees_facts : (path : List ℕ) → (faults : ℕ) → List (List ℕ × List ℕ) → List ℕ
-payees_facts path faults rows = if_none faults (fact_line path (length rows) (codes " parties with a payee\n"))
+payees_facts path faults rows = if_none faults (fact_line path (codes "parties with a payee") (length rows))
 
--- Of the registrations that are in the file, those that are not in force were replaced by later ones. The residue's account is one of the accounts.
-abbrev pub cwr_numbers : (path : List ℕ) → (registrations : ℕ) → Registered → List ℕ
-cwr_numbers path registrations registered =
-    fact_line path (length registered.works) (codes " works with a registration in force\n")
-    ++ fact_line path (registrations - length registered.works) (codes " registrations replaced by later ones\n")
-    ++ fact_line path (length registered.payees) (codes " parties in force\n")
-    ++ fact_line path (length registered.parties) (codes " accounts, the residue's included\n")
+-- Of the registrations that are in the file, those that are not in force were replaced by later ones. The residue's account is one of the accounts, which
+-- are told where the payees have no fault.
+abbrev pub cwr_numbers : (path : List ℕ) → (registrations : ℕ) → (payee_faults : ℕ) → Registered → List ℕ
+cwr_numbers path registrations payee_faults registered =
+    fact_line path (codes "works with a registration in force") (length registered.works)
+    ++ fact_line path (codes "registrations replaced by later ones") (registrations - length registered.works)
+    ++ fact_line path (codes "parties in force") (length registered.payees)
+    ++ if_none payee_faults (fact_line path (codes "accounts, the residue's included") (length registered.parties))
+    ++ if_none registrations (remark_line path (codes "no line is an NWR or REV"))
 
-abbrev pub cwr_facts : (path bytes : List ℕ) → (faults : ℕ) → Option Registered → List ℕ
-cwr_facts path bytes faults registered =
-    if_none faults (option_map_or (cwr_numbers path (count_by opens_registration (lines_of bytes))) registered [])
+abbrev pub cwr_facts : (path bytes : List ℕ) → (faults payee_faults : ℕ) → Option Registered → List ℕ
+cwr_facts path bytes faults payee_faults registered =
+    if_none faults (option_map_or (cwr_numbers path (count_by opens_registration (lines_of bytes)) payee_faults) registered [])
 
 abbrev pub usage_facts : (path : List ℕ) → (faults : ℕ) → List UsageLine → List ℕ
-usage_facts path faults lines = if_none faults (fact_line path (length lines) (codes " usage lines\n"))
+usage_facts path faults lines =
+    if_none faults (fact_line path (codes "usage lines") (length lines) ++ if_none (length lines) (remark_line path (codes "there are no usage lines")))
+
+-- a work without a registration, and a territory that the table has not
+abbrev pub work_line : (path : List ℕ) → List ℕ × Total → List ℕ
+work_line path e = total_line path (around (codes "work '") e.0 (codes "' is not registered")) e.1 []
+
+abbrev pub territory_line : (path : List ℕ) → ℕ × Total → List ℕ
+territory_line path e = total_line path (codes "territory " ++ decimal e.0 ++ codes " is not in the table") e.1 []
+
+-- the lines that are divided, and what of them is the residue's
+abbrev pub divided_line : (path : List ℕ) → Totals → List ℕ
+divided_line path totals = total_line path (codes "OPEN, divided") totals.divided (codes ", to the residue " ++ signed_decimal totals.residue)
+
+-- the lines of each reason
+abbrev pub reasons_text : (path : List ℕ) → Totals → List ℕ
+reasons_text path totals =
+    divided_line path totals
+    ++ total_line path (codes "WORK, not registered") totals.unregistered []
+    ++ total_line path (codes "LAND, territory not in the table") totals.unknown []
+    ++ total_line path (codes "OVER, claims over 100.06 per cent") totals.claimed_over []
+
+-- what a run makes of so many lines, and what the files have nothing of, where there are lines
+abbrev pub totals_text : (territories registrations usage : List ℕ) → (lines : ℕ) → Totals → List ℕ
+totals_text territories registrations usage lines totals =
+    reasons_text usage totals
+    ++ flat_map (work_line usage) totals.works.items
+    ++ flat_map (territory_line usage) totals.territories.items
+    ++ (if nat_lt 0 lines && (totals.unregistered.lines == lines) then remark_line registrations (codes "it has the work of no usage line") else [])
+    ++ (if nat_lt 0 lines && not totals.knows_one then remark_line territories (codes "it has the territory of no usage line") else [])
 
 -- what is in the files that have no fault; nothing is said of a table of payees that is not there
 abbrev pub facts_text : Paths → Files → Found → List ℕ
 facts_text paths files found =
     tis_facts paths.territories (length found.of_territories) found.table
     ++ option_map_or (λ _. payees_facts paths.payees (length found.of_payees) found.rows) files.payees []
-    ++ cwr_facts paths.registrations files.registrations (length found.of_registrations) found.registered
+    ++ cwr_facts paths.registrations files.registrations (length found.of_registrations) (length found.of_payees) found.registered
     ++ usage_facts paths.usage (length found.of_usage) found.lines
+    ++ option_map_or (totals_text paths.territories paths.registrations paths.usage (length found.lines)) found.totals []
 
 -- the report
 abbrev pub report_of : Paths → Files → Found → List ℕ
 report_of paths files found = faults_text paths found ++ facts_text paths files found
-
--- no file has a fault
-abbrev pub is_sound : Found → Bool
-is_sound found = (length found.of_territories == 0) && (length found.of_payees == 0) && (length found.of_registrations == 0) && (length found.of_usage == 0)

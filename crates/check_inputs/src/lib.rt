@@ -1,9 +1,11 @@
-//! A report on the inputs of a run: every fault of every file, and what is in the files that have none.
+//! A report on the inputs of a run: every fault of every file, what is in the files that have none, and what a run makes of
+//! the usage lines where none has.
 #![tactic(auto)]
 
 mod messages;
 mod reading;
 mod report;
+mod summary;
 mod told;
 mod words;
 

@@ -1,11 +1,12 @@
 //! What is wrong with a row or a line, in words.
 
 ghost use Rattle.std.specs.Prelude.{◌≡◌, ◌++◌, OnOk};
-ghost use Rattle.check_inputs.specs.Messages.{cwr_message, payee_message, tis_message, usage_message};
+ghost use Rattle.cwr_share.specs.Records.{share_fields};
+ghost use Rattle.check_inputs.specs.Messages.{cwr_message, fields_message, payee_message, shares_message, tis_message, usage_message};
 
-use crate::words::{add, add_around, add_both};
+use crate::words::{add, add_around, add_both, add_number};
 use csv_table::Rows;
-use cwr_share::fields::{Field, ShareFields, TYPE, WORK};
+use cwr_share::fields::{ShareFields, TYPE, WORK};
 use cwr_share::{CwrFault, PayeeFault, share_fields_of};
 use line_split::LineFault;
 use std::alloc::AllocError;
@@ -17,7 +18,7 @@ pub(crate) fn add_tis(text: &mut Vec<u8>, row: &Rows<'_>, fault: TisFault) -> Re
 {
     match fault {
         TisFault::Csv(0) => add(text, "the first row is not code,groups"),
-        TisFault::Csv(_) => add(text, "the row has not 2 fields"),
+        TisFault::Csv(_) => add_fields(text, 2, row),
         TisFault::Code(_) => add_around(
             text,
             "code '",
@@ -46,14 +47,14 @@ pub(crate) fn add_payee(
 {
     match fault {
         PayeeFault::Csv(0) => add(text, "the first row is not party,payee"),
-        PayeeFault::Csv(_) => add(text, "the row has not 2 fields"),
+        PayeeFault::Csv(_) => add_fields(text, 2, row),
         PayeeFault::Fields(_) => add_both(
             text,
             "party '",
             row.field(0),
             "' and payee '",
             row.field(1),
-            "' are not both 1 to 64 printable characters",
+            "' are not both 1 to 64 printable ASCII characters",
         ),
         PayeeFault::Twice(_) => add_around(text, "party '", row.field(0), "' has an earlier row"),
         PayeeFault::Rows => add(text, "there are more than 65536 rows"),
@@ -74,14 +75,14 @@ pub(crate) fn add_usage(
             text,
             "the first row is not usage,work,territory,right,amount",
         ),
-        LineFault::Csv(_) => add(text, "the row has not 5 fields"),
+        LineFault::Csv(_) => add_fields(text, 5, row),
         LineFault::Fields(_) => add_both(
             text,
             "usage '",
             row.field(0),
             "' and work '",
             row.field(1),
-            "' are not both 1 to 64 printable characters",
+            "' are not both 1 to 64 printable ASCII characters",
         ),
         LineFault::Territory(_) => add_around(
             text,
@@ -113,12 +114,7 @@ pub(crate) fn add_cwr(text: &mut Vec<u8>, line: &[u8], fault: CwrFault) -> Resul
             TYPE.of(line),
             "' ends before its last field: NWR and REV take 82 bytes, SPT 54, SWT 48",
         ),
-        CwrFault::Share(_) => add_around(
-            text,
-            "shares '",
-            three_shares(fields).of(line),
-            "' are not three times five digits up to 10000, or five spaces",
-        ),
+        CwrFault::Share(_) => add_shares(text, line, fields),
         CwrFault::Mark(_) => add_around(
             text,
             "indicator '",
@@ -135,13 +131,13 @@ pub(crate) fn add_cwr(text: &mut Vec<u8>, line: &[u8], fault: CwrFault) -> Resul
             text,
             "interested party number '",
             fields.party.of(line),
-            "' is blank or not printable",
+            "' is blank or not printable ASCII",
         ),
         CwrFault::Work(_) => add_around(
             text,
             "submitter work number '",
             WORK.of(line),
-            "' is blank or not printable",
+            "' is blank or not printable ASCII",
         ),
         CwrFault::Many(_) => add(text, "the registration has 256 share lines before this one"),
         CwrFault::Accounts => add(text, "the parties in force have more than 16383 payees"),
@@ -149,12 +145,35 @@ pub(crate) fn add_cwr(text: &mut Vec<u8>, line: &[u8], fault: CwrFault) -> Resul
     }
 }
 
-/// The three shares of a share line, which stand side by side.
-fn three_shares(fields: ShareFields) -> Field
-    ensures { result ≡ record { first = fields.performing.first; last = fields.synchronisation.last } }
+/// What is wrong with a row of another number of fields than it should have.
+fn add_fields(text: &mut Vec<u8>, wanted: u64, row: &Rows<'_>) -> Result<(), AllocError>
+    ensures { OnOk result (text.new.items ≡ text.old.items ++ fields_message wanted row.now.row) }
 {
-    Field {
-        first: fields.performing.first,
-        last: fields.synchronisation.last,
-    }
+    add(text, "the number of fields is ")?;
+    add_number(text, row.len() as u64)?;
+    add(text, ", not ")?;
+    add_number(text, wanted)?;
+    add_around(text, "; the first is '", row.field(0), "'")?;
+    Ok(())
+}
+
+/// What is wrong with the shares of a share line, which has its fields here.
+fn add_shares(text: &mut Vec<u8>, line: &[u8], fields: ShareFields) -> Result<(), AllocError>
+    requires { fields ≡ share_fields line.now }
+    ensures { OnOk result (text.new.items ≡ text.old.items ++ shares_message line.now) }
+{
+    add_around(
+        text,
+        "PR, MR and SR shares '",
+        fields.performing.of(line),
+        "', '",
+    )?;
+    add_around(text, "", fields.mechanical.of(line), "' and '")?;
+    add_around(
+        text,
+        "",
+        fields.synchronisation.of(line),
+        "' are not each five digits up to 10000, or five spaces",
+    )?;
+    Ok(())
 }

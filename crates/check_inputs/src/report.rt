@@ -13,16 +13,21 @@ ghost use Rattle.line_split.specs.UsageReading as usage;
 ghost use Rattle.line_split.specs.declared.line_fault.LineFault.{LineFault};
 ghost use Rattle.tis_tree.specs.TisReading as tis;
 ghost use Rattle.tis_tree.specs.declared.tis_fault.TisFault.{TisFault};
-ghost use Rattle.check_inputs.specs.Checked.{GoesOn, IsReportOn, files_of, path_if_given, paths_of, payee_facts};
-ghost use Rattle.check_inputs.specs.Found.{ArePayeesWithout, AreRegistrationsWithout};
-ghost use Rattle.check_inputs.specs.Messages.{fact_line};
-ghost use Rattle.check_inputs.specs.Report.{cwr_facts, cwr_line, cwr_numbers, fault_lines, if_none, payee_line, tis_facts, tis_line, usage_facts, usage_line};
+ghost use Rattle.usage_totals.specs.declared.totals.Totals.{Totals};
+ghost use Rattle.check_inputs.specs.Checked.{Adds, GoesOn, IsReportOn, files_of, path_if_given, paths_of, payee_facts};
+ghost use Rattle.check_inputs.specs.Found.{ArePayeesWithout, AreRegistrationsWithout, AreTotalsIfSound};
+ghost use Rattle.check_inputs.specs.Messages.{fact_line, remark_line};
+ghost use Rattle.check_inputs.specs.Report.{cwr_facts, cwr_line, cwr_numbers, fault_lines, if_none, payee_line, tis_facts, tis_line, totals_text, usage_facts, usage_line};
 
 use crate::reading::{read_cwr, read_payees, read_tis, read_usage};
+use crate::summary::add_totals;
 use crate::told::Told;
-use crate::words::add_fact;
+use crate::words::{add_fact, add_remark};
 use cwr_share::{Payees, Registry, count_registrations};
+use line_split::Usage;
 use std::alloc::{AllocError, Global};
+use tis_tree::TisTable;
+use usage_totals::totals_of;
 
 /// A report on inputs.
 #[derive(Drop)]
@@ -43,8 +48,8 @@ pub struct File {
 }
 
 /// Reports on the inputs of a run: a table of territories, a table of payees where there is one, a CWR file and a usage list. Each is
-/// read whatever stands in the others, past each row or line that is refused. The report has the first hundred faults of each, and what is in
-/// those that have none.
+/// read whatever stands in the others, past each row or line that is refused. The report has the first hundred faults of each, what is in
+/// those that have none, and, where none has a fault, what a run makes of the usage lines.
 pub fn check(
     alloc: Global,
     tis: &File,
@@ -59,10 +64,19 @@ pub fn check(
         facts: Vec::new(alloc),
         is_sound: true,
     };
-    sheet.tis(alloc, tis)?;
-    let rows = sheet.payees(alloc, payees)?;
-    sheet.cwr(alloc, cwr, &rows)?;
-    sheet.usage(alloc, usage)?;
+    let territories = sheet.tis(alloc, tis)?;
+    let (rows, payee_faults) = sheet.payees(alloc, payees)?;
+    let registry = sheet.cwr(alloc, cwr, &rows, payee_faults)?;
+    let lines = sheet.usage(alloc, usage)?;
+    sheet.totals(
+        alloc,
+        tis.path.as_str(),
+        cwr.path.as_str(),
+        usage.path.as_str(),
+        &territories,
+        &registry,
+        &lines,
+    )?;
     sheet.whole()
 }
 
@@ -70,15 +84,15 @@ pub fn check(
 #[derive(Drop)]
 struct Sheet {
     faults: Vec<u8>,
-    /// What is in the files that have no fault.
+    /// What is in the files that have no fault, and what a run makes of them.
     facts: Vec<u8>,
     is_sound: bool,
 }
 
 impl Sheet {
     /// Goes on by a table of territories.
-    fn tis(&mut self, alloc: Global, file: &File) -> Result<(), AllocError>
-        ensures { OnOk result ((out : List (List (List ℕ) × TisFault)) × (table : List (ℕ × List ℕ)) × tis.IsReadWithout (rows_of file.now.bytes.items) out table
+    fn tis(&mut self, alloc: Global, file: &File) -> Result<TisTable, AllocError>
+        ensures { IfOk result (λ table. (out : List (List (List ℕ) × TisFault)) × tis.IsReadWithout (rows_of file.now.bytes.items) out table
             × GoesOn self.old self.new (length out) (fault_lines (tis_line (string_bytes file.now.path)) (string_bytes file.now.path) out) (tis_facts (string_bytes file.now.path) (length out) table)) }
     {
         let path = file.path.as_str();
@@ -88,48 +102,81 @@ impl Sheet {
             &mut self.facts,
             told.count,
             path,
+            "territories",
             table.len() as u64,
-            " territories\n",
         )?;
-        Ok(())
+        Ok(table)
     }
 
-    /// By a table of payees, where there is one.
-    fn payees(&mut self, alloc: Global, file: &Option<File>) -> Result<Payees, AllocError>
-        ensures { IfOk result (λ rows. (out : List (List (List ℕ) × PayeeFault)) × ArePayeesWithout (option_map (λ file. file.bytes.items) file.now) out rows
-            × GoesOn self.old self.new (length out) (fault_lines (payee_line (path_if_given file.now)) (path_if_given file.now) out) (payee_facts file.now (length out) rows)) }
+    /// By a table of payees, where there is one; answers how many faults it has.
+    fn payees(&mut self, alloc: Global, file: &Option<File>) -> Result<(Payees, u64), AllocError>
+        ensures { IfOk result (λ read. (out : List (List (List ℕ) × PayeeFault)) × ArePayeesWithout (option_map (λ file. file.bytes.items) file.now) out read.0 × (read.1 ≡ length out)
+            × GoesOn self.old self.new (length out) (fault_lines (payee_line (path_if_given file.now)) (path_if_given file.now) out) (payee_facts file.now (length out) read.0)) }
     {
         let (told, rows) = read_payees_if_given(alloc, file)?;
         self.add_faults(&told)?;
         add_payee_facts(&mut self.facts, file, told.count, rows.len() as u64)?;
-        Ok(rows)
+        Ok((rows, told.count))
     }
 
-    /// By a CWR file.
-    fn cwr(&mut self, alloc: Global, file: &File, payees: &Payees) -> Result<(), AllocError>
-        ensures { OnOk result ((out : List (List ℕ × CwrFault)) × (registered : Option Registered) × AreRegistrationsWithout payees.now (lines_of file.now.bytes.items) out registered
-            × GoesOn self.old self.new (length out) (fault_lines (cwr_line (string_bytes file.now.path)) (string_bytes file.now.path) out) (cwr_facts (string_bytes file.now.path) file.now.bytes.items (length out) registered)) }
+    /// By a CWR file, where the table of payees has so many faults.
+    fn cwr(
+        &mut self,
+        alloc: Global,
+        file: &File,
+        payees: &Payees,
+        payee_faults: u64,
+    ) -> Result<Option<Registry>, AllocError>
+        ensures { IfOk result (λ registered. (out : List (List ℕ × CwrFault)) × AreRegistrationsWithout payees.now (lines_of file.now.bytes.items) out registered
+            × GoesOn self.old self.new (length out) (fault_lines (cwr_line (string_bytes file.now.path)) (string_bytes file.now.path) out)
+            (cwr_facts (string_bytes file.now.path) file.now.bytes.items (length out) payee_faults registered)) }
     {
         let (told, registry) = read_cwr(alloc, file.path.as_str(), file.bytes.as_slice(), payees)?;
         self.add_faults(&told)?;
-        add_cwr_facts(&mut self.facts, file, told.count, &registry)?;
-        Ok(())
+        add_cwr_facts(&mut self.facts, file, told.count, payee_faults, &registry)?;
+        Ok(registry)
     }
 
     /// By a usage list.
-    fn usage(&mut self, alloc: Global, file: &File) -> Result<(), AllocError>
-        ensures { OnOk result ((out : List (List (List ℕ) × LineFault)) × (lines : List UsageLine) × usage.IsReadWithout (rows_of file.now.bytes.items) out lines
+    fn usage(&mut self, alloc: Global, file: &File) -> Result<Usage, AllocError>
+        ensures { IfOk result (λ lines. (out : List (List (List ℕ) × LineFault)) × usage.IsReadWithout (rows_of file.now.bytes.items) out lines
             × GoesOn self.old self.new (length out) (fault_lines (usage_line (string_bytes file.now.path)) (string_bytes file.now.path) out) (usage_facts (string_bytes file.now.path) (length out) lines)) }
     {
         let path = file.path.as_str();
         let (told, lines) = read_usage(alloc, path, file.bytes.as_slice())?;
         self.add_faults(&told)?;
-        add_fact_if_none(
+        add_usage_facts(&mut self.facts, told.count, path, lines.len() as u64)?;
+        Ok(lines)
+    }
+
+    /// By what a run makes of the lines, where no file has a fault.
+    fn totals(
+        &mut self,
+        alloc: Global,
+        territories: &str,
+        registrations: &str,
+        usage: &str,
+        table: &TisTable,
+        registry: &Option<Registry>,
+        lines: &Usage,
+    ) -> Result<(), AllocError>
+        ensures { OnOk result ((totals : Option Totals) × AreTotalsIfSound self.old.is_sound table.now registry.now lines.now totals
+            × Adds self.old self.new (option_map_or (totals_text territories.now registrations.now usage.now (length lines.now)) totals [])) }
+    {
+        if !self.is_sound {
+            return Ok(());
+        }
+        let Some(registry) = registry else {
+            return Ok(());
+        };
+        let totals = totals_of(alloc, table, registry, lines)?;
+        add_totals(
             &mut self.facts,
-            told.count,
-            path,
+            territories,
+            registrations,
+            usage,
             lines.len() as u64,
-            " usage lines\n",
+            &totals,
         )?;
         Ok(())
     }
@@ -162,13 +209,28 @@ fn add_fact_if_none(
     text: &mut Vec<u8>,
     faults: u64,
     path: &str,
-    number: u64,
     what: &str,
+    number: u64,
 ) -> Result<(), AllocError>
-    ensures { OnOk result (text.new.items ≡ text.old.items ++ if_none faults (fact_line path.now number what.now)) }
+    ensures { OnOk result (text.new.items ≡ text.old.items ++ if_none faults (fact_line path.now what.now number)) }
 {
     if faults == 0 {
-        add_fact(text, path, number, what)?;
+        add_fact(text, path, what, number)?;
+    }
+    Ok(())
+}
+
+/// Remarks that there is none of something in the file of a path, where that is so.
+fn add_remark_if_none(
+    text: &mut Vec<u8>,
+    number: u64,
+    path: &str,
+    remark: &str,
+) -> Result<(), AllocError>
+    ensures { OnOk result (text.new.items ≡ text.old.items ++ if_none number (remark_line path.now remark.now)) }
+{
+    if number == 0 {
+        add_remark(text, path, remark)?;
     }
     Ok(())
 }
@@ -194,7 +256,7 @@ fn add_payee_facts(
     faults: u64,
     rows: u64,
 ) -> Result<(), AllocError>
-    ensures { OnOk result (text.new.items ≡ text.old.items ++ option_map_or (λ file. if_none faults (fact_line (string_bytes file.path) rows (codes " parties with a payee\n"))) file.now []) }
+    ensures { OnOk result (text.new.items ≡ text.old.items ++ option_map_or (λ file. if_none faults (fact_line (string_bytes file.path) (codes "parties with a payee") rows)) file.now []) }
 {
     let Some(file) = file else {
         return Ok(());
@@ -203,8 +265,8 @@ fn add_payee_facts(
         text,
         faults,
         file.path.as_str(),
+        "parties with a payee",
         rows,
-        " parties with a payee\n",
     )?;
     Ok(())
 }
@@ -214,10 +276,10 @@ fn add_cwr_facts(
     text: &mut Vec<u8>,
     file: &File,
     faults: u64,
+    payee_faults: u64,
     registry: &Option<Registry>,
 ) -> Result<(), AllocError>
-    ensures { OnOk result (text.new.items ≡ text.old.items
-        ++ if_none faults (option_map_or (cwr_numbers (string_bytes file.now.path) (count_by opens_registration (lines_of file.now.bytes.items))) registry.now [])) }
+    ensures { OnOk result (text.new.items ≡ text.old.items ++ cwr_facts (string_bytes file.now.path) file.now.bytes.items faults payee_faults registry.now) }
 {
     if faults > 0 {
         return Ok(());
@@ -229,6 +291,7 @@ fn add_cwr_facts(
         text,
         file.path.as_str(),
         count_registrations(file.bytes.as_slice()),
+        payee_faults,
         registry,
     )?;
     Ok(())
@@ -239,29 +302,44 @@ fn add_cwr_numbers(
     text: &mut Vec<u8>,
     path: &str,
     registrations: u64,
+    payee_faults: u64,
     registry: &Registry,
 ) -> Result<(), AllocError>
-    ensures { OnOk result (text.new.items ≡ text.old.items ++ cwr_numbers path.now registrations registry.now) }
+    ensures { OnOk result (text.new.items ≡ text.old.items ++ cwr_numbers path.now registrations payee_faults registry.now) }
 {
     let works = registry.works() as u64;
-    add_fact(text, path, works, " works with a registration in force\n")?;
+    add_fact(text, path, "works with a registration in force", works)?;
     add_fact(
         text,
         path,
+        "registrations replaced by later ones",
         registrations.saturating_sub(works),
-        " registrations replaced by later ones\n",
     )?;
-    add_fact(
+    add_fact(text, path, "parties in force", registry.claimants() as u64)?;
+    add_fact_if_none(
         text,
+        payee_faults,
         path,
-        registry.claimants() as u64,
-        " parties in force\n",
-    )?;
-    add_fact(
-        text,
-        path,
+        "accounts, the residue's included",
         u64::from(registry.accounts()),
-        " accounts, the residue's included\n",
     )?;
+    add_remark_if_none(text, registrations, path, "no line is an NWR or REV")?;
+    Ok(())
+}
+
+/// What is in a usage list, where it has no fault.
+fn add_usage_facts(
+    text: &mut Vec<u8>,
+    faults: u64,
+    path: &str,
+    lines: u64,
+) -> Result<(), AllocError>
+    ensures { OnOk result (text.new.items ≡ text.old.items ++ if_none faults (fact_line path.now (codes "usage lines") lines ++ if_none lines (remark_line path.now (codes "there are no usage lines")))) }
+{
+    if faults > 0 {
+        return Ok(());
+    }
+    add_fact(text, path, "usage lines", lines)?;
+    add_remark_if_none(text, lines, path, "there are no usage lines")?;
     Ok(())
 }

@@ -116,8 +116,8 @@ impl<'a> Told<'a> {
             add_fact(
                 &mut self.text,
                 self.path,
+                "further faults",
                 self.count - MOST_FAULTS,
-                " faults more\n",
             )?;
         }
         Ok(())

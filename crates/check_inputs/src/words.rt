@@ -1,7 +1,8 @@
 //! The words of a report.
 
 ghost use Rattle.std.specs.Prelude.{◌≡◌, ◌<◌, ◌++◌, ◌∷◌, [], OnOk, Option, codes, decimal, flat_map, if◌then◌else◌, length, nat_lt, take};
-ghost use Rattle.check_inputs.specs.Messages.{around, fact_line, hex, place_text, shown, shown_byte};
+ghost use Rattle.std.specs.Fmt.{signed_decimal};
+ghost use Rattle.check_inputs.specs.Messages.{around, fact_line, hex, place_text, remark_line, shown, shown_byte};
 ghost use Rattle.check_inputs.specs.declared.words.TheConstants.{MOST_SHOWN};
 
 use itoa::Buffer;
@@ -125,13 +126,34 @@ pub(crate) fn add_place(
 pub(crate) fn add_fact(
     text: &mut Vec<u8>,
     path: &str,
-    number: u64,
     what: &str,
+    number: u64,
 ) -> Result<(), AllocError>
-    ensures { OnOk result (text.new.items ≡ text.old.items ++ fact_line path.now number what.now) }
+    ensures { OnOk result (text.new.items ≡ text.old.items ++ fact_line path.now what.now number) }
 {
     add(text, path)?;
     add(text, ": ")?;
+    add(text, what)?;
+    add(text, ": ")?;
     add_number(text, number)?;
-    add(text, what)
+    add(text, "\n")
+}
+
+/// Adds a line about the file of a path that says what a run does not notice.
+pub(crate) fn add_remark(text: &mut Vec<u8>, path: &str, remark: &str) -> Result<(), AllocError>
+    ensures { OnOk result (text.new.items ≡ text.old.items ++ remark_line path.now remark.now) }
+{
+    add(text, path)?;
+    add(text, ": remark: ")?;
+    add(text, remark)?;
+    add(text, "\n")
+}
+
+/// Adds an amount, in minor units.
+pub(crate) fn add_amount(text: &mut Vec<u8>, amount: i64) -> Result<(), AllocError>
+    ensures { OnOk result (text.new.items ≡ text.old.items ++ signed_decimal amount) }
+{
+    let mut digits = Buffer::new();
+    text.extend_from_slice(digits.format(amount).as_bytes())?;
+    Ok(())
 }

@@ -30,7 +30,8 @@ LAND, OVER or OPEN, then T,,count,total; last R,,lines,amount.
 The numbers of workers, readers and nodes have no bearing on it. A row M,WORK is a usage line whose
 work has no registration: many of them say that the wrong file, or half of one, went in.
 
-A refusal has a number and a place: the table of faults in docs/FORMATS.md says what to mend.
+A refusal has a number and a place. `royalty_run check` with the same files says all of them in words,
+and what the lines come to by reason; the table of faults in docs/FORMATS.md says what to mend.
 
 Example:
   royalty_run run --tis territories.csv --cwr works.cwr --usage usage.csv \\

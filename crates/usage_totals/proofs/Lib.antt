@@ -1,3 +1,4 @@
 pub mod ByKeyLemmas
+pub mod ReasonLemmas
 pub mod ResidueLemmas
 pub mod TotalLemmas

@@ -2,6 +2,7 @@
 #![tactic(auto)]
 
 mod by_key;
+pub mod laws;
 mod name;
 mod reasons;
 mod total;

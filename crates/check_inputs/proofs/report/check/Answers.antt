@@ -1,9 +1,11 @@
-use Rattle.std.proofs.Common.{length, refl}
+use Rattle.std.proofs.Common.{length, refl, subst, true}
+use Rattle.std.specs.Prelude.{Bool}
 use Rattle.std.proofs.lemmas.Result.{IfOk-weaker}
 use Rattle.check_inputs.specs.Checked.{IsReportOn, files_of, paths_of}
-use Rattle.check_inputs.specs.Found.{Found}
+use Rattle.check_inputs.specs.Found.{AreTotalsIfSound, Found, IsFoundIn}
 use Rattle.check_inputs.specs.declared.report.Checked.{Checked}
-use Rattle.check_inputs.proofs.Reporting.{facts_given, put_together}
+use Rattle.check_inputs.specs.declared.report.Sheet.{Sheet}
+use Rattle.check_inputs.proofs.Reporting.{facts_given, put_together, sound_of_four}
 use Rattle.check_inputs.proofs.report.check.Goals as goal
 
 pub returns : goal.returns
@@ -12,22 +14,33 @@ returns c =
     let payees = c.args.payees.now in
     let cwr = c.args.cwr.now in
     let usage = c.args.usage.now in
-    let (of_tis, table, is_tis, first) = c.in_ok-tis.ensures in
-    let (of_payees, is_payees, second) = c.in_ok-rows.ensures in
-    let (of_cwr, registered, is_cwr, third) = c.in_ok-cwr.ensures in
-    let (of_usage, lines, is_usage, fourth) = c.in_ok-usage.ensures in
+    let (of_tis, is_tis, first) = c.in_ok-territories.ensures in
+    let (of_payees, is_payees, so_many, second) = c.in_ok-rows.ensures in
+    let (of_cwr, is_cwr, third) = c.in_ok-registry.ensures in
+    let (of_usage, is_usage, fourth) = c.in_ok-lines.ensures in
+    let (totals, are_totals, last) = c.in_ok-totals.ensures in
     let found : Found = record {
       of_territories = of_tis;
       of_payees = of_payees;
       of_registrations = of_cwr;
       of_usage = of_usage;
-      table = table;
+      table = c.in_ok-territories.territories;
       rows = c.in_ok-rows.rows;
-      registered = registered;
-      lines = lines;
+      registered = c.in_ok-registry.registry;
+      lines = c.in_ok-lines.lines;
+      totals = totals;
+    } in
+    let none : Sheet = record { faults = c.new.result; facts = c.new-2.result; is_sound = true } in
+    let so_far = sound_of_four found none c.tis.new.self c.payees.new.self c.cwr.new.self c.usage.new.self refl first.sound second.sound third.sound fourth.sound in
+    let is : IsFoundIn (files_of tis payees cwr usage) found = record {
+      territories = is_tis;
+      payees = is_payees;
+      registrations = is_cwr;
+      usage = is_usage;
+      totals = subst (λ (sound : Bool). AreTotalsIfSound sound found.table found.registered found.lines totals) so_far are_totals;
     } in
     IfOk-weaker c.whole.result _ (λ (checked : Checked). IsReportOn (paths_of tis payees cwr usage) (files_of tis payees cwr usage) checked.text.items checked.is_sound)
-    (λ checked whole. put_together (paths_of tis payees cwr usage) (files_of tis payees cwr usage) found _ c.tis.new.self c.payees.new.self c.cwr.new.self c.usage.new.self checked.text.items checked.is_sound
-    (c.new.ensures.items, c.new-2.ensures.items, refl) first
-    (rw (facts_given payees (length of_payees) c.in_ok-rows.rows) at second) third fourth record { territories = is_tis; payees = is_payees; registrations = is_cwr; usage = is_usage } whole)
+    (λ checked whole. put_together (paths_of tis payees cwr usage) (files_of tis payees cwr usage) found none c.tis.new.self c.payees.new.self c.cwr.new.self c.usage.new.self c.totals.new.self checked.text.items
+    checked.is_sound (c.new.ensures.items, c.new-2.ensures.items, refl) first (rw (facts_given payees (length of_payees) c.in_ok-rows.rows) at second) (rw so_many at third) fourth
+    (rw (c.as_str.ensures.value, c.as_str-2.ensures.value, c.as_str-3.ensures.value) at last) is whole)
     c.whole.ensures

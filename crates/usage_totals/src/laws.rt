@@ -1,0 +1,15 @@
+//! What totals keep to. A law has an empty body: its contract is the law.
+
+ghost use Rattle.std.specs.Prelude.{ℕ, ◌≡◌, ◌+◌, ◌+ℤ◌, List, length};
+ghost use Rattle.cwr_share.specs.Registered.{Registered};
+ghost use Rattle.line_split.specs.UsageLine.{UsageLine};
+ghost use Rattle.usage_totals.specs.Totals.{AreTotalsOf, total_of_lines};
+ghost use Rattle.usage_totals.specs.declared.totals.Totals.{Totals};
+
+/// Each line has one reason: the lines of the four reasons are as many as all lines, and come to what these come to.
+pub fn law_each_line_has_one_reason()
+    ensures lines { (table : List (ℕ × List ℕ)) (registered : Registered) (lines : List UsageLine) (totals : Totals) → AreTotalsOf table registered lines totals
+        → totals.divided.lines + totals.unregistered.lines + totals.unknown.lines + totals.claimed_over.lines ≡ length lines }
+    ensures amounts { (table : List (ℕ × List ℕ)) (registered : Registered) (lines : List UsageLine) (totals : Totals) → AreTotalsOf table registered lines totals
+        → totals.divided.amount +ℤ totals.unregistered.amount +ℤ totals.unknown.amount +ℤ totals.claimed_over.amount ≡ (total_of_lines lines).amount }
+{}
