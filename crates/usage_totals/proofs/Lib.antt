@@ -1,4 +1,5 @@
 pub mod ByKeyLemmas
 pub mod ReasonLemmas
 pub mod ResidueLemmas
+pub mod RestLemmas
 pub mod TotalLemmas

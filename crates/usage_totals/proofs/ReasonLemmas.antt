@@ -8,14 +8,14 @@ use Rattle.line_split.specs.declared.reason.Reason.{Reason}
 use Rattle.line_split.specs.declared.reason.Reason.TheVariants.{Work, Land, Over, Open}
 use Rattle.usage_totals.specs.Totals.{is_same}
 
-abbrev amount_of : UsageLine → ℤ
+abbrev pub amount_of : UsageLine → ℤ
 amount_of line = line.amount
 
 module _ (given : UsageLine → Reason) where
-  abbrev lines_of : Reason → List UsageLine → List UsageLine
+  abbrev pub lines_of : Reason → List UsageLine → List UsageLine
   lines_of reason lines = filter (λ line. is_same reason (given line)) lines
 
-  abbrev counted : Reason → Reason → UsageLine → List UsageLine → List UsageLine
+  abbrev pub counted : Reason → Reason → UsageLine → List UsageLine → List UsageLine
   counted reason r line lines = cond (is_same reason r) (line ∷ lines_of reason lines) (lines_of reason lines)
 
   pub all_counted : (lines : List UsageLine) → length (lines_of Open lines) + length (lines_of Work lines) + length (lines_of Land lines) + length (lines_of Over lines) ≡ length lines
@@ -29,7 +29,7 @@ module _ (given : UsageLine → Reason) where
       by Over rest = omega (arith, rest)
       by Open rest = omega (arith, rest)
 
-  abbrev sum_of : List UsageLine → ℤ
+  abbrev pub sum_of : List UsageLine → ℤ
   sum_of lines = int_sum_by amount_of lines
 
   pub all_summed : (lines : List UsageLine) → sum_of (lines_of Open lines) +ℤ sum_of (lines_of Work lines) +ℤ sum_of (lines_of Land lines) +ℤ sum_of (lines_of Over lines) ≡ sum_of lines
