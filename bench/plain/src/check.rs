@@ -113,7 +113,7 @@ fn territories(sheet: &mut Sheet, bytes: &[u8]) {
     let many = (5, "there are more than 2048 rows".into());
     let count = table(sheet, bytes, &["code", "groups"], 2048, many, |row| {
         let Some(c) = code(row[0]) else {
-            return Err((2, format!("code {} is not a number from 1 to 9999", shown(row[0]))));
+            return Err((2, format!("code {} is not one to four digits, or is 0", shown(row[0]))));
         };
         if known.contains(&c) {
             return Err((3, format!("code {} has an earlier row", shown(row[0]))));
@@ -136,7 +136,7 @@ fn payees(sheet: &mut Sheet, bytes: &[u8]) -> Payees {
         let field = |n: usize| name(row[n]).filter(|text| text.len() <= LONGEST);
         let (Some(party), Some(payee)) = (field(0), field(1)) else {
             let (party, payee) = (shown(row[0]), shown(row[1]));
-            let text = "are not both 1 to 64 printable ASCII characters";
+            let text = "are not both 1 to 64 printable ASCII characters that are not all spaces";
             return Err((2, format!("party {party} and payee {payee} {text}")));
         };
         if payees.contains_key(party) {
@@ -254,7 +254,7 @@ fn usage(sheet: &mut Sheet, bytes: &[u8]) {
             return Err((2, format!("usage {usage} and work {work} {text}")));
         }
         if code(row[2]).is_none() {
-            return Err((3, format!("territory {} is not a number from 1 to 9999", shown(row[2]))));
+            return Err((3, format!("territory {} is not one to four digits, or is 0", shown(row[2]))));
         }
         if !matches!(row[3], b"P" | b"M" | b"S") {
             return Err((4, format!("right {} is not P, M or S", shown(row[3]))));

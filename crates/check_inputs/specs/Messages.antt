@@ -41,7 +41,7 @@ fields_message wanted row =
 
 abbrev pub tis_message : List (List ℕ) → TisFault → List ℕ
 tis_message row (tis.Csv n) = if n == 0 then codes "the first row is not code,groups" else fields_message 2 row
-tis_message row (tis.Code n) = around (codes "code '") (at row 0) (codes "' is not a number from 1 to 9999")
+tis_message row (tis.Code n) = around (codes "code '") (at row 0) (codes "' is not one to four digits, or is 0")
 tis_message row (tis.Twice n) = around (codes "code '") (at row 0) (codes "' has an earlier row")
 tis_message row (tis.Group n) = around (codes "groups '") (at row 1) (codes "' are not all codes of earlier rows")
 tis_message row tis.Rows = codes "there are more than 2048 rows"
@@ -50,7 +50,7 @@ tis_message row tis.Memory = []
 abbrev pub payee_message : List (List ℕ) → PayeeFault → List ℕ
 payee_message row (payee.Csv n) = if n == 0 then codes "the first row is not party,payee" else fields_message 2 row
 payee_message row (payee.Fields n) =
-    around (codes "party '") (at row 0) (codes "' and payee '") ++ around [] (at row 1) (codes "' are not both 1 to 64 printable ASCII characters")
+    around (codes "party '") (at row 0) (codes "' and payee '") ++ around [] (at row 1) (codes "' are not both 1 to 64 printable ASCII characters that are not all spaces")
 payee_message row (payee.Twice n) = around (codes "party '") (at row 0) (codes "' has an earlier row")
 payee_message row payee.Rows = codes "there are more than 65536 rows"
 payee_message row payee.Memory = []
@@ -59,7 +59,7 @@ abbrev pub usage_message : List (List ℕ) → LineFault → List ℕ
 usage_message row (line.Csv n) = if n == 0 then codes "the first row is not usage,work,territory,right,amount" else fields_message 5 row
 usage_message row (line.Fields n) =
     around (codes "usage '") (at row 0) (codes "' and work '") ++ around [] (at row 1) (codes "' are not both 1 to 64 printable ASCII characters")
-usage_message row (line.Territory n) = around (codes "territory '") (at row 2) (codes "' is not a number from 1 to 9999")
+usage_message row (line.Territory n) = around (codes "territory '") (at row 2) (codes "' is not one to four digits, or is 0")
 usage_message row (line.Right n) = around (codes "right '") (at row 3) (codes "' is not P, M or S")
 usage_message row (line.Amount n) = around (codes "amount '") (at row 4) (codes "' is not a whole number from -1000000000000 to 1000000000000")
 usage_message row line.Lines = codes "there are more than 1000000 usage lines"

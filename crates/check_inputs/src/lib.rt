@@ -2,6 +2,7 @@
 //! the usage lines where none has.
 #![tactic(auto)]
 
+pub mod laws;
 mod messages;
 mod reading;
 mod report;

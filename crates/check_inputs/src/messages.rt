@@ -23,7 +23,7 @@ pub(crate) fn add_tis(text: &mut Vec<u8>, row: &Rows<'_>, fault: TisFault) -> Re
             text,
             "code '",
             row.field(0),
-            "' is not a number from 1 to 9999",
+            "' is not one to four digits, or is 0",
         ),
         TisFault::Twice(_) => add_around(text, "code '", row.field(0), "' has an earlier row"),
         TisFault::Group(_) => add_around(
@@ -54,7 +54,7 @@ pub(crate) fn add_payee(
             row.field(0),
             "' and payee '",
             row.field(1),
-            "' are not both 1 to 64 printable ASCII characters",
+            "' are not both 1 to 64 printable ASCII characters that are not all spaces",
         ),
         PayeeFault::Twice(_) => add_around(text, "party '", row.field(0), "' has an earlier row"),
         PayeeFault::Rows => add(text, "there are more than 65536 rows"),
@@ -88,7 +88,7 @@ pub(crate) fn add_usage(
             text,
             "territory '",
             row.field(2),
-            "' is not a number from 1 to 9999",
+            "' is not one to four digits, or is 0",
         ),
         LineFault::Right(_) => add_around(text, "right '", row.field(3), "' is not P, M or S"),
         LineFault::Amount(_) => add_around(
