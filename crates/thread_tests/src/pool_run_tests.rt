@@ -10,10 +10,11 @@ use crate::run_threads_tests::{
     watch,
 };
 use crate::split_run_tests::only_drawer;
-use line_split::{MOST_CLAIMS, Portions};
+use cwr_share::Registry;
+use line_split::{MOST_CLAIMS, Portions, Usage};
 use payee_book::Book;
 use pool_box::{Item, Pool, PoolMail, PoolReceiver, PoolSender, Took};
-use small_run::{NO_USES, USES, equal_uses};
+use small_run::{NO_USES, TERRITORIES, USES, equal_uses};
 use split_run::{
     CountingPool, Drawer, Gate, MeetingGate, MeetingPool, NoGate, run_pool, run_pool_cut, work_pool,
 };
@@ -23,6 +24,7 @@ use std::sync::Wait;
 use std::sync::atomic::{AtomicBool, Ordering};
 use std::test::Fail;
 use std::thread::{Threads, join};
+use tis_tree::TisTable;
 
 /// The book of a run over a pool and these usage lines, with so many workers, readers and nodes.
 fn book_of<P: Pool, G: Gate, R: Threads + Wait + Sync>(
@@ -99,6 +101,61 @@ fn comes_to_one_book_over_a_pool_whatever_the_plan(rt: HostRuntime) -> Result<()
     }
     let book = book_of(&rt, rt.alloc(), &PoolMail, NO_USES, (2, 2, 1), &NoGate)?;
     assert_totals(&rt, &book, (0, 0, 0));
+    Ok(())
+}
+
+/// A usage line of 100000 for each of four works.
+const FOUR_USES: &str = "\
+usage,work,territory,right,amount
+u1,W0,276,P,100000
+u2,W1,276,P,100000
+u3,W2,276,P,100000
+u4,W3,276,P,100000
+";
+
+/// The four works, with 256 parties each, of whom each has 10 of 10000 parts of its work.
+fn many_parties(alloc: Global) -> Result<String, Fail> {
+    let mut text = String::new(alloc);
+    for work in 0..4u32 {
+        let head = format!(in alloc; "NWR0000000000000000SONG{:58}W{work}\nSPU\n", "")?;
+        text.push_str(head.as_str())?;
+        for number in 1..=256u32 {
+            let party = work * 256 + number;
+            let line = format!(in alloc;
+                "SPT0000000000000002{party:09}      00010     00030I2136\n"
+            )?;
+            text.push_str(line.as_str())?;
+        }
+    }
+    Ok(text)
+}
+
+/// Asserts what a run over a pool with 1,025 accounts comes to, whose readers look at bells: each of the 1,024 parties gets 100, and the
+/// residue what is left of the four works, 4 times 100000 less 256 times 100.
+fn assert_many_accounts<R: Abort + Threads + Wait + Sync>(
+    rt: &R,
+    alloc: Global,
+    parties: &str,
+    threads: (u64, u64, u64),
+) -> Result<(), Fail> {
+    let plan = plan_of(threads)?;
+    let tis = TisTable::read(alloc, TERRITORIES.as_bytes())?;
+    let registry = Registry::read(alloc, parties.as_bytes())?;
+    let usage = Usage::read(alloc, FOUR_USES.as_bytes())?;
+    let book = run_pool(rt, alloc, &PoolMail, &tis, &registry, &usage, plan, &NoGate)?;
+    assert_eq!(rt; book.accounts(), 1025);
+    assert_eq!(rt; book.total(0), 297_600);
+    assert_eq!(rt; book.total(1), 100);
+    assert_eq!(rt; book.total(1024), 100);
+    Ok(())
+}
+
+#[test]
+fn comes_to_one_book_where_readers_look_at_bells(rt: HostRuntime) -> Result<(), Fail> {
+    let parties = many_parties(rt.alloc())?;
+    for threads in [(1, 1, 1), (2, 3, 16)] {
+        assert_many_accounts(&rt, rt.alloc(), parties.as_str(), threads)?;
+    }
     Ok(())
 }
 
