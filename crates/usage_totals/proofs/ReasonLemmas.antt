@@ -1,5 +1,5 @@
 -- The lines of four reasons are all lines.
-use Rattle.std.proofs.Common.{◌≡◌, ◌∙◌, ◌+◌, ◌+ℤ◌, ◌∷◌, [], ℕ, ℤ, List, arith, cond, filter, length, refl}
+use Rattle.std.proofs.Common.{◌≡◌, ◌+◌, ◌+ℤ◌, ◌∷◌, [], ℤ, List, arith, cond, filter, length, refl}
 use Rattle.std.proofs.lemmas.Int.{ints}
 use Rattle.line_split.proofs.IntSums.{int_sum_by-cons}
 use Rattle.line_split.specs.Signs.{int_sum_by}

@@ -1,5 +1,5 @@
 -- What of all lines is the residue's: its portions of those that are divided, and the others whole.
-use Rattle.std.proofs.Common.{◌≡◌, ◌∙◌, ◌+◌, ◌+ℤ◌, ◌<◌, ◌∷◌, ◌==◌, [], ℕ, ℤ, pos, negsuc, Bool, true, false, List, Option, Some, None, ap, arith, cond, eq-eqb, filter, length, map, refl, subst, sym, unsigned_abs, unwrap_or}
+use Rattle.std.proofs.Common.{◌≡◌, ◌∙◌, ◌+◌, ◌+ℤ◌, ◌∷◌, [], ℕ, ℤ, pos, negsuc, Bool, true, false, List, Option, Some, None, ap, arith, cond, eq-eqb, filter, map, refl, sym, unwrap_or}
 use Rattle.std.specs.List.{enumerate_from}
 use Rattle.std.proofs.lemmas.Int.{ints}
 use Rattle.std.proofs.lemmas.Bool.Decides.{nat_tests}

@@ -1,6 +1,5 @@
-use Rattle.std.proofs.Common.{◌≡◌, ◌∙◌, ◌+◌, ◌+ℤ◌}
+use Rattle.std.proofs.Common.{◌∙◌, ◌+◌, ◌+ℤ◌}
 use Rattle.usage_totals.specs.Totals.{reason_of}
-use Rattle.usage_totals.specs.declared.total.Total.{Total}
 use Rattle.usage_totals.proofs.ReasonLemmas.{all_counted, all_summed}
 use Rattle.usage_totals.proofs.laws.law_each_line_has_one_reason.Goals as goal
 

@@ -1,4 +1,4 @@
-use Rattle.std.proofs.Common.{◌≡◌, ◌∙◌, ◌+ℤ◌, ℕ, ℤ, List, ap, sym}
+use Rattle.std.proofs.Common.{◌∙◌, ◌+ℤ◌, ℕ, ℤ, List, ap, sym}
 use Rattle.line_split.specs.Signs.{signed_portions_of}
 use Rattle.line_split.specs.UsageLine.{UsageLine}
 use Rattle.line_split.specs.declared.TheConstants.{RESIDUE}
