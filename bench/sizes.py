@@ -15,7 +15,7 @@ import sys
 import tempfile
 
 from bench import LAUNCHER, build_plain
-from compare import NAMES, words_of
+from compare import NAMES, run_options, words_of
 
 MOST_BYTES = 268_435_456
 USAGE = b"usage,work,territory,right,amount\n"
@@ -116,7 +116,7 @@ def largest():
 def run(program, paths, folder):
     """Wall time, peak memory in MB, status, message without the program's name, and the digest of what it printed."""
     out, err = (os.path.join(folder, name) for name in ("out", "err"))
-    words = words_of(program, paths, PLAN)
+    words = words_of(program, "run", run_options(paths, PLAN))
     done = subprocess.run([sys.executable, "-ISc", LAUNCHER, out, err, *words], stdout=subprocess.PIPE, text=True, check=True)
     wall, _, memory, status = map(float, done.stdout.split())
     with open(err, "rb") as f:
