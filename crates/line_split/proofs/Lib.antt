@@ -9,6 +9,7 @@ pub mod Division
 pub mod FirstPlaces
 pub mod ByAccount
 pub mod Over
+mod LineFeeds
 mod UsageRows
 pub mod UsageReadings
 pub mod OneTable

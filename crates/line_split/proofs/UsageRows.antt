@@ -3,10 +3,12 @@ use Rattle.std.proofs.Common.{pos, neg_ℤ, unsigned_abs, Bool, true, false, ◌
 use Rattle.std.proofs.lemmas.Bool.{cases_lt}
 use Rattle.std.proofs.lemmas.List.{append-nil, length-append, length-map, length-take-le, length_push, map-append}
 use Rattle.std.proofs.lemmas.List.Elements.{All-append, All-map, All-nil, All-push, All-take}
-use Rattle.std.specs.Prelude.{Err, IfErr, Ok, Result, if◌then◌else◌, take}
+use Rattle.std.specs.Prelude.{Err, IfErr, IfOk, Ok, Result, if◌then◌else◌, take}
 use Rattle.std.proofs.lemmas.Int.{ints}
 use Rattle.csv_table.specs.Forms.{IsSignedNumber, has_minus, number_of, signed_number_of, without_minus}
 use Rattle.csv_table.proofs.Codes.{code_small}
+use Rattle.csv_table.specs.Table.{HaveNoLineFeed}
+use Rattle.line_split.proofs.LineFeeds.{in_lines, in_table}
 use Rattle.line_split.specs.declared.TheConstants.{MOST_AMOUNT}
 use Rattle.line_split.specs.UsageLine.{HasAmount, HasRight, HasTerritory, HasTexts, UsageLine, amount_of, line_of}
 use Rattle.line_split.specs.UsageLines.{AreUsageLines, IsUsageLine}
@@ -121,52 +123,23 @@ pub headed_faults : {T : Type 0} (rows below : List (List (List ℕ))) (result :
 headed_faults rows below (Ok lines) headed is = tt
 headed_faults rows below (Err fault) headed is = headed_fault rows below fault headed is
 
+pub headed_tables : {E : Type 0} (rows below : List (List (List ℕ))) (result : Result (List UsageLine) E) → rows ≡ header ∷ below → IfOk result (AreLinesOf below) → IfOk result (IsTableOf rows)
+headed_tables rows below (Ok lines) headed are = headed_table rows below lines headed are
+headed_tables rows below (Err fault) headed are = tt
+
 -- ---- two parts
 
--- the fault of a table whose header stands in the first part, and the lines
-pub table_of_parts : (all rows more : List (List (List ℕ))) (lines : List UsageLine) → all ≡ rows ++ more → IsTableOf rows lines → (below : List (List (List ℕ))) × (all ≡ header ∷ (below ++ more)) × AreLinesOf below lines
-table_of_parts all rows more lines is table = (
+-- where the rows of the first part are lines, the text was cut between rows
+pub lines_of_parts : (all rows more : List (List (List ℕ))) (lines : List UsageLine) → (HaveNoLineFeed rows → all ≡ rows ++ more) → AreLinesOf rows lines → all ≡ rows ++ more
+lines_of_parts all rows more lines cut are = cut (in_lines rows lines are)
+
+-- also where they are a header and lines
+pub table_of_parts : (all rows more : List (List (List ℕ))) (lines : List UsageLine) → (HaveNoLineFeed rows → all ≡ rows ++ more) → IsTableOf rows lines → (below : List (List (List ℕ))) × (all ≡ header ∷ (below ++ more)) × AreLinesOf below lines
+table_of_parts all rows more lines cut table = (
   table.rows_below,
-  is ∙ ap (λ (l : List (List (List ℕ))). l ++ more) table.headed,
+  cut (in_table rows lines table) ∙ ap (λ (l : List (List (List ℕ))). l ++ more) table.headed,
   record { few = table.few; sound = table.sound; same = table.same },
 )
-
--- a fault of the first part that is not its header's is the whole's
-longer : (rows more : List (List (List ℕ))) (fault : LineFault) → IsFirstFault rows fault → IsFirstFault (rows ++ more) fault
-longer rows more fault is = record {
-  before = is.before;
-  row = is.row;
-  after = is.after ++ more;
-  split = ap (λ (l : List (List (List ℕ))). l ++ more) is.split ∙ ap (λ (l : List (List (List ℕ))). header ∷ l) (append_assoc is.before (is.row ∷ is.after) more);
-  sound = is.sound;
-  refused = is.refused;
-}
-
-pub fault_of_first : (rows more : List (List (List ℕ))) (fault : LineFault) → ¬ (fault ≡ Csv 0) → IsFaultOf rows fault → IsFaultOf (rows ++ more) fault
-fault_of_first rows more Memory other is = tt
-fault_of_first rows more (Csv n) other is = elim is [
-  | inl none ↦ absurd (other (ap Csv none.0))
-  | inr first ↦ inr (longer rows more (Csv n) first)
-]
-fault_of_first rows more (Fields n) other is = longer rows more (Fields n) is
-fault_of_first rows more (Territory n) other is = longer rows more (Territory n) is
-fault_of_first rows more (Right n) other is = longer rows more (Right n) is
-fault_of_first rows more (Amount n) other is = longer rows more (Amount n) is
-fault_of_first rows more Lines other is = longer rows more Lines is
-
--- the same below a header
-pub fault_in_first : (rows more : List (List (List ℕ))) (fault : LineFault) → IsFaultIn rows fault → IsFaultIn (rows ++ more) fault
-fault_in_first rows more fault is = elim is [
-  | inl memory ↦ inl memory
-  | inr first ↦ inr record {
-    before = first.before;
-    row = first.row;
-    after = first.after ++ more;
-    split = ap (λ (l : List (List (List ℕ))). l ++ more) first.split ∙ append_assoc first.before (first.row ∷ first.after) more;
-    sound = first.sound;
-    refused = first.refused;
-  }
-]
 
 -- as many lines as rows
 lines_count : (rows : List (List (List ℕ))) (lines : List UsageLine) → AreLinesOf rows lines → length lines ≡ length rows

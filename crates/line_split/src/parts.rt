@@ -12,7 +12,9 @@ use std::thread::{Threads, join};
 
 impl Usage {
     /// Reads a table of usage lines as `read` does, in two parts side by side, each of them in two parts again, so many times
-    /// over. A part is not cut where a quote stands in its first half. A thread that the system refuses costs time alone.
+    /// over. The lines before a cut tell that it was right: within quotes, the last of them would have a line feed in a field.
+    /// So where what stands before a cut is refused, one thread reads it again, with what stands behind it. A thread that the
+    /// system refuses costs time alone.
     pub fn read_in_parts<R: Threads + Sync>(
         rt: &R,
         alloc: Global,
@@ -44,7 +46,7 @@ fn table_in_parts<R: Threads + Sync>(
         return read_table(alloc, bytes, room);
     };
     let halvings = halvings - 1;
-    let (more, read) = join(
+    let (more, table) = join(
         rt,
         || -> Result<Usage, LineFault>
             ensures lines { IfOk result (AreLinesOf (rows_of second.entry.now)) }
@@ -55,13 +57,12 @@ fn table_in_parts<R: Threads + Sync>(
             ensures fault { IfErr result (IsFaultOf (rows_of first.entry.now)) }
         { table_in_parts(rt, alloc, first, room, halvings) },
     );
-    let read = match read {
-        Ok(read) => read,
-        // The fault of row 0: the header may be the first row of the second part.
-        Err(fault) if fault.place() == Some(0) => return read_table(alloc, bytes, room),
-        Err(fault) => return Err(fault),
-    };
-    joined(read, more)
+    match table {
+        Ok(table) => joined(table, more),
+        Err(LineFault::Memory) => Err(LineFault::Memory),
+        // The cut may have been within quotes, or before the header.
+        Err(_) => read_table(alloc, bytes, room),
+    }
 }
 
 /// Reads the lines of a text without a header in parts, in memory for so many. Its first row counts as 1.
@@ -82,7 +83,7 @@ fn lines_in_parts<R: Threads + Sync>(
         return read_lines(alloc, bytes, room);
     };
     let halvings = halvings - 1;
-    let (more, read) = join(
+    let (more, lines) = join(
         rt,
         || -> Result<Usage, LineFault>
             ensures lines { IfOk result (AreLinesOf (rows_of second.entry.now)) }
@@ -93,5 +94,10 @@ fn lines_in_parts<R: Threads + Sync>(
             ensures fault { IfErr result (IsFaultIn (rows_of first.entry.now)) }
         { lines_in_parts(rt, alloc, first, room, halvings) },
     );
-    joined(read?, more)
+    match lines {
+        Ok(lines) => joined(lines, more),
+        Err(LineFault::Memory) => Err(LineFault::Memory),
+        // The cut may have been within quotes.
+        Err(_) => read_lines(alloc, bytes, room),
+    }
 }

@@ -324,16 +324,43 @@ fn cuts_a_text_in_two(rt: HostRuntime) -> Result<(), Fail> {
     );
     assert_eq!(rt; told_parts(alloc, "a,\n,b")?.as_str(), "[a][]/^[][b]/");
     assert_eq!(rt; told_parts(alloc, "\n")?.as_str(), "^");
-    // a quote behind the cut
-    assert_eq!(rt; told_parts(alloc, "a\nb\n\"c\nd\"")?.as_str(), "not cut");
+    // no line feed, and a byte order mark behind it
+    assert_eq!(rt; told_parts(alloc, "a\nbcd")?.as_str(), "not cut");
+    assert_eq!(rt; told_parts(alloc, "")?.as_str(), "not cut");
+    assert_eq!(rt; told_parts(alloc, "abcd\n\u{FEFF}e")?.as_str(), "not cut");
+    Ok(())
+}
+
+#[test]
+fn cuts_a_text_with_quotes_in_two(rt: HostRuntime) -> Result<(), Fail> {
+    let alloc = rt.alloc();
+    // before, at and behind the cut
+    assert_eq!(rt;
+        told_parts(alloc, "\"a\"\n\"b\"\n\"c\"")?.as_str(),
+        "[a]/[b]/^[c]/"
+    );
     assert_eq!(rt;
         told_parts(alloc, "aa\nbb\n\"c\"")?.as_str(),
         "[aa]/[bb]/^[c]/"
     );
-    // a quote before it, no line feed, and a byte order mark behind it
-    assert_eq!(rt; told_parts(alloc, "\"a\nb\"\nc\nd")?.as_str(), "not cut");
-    assert_eq!(rt; told_parts(alloc, "a\nbcd")?.as_str(), "not cut");
-    assert_eq!(rt; told_parts(alloc, "")?.as_str(), "not cut");
-    assert_eq!(rt; told_parts(alloc, "abcd\n\u{FEFF}e")?.as_str(), "not cut");
+    // two for one, and one that opens no field
+    assert_eq!(rt;
+        told_parts(alloc, "\"a\"\"\"\nb\"\nc")?.as_str(),
+        "[a\"]/^[b\"]/[c]/"
+    );
+    // a line feed within quotes before the cut
+    assert_eq!(rt;
+        told_parts(alloc, "\"a\nb\"\nc\nd")?.as_str(),
+        "[a\nb]/^[c]/[d]/"
+    );
+    // at the cut, so that the parts have other rows than the text: [a]/[b]/[c\nd]/, and one that is never closed
+    assert_eq!(rt;
+        told_parts(alloc, "a\nb\n\"c\nd\"")?.as_str(),
+        "[a]/[b]/[c\n]/^[d\"]/"
+    );
+    assert_eq!(rt;
+        told_parts(alloc, "a,\"b\nc\nd")?.as_str(),
+        "[a][b\n]/^[c]/[d]/"
+    );
     Ok(())
 }

@@ -18,12 +18,16 @@ enum Odd {
     NoAmount,
     Empty,
     Quoted,
+    TwoQuotes,
+    QuoteWithin,
     LineFeedInQuotes,
+    RowsInQuotes,
+    OpenQuote,
     CarriageReturn,
     Marked,
 }
 
-const ALL_ODD: [Odd; 10] = [
+const ALL_ODD: [Odd; 14] = [
     Odd::Short,
     Odd::LongText,
     Odd::NoTerritory,
@@ -31,7 +35,11 @@ const ALL_ODD: [Odd; 10] = [
     Odd::NoAmount,
     Odd::Empty,
     Odd::Quoted,
+    Odd::TwoQuotes,
+    Odd::QuoteWithin,
     Odd::LineFeedInQuotes,
+    Odd::RowsInQuotes,
+    Odd::OpenQuote,
     Odd::CarriageReturn,
     Odd::Marked,
 ];
@@ -47,7 +55,12 @@ fn odd_row(odd: Odd) -> &'static str {
         Odd::NoAmount => "u,w,1,P,+1\n",
         Odd::Empty => "\n\r\n\n",
         Odd::Quoted => "\"u\",\"w,w\",1,P,1\n",
+        Odd::TwoQuotes => "\"\"\"u\"\"\",w,1,P,1\n",
+        Odd::QuoteWithin => "u\",w,1,P,1\n",
         Odd::LineFeedInQuotes => "u,\"w\nw\",1,P,1\n",
+        Odd::RowsInQuotes =>
+            "u,\"w\nu,w,1,P,1\nu,w,1,P,1\nu,w,1,P,1\nu,w,1,P,1\nu,w,1,P,1\nu,w,1,P,1\n\",1,P,1\n",
+        Odd::OpenQuote => "u,w,1,P,\"1\n",
         Odd::CarriageReturn => "u,w,1,P,1\r\n",
         Odd::Marked => "\u{FEFF}u,w,1,P,1\n",
     }
@@ -141,6 +154,35 @@ fn a_header_in_another_part_than_the_first_is_found(rt: HostRuntime) -> Result<(
     Ok(())
 }
 
+/// What is read in parts of a table whose row with this number, from 0, is odd.
+fn told_in_parts<R: Threads + Sync>(
+    rt: &R,
+    alloc: Global,
+    odd: Odd,
+    at: u64,
+) -> Result<String, Fail> {
+    let table = table_with(alloc, odd, at, 0)?;
+    told(alloc, Usage::read_in_parts(rt, alloc, table.as_bytes(), 3))
+}
+
+#[test]
+fn a_cut_within_quotes_makes_no_fault_and_hides_none(rt: HostRuntime) -> Result<(), Fail> {
+    let alloc = rt.alloc();
+    for at in 0..ROWS {
+        let row = at + 1;
+        let work = format!(in alloc; "2 Some({row})")?;
+        for odd in [Odd::LineFeedInQuotes, Odd::RowsInQuotes] {
+            assert_eq!(rt; told_in_parts(&rt, alloc, odd, at)?.as_str(), work.as_str());
+        }
+        let amount = format!(in alloc; "5 Some({row})")?;
+        assert_eq!(rt;
+            told_in_parts(&rt, alloc, Odd::OpenQuote, at)?.as_str(),
+            amount.as_str()
+        );
+    }
+    Ok(())
+}
+
 /// The first of two faults, each by its row.
 fn first_fault<R: Threads + Sync>(
     rt: &R,
@@ -175,17 +217,18 @@ fn the_first_fault_of_several_parts_is_the_answer(rt: HostRuntime) -> Result<(),
     Ok(())
 }
 
-/// What is read of so many rows, or refused: how many lines, or the fault's number and its row's.
+/// What is read of so many such rows, or refused: how many lines, or the fault's number and its row's.
 fn counted<R: Threads + Sync>(
     rt: &R,
     alloc: Global,
+    row: &str,
     rows: u64,
     halvings: u32,
 ) -> Result<String, Fail> {
     let mut table = String::new(alloc);
     table.push_str("usage,work,territory,right,amount\n")?;
     for _ in 0..rows {
-        table.push_str("u,w,1,P,1\n")?;
+        table.push_str(row)?;
     }
     match Usage::read_in_parts(rt, alloc, table.as_bytes(), halvings) {
         Ok(usage) => Ok(format!(in alloc; "{}", usage.len())?),
@@ -196,7 +239,28 @@ fn counted<R: Threads + Sync>(
 #[test]
 fn parts_have_a_million_lines_and_no_more(rt: HostRuntime) -> Result<(), Fail> {
     let alloc = rt.alloc();
-    assert_eq!(rt; counted(&rt, alloc, MOST_LINES, 3)?.as_str(), "1000000");
-    assert_eq!(rt; counted(&rt, alloc, MOST_LINES + 1, 3)?.as_str(), "6 None");
+    let row = "u,w,1,P,1\n";
+    assert_eq!(rt;
+        counted(&rt, alloc, row, MOST_LINES, 3)?.as_str(),
+        "1000000"
+    );
+    assert_eq!(rt;
+        counted(&rt, alloc, row, MOST_LINES + 1, 3)?.as_str(),
+        "6 None"
+    );
+    Ok(())
+}
+
+#[test]
+fn each_row_may_have_quotes(rt: HostRuntime) -> Result<(), Fail> {
+    let alloc = rt.alloc();
+    for odd in [Odd::Quoted, Odd::TwoQuotes, Odd::QuoteWithin] {
+        for halvings in 0..5 {
+            assert_eq!(rt;
+                counted(&rt, alloc, odd_row(odd), 1000, halvings)?.as_str(),
+                "1000"
+            );
+        }
+    }
     Ok(())
 }

@@ -16,4 +16,4 @@ returns c =
     let high : feed < rest = omega (arith, found.0.high, length-take-le rest (drop middle text) (omega (arith, long))) in
     rows_in_two text (middle + feed) (omega (arith, high))
     (sym (get_or-drop middle text feed 0) ∙ (sym (get_or-take rest (drop middle text) feed 0 high) ∙ eqb-true _ 10 found.1))
-    (c.has_quote.ensures c.if-has_quote.false) (c.begins_as_a_mark.ensures c.if-begins_as_a_mark.false)
+    (c.begins_as_a_mark.ensures c.if-begins_as_a_mark.false)
