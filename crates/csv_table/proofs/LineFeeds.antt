@@ -1,7 +1,7 @@
 -- Fields of these forms have no line feed.
-use Rattle.std.proofs.Common.{◌≡◌, ◌<◌, ◌≤◌, ℕ, List, [], ◌∷◌, Bool, true, false, All, arith, inl, inr, length, get_or}
-use Rattle.std.proofs.lemmas.Bool.{cases_Bool, eqb-true, ne_eqb}
-use Rattle.std.proofs.lemmas.List.Elements.{All-cons, All-from_get_or, All-nil, All-weaker}
+use Rattle.std.proofs.Common.{◌≡◌, ℕ, List, [], ◌∷◌, Bool, true, All, arith, inl, inr}
+use Rattle.std.proofs.lemmas.Bool.{cases_Bool, eqb-true}
+use Rattle.std.proofs.lemmas.List.Elements.{All-cons, All-from_get_or, All-nil, All-same, All-weaker}
 use Rattle.std.proofs.lemmas.List.Sums.{AllPass-from_list_all}
 use Rattle.std.proofs.lemmas.Str.Parse.{digit_at}
 use Rattle.std.specs.List.{list_all}
@@ -16,12 +16,15 @@ IsOther byte = ¬ (byte ≡ 10)
 abbrev is_other : ℕ → Bool
 is_other byte = not (byte == 10)
 
--- a field that is written out, and a row
-pub none_by_test : (field : List ℕ) → list_all is_other field ≡ true → All IsOther field
+-- a text that is written out, and a row of such texts
+none_by_test : (field : List ℕ) → list_all is_other field ≡ true → All IsOther field
 none_by_test field passes = All-weaker (λ (byte : ℕ). is_other byte ≡ true) IsOther (λ byte other is. cc (rw is at other)) field (AllPass-from_list_all is_other field passes)
 
-pub none_in_row_by_test : (row : List (List ℕ)) → list_all (list_all is_other) row ≡ true → HasNoLineFeed row
-none_in_row_by_test row passes = All-weaker (λ (field : List ℕ). list_all is_other field ≡ true) (All IsOther) none_by_test row (AllPass-from_list_all (list_all is_other) row passes)
+pub none_in_text : (field text : List ℕ) → field ≡ text → list_all is_other text ≡ true → All IsOther field
+none_in_text field text is passes = All-same IsOther field text is (none_by_test text passes)
+
+pub none_in_row : (row : List (List ℕ)) → list_all (list_all is_other) row ≡ true → HasNoLineFeed row
+none_in_row row passes = All-weaker (λ (field : List ℕ). list_all is_other field ≡ true) (All IsOther) none_by_test row (AllPass-from_list_all (list_all is_other) row passes)
 
 pub none_in_printable : (most : ℕ) (field : List ℕ) → IsPrintable most field → All IsOther field
 none_in_printable most field is = All-weaker IsPrintableByte IsOther (λ byte printable. λ feed. absurd (omega (arith, printable.0, feed))) field is.printable

@@ -90,7 +90,7 @@ step_kind st.InEscape is c = absurd is
 step_kind st.InComment is c = absurd is
 
 -- a text that ends with a line feed
-abbrev pub EndsLine : List ℕ → Type 0
+abbrev EndsLine : List ℕ → Type 0
 EndsLine [] = ⊥
 EndsLine (c ∷ []) = c ≡ 10
 EndsLine (c ∷ d ∷ rest) = EndsLine (d ∷ rest)

@@ -1,7 +1,7 @@
 -- Rows of the table of usage lines have no line feed in a field.
-use Rattle.std.proofs.Common.{◌≡◌, ◌<◌, ◌+◌, ℕ, zero, suc, List, [], ◌∷◌, All, arith, inl, inr, length, refl, codes, get_or}
+use Rattle.std.proofs.Common.{◌≡◌, ◌<◌, ℕ, zero, suc, List, [], ◌∷◌, All, arith, inl, inr, length, refl, codes, get_or}
 use Rattle.std.proofs.lemmas.List.Elements.{All-cons, All-from_get_or, All-same}
-use Rattle.csv_table.proofs.LineFeeds.{none_by_test, none_in_code, none_in_printable, none_in_row_by_test, none_in_signed_number}
+use Rattle.csv_table.proofs.LineFeeds.{none_in_code, none_in_printable, none_in_row, none_in_signed_number, none_in_text}
 use Rattle.csv_table.specs.Table.{HasNoLineFeed, HaveNoLineFeed}
 use Rattle.line_split.specs.UsageLine.{IsRight, UsageLine, amount_of, right_of, territory_of, usage_of, work_of}
 use Rattle.line_split.specs.UsageParts.{AreLinesOf}
@@ -14,10 +14,10 @@ HasNone field = All (λ byte. ¬ (byte ≡ 10)) field
 
 in_right : (field : List ℕ) → IsRight field → HasNone field
 in_right field is = elim is [
-  | inl performing ↦ All-same (λ (byte : ℕ). ¬ (byte ≡ 10)) field (codes "P") performing (none_by_test (codes "P") refl)
+  | inl performing ↦ none_in_text field (codes "P") performing refl
   | inr other ↦ elim other [
-    | inl mechanical ↦ All-same (λ (byte : ℕ). ¬ (byte ≡ 10)) field (codes "M") mechanical (none_by_test (codes "M") refl)
-    | inr synchronisation ↦ All-same (λ (byte : ℕ). ¬ (byte ≡ 10)) field (codes "S") synchronisation (none_by_test (codes "S") refl)
+    | inl mechanical ↦ none_in_text field (codes "M") mechanical refl
+    | inr synchronisation ↦ none_in_text field (codes "S") synchronisation refl
   ]
 ]
 
@@ -33,7 +33,7 @@ in_line row line = All-from_get_or HasNone row [] in_field
     in_field (suc (suc (suc (suc (suc i))))) low = absurd (omega (arith, low, line.whole))
 
 in_header : HasNoLineFeed header
-in_header = none_in_row_by_test header refl
+in_header = none_in_row header refl
 
 -- rows that are all lines
 pub in_lines : (rows : List (List (List ℕ))) (lines : List UsageLine) → AreLinesOf rows lines → HaveNoLineFeed rows
