@@ -1,4 +1,6 @@
 pub mod ByKeyLemmas
+pub mod FirstLemmas
+pub mod MostMoneyLemmas
 pub mod ReasonLemmas
 pub mod ResidueLemmas
 pub mod RestLemmas
