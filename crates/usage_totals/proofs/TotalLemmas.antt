@@ -10,7 +10,7 @@ use Rattle.line_split.specs.declared.TheConstants.{MOST_AMOUNT}
 use Rattle.line_split.specs.declared.usage.TheConstants.{MOST_LINES}
 use Rattle.line_split.specs.declared.usage.Right.TheVariants.{P}
 use Rattle.line_split.specs.declared.reason.Reason.{Reason}
-use Rattle.usage_totals.specs.Room.{HasRoom}
+use Rattle.usage_totals.specs.SoFar.{HasRoom}
 use Rattle.usage_totals.specs.Totals.{is_same, total_of_lines}
 use Rattle.usage_totals.specs.declared.total.Total.{Total}
 

@@ -1,5 +1,5 @@
 -- What amounts come to by what they are of, such as a work, and where most of the money is.
-use Rattle.std.specs.Prelude.{ℕ, ℤ, ◌≡◌, ◌<◌, ◌≤◌, ◌+◌, ◌+ℤ◌, Bool, true, false, List, [], ◌∷◌, Option, None, Some, filter, length, pos, take, unsigned_abs, unwrap_or}
+use Rattle.std.specs.Prelude.{ℕ, ℤ, ◌≡◌, ◌<◌, ◌≤◌, Bool, true, false, List, [], ◌∷◌, Option, None, Some, filter, length, take, unsigned_abs}
 use Rattle.std.specs.List.{All, IsDistinct, list_any}
 use Rattle.std.specs.List.Sorted.{IsPermutation, IsSorted}
 use Rattle.std.specs.Map.{keys_of, lookup}
@@ -16,14 +16,6 @@ total_of amounts = record { lines = length amounts; amount = int_sum_by (λ amou
 abbrev pub total_if_any : {K : Type 0} → List (K × ℤ) → Option Total
 total_if_any [] = None
 total_if_any (amount ∷ amounts) = Some (total_of (amount ∷ amounts))
-
--- with one amount more
-abbrev pub total_with : Total → ℤ → Total
-total_with total amount = record { lines = total.lines + 1; amount = total.amount +ℤ amount }
-
--- what is kept for a key: nothing so far, or a total
-abbrev pub total_so_far : {K : Type 0} → (K → K → Bool) → K → List (K × Total) → Total
-total_so_far eq key totals = unwrap_or (lookup (eq key) totals) (record { lines = 0; amount = pos 0 })
 
 -- the amounts of a key
 abbrev pub amounts_at : {K : Type 0} → (K → K → Bool) → K → List (K × ℤ) → List (K × ℤ)

@@ -7,9 +7,9 @@ ghost use Rattle.line_split.specs.UsageLine.{UsageLine};
 ghost use Rattle.line_split.specs.declared.TheConstants.{MOST_AMOUNT};
 ghost use Rattle.line_split.specs.declared.reason.Reason.{Reason};
 ghost use Rattle.line_split.specs.declared.reason.Reason.TheVariants.{Land, Work};
-ghost use Rattle.usage_totals.specs.Greatest.{AreFirst, AreTotals, by_money as in_order_of_money, total_with, total_so_far};
-ghost use Rattle.usage_totals.specs.Room.{HasRoom};
+ghost use Rattle.usage_totals.specs.Greatest.{AreFirst, AreTotals, by_money as in_order_of_money};
 ghost use Rattle.usage_totals.specs.Totals.{amounts_by_territory, amounts_by_work, is_same as are_same};
+ghost use Rattle.usage_totals.specs.SoFar.{HasRoom, total_so_far, total_with};
 
 use crate::name::Name;
 use crate::reasons::is_same;
@@ -91,7 +91,8 @@ pub(crate) fn greatest<K: Eq + Hash + Ord + Drop>(
     Ok(first)
 }
 
-/// Puts a key and its total at their place among the first in order of money, of which so many are kept at most.
+/// Puts a key and its total at their place among the first in order of money, of which so many are
+/// kept at most.
 fn put<K: Ord + Drop>(
     first: &mut Vec<(K, Total)>,
     entry: (K, Total),

@@ -86,7 +86,7 @@ pub(crate) fn is_same(reason: Reason, other: Reason) -> bool
 }
 
 /// Whether the table has the territory of some line.
-pub(crate) fn knows_one(tis: &TisTable, usage: &Usage) -> bool
+pub(crate) fn knows_a_territory(tis: &TisTable, usage: &Usage) -> bool
     ensures { result ≡ list_any (λ line. is_known tis.now line.territory) usage.now }
 {
     for place in 0..usage.len() {
