@@ -4,4 +4,5 @@ pub mod MostMoneyLemmas
 pub mod ReasonLemmas
 pub mod ResidueLemmas
 pub mod RestLemmas
+pub mod SameGreatestLemmas
 pub mod TotalLemmas

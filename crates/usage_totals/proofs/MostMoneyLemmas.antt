@@ -69,20 +69,27 @@ module _ {K : Type 0} (eq : K → K → Bool) (laws : IsEquivalence eq) (cmp : K
     abbrev total : Total
     total = total_of (amounts_at eq key amounts)
 
+    shown_too : (e : K × Total) (place : ℕ) → place < length shown → get_or sorted place e ≡ e → eq key e.0 ≡ true → list_any (eq key) (keys_of shown) ≡ true
+    shown_too e place below at told =
+        let here : slice_get shown place ≡ Some e = slice_get-get_or shown place e below ∙ ap Some (at_place place e below ∙ at) in
+        any_passes_from_place (eq key) (keys_of shown) place e.0 (slice_get-map (λ (x : K × Total). x.0) shown place ∙ ap (option_map (λ (x : K × Total). x.0)) here) told
+
+    behind_at : (e : K × Total) → Contains sorted e → eq key e.0 ≡ true → (place : ℕ) × (length shown ≤ place) × (place < length sorted) × ((d : K × Total) → (get_or sorted place d).1 ≡ e.1)
+    behind_at e (place, within, at) told =
+        let last : length shown ≤ place = ⊎_elim (λ below. absurd (false≢true (sym left ∙ shown_too e place below at told))) (λ le. le) (cases_lt place (length shown)) in
+        (place, last, within, λ d. ap (λ (x : K × Total). x.1) (get_or_default sorted place d e within ∙ at))
+
+    found_at : (e : K × Total) (place : ℕ) → slice_get are.all place ≡ Some e → Contains sorted e
+    found_at e place is =
+        let within : place < length are.all = slice_get_within are.all place e is in
+        let at = slice_get-get_or are.all place e within in
+        let read : get_or are.all place e ≡ e = cc (is, at) in
+        Contains-permutation are.all sorted e are.greatest.same (place, within, read)
+
     behind : (place : ℕ) × (length shown ≤ place) × (place < length sorted) × ((d : K × Total) → (get_or sorted place d).1 ≡ total)
     behind =
-        let found = place_from_lookup (eq key) are.all total (are.totals.each key ∙ has_total eq key amounts some) in
-        let e : K × Total = (found.1, total) in
-        let within : found.0 < length are.all = slice_get_within are.all found.0 e found.2 in
-        let read : get_or are.all found.0 e ≡ e = let at = slice_get-get_or are.all found.0 e within in cc (found.2, at) in
-        let moved : Contains sorted e = Contains-permutation are.all sorted e are.greatest.same (found.0, within, read) in
-        let last : length shown ≤ moved.0 = ⊎_elim (λ below. absurd (false≢true (sym left ∙ shown_too e moved.0 below moved.2 found.3))) (λ le. le) (cases_lt moved.0 (length shown)) in
-        (moved.0, last, moved.1, λ d. ap (λ (x : K × Total). x.1) (get_or_default sorted moved.0 d e moved.1 ∙ moved.2))
-      where
-        shown_too : (e : K × Total) (place : ℕ) → place < length shown → get_or sorted place e ≡ e → eq key e.0 ≡ true → list_any (eq key) (keys_of shown) ≡ true
-        shown_too e place below at told =
-            let here : slice_get shown place ≡ Some e = slice_get-get_or shown place e below ∙ ap Some (at_place place e below ∙ at) in
-            any_passes_from_place (eq key) (keys_of shown) place e.0 (slice_get-map (λ (x : K × Total). x.0) shown place ∙ ap (option_map (λ (x : K × Total). x.0)) here) told
+        let (place, k, is, told) = place_from_lookup (eq key) are.all total (are.totals.each key ∙ has_total eq key amounts some) in
+        behind_at (k, total) (found_at (k, total) place is) told
 
     none_more : (length shown ≡ most) × All (λ e. unsigned_abs total.amount ≤ unsigned_abs e.1.amount) shown
     none_more =
