@@ -12,7 +12,6 @@ ghost use Rattle.usage_totals.specs.Totals.{amounts_by_territory, amounts_by_wor
 ghost use Rattle.usage_totals.specs.SoFar.{HasRoom, total_so_far, total_with};
 
 use crate::name::Name;
-use crate::reasons::is_same;
 use crate::total::Total;
 use indexmap::IndexMap;
 use line_split::{Reason, Usage};
@@ -32,7 +31,7 @@ pub(crate) fn by_work<'a>(
 {
     let mut totals = IndexMap::new(alloc);
     for place in 0..usage.len() {
-        if is_same(Reason::Work, reasons[place]) {
+        if reasons[place] == Reason::Work {
             let line = usage.line(place);
             add(&mut totals, Name::of(line.work), line.amount)?;
         }
@@ -52,7 +51,7 @@ pub(crate) fn by_territory(
 {
     let mut totals = IndexMap::new(alloc);
     for place in 0..usage.len() {
-        if is_same(Reason::Land, reasons[place]) {
+        if reasons[place] == Reason::Land {
             let line = usage.line(place);
             add(&mut totals, line.territory, line.amount)?;
         }
