@@ -1,5 +1,5 @@
--- A report that is not whole yet. Contracts of private functions alone cite it, and no promise rests on it; it stands here
--- since a contract may cite nothing of proofs/.
+-- A report that is not whole yet. Contracts of private functions alone cite it, and no promise rests
+-- on it; it stands here since a contract may cite nothing of proofs/.
 use Rattle.std.specs.Prelude.{ℕ, ◌≡◌, ◌==◌, ◌&&◌, ◌++◌, List, flat_map, length, take}
 use Rattle.check_inputs.specs.declared.report.Sheet.{Sheet}
 use Rattle.check_inputs.specs.declared.words.TheConstants.{MOST_FAULTS}

@@ -43,8 +43,8 @@ pub record AreGreatest {K : Type 0} (eq : K → K → Bool) (cmp : K → K → O
   pub totals : AreTotals eq amounts all
   pub greatest : AreFirst (by_money cmp) most all shown
 
--- What that comes to, key by key: each is shown once and with all its amounts, and a key that is left out, which is so only where there are
--- too many, has no more money than any that is shown.
+-- What that comes to, key by key: each is shown once and with all its amounts, and a key that is
+-- left out, which is so only where there are too many, has no more money than any that is shown.
 pub record HaveMostMoney {K : Type 0} (eq : K → K → Bool) (most : ℕ) (amounts : List (K × ℤ)) (shown : List (K × Total)) : Type 0 where
   pub few : length shown ≤ most
   pub once : IsDistinct eq (keys_of shown)

@@ -1,5 +1,5 @@
--- What is kept of a key while lines are counted. Contracts of private functions alone cite it, and no promise rests on it;
--- it stands here since a contract may cite nothing of proofs/.
+-- What is kept of a key while lines are counted. Contracts of private functions alone cite it, and no
+-- promise rests on it; it stands here since a contract may cite nothing of proofs/.
 use Rattle.std.specs.Prelude.{ℤ, ◌≤◌, ◌<◌, ◌+◌, ◌*◌, ◌+ℤ◌, Bool, List, pos, unsigned_abs, unwrap_or}
 use Rattle.std.specs.Map.{lookup}
 use Rattle.line_split.specs.declared.TheConstants.{MOST_AMOUNT}

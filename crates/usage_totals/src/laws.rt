@@ -29,9 +29,9 @@ pub fn law_the_rest_is_the_residues()
         → totals.residue +ℤ totals.unregistered.amount +ℤ totals.unknown.amount +ℤ totals.claimed_over.amount ≡ total_of (slice_index_or statements RESIDUE []) }
 {}
 
-/// Of the works that nobody has registered, ten at most are shown, each once and with what all its lines
-/// come to. None that is left out has more money than one that is shown, and where fewer than ten are
-/// shown, none is left out. So it is with the territories that the table has not.
+/// Of the works that nobody has registered, ten at most are shown, each once and with what all its
+/// lines come to. None that is left out has more money than one that is shown, and where fewer than
+/// ten are shown, none is left out. So it is with the territories that the table has not.
 pub fn law_those_shown_have_most_money()
     ensures works { (table : List (ℕ × List ℕ)) (registered : Registered) (lines : List UsageLine) (totals : Totals) → AreTotalsOf table registered lines totals
         → HaveMostMoney (pointwise nat_eq) 10 (amounts_by_work (lines_for table registered Work lines)) totals.works.items }
@@ -39,8 +39,8 @@ pub fn law_those_shown_have_most_money()
         → HaveMostMoney nat_eq 10 (amounts_by_territory (lines_for table registered Land lines)) totals.territories.items }
 {}
 
-/// The works and the territories that are shown are determined, with their order: by the same territories
-/// and registrations the same lines have one answer.
+/// The works and the territories that are shown are determined, with their order: by the same
+/// territories and registrations the same lines have one answer.
 pub fn law_those_shown_are_determined()
     ensures works { (table : List (ℕ × List ℕ)) (registered : Registered) (lines : List UsageLine) (totals other : Totals) → AreTotalsOf table registered lines totals → AreTotalsOf table registered lines other
         → totals.works.items ≡ other.works.items }

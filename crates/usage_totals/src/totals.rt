@@ -26,8 +26,8 @@ pub struct Totals<'a> {
     pub unregistered: Total,
     /// The lines whose work is registered, and whose territory is not in the table.
     pub unknown: Total,
-    /// The lines whose work is registered and whose territory is in the table, but on which the claims come to more than
-    /// 100.06 per cent.
+    /// The lines whose work is registered and whose territory is in the table, but on which the
+    /// claims come to more than 100.06 per cent.
     pub claimed_over: Total,
     /// The unregistered works with most money, the most first: ten at most.
     pub works: Vec<(Name<'a>, Total)>,
