@@ -7,7 +7,7 @@ use Rattle.csv_table.specs.ReadOn.ReadsOn.{here, read, left_out, stopped}
 use Rattle.csv_table.specs.Table.{rows_of}
 use Rattle.csv_table.proofs.ReadingOn.{and_on}
 use Rattle.csv_table.proofs.RowCounts.{rows_count}
-use Rattle.check_inputs.specs.Told.{IsTold}
+use Rattle.check_inputs.specs.SoFar.{IsTold}
 
 -- no more are left out than there are
 pub out_few : {S R F : Type 0} (Reads : S → R → S → Type 0) (Refuses : S → ℕ → R → F → Type 0) (Stops : S → R → F → Type 0)

@@ -2,7 +2,8 @@
 use Rattle.std.proofs.Common.{◌≡◌, ◌++◌, ◌∙◌, [], ℕ, List, Bool, Option, Some, None, true, false, append_assoc, length, refl}
 use Rattle.std.specs.Prelude.{◌==◌, ◌&&◌}
 use Rattle.std.specs.Option.{option_map, option_map_or}
-use Rattle.check_inputs.specs.Checked.{Adds, GoesOn, IsReportOn, path_if_given, payee_facts}
+use Rattle.check_inputs.specs.Checked.{IsReportOn, path_if_given, payee_facts}
+use Rattle.check_inputs.specs.SoFar.{Adds, GoesOn}
 use Rattle.check_inputs.specs.Found.{Files, Found, IsFoundIn, is_sound}
 use Rattle.check_inputs.specs.Report.{Paths, cwr_facts, cwr_line, fault_lines, payee_line, payees_facts, tis_facts, tis_line, totals_text, usage_facts, usage_line}
 use Rattle.check_inputs.specs.declared.report.File.{File}

@@ -4,8 +4,8 @@ use Rattle.std.proofs.lemmas.Bool.{le-ltb}
 use Rattle.std.proofs.lemmas.List.{append-nil, flat_map_more, length_push, take_all, take-append-le}
 use Rattle.check_inputs.specs.Messages.{shown, shown_byte}
 use Rattle.check_inputs.specs.Report.{fault_lines, more_line}
-use Rattle.check_inputs.specs.Told.{IsTold}
-use Rattle.check_inputs.specs.declared.words.TheConstants.{MOST_FAULTS, MOST_SHOWN}
+use Rattle.check_inputs.specs.SoFar.{IsTold}
+use Rattle.check_inputs.specs.declared.words.TheConstants.{MOST_FAULTS, MOST_FIELD_BYTES}
 
 -- one of the first hundred more
 pub told_one : {X : Type 0} (line : X → List ℕ) (e : X) (before after : List ℕ) (count : ℕ) (faults : List X) → IsTold line before count faults → count < MOST_FAULTS
@@ -39,11 +39,11 @@ pub told_whole : {X : Type 0} (line : X → List ℕ) (path before after : List 
 told_whole line path before after count faults told wrote = wrote ∙ rw (told.lines, told.all) refl
 
 -- a field that is not long is shown whole
-pub shown_whole : (field before after : List ℕ) (end : ℕ) → length field ≤ MOST_SHOWN → after ≡ before ++ flat_map shown_byte (take end field) → end ≡ length field → after ≡ before ++ shown field
+pub shown_whole : (field before after : List ℕ) (end : ℕ) → length field ≤ MOST_FIELD_BYTES → after ≡ before ++ flat_map shown_byte (take end field) → end ≡ length field → after ≡ before ++ shown field
 shown_whole field before after end short wrote whole =
-    let all : take MOST_SHOWN field ≡ field = take_all MOST_SHOWN field short in
+    let all : take MOST_FIELD_BYTES field ≡ field = take_all MOST_FIELD_BYTES field short in
     let here : take end field ≡ field = take_all end field (omega (arith, whole)) in
-    wrote ∙ rw (here, all, le-ltb MOST_SHOWN (length field) short) (ap (λ (l : List ℕ). before ++ l) (sym (append-nil (flat_map shown_byte field))))
+    wrote ∙ rw (here, all, le-ltb MOST_FIELD_BYTES (length field) short) (ap (λ (l : List ℕ). before ++ l) (sym (append-nil (flat_map shown_byte field))))
 
 -- five texts behind another
 pub five_behind : (start one two three four five first second third fourth fifth : List ℕ) → one ≡ start ++ first → two ≡ one ++ second → three ≡ two ++ third → four ≡ three ++ fourth → five ≡ four ++ fifth

@@ -1,10 +1,9 @@
 -- What a report on the inputs of a run has to be.
-use Rattle.std.specs.Prelude.{ℕ, ◌≡◌, ◌==◌, ◌&&◌, ◌++◌, Bool, List, [], Option, string_bytes}
+use Rattle.std.specs.Prelude.{ℕ, ◌≡◌, Bool, List, [], Option, string_bytes}
 use Rattle.std.specs.Option.{option_map, option_map_or}
 use Rattle.check_inputs.specs.Found.{Files, Found, IsFoundIn, is_sound}
 use Rattle.check_inputs.specs.Report.{Paths, payees_facts, report_of}
 use Rattle.check_inputs.specs.declared.report.File.{File}
-use Rattle.check_inputs.specs.declared.report.Sheet.{Sheet}
 
 abbrev pub path_if_given : Option File → List ℕ
 path_if_given file = option_map_or (λ file. string_bytes file.path) file []
@@ -30,18 +29,6 @@ files_of tis payees cwr usage = record {
 -- the facts of a table of payees that need not be there
 abbrev pub payee_facts : Option File → (faults : ℕ) → List (List ℕ × List ℕ) → List ℕ
 payee_facts file faults rows = option_map_or (λ file. payees_facts (string_bytes file.path) faults rows) file []
-
--- the report goes on by a file that has so many faults
-pub record GoesOn (before after : Sheet) (faults : ℕ) (told facts : List ℕ) : Type 0 where
-  pub in_words : after.faults.items ≡ before.faults.items ++ told
-  pub in_numbers : after.facts.items ≡ before.facts.items ++ facts
-  pub sound : after.is_sound ≡ (before.is_sound && (faults == 0))
-
--- it has more facts
-pub record Adds (before after : Sheet) (facts : List ℕ) : Type 0 where
-  pub in_words : after.faults.items ≡ before.faults.items
-  pub in_numbers : after.facts.items ≡ before.facts.items ++ facts
-  pub sound : after.is_sound ≡ before.is_sound
 
 -- the text is the report, and tells whether no file has a fault
 pub record IsReportOn (paths : Paths) (files : Files) (text : List ℕ) (sound : Bool) : Type 0 where

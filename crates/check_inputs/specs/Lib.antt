@@ -2,4 +2,4 @@ pub mod Checked
 pub mod Found
 pub mod Messages
 pub mod Report
-pub mod Told
+pub mod SoFar

@@ -13,7 +13,7 @@ use Rattle.line_split.specs.declared.line_fault.LineFault.TheVariants as line
 use Rattle.tis_tree.specs.declared.tis_fault.TisFault.{TisFault}
 use Rattle.tis_tree.specs.declared.tis_fault.TisFault.TheVariants as tis
 use Rattle.usage_totals.specs.declared.total.Total.{Total}
-use Rattle.check_inputs.specs.declared.words.TheConstants.{MOST_SHOWN}
+use Rattle.check_inputs.specs.declared.words.TheConstants.{MOST_FIELD_BYTES}
 
 -- a digit to the base 16
 abbrev pub hex : ℕ → ℕ
@@ -25,7 +25,7 @@ shown_byte byte = if nat_le 32 byte && nat_le byte 126 then byte ∷ [] else cod
 
 -- a field as it stands, but for what is long
 abbrev pub shown : List ℕ → List ℕ
-shown field = flat_map shown_byte (take MOST_SHOWN field) ++ (if nat_lt MOST_SHOWN (length field) then codes ".." else [])
+shown field = flat_map shown_byte (take MOST_FIELD_BYTES field) ++ (if nat_lt MOST_FIELD_BYTES (length field) then codes ".." else [])
 
 -- a field, between words
 abbrev pub around : (before : List ℕ) → (field : List ℕ) → (after : List ℕ) → List ℕ

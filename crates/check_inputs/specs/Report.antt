@@ -109,7 +109,7 @@ totals_text territories registrations usage lines totals =
     ++ flat_map (work_line usage) totals.works.items
     ++ flat_map (territory_line usage) totals.territories.items
     ++ (if nat_lt 0 lines && (totals.unregistered.lines == lines) then remark_line registrations (codes "it has the work of no usage line") else [])
-    ++ (if nat_lt 0 lines && not totals.knows_one then remark_line territories (codes "it has the territory of no usage line") else [])
+    ++ (if nat_lt 0 lines && not totals.knows_a_territory then remark_line territories (codes "it has the territory of no usage line") else [])
 
 -- what is in the files that have no fault; nothing is said of a table of payees that is not there
 abbrev pub facts_text : Paths → Files → Found → List ℕ

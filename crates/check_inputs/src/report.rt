@@ -14,13 +14,14 @@ ghost use Rattle.line_split.specs.declared.line_fault.LineFault.{LineFault};
 ghost use Rattle.tis_tree.specs.TisReading as tis;
 ghost use Rattle.tis_tree.specs.declared.tis_fault.TisFault.{TisFault};
 ghost use Rattle.usage_totals.specs.declared.totals.Totals.{Totals};
-ghost use Rattle.check_inputs.specs.Checked.{Adds, GoesOn, IsReportOn, files_of, path_if_given, paths_of, payee_facts};
+ghost use Rattle.check_inputs.specs.Checked.{IsReportOn, files_of, path_if_given, paths_of, payee_facts};
 ghost use Rattle.check_inputs.specs.Found.{ArePayeesWithout, AreRegistrationsWithout, AreTotalsIfSound};
 ghost use Rattle.check_inputs.specs.Messages.{fact_line, remark_line};
+ghost use Rattle.check_inputs.specs.SoFar.{Adds, GoesOn};
 ghost use Rattle.check_inputs.specs.Report.{cwr_facts, cwr_line, cwr_numbers, fault_lines, if_none, payee_line, tis_facts, tis_line, totals_text, usage_facts, usage_line};
 
 use crate::reading::{read_cwr, read_payees, read_tis, read_usage};
-use crate::summary::add_totals;
+use crate::summary::{Paths, add_totals};
 use crate::told::Told;
 use crate::words::{add_fact, add_remark};
 use cwr_share::{Payees, Registry, count_registrations};
@@ -32,7 +33,7 @@ use usage_totals::totals_of;
 /// A report on inputs.
 #[derive(Drop)]
 pub struct Checked {
-    /// Its lines.
+    /// The lines of the report.
     pub text: Vec<u8>,
     /// No file has a fault.
     pub is_sound: bool,
@@ -41,9 +42,9 @@ pub struct Checked {
 /// An input, with the path that it has in the report.
 #[derive(Drop)]
 pub struct File {
-    /// Its path.
+    /// The path of the file.
     pub path: String,
-    /// What is in it.
+    /// What is in the file.
     pub bytes: Vec<u8>,
 }
 
@@ -68,29 +69,28 @@ pub fn check(
     let (rows, payee_faults) = sheet.payees(alloc, payees)?;
     let registry = sheet.cwr(alloc, cwr, &rows, payee_faults)?;
     let lines = sheet.usage(alloc, usage)?;
-    sheet.totals(
-        alloc,
-        tis.path.as_str(),
-        cwr.path.as_str(),
-        usage.path.as_str(),
-        &territories,
-        &registry,
-        &lines,
-    )?;
-    sheet.whole()
+    let paths = Paths {
+        territories: tis.path.as_str(),
+        registrations: cwr.path.as_str(),
+        usage: usage.path.as_str(),
+    };
+    sheet.totals(alloc, &paths, &territories, &registry, &lines)?;
+    sheet.finish()
 }
 
 /// The report so far.
 #[derive(Drop)]
 struct Sheet {
+    /// The lines of the faults.
     faults: Vec<u8>,
     /// What is in the files that have no fault, and what a run makes of them.
     facts: Vec<u8>,
+    /// No file so far has a fault.
     is_sound: bool,
 }
 
 impl Sheet {
-    /// Goes on by a table of territories.
+    /// Adds a table of territories.
     fn tis(&mut self, alloc: Global, file: &File) -> Result<TisTable, AllocError>
         ensures { IfOk result (λ table. (out : List (List (List ℕ) × TisFault)) × tis.IsReadWithout (rows_of file.now.bytes.items) out table
             × GoesOn self.old self.new (length out) (fault_lines (tis_line (string_bytes file.now.path)) (string_bytes file.now.path) out) (tis_facts (string_bytes file.now.path) (length out) table)) }
@@ -98,7 +98,7 @@ impl Sheet {
         let path = file.path.as_str();
         let (told, table) = read_tis(alloc, path, file.bytes.as_slice())?;
         self.add_faults(&told)?;
-        add_fact_if_none(
+        add_fact_if_sound(
             &mut self.facts,
             told.count,
             path,
@@ -108,7 +108,7 @@ impl Sheet {
         Ok(table)
     }
 
-    /// By a table of payees, where there is one; answers how many faults it has.
+    /// Adds a table of payees, where there is one, and answers how many faults it has.
     fn payees(&mut self, alloc: Global, file: &Option<File>) -> Result<(Payees, u64), AllocError>
         ensures { IfOk result (λ read. (out : List (List (List ℕ) × PayeeFault)) × ArePayeesWithout (option_map (λ file. file.bytes.items) file.now) out read.0 × (read.1 ≡ length out)
             × GoesOn self.old self.new (length out) (fault_lines (payee_line (path_if_given file.now)) (path_if_given file.now) out) (payee_facts file.now (length out) read.0)) }
@@ -119,7 +119,7 @@ impl Sheet {
         Ok((rows, told.count))
     }
 
-    /// By a CWR file, where the table of payees has so many faults.
+    /// Adds a CWR file, where the table of payees has so many faults.
     fn cwr(
         &mut self,
         alloc: Global,
@@ -137,7 +137,7 @@ impl Sheet {
         Ok(registry)
     }
 
-    /// By a usage list.
+    /// Adds a usage list.
     fn usage(&mut self, alloc: Global, file: &File) -> Result<Usage, AllocError>
         ensures { IfOk result (λ lines. (out : List (List (List ℕ) × LineFault)) × usage.IsReadWithout (rows_of file.now.bytes.items) out lines
             × GoesOn self.old self.new (length out) (fault_lines (usage_line (string_bytes file.now.path)) (string_bytes file.now.path) out) (usage_facts (string_bytes file.now.path) (length out) lines)) }
@@ -149,19 +149,17 @@ impl Sheet {
         Ok(lines)
     }
 
-    /// By what a run makes of the lines, where no file has a fault.
+    /// Adds what a run makes of the lines, where no file has a fault.
     fn totals(
         &mut self,
         alloc: Global,
-        territories: &str,
-        registrations: &str,
-        usage: &str,
+        paths: &Paths<'_>,
         table: &TisTable,
         registry: &Option<Registry>,
         lines: &Usage,
     ) -> Result<(), AllocError>
         ensures { OnOk result ((totals : Option Totals) × AreTotalsIfSound self.old.is_sound table.now registry.now lines.now totals
-            × Adds self.old self.new (option_map_or (totals_text territories.now registrations.now usage.now (length lines.now)) totals [])) }
+            × Adds self.old self.new (option_map_or (totals_text paths.now.territories.now paths.now.registrations.now paths.now.usage.now (length lines.now)) totals [])) }
     {
         if !self.is_sound {
             return Ok(());
@@ -170,14 +168,7 @@ impl Sheet {
             return Ok(());
         };
         let totals = totals_of(alloc, table, registry, lines)?;
-        add_totals(
-            &mut self.facts,
-            territories,
-            registrations,
-            usage,
-            lines.len() as u64,
-            &totals,
-        )?;
+        add_totals(&mut self.facts, paths, lines.len() as u64, &totals)?;
         Ok(())
     }
 
@@ -191,8 +182,8 @@ impl Sheet {
         Ok(())
     }
 
-    /// The whole report.
-    fn whole(self) -> Result<Checked, AllocError>
+    /// Puts the report together.
+    fn finish(self) -> Result<Checked, AllocError>
         ensures { IfOk result (λ checked. (checked.text.items ≡ self.faults.items ++ self.facts.items) × (checked.is_sound ≡ self.is_sound)) }
     {
         let mut text = self.faults;
@@ -205,7 +196,7 @@ impl Sheet {
 }
 
 /// Says how many there are of something in the file of a path, where it has no fault.
-fn add_fact_if_none(
+fn add_fact_if_sound(
     text: &mut Vec<u8>,
     faults: u64,
     path: &str,
@@ -249,7 +240,7 @@ fn read_payees_if_given<'a>(
     }
 }
 
-/// What is in a table of payees, where there is one that has no fault.
+/// Adds what is in a table of payees, where there is one that has no fault.
 fn add_payee_facts(
     text: &mut Vec<u8>,
     file: &Option<File>,
@@ -261,7 +252,7 @@ fn add_payee_facts(
     let Some(file) = file else {
         return Ok(());
     };
-    add_fact_if_none(
+    add_fact_if_sound(
         text,
         faults,
         file.path.as_str(),
@@ -271,7 +262,7 @@ fn add_payee_facts(
     Ok(())
 }
 
-/// What is in a CWR file that has no fault.
+/// Adds what is in a CWR file, where it has no fault.
 fn add_cwr_facts(
     text: &mut Vec<u8>,
     file: &File,
@@ -297,7 +288,7 @@ fn add_cwr_facts(
     Ok(())
 }
 
-/// What is in a CWR file that has so many registrations.
+/// Adds what is in a CWR file that has so many registrations.
 fn add_cwr_numbers(
     text: &mut Vec<u8>,
     path: &str,
@@ -316,7 +307,7 @@ fn add_cwr_numbers(
         registrations.saturating_sub(works),
     )?;
     add_fact(text, path, "parties in force", registry.claimants() as u64)?;
-    add_fact_if_none(
+    add_fact_if_sound(
         text,
         payee_faults,
         path,
@@ -327,7 +318,7 @@ fn add_cwr_numbers(
     Ok(())
 }
 
-/// What is in a usage list, where it has no fault.
+/// Adds what is in a usage list, where it has no fault.
 fn add_usage_facts(
     text: &mut Vec<u8>,
     faults: u64,

@@ -5,38 +5,47 @@ ghost use Rattle.std.specs.Fmt.{signed_decimal};
 ghost use Rattle.check_inputs.specs.Messages.{remark_line, total_line, total_text};
 ghost use Rattle.check_inputs.specs.Report.{divided_line, reasons_text, territory_line, totals_text, work_line};
 
-use crate::words::{add, add_amount, add_around, add_number, add_remark};
+use crate::words::{add, add_amount, add_around, add_number, add_path, add_remark};
 use std::alloc::AllocError;
 use usage_totals::{Name, Total, Totals};
 
-/// What a run makes of so many lines, by the paths of their list, of the table of territories and of the registrations.
+/// The paths of the files that totals speak of.
+#[derive(Drop)]
+pub(crate) struct Paths<'a> {
+    /// That of the table of territories.
+    pub(crate) territories: &'a str,
+    /// That of the CWR file.
+    pub(crate) registrations: &'a str,
+    /// That of the usage list.
+    pub(crate) usage: &'a str,
+}
+
+/// Adds what a run makes of so many lines.
 pub(crate) fn add_totals(
     text: &mut Vec<u8>,
-    territories: &str,
-    registrations: &str,
-    usage: &str,
+    paths: &Paths<'_>,
     lines: u64,
     totals: &Totals<'_>,
 ) -> Result<(), AllocError>
-    ensures { OnOk result (text.new.items ≡ text.old.items ++ totals_text territories.now registrations.now usage.now lines totals.now) }
+    ensures { OnOk result (text.new.items ≡ text.old.items ++ totals_text paths.now.territories.now paths.now.registrations.now paths.now.usage.now lines totals.now) }
 {
-    add_reasons(text, usage, totals)?;
-    add_works(text, usage, totals.works.as_slice())?;
-    add_territories(text, usage, totals.territories.as_slice())?;
+    add_reasons(text, paths.usage, totals)?;
+    add_works(text, paths.usage, totals.works.as_slice())?;
+    add_territories(text, paths.usage, totals.territories.as_slice())?;
     let knows_no_work = totals.unregistered.lines == lines;
-    let knows_no_territory = !totals.knows_one;
+    let knows_no_territory = !totals.knows_a_territory;
     add_remark_if_any(
         text,
         lines,
         knows_no_work,
-        registrations,
+        paths.registrations,
         "it has the work of no usage line",
     )?;
     add_remark_if_any(
         text,
         lines,
         knows_no_territory,
-        territories,
+        paths.territories,
         "it has the territory of no usage line",
     )?;
     Ok(())
@@ -79,11 +88,11 @@ fn add_reasons(text: &mut Vec<u8>, path: &str, totals: &Totals<'_>) -> Result<()
     Ok(())
 }
 
-/// The lines that are divided, and what of them is the residue's.
+/// Adds the lines that are divided, and what of them is the residue's.
 fn add_divided(text: &mut Vec<u8>, path: &str, totals: &Totals<'_>) -> Result<(), AllocError>
     ensures { OnOk result (text.new.items ≡ text.old.items ++ divided_line path.now totals.now) }
 {
-    add_start(text, path)?;
+    add_path(text, path)?;
     add(text, "OPEN, divided")?;
     add_lines(text, totals.divided)?;
     add(text, ", to the residue ")?;
@@ -92,25 +101,25 @@ fn add_divided(text: &mut Vec<u8>, path: &str, totals: &Totals<'_>) -> Result<()
     Ok(())
 }
 
-/// What of them is the residue's.
+/// Adds what of the lines that are divided is the residue's.
 fn add_residue(text: &mut Vec<u8>, totals: &Totals<'_>) -> Result<(), AllocError>
     ensures { OnOk result (text.new.items ≡ text.old.items ++ signed_decimal totals.now.residue) }
 {
     add_amount(text, totals.residue)
 }
 
-/// A line about some usage lines.
+/// Adds a line about the usage lines of a reason.
 fn add_total(text: &mut Vec<u8>, path: &str, whose: &str, total: Total) -> Result<(), AllocError>
     ensures { OnOk result (text.new.items ≡ text.old.items ++ total_line path.now whose.now total []) }
 {
-    add_start(text, path)?;
+    add_path(text, path)?;
     add(text, whose)?;
     add_lines(text, total)?;
     add(text, "\n")?;
     Ok(())
 }
 
-/// The works that nobody has registered, with their lines.
+/// Adds a line about each work that nobody has registered.
 fn add_works(text: &mut Vec<u8>, path: &str, works: &[(Name<'_>, Total)]) -> Result<(), AllocError>
     ensures { OnOk result (text.new.items ≡ text.old.items ++ flat_map (work_line path.now) works.now) }
 {
@@ -120,18 +129,18 @@ fn add_works(text: &mut Vec<u8>, path: &str, works: &[(Name<'_>, Total)]) -> Res
     Ok(())
 }
 
-/// One of them.
+/// Adds a line about a work that nobody has registered.
 fn add_work(text: &mut Vec<u8>, path: &str, work: &[u8], total: Total) -> Result<(), AllocError>
     ensures { OnOk result (text.new.items ≡ text.old.items ++ work_line path.now (work.now, total)) }
 {
-    add_start(text, path)?;
+    add_path(text, path)?;
     add_around(text, "work '", work, "' is not registered")?;
     add_lines(text, total)?;
     add(text, "\n")?;
     Ok(())
 }
 
-/// The territories that the table has not, with their lines.
+/// Adds a line about each territory that the table has not.
 fn add_territories(
     text: &mut Vec<u8>,
     path: &str,
@@ -145,7 +154,7 @@ fn add_territories(
     Ok(())
 }
 
-/// One of them.
+/// Adds a line about a territory that the table has not.
 fn add_territory(
     text: &mut Vec<u8>,
     path: &str,
@@ -154,7 +163,7 @@ fn add_territory(
 ) -> Result<(), AllocError>
     ensures { OnOk result (text.new.items ≡ text.old.items ++ territory_line path.now (territory, total)) }
 {
-    add_start(text, path)?;
+    add_path(text, path)?;
     add(text, "territory ")?;
     add_number(text, u64::from(territory))?;
     add(text, " is not in the table")?;
@@ -163,15 +172,7 @@ fn add_territory(
     Ok(())
 }
 
-/// How such a line begins.
-fn add_start(text: &mut Vec<u8>, path: &str) -> Result<(), AllocError>
-    ensures { OnOk result (text.new.items ≡ text.old.items ++ (path.now ++ codes ": ")) }
-{
-    add(text, path)?;
-    add(text, ": ")
-}
-
-/// How many usage lines there are, and what they come to.
+/// Adds how many usage lines there are, and what they come to.
 fn add_lines(text: &mut Vec<u8>, total: Total) -> Result<(), AllocError>
     ensures { OnOk result (text.new.items ≡ text.old.items ++ total_text total) }
 {

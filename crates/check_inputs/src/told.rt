@@ -7,10 +7,10 @@ ghost use Rattle.line_split.specs.declared.line_fault.LineFault.{LineFault};
 ghost use Rattle.tis_tree.specs.declared.tis_fault.TisFault.{TisFault};
 ghost use Rattle.check_inputs.specs.Messages.{place_text};
 ghost use Rattle.check_inputs.specs.Report.{cwr_line, more_line, payee_line, tis_line, usage_line};
-ghost use Rattle.check_inputs.specs.Told.{IsTold};
+ghost use Rattle.check_inputs.specs.SoFar.{IsTold};
 
 use crate::messages::{add_cwr, add_payee, add_tis, add_usage};
-use crate::words::{MOST_FAULTS, add, add_fact, add_number, add_place};
+use crate::words::{MOST_FAULTS, add, add_fact, add_number, add_path, add_place};
 use csv_table::Rows;
 use cwr_share::{CwrFault, PayeeFault};
 use line_split::LineFault;
@@ -22,7 +22,9 @@ use tis_tree::TisFault;
 pub(crate) struct Told<'a> {
     /// The path of the file.
     pub(crate) path: &'a str,
+    /// The lines of the first hundred faults, and then of how many more there are.
     pub(crate) text: Vec<u8>,
+    /// How many faults there are.
     pub(crate) count: u64,
 }
 
@@ -39,7 +41,7 @@ impl<'a> Told<'a> {
         }
     }
 
-    /// Tells one more of a table of territories.
+    /// Tells one more fault of a table of territories.
     pub(crate) fn tis(&mut self, row: &Rows<'_>, fault: TisFault) -> Result<(), AllocError>
         requires { self.old.count + 1 < 2 ^ 64 }
         ensures told { OnOk result ((faults : List (List (List ℕ) × TisFault)) → IsTold (tis_line self.old.path.now) self.old.text.items self.old.count faults
@@ -56,7 +58,7 @@ impl<'a> Told<'a> {
         Ok(())
     }
 
-    /// Tells one more of a table of payees.
+    /// Tells one more fault of a table of payees.
     pub(crate) fn payee(&mut self, row: &Rows<'_>, fault: PayeeFault) -> Result<(), AllocError>
         requires { self.old.count + 1 < 2 ^ 64 }
         ensures told { OnOk result ((faults : List (List (List ℕ) × PayeeFault)) → IsTold (payee_line self.old.path.now) self.old.text.items self.old.count faults
@@ -73,7 +75,7 @@ impl<'a> Told<'a> {
         Ok(())
     }
 
-    /// Tells one more of a CWR file.
+    /// Tells one more fault of a CWR file.
     pub(crate) fn cwr(&mut self, line: &[u8], fault: CwrFault) -> Result<(), AllocError>
         requires { self.old.count + 1 < 2 ^ 64 }
         ensures told { OnOk result ((faults : List (List ℕ × CwrFault)) → IsTold (cwr_line self.old.path.now) self.old.text.items self.old.count faults
@@ -90,7 +92,7 @@ impl<'a> Told<'a> {
         Ok(())
     }
 
-    /// Tells one more of a usage list.
+    /// Tells one more fault of a usage list.
     pub(crate) fn usage(&mut self, row: &Rows<'_>, fault: LineFault) -> Result<(), AllocError>
         requires { self.old.count + 1 < 2 ^ 64 }
         ensures told { OnOk result ((faults : List (List (List ℕ) × LineFault)) → IsTold (usage_line self.old.path.now) self.old.text.items self.old.count faults
@@ -107,7 +109,7 @@ impl<'a> Told<'a> {
         Ok(())
     }
 
-    /// Says how many more there are than were told.
+    /// Says how many more faults there are than were told.
     pub(crate) fn close(&mut self) -> Result<(), AllocError>
         ensures text { OnOk result (self.new.text.items ≡ self.old.text.items ++ more_line self.old.path.now self.old.count) }
         ensures count { self.new.count ≡ self.old.count }
@@ -128,12 +130,11 @@ impl<'a> Told<'a> {
         ensures text { OnOk result (self.new.text.items ≡ self.old.text.items ++ (self.old.path.now ++ codes ": " ++ place_text kind.now place)) }
         ensures same { (self.new.count ≡ self.old.count) × (self.new.path.now ≡ self.old.path.now) }
     {
-        add(&mut self.text, self.path)?;
-        add(&mut self.text, ": ")?;
+        add_path(&mut self.text, self.path)?;
         add_place(&mut self.text, kind, place)
     }
 
-    /// Ends it, and counts the fault.
+    /// Ends the line of a fault, and counts the fault.
     fn end(&mut self, number: u8) -> Result<(), AllocError>
         requires { self.old.count + 1 < 2 ^ 64 }
         ensures text { OnOk result (self.new.text.items ≡ self.old.text.items ++ (codes " (fault " ++ decimal number ++ codes ")\n")) }

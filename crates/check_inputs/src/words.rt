@@ -3,13 +3,13 @@
 ghost use Rattle.std.specs.Prelude.{◌≡◌, ◌<◌, ◌++◌, ◌∷◌, [], OnOk, Option, codes, decimal, flat_map, if◌then◌else◌, length, nat_lt, take};
 ghost use Rattle.std.specs.Fmt.{signed_decimal};
 ghost use Rattle.check_inputs.specs.Messages.{around, fact_line, hex, place_text, remark_line, shown, shown_byte};
-ghost use Rattle.check_inputs.specs.declared.words.TheConstants.{MOST_SHOWN};
+ghost use Rattle.check_inputs.specs.declared.words.TheConstants.{MOST_FIELD_BYTES};
 
 use itoa::Buffer;
 use std::alloc::AllocError;
 
 /// The most bytes of a field that are shown.
-pub(crate) const MOST_SHOWN: usize = 64;
+pub(crate) const MOST_FIELD_BYTES: usize = 64;
 
 /// The most faults of a file that are named.
 pub(crate) const MOST_FAULTS: u64 = 100;
@@ -66,9 +66,9 @@ pub(crate) fn add_both(
 fn add_shown(text: &mut Vec<u8>, field: &[u8]) -> Result<(), AllocError>
     ensures { OnOk result (text.new.items ≡ text.old.items ++ shown field.now) }
 {
-    let end = field.len().min(MOST_SHOWN);
+    let end = field.len().min(MOST_FIELD_BYTES);
     add_bytes(text, &field[..end])?;
-    if field.len() > MOST_SHOWN {
+    if field.len() > MOST_FIELD_BYTES {
         return add(text, "..");
     }
     Ok(())
@@ -106,6 +106,14 @@ fn hex_digit(n: u8) -> u8
     if n < 10 { n + b'0' } else { n + b'a' - 10 }
 }
 
+/// Begins a line about the file of a path.
+pub(crate) fn add_path(text: &mut Vec<u8>, path: &str) -> Result<(), AllocError>
+    ensures { OnOk result (text.new.items ≡ text.old.items ++ (path.now ++ codes ": ")) }
+{
+    add(text, path)?;
+    add(text, ": ")
+}
+
 /// Adds where a fault stands, if it stands anywhere.
 pub(crate) fn add_place(
     text: &mut Vec<u8>,
@@ -131,8 +139,7 @@ pub(crate) fn add_fact(
 ) -> Result<(), AllocError>
     ensures { OnOk result (text.new.items ≡ text.old.items ++ fact_line path.now what.now number) }
 {
-    add(text, path)?;
-    add(text, ": ")?;
+    add_path(text, path)?;
     add(text, what)?;
     add(text, ": ")?;
     add_number(text, number)?;
@@ -143,8 +150,8 @@ pub(crate) fn add_fact(
 pub(crate) fn add_remark(text: &mut Vec<u8>, path: &str, remark: &str) -> Result<(), AllocError>
     ensures { OnOk result (text.new.items ≡ text.old.items ++ remark_line path.now remark.now) }
 {
-    add(text, path)?;
-    add(text, ": remark: ")?;
+    add_path(text, path)?;
+    add(text, "remark: ")?;
     add(text, remark)?;
     add(text, "\n")
 }

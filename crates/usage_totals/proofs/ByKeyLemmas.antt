@@ -12,8 +12,9 @@ use Rattle.std.proofs.lemmas.List.Sorted.{ranks_by}
 use Rattle.line_split.proofs.IntSums.{int_sum_by_push}
 use Rattle.line_split.specs.UsageLine.{UsageLine}
 use Rattle.line_split.specs.declared.TheConstants.{MOST_AMOUNT}
-use Rattle.usage_totals.specs.Greatest.{AreTotals, amounts_at, by_money, total_if_any, total_so_far, total_with}
+use Rattle.usage_totals.specs.Greatest.{AreTotals, amounts_at, by_money, total_if_any}
 use Rattle.usage_totals.specs.declared.total.Total.{Total}
+use Rattle.usage_totals.specs.SoFar.{total_so_far, total_with}
 use Rattle.usage_totals.proofs.TotalLemmas.{IsWithin, kept_more, left_more, within_later, within_more}
 
 abbrev nothing : Total

@@ -1,5 +1,5 @@
 -- Totals of usage lines, taken one line after another.
-use Rattle.std.proofs.Common.{◌≡◌, ◌∙◌, ◌+◌, ◌*◌, ◌<◌, ◌≤◌, ◌++◌, ◌∷◌, [], ℕ, ℤ, pos, ◌+ℤ◌, unsigned_abs, Bool, true, false, List, ap, arith, cond, filter, get_or, length, map, sym, take, to_z, of_z, w64}
+use Rattle.std.proofs.Common.{◌≡◌, ◌∙◌, ◌+◌, ◌*◌, ◌<◌, ◌≤◌, ◌++◌, ◌∷◌, [], ℕ, ℤ, pos, ◌+ℤ◌, unsigned_abs, Bool, true, false, List, ap, arith, cond, filter, get_or, length, map, refl, sym, take, to_z, of_z, w64}
 use Rattle.std.proofs.lemmas.Int.{fits_signed_from_abs, to_z-of_z}
 use Rattle.std.proofs.lemmas.List.{append-nil, get_or-map, get_or_default, length_push}
 use Rattle.std.proofs.lemmas.List.Elements.{filter_more}
@@ -9,8 +9,11 @@ use Rattle.line_split.specs.UsageLine.{UsageLine}
 use Rattle.line_split.specs.declared.TheConstants.{MOST_AMOUNT}
 use Rattle.line_split.specs.declared.usage.TheConstants.{MOST_LINES}
 use Rattle.line_split.specs.declared.usage.Right.TheVariants.{P}
+use Rattle.line_split.specs.contracts.reason.Reason.{the_type}
 use Rattle.line_split.specs.declared.reason.Reason.{Reason}
-use Rattle.usage_totals.specs.Room.{HasRoom}
+use Rattle.line_split.specs.declared.reason.Reason.TheVariants.{Work, Land, Over, Open}
+use denote.Enum.Bare.{sameb}
+use Rattle.usage_totals.specs.SoFar.{HasRoom}
 use Rattle.usage_totals.specs.Totals.{is_same, total_of_lines}
 use Rattle.usage_totals.specs.declared.total.Total.{Total}
 
@@ -33,11 +36,30 @@ line_at lines place = get_or lines place some_line
 pub line_stays : (lines : List UsageLine) (place : ℕ) → place < length lines → get_or lines place (line_at lines place) ≡ line_at lines place
 line_stays lines place below = get_or_default lines place (line_at lines place) some_line below
 
+-- the code's test of two reasons is the definition's
+pub same_reason : (reason other : Reason) → sameb the_type reason other ≡ is_same other reason
+same_reason Work Work = refl
+same_reason Work Land = refl
+same_reason Work Over = refl
+same_reason Work Open = refl
+same_reason Land Work = refl
+same_reason Land Land = refl
+same_reason Land Over = refl
+same_reason Land Open = refl
+same_reason Over Work = refl
+same_reason Over Land = refl
+same_reason Over Over = refl
+same_reason Over Open = refl
+same_reason Open Work = refl
+same_reason Open Land = refl
+same_reason Open Over = refl
+same_reason Open Open = refl
+
 -- whether a line has a reason, by the list of all reasons
 pub reason_told : (given : UsageLine → Reason) (reason : Reason) (reasons : List Reason) (lines : List UsageLine) (place : ℕ) (d : Reason) (line : UsageLine) (told : Bool)
-    → reasons ≡ map given lines → place < length lines → get_or lines place line ≡ line → told ≡ is_same reason (get_or reasons place d) → is_same reason (given line) ≡ told
+    → reasons ≡ map given lines → place < length lines → get_or lines place line ≡ line → told ≡ sameb the_type (get_or reasons place d) reason → is_same reason (given line) ≡ told
 reason_told given reason reasons lines place d line told is below at same =
-    sym (same ∙ ap (λ (l : List Reason). is_same reason (get_or l place d)) is ∙ ap (is_same reason) (get_or-map given lines place line d below ∙ ap given at))
+    sym (same ∙ same_reason (get_or reasons place d) reason ∙ ap (λ (l : List Reason). is_same reason (get_or l place d)) is ∙ ap (is_same reason) (get_or-map given lines place line d below ∙ ap given at))
 
 -- one line more
 pub total_push : (lines : List UsageLine) (line : UsageLine) (total : Total) → total ≡ total_of_lines lines

@@ -1,6 +1,6 @@
 -- What amounts come to by what they are of, such as a work, and where most of the money is.
-use Rattle.std.specs.Prelude.{ℕ, ℤ, ◌≡◌, ◌+◌, ◌+ℤ◌, Bool, List, [], ◌∷◌, Option, None, Some, filter, length, pos, take, unsigned_abs, unwrap_or}
-use Rattle.std.specs.List.{IsDistinct}
+use Rattle.std.specs.Prelude.{ℕ, ℤ, ◌≡◌, ◌<◌, ◌≤◌, Bool, true, false, List, [], ◌∷◌, Option, None, Some, filter, length, take, unsigned_abs}
+use Rattle.std.specs.List.{All, IsDistinct, list_any}
 use Rattle.std.specs.List.Sorted.{IsPermutation, IsSorted}
 use Rattle.std.specs.Map.{keys_of, lookup}
 use Rattle.std.specs.Ordering.{nat_cmp, ordering_then}
@@ -16,14 +16,6 @@ total_of amounts = record { lines = length amounts; amount = int_sum_by (λ amou
 abbrev pub total_if_any : {K : Type 0} → List (K × ℤ) → Option Total
 total_if_any [] = None
 total_if_any (amount ∷ amounts) = Some (total_of (amount ∷ amounts))
-
--- with one amount more
-abbrev pub total_with : Total → ℤ → Total
-total_with total amount = record { lines = total.lines + 1; amount = total.amount +ℤ amount }
-
--- what is kept for a key: nothing so far, or a total
-abbrev pub total_so_far : {K : Type 0} → (K → K → Bool) → K → List (K × Total) → Total
-total_so_far eq key totals = unwrap_or (lookup (eq key) totals) (record { lines = 0; amount = pos 0 })
 
 -- the amounts of a key
 abbrev pub amounts_at : {K : Type 0} → (K → K → Bool) → K → List (K × ℤ) → List (K × ℤ)
@@ -50,3 +42,12 @@ pub record AreGreatest {K : Type 0} (eq : K → K → Bool) (cmp : K → K → O
   pub all : List (K × Total)
   pub totals : AreTotals eq amounts all
   pub greatest : AreFirst (by_money cmp) most all shown
+
+-- What that comes to, key by key: each is shown once and with all its amounts, and a key that is
+-- left out, which is so only where there are too many, has no more money than any that is shown.
+pub record HaveMostMoney {K : Type 0} (eq : K → K → Bool) (most : ℕ) (amounts : List (K × ℤ)) (shown : List (K × Total)) : Type 0 where
+  pub few : length shown ≤ most
+  pub once : IsDistinct eq (keys_of shown)
+  pub each : All (λ e. (e.1 ≡ total_of (amounts_at eq e.0 amounts)) × (0 < e.1.lines)) shown
+  pub left_out : (key : K) → list_any (eq key) (keys_of amounts) ≡ true → list_any (eq key) (keys_of shown) ≡ false
+      → (length shown ≡ most) × All (λ e. unsigned_abs (total_of (amounts_at eq key amounts)).amount ≤ unsigned_abs e.1.amount) shown

@@ -1,3 +1,3 @@
 pub mod Greatest
-pub mod Room
+pub mod SoFar
 pub mod Totals

@@ -57,4 +57,4 @@ pub record AreTotalsOf (table : List (ℕ × List ℕ)) (registered : Registered
   pub works : AreGreatest (pointwise nat_eq) (slice_cmp nat_cmp) 10 (amounts_by_work (lines_for table registered Work lines)) totals.works.items
   pub territories : AreGreatest nat_eq nat_cmp 10 (amounts_by_territory (lines_for table registered Land lines)) totals.territories.items
   -- whether the table has the territory of some line
-  pub knows_one : totals.knows_one ≡ list_any (λ line. is_known table line.territory) lines
+  pub knows_a_territory : totals.knows_a_territory ≡ list_any (λ line. is_known table line.territory) lines

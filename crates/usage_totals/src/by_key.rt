@@ -1,18 +1,17 @@
 //! What usage lines come to by what they are of, such as a work.
 
-ghost use Rattle.std.specs.Prelude.{◌≡◌, ◌+◌, ◌+ℤ◌, ◌≤◌, IfOk, OnOk, Some, filter, length, map, nat_eq, unsigned_abs, unwrap_or};
+ghost use Rattle.std.specs.Prelude.{◌≡◌, ◌+◌, ◌+ℤ◌, ◌≤◌, ◌++◌, ◌∷◌, [], List, IfOk, OnOk, Some, filter, length, map, nat_eq, unsigned_abs, unwrap_or};
 ghost use Rattle.std.specs.Cmp.Lexicographic.{pointwise};
 ghost use Rattle.indexmap.specs.IndexMap.{IsUnique, Updates, get};
 ghost use Rattle.line_split.specs.UsageLine.{UsageLine};
 ghost use Rattle.line_split.specs.declared.TheConstants.{MOST_AMOUNT};
 ghost use Rattle.line_split.specs.declared.reason.Reason.{Reason};
 ghost use Rattle.line_split.specs.declared.reason.Reason.TheVariants.{Land, Work};
-ghost use Rattle.usage_totals.specs.Greatest.{AreFirst, AreTotals, by_money as in_order_of_money, total_with, total_so_far};
-ghost use Rattle.usage_totals.specs.Room.{HasRoom};
+ghost use Rattle.usage_totals.specs.Greatest.{AreFirst, AreTotals, by_money as in_order_of_money};
 ghost use Rattle.usage_totals.specs.Totals.{amounts_by_territory, amounts_by_work, is_same as are_same};
+ghost use Rattle.usage_totals.specs.SoFar.{HasRoom, total_so_far, total_with};
 
 use crate::name::Name;
-use crate::reasons::is_same;
 use crate::total::Total;
 use indexmap::IndexMap;
 use line_split::{Reason, Usage};
@@ -32,7 +31,7 @@ pub(crate) fn by_work<'a>(
 {
     let mut totals = IndexMap::new(alloc);
     for place in 0..usage.len() {
-        if is_same(Reason::Work, reasons[place]) {
+        if reasons[place] == Reason::Work {
             let line = usage.line(place);
             add(&mut totals, Name::of(line.work), line.amount)?;
         }
@@ -52,7 +51,7 @@ pub(crate) fn by_territory(
 {
     let mut totals = IndexMap::new(alloc);
     for place in 0..usage.len() {
-        if is_same(Reason::Land, reasons[place]) {
+        if reasons[place] == Reason::Land {
             let line = usage.line(place);
             add(&mut totals, line.territory, line.amount)?;
         }
@@ -71,11 +70,8 @@ fn add<K: Eq + Hash + Drop>(
     ensures added { OnOk result (Updates K.eq totals.old totals.new key (Some (total_with (total_so_far K.eq key totals.old.entries) amount))) }
     ensures unique { OnOk result (IsUnique K.eq totals.new) }
 {
-    let so_far = match totals.get(&key) {
-        Some(total) => *total,
-        None => Total::none(),
-    };
-    totals.insert(key, so_far.with(amount))?;
+    let total = totals.entry(key)?.or_insert(Total::none());
+    *total = total.with(amount);
     Ok(())
 }
 
@@ -87,10 +83,28 @@ pub(crate) fn greatest<K: Eq + Hash + Ord + Drop>(
 ) -> Result<Vec<(K, Total)>, AllocError>
     ensures { IfOk result (λ shown. AreFirst (in_order_of_money K.cmp) most totals.entries shown.items) }
 {
-    let mut all: Vec<(K, Total)> = totals.into_iter().collect(alloc)?;
-    all.sort_unstable_by(|total, other| by_money(total, other));
-    all.truncate(most);
-    Ok(all)
+    let mut first = Vec::new(alloc);
+    for entry in totals {
+        put(&mut first, entry, most)?;
+    }
+    Ok(first)
+}
+
+/// Puts a key and its total at their place among the first in order of money, of which so many are
+/// kept at most.
+fn put<K: Ord + Drop>(
+    first: &mut Vec<(K, Total)>,
+    entry: (K, Total),
+    most: usize,
+) -> Result<(), AllocError>
+    ensures { OnOk result ((all : List (K × Total)) → AreFirst (in_order_of_money K.cmp) most all first.old.items → AreFirst (in_order_of_money K.cmp) most (all ++ entry ∷ []) first.new.items) }
+{
+    let place = first.partition_point(|other| by_money(other, &entry).is_lt());
+    if place < most {
+        first.truncate(most - 1);
+        first.insert(place, entry)?;
+    }
+    Ok(())
 }
 
 /// More money comes first, and among as much the lesser key.

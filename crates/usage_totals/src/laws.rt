@@ -1,14 +1,17 @@
 //! What totals keep to. A law has an empty body: its contract is the law.
 
-ghost use Rattle.std.specs.Prelude.{ℕ, ℤ, ◌≡◌, ◌<◌, ◌+◌, ◌+ℤ◌, List, [], length, slice_index_or};
+ghost use Rattle.std.specs.Prelude.{ℕ, ℤ, ◌≡◌, ◌<◌, ◌+◌, ◌+ℤ◌, List, [], length, nat_eq, slice_index_or};
+ghost use Rattle.std.specs.Cmp.Lexicographic.{pointwise};
 ghost use Rattle.cwr_share.specs.ClaimsOn.{claims_on};
 ghost use Rattle.cwr_share.specs.Registered.{Registered};
 ghost use Rattle.line_split.specs.Signs.{signed_portions_of};
 ghost use Rattle.line_split.specs.UsageLine.{UsageLine};
 ghost use Rattle.line_split.specs.declared.TheConstants.{RESIDUE};
+ghost use Rattle.line_split.specs.declared.reason.Reason.TheVariants.{Land, Work};
 ghost use Rattle.payee_book.specs.Run.{IsBookOf};
 ghost use Rattle.payee_book.specs.Statement.{total_of};
-ghost use Rattle.usage_totals.specs.Totals.{AreTotalsOf, total_of_lines};
+ghost use Rattle.usage_totals.specs.Greatest.{HaveMostMoney};
+ghost use Rattle.usage_totals.specs.Totals.{AreTotalsOf, amounts_by_territory, amounts_by_work, lines_for, total_of_lines};
 ghost use Rattle.usage_totals.specs.declared.totals.Totals.{Totals};
 
 /// Each line has one reason: the lines of the four reasons are as many as all lines, and come to what these come to.
@@ -24,4 +27,23 @@ pub fn law_the_rest_is_the_residues()
     ensures { (table : List (ℕ × List ℕ)) (registered : Registered) (lines : List UsageLine) (totals : Totals) (statements : List (List (ℕ × ℤ))) → AreTotalsOf table registered lines totals
         → IsBookOf (λ line. signed_portions_of line.amount (claims_on table registered line)) lines (length registered.parties) statements → RESIDUE < length registered.parties
         → totals.residue +ℤ totals.unregistered.amount +ℤ totals.unknown.amount +ℤ totals.claimed_over.amount ≡ total_of (slice_index_or statements RESIDUE []) }
+{}
+
+/// Of the works that nobody has registered, ten at most are shown, each once and with what all its
+/// lines come to. None that is left out has more money than one that is shown, and where fewer than
+/// ten are shown, none is left out. So it is with the territories that the table has not.
+pub fn law_those_shown_have_most_money()
+    ensures works { (table : List (ℕ × List ℕ)) (registered : Registered) (lines : List UsageLine) (totals : Totals) → AreTotalsOf table registered lines totals
+        → HaveMostMoney (pointwise nat_eq) 10 (amounts_by_work (lines_for table registered Work lines)) totals.works.items }
+    ensures territories { (table : List (ℕ × List ℕ)) (registered : Registered) (lines : List UsageLine) (totals : Totals) → AreTotalsOf table registered lines totals
+        → HaveMostMoney nat_eq 10 (amounts_by_territory (lines_for table registered Land lines)) totals.territories.items }
+{}
+
+/// The works and the territories that are shown are determined, with their order: by the same
+/// territories and registrations the same lines have one answer.
+pub fn law_those_shown_are_determined()
+    ensures works { (table : List (ℕ × List ℕ)) (registered : Registered) (lines : List UsageLine) (totals other : Totals) → AreTotalsOf table registered lines totals → AreTotalsOf table registered lines other
+        → totals.works.items ≡ other.works.items }
+    ensures territories { (table : List (ℕ × List ℕ)) (registered : Registered) (lines : List UsageLine) (totals other : Totals) → AreTotalsOf table registered lines totals → AreTotalsOf table registered lines other
+        → totals.territories.items ≡ other.territories.items }
 {}

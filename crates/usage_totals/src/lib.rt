@@ -10,4 +10,4 @@ mod totals;
 
 pub use name::Name;
 pub use total::Total;
-pub use totals::{MOST_SHOWN, Totals, totals_of};
+pub use totals::{MOST_KEYS, Totals, totals_of};

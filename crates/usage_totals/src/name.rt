@@ -32,7 +32,7 @@ impl<'a> Name<'a> {
         Name { text }
     }
 
-    /// Its text.
+    /// The text of the name.
     pub fn as_slice(&self) -> &'a [u8]
         ensures { result.now ≡ self.now }
     {

@@ -37,7 +37,7 @@ pub(crate) fn reasons_of(
         let reason = registry
             .claims(tis, &line, &mut claims)
             .unwrap_or(Reason::Open);
-        if is_same(Reason::Open, reason) {
+        if reason == Reason::Open {
             residue += residue_portion(line.amount, &claims, &mut portions);
         }
         reasons.push(reason)?;
@@ -65,28 +65,15 @@ pub(crate) fn total_for(usage: &Usage, reasons: &[Reason], reason: Reason) -> To
 {
     let mut total = Total::none();
     for place in 0..usage.len() {
-        if is_same(reason, reasons[place]) {
+        if reasons[place] == reason {
             total = total.with(usage.line(place).amount);
         }
     }
     total
 }
 
-/// Whether two reasons are the same.
-pub(crate) fn is_same(reason: Reason, other: Reason) -> bool
-    ensures { result ≡ are_same reason other }
-{
-    match (reason, other) {
-        (Reason::Work, Reason::Work)
-        | (Reason::Land, Reason::Land)
-        | (Reason::Over, Reason::Over)
-        | (Reason::Open, Reason::Open) => true,
-        _ => false,
-    }
-}
-
 /// Whether the table has the territory of some line.
-pub(crate) fn knows_one(tis: &TisTable, usage: &Usage) -> bool
+pub(crate) fn knows_a_territory(tis: &TisTable, usage: &Usage) -> bool
     ensures { result ≡ list_any (λ line. is_known tis.now line.territory) usage.now }
 {
     for place in 0..usage.len() {

@@ -13,9 +13,9 @@ pub struct Total {
 }
 
 impl Total {
-    ghost use Rattle.usage_totals.specs.Room.{HasRoom};
+    ghost use Rattle.usage_totals.specs.SoFar.{HasRoom};
 
-    /// That of no lines.
+    /// The total of no lines.
     pub(crate) fn none() -> Total
         ensures { result ≡ record { lines = 0; amount = pos 0 } }
     {
@@ -25,7 +25,7 @@ impl Total {
         }
     }
 
-    /// That of one line more.
+    /// The total with one line more, of this amount.
     pub(crate) fn with(self, amount: i64) -> Total
         requires room { HasRoom self }
         requires small { unsigned_abs amount ≤ MOST_AMOUNT }

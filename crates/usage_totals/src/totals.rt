@@ -5,35 +5,36 @@ ghost use Rattle.usage_totals.specs.Totals.{AreTotalsOf};
 
 use crate::by_key::{by_territory, by_work, greatest};
 use crate::name::Name;
-use crate::reasons::{knows_one, reasons_of, total_for};
+use crate::reasons::{knows_a_territory, reasons_of, total_for};
 use crate::total::Total;
 use cwr_share::Registry;
 use line_split::{Reason, Usage};
 use std::alloc::{AllocError, Global};
 use tis_tree::TisTable;
 
-/// The most works, and the most territories, that are named.
-pub const MOST_SHOWN: usize = 10;
+/// The most works that are named, and the most territories.
+pub const MOST_KEYS: usize = 10;
 
 /// What a run makes of the lines of a usage list.
 #[derive(Debug, Drop)]
 pub struct Totals<'a> {
     /// The lines that are divided by the claims on them.
     pub divided: Total,
-    /// What of their amounts is the residue's, in minor units.
+    /// What of the amounts of these divided lines is the residue's, in minor units.
     pub residue: i64,
     /// The lines whose work nobody has registered.
     pub unregistered: Total,
-    /// Of the others, those whose territory is not in the table.
+    /// The lines whose work is registered, and whose territory is not in the table.
     pub unknown: Total,
-    /// Of the others, those on which the claims come to more than 100.06 per cent.
+    /// The lines whose work is registered and whose territory is in the table, but on which the
+    /// claims come to more than 100.06 per cent.
     pub claimed_over: Total,
     /// The unregistered works with most money, the most first: ten at most.
     pub works: Vec<(Name<'a>, Total)>,
     /// The unknown territories with most money, the most first: ten at most.
     pub territories: Vec<(u16, Total)>,
     /// The table has the territory of some line.
-    pub knows_one: bool,
+    pub knows_a_territory: bool,
 }
 
 /// What a run makes of usage lines, by a table of territories and registrations.
@@ -55,8 +56,8 @@ pub fn totals_of<'a>(
         unregistered: total_for(usage, reasons, Reason::Work),
         unknown: total_for(usage, reasons, Reason::Land),
         claimed_over: total_for(usage, reasons, Reason::Over),
-        works: greatest(alloc, works, MOST_SHOWN)?,
-        territories: greatest(alloc, territories, MOST_SHOWN)?,
-        knows_one: knows_one(tis, usage),
+        works: greatest(alloc, works, MOST_KEYS)?,
+        territories: greatest(alloc, territories, MOST_KEYS)?,
+        knows_a_territory: knows_a_territory(tis, usage),
     })
 }

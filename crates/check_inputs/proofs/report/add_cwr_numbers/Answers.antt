@@ -8,7 +8,7 @@ pub returns : goal.returns
 returns c =
     let path = c.args.path.now in
     let registered = c.args.registry.now in
-    five_behind c.args.text.now.items c.add_fact.new.text.items c.add_fact-2.new.text.items c.add_fact-3.new.text.items c.add_fact_if_none.new.text.items c.add_remark_if_none.new.text.items
+    five_behind c.args.text.now.items c.add_fact.new.text.items c.add_fact-2.new.text.items c.add_fact-3.new.text.items c.add_fact_if_sound.new.text.items c.add_remark_if_none.new.text.items
     (fact_line path (codes "works with a registration in force") (length registered.works))
     (fact_line path (codes "registrations replaced by later ones") (c.args.registrations - length registered.works))
     (fact_line path (codes "parties in force") (length registered.payees))
@@ -17,5 +17,5 @@ returns c =
     (rw c.works-works.ensures.works at c.in_ok-add_fact.ensures)
     (rw (c.saturating_sub.ensures, c.works-works.ensures.works) at c.in_ok-add_fact-2.ensures)
     (rw c.claimants.ensures at c.in_ok-add_fact-3.ensures)
-    (rw (c.from.ensures, c.accounts.ensures.accounts) at c.in_ok-add_fact_if_none.ensures)
+    (rw (c.from.ensures, c.accounts.ensures.accounts) at c.in_ok-add_fact_if_sound.ensures)
     c.in_ok-add_remark_if_none.ensures

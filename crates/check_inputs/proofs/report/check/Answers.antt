@@ -39,8 +39,8 @@ returns c =
       usage = is_usage;
       totals = subst (λ (sound : Bool). AreTotalsIfSound sound found.table found.registered found.lines totals) so_far are_totals;
     } in
-    IfOk-weaker c.whole.result _ (λ (checked : Checked). IsReportOn (paths_of tis payees cwr usage) (files_of tis payees cwr usage) checked.text.items checked.is_sound)
+    IfOk-weaker c.finish.result _ (λ (checked : Checked). IsReportOn (paths_of tis payees cwr usage) (files_of tis payees cwr usage) checked.text.items checked.is_sound)
     (λ checked whole. put_together (paths_of tis payees cwr usage) (files_of tis payees cwr usage) found none c.tis.new.self c.payees.new.self c.cwr.new.self c.usage.new.self c.totals.new.self checked.text.items
     checked.is_sound (c.new.ensures.items, c.new-2.ensures.items, refl) first (rw (facts_given payees (length of_payees) c.in_ok-rows.rows) at second) (rw so_many at third) fourth
     (rw (c.as_str.ensures.value, c.as_str-2.ensures.value, c.as_str-3.ensures.value) at last) is whole)
-    c.whole.ensures
+    c.finish.ensures

@@ -3,8 +3,9 @@ use Rattle.std.specs.Prelude.{nat_eq}
 use Rattle.line_split.specs.UsageLine.{UsageLine}
 use Rattle.line_split.specs.declared.reason.Reason.{Reason}
 use Rattle.line_split.specs.declared.reason.Reason.TheVariants.{Land}
-use Rattle.usage_totals.specs.Greatest.{AreTotals, total_so_far}
+use Rattle.usage_totals.specs.Greatest.{AreTotals}
 use Rattle.usage_totals.specs.Totals.{amounts_by_territory, is_same}
+use Rattle.usage_totals.specs.SoFar.{total_so_far}
 use Rattle.usage_totals.proofs.TotalLemmas.{IsWithin}
 use Rattle.usage_totals.proofs.by_key.by_territory.Given as goal
 

@@ -4,7 +4,7 @@ use Rattle.std.proofs.lemmas.List.Folds.{list_any_at, list_any_more}
 use Rattle.std.proofs.lemmas.Option.{get_or_from_slice_get}
 use Rattle.cwr_share.specs.ClaimsOn.{is_known}
 use Rattle.line_split.specs.UsageLine.{UsageLine, usage_line_of}
-use Rattle.usage_totals.proofs.reasons.knows_one.Goals as goal
+use Rattle.usage_totals.proofs.reasons.knows_a_territory.Goals as goal
 
 pub returns-then-knows : goal.returns-then-knows
 returns-then-knows c =
