@@ -20,10 +20,10 @@ pub record AreMerged (parts : List Statements) (whole : Statements) : Type 0 whe
 pub record IsMergeOf (texts : List (List ℕ)) (merged : List ℕ) : Type 0 where
   pub parts : List Statements
   pub sound : All AreStatements parts
-  pub texts : texts ≡ map text_of_statements parts
+  pub each : texts ≡ map text_of_statements parts
   pub whole : Statements
-  pub merged : AreMerged parts whole
-  pub text : merged ≡ text_of_statements whole
+  pub together : AreMerged parts whole
+  pub all : merged ≡ text_of_statements whole
 
 -- each text is the merge of the group in its place
 pub data AreMergesOf : List (List (List ℕ)) → List (List ℕ) → Type 0 where
