@@ -1,0 +1,4 @@
+pub mod Merges
+mod Numbers
+pub mod OneMerge
+pub mod ReadBack

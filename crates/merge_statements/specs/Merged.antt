@@ -1,5 +1,5 @@
 -- What statements come to together.
-use Rattle.std.specs.Prelude.{ℕ, ◌≡◌, ◌<◌, ◌∷◌, [], List, All, filter, flat_map, length, map, sum_by}
+use Rattle.std.specs.Prelude.{ℕ, ◌≡◌, ◌∷◌, [], List, All, filter, flat_map, map, sum_by}
 use Rattle.std.specs.Str.{bytes_eq}
 use Rattle.line_split.specs.Signs.{int_sum_by}
 use Rattle.merge_statements.specs.Statements.{AreStatements, Portion, Statements, text_of_statements}
@@ -20,10 +20,10 @@ pub record AreMerged (parts : List Statements) (whole : Statements) : Type 0 whe
 pub record IsMergeOf (texts : List (List ℕ)) (merged : List ℕ) : Type 0 where
   pub parts : List Statements
   pub sound : All AreStatements parts
-  pub texts : texts ≡ map text_of_statements parts
+  pub each : texts ≡ map text_of_statements parts
   pub whole : Statements
-  pub merged : AreMerged parts whole
-  pub text : merged ≡ text_of_statements whole
+  pub together : AreMerged parts whole
+  pub all : merged ≡ text_of_statements whole
 
 -- each text is the merge of the group in its place
 pub data AreMergesOf : List (List (List ℕ)) → List (List ℕ) → Type 0 where
