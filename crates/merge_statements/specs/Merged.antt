@@ -1,5 +1,5 @@
 -- What statements come to together.
-use Rattle.std.specs.Prelude.{ℕ, ◌≡◌, ◌<◌, ◌∷◌, [], List, All, filter, flat_map, length, map, sum_by}
+use Rattle.std.specs.Prelude.{ℕ, ◌≡◌, ◌∷◌, [], List, All, filter, flat_map, map, sum_by}
 use Rattle.std.specs.Str.{bytes_eq}
 use Rattle.line_split.specs.Signs.{int_sum_by}
 use Rattle.merge_statements.specs.Statements.{AreStatements, Portion, Statements, text_of_statements}
