@@ -1,2 +1,3 @@
+pub mod BufferLemmas
 pub mod FieldLemmas
 pub mod NumberLemmas

@@ -1,3 +1,5 @@
+pub mod Buffered
 pub mod Fields
 pub mod Merged
+pub mod Reading
 pub mod Statements

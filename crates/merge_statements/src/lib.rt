@@ -2,7 +2,12 @@
 #![tactic(auto)]
 
 pub mod amount;
+mod buffer;
 pub mod laws;
+mod read_fault;
+mod reader;
 mod row;
 
+pub use read_fault::ReadFault;
+pub use reader::RowReader;
 pub use row::Row;
