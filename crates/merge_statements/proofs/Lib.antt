@@ -1,7 +1,8 @@
+pub mod BufferLemmas
 pub mod FieldLemmas
-pub mod NumberLemmas
-pub mod WalkLemmas
 pub mod Merges
+pub mod NumberLemmas
 mod Numbers
 pub mod OneMerge
 pub mod ReadBack
+pub mod WalkLemmas

@@ -1,10 +1,15 @@
 //! The statements of several runs merged into one text.
 #![tactic(auto)]
 
-mod amount;
+pub mod amount;
+mod buffer;
 pub mod laws;
+mod read_fault;
+mod reader;
 mod row;
 mod walk;
 
+pub use read_fault::ReadFault;
+pub use reader::RowReader;
 pub use row::Row;
 pub use walk::{Place, Progress, Wrong};
