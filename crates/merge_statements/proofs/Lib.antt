@@ -6,3 +6,5 @@ mod Numbers
 pub mod OneMerge
 pub mod ReadBack
 pub mod WalkLemmas
+pub mod Steps
+pub mod Passing

@@ -3,8 +3,9 @@ use Rattle.std.proofs.Common.{◌≡◌, ◌∙◌, ◌⊎◌, ◌+◌, ◌+ℤ�
 use Rattle.std.specs.Prelude.{◌==◌}
 use Rattle.std.proofs.lemmas.Bool.{eqb-true}
 use Rattle.std.specs.Fmt.{signed_decimal}
-use Rattle.merge_statements.specs.Places.{At, Fits, KindFits, Leads, count_at, sum_at}
-use Rattle.merge_statements.specs.declared.walk.Place.TheVariants.{Within, Resting}
+use Rattle.merge_statements.specs.Statements.{IsAmount}
+use Rattle.merge_statements.specs.Places.{At, Fits, IsCount, KindFits, Leads, count_at, sum_at}
+use Rattle.merge_statements.specs.declared.walk.Place.TheVariants.{Ended, Within, Resting}
 
 -- kinds of rows differ by their letters
 module _ (kind : List ℕ) where
@@ -63,24 +64,35 @@ empty_is [] is test holds = refl
 empty_is (byte ∷ text) is test holds = absurd (omega (arith, eqb-true (length (byte ∷ text)) 0 (sym test ∙ holds)))
 
 -- where a portion leads
-pub portion_leads : (at next : At) (kind whose third fourth : List ℕ) (amount : ℤ) → kind ≡ codes "L" → fourth ≡ signed_decimal amount
+pub portion_leads : (at next : At) (kind whose third fourth : List ℕ) (amount : ℤ) → kind ≡ codes "L" → IsAmount amount → fourth ≡ signed_decimal amount
     → next ≡ record { place = Within (count_at at.place + 1) (sum_at at.place +ℤ amount); payee = whose; portions = at.portions + 1; total = at.total }
     → Leads at kind whose third fourth next
-portion_leads at next kind whose third fourth amount is written leads = record {
-  portion = λ l. (amount, written, leads);
+portion_leads at next kind whose third fourth amount is sound written leads = record {
+  portion = λ l. (amount, sound, written, leads);
   sum = λ s. absurd (omega (arith, apart kind _ _ is s));
   rest = λ m. absurd (omega (arith, apart kind _ _ is m));
   rests = λ t. absurd (omega (arith, apart kind _ _ is t));
   run = λ r. absurd (omega (arith, apart kind _ _ is r));
 }
 
-pub rest_leads : (at next : At) (kind whose third fourth : List ℕ) (amount : ℤ) → kind ≡ codes "M" → fourth ≡ signed_decimal amount
+pub rest_leads : (at next : At) (kind whose third fourth : List ℕ) (amount : ℤ) → kind ≡ codes "M" → IsAmount amount → fourth ≡ signed_decimal amount
     → next ≡ record { place = Resting (count_at at.place + 1) (sum_at at.place +ℤ amount); payee = at.payee; portions = at.portions + 1; total = at.total }
     → Leads at kind whose third fourth next
-rest_leads at next kind whose third fourth amount is written leads = record {
+rest_leads at next kind whose third fourth amount is sound written leads = record {
   portion = λ l. absurd (omega (arith, apart kind _ _ is l));
   sum = λ s. absurd (omega (arith, apart kind _ _ is s));
-  rest = λ m. (amount, written, leads);
+  rest = λ m. (amount, sound, written, leads);
   rests = λ t. absurd (omega (arith, apart kind _ _ is t));
   run = λ r. absurd (omega (arith, apart kind _ _ is r));
+}
+
+-- where the usage lines lead
+pub run_leads : (at next : At) (kind whose third fourth : List ℕ) (lines : ℕ) → kind ≡ codes "R" → IsCount lines → third ≡ decimal lines
+    → next ≡ record { place = Ended lines; payee = at.payee; portions = at.portions; total = at.total } → Leads at kind whose third fourth next
+run_leads at next kind whose third fourth lines is few written leads = record {
+  portion = λ l. absurd (omega (arith, apart kind _ _ is l));
+  sum = λ s. absurd (omega (arith, apart kind _ _ is s));
+  rest = λ m. absurd (omega (arith, apart kind _ _ is m));
+  rests = λ t. absurd (omega (arith, apart kind _ _ is t));
+  run = λ r. (lines, few, written, leads);
 }

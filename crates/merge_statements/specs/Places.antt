@@ -29,7 +29,7 @@ KindFits Between kind = (kind ≡ codes "L") ⊎ (kind ≡ codes "M") ⊎ (kind 
 KindFits (Within count so_far) kind = (kind ≡ codes "L") ⊎ (kind ≡ codes "S")
 KindFits (Resting count so_far) kind = (kind ≡ codes "M") ⊎ (kind ≡ codes "T")
 KindFits Summed kind = kind ≡ codes "R"
-KindFits Ended kind = ⊥
+KindFits (Ended lines) kind = ⊥
 
 -- whose portion stands there: a payee's behind the one before, in byte order, or a further one of its
 abbrev pub IsPayeeAt : Place → (last whose : List ℕ) → Type 0
@@ -79,13 +79,14 @@ pub record Fits (at : At) (kind whose third fourth : List ℕ) : Type 0 where
 
 -- Where such a row leads: a portion is counted, a sum ends a payee or what nobody gets, and the usage lines end the text.
 pub record Leads (at : At) (kind whose third fourth : List ℕ) (next : At) : Type 0 where
-  pub portion : kind ≡ codes "L" → (amount : ℤ) × (fourth ≡ signed_decimal amount)
+  pub portion : kind ≡ codes "L" → (amount : ℤ) × IsAmount amount × (fourth ≡ signed_decimal amount)
       × (next ≡ record { place = Within (count_at at.place + 1) (sum_at at.place +ℤ amount); payee = whose; portions = at.portions + 1; total = at.total })
   pub sum : kind ≡ codes "S" → next ≡ record { place = Between; payee = at.payee; portions = at.portions; total = at.total +ℤ sum_at at.place }
-  pub rest : kind ≡ codes "M" → (amount : ℤ) × (fourth ≡ signed_decimal amount)
+  pub rest : kind ≡ codes "M" → (amount : ℤ) × IsAmount amount × (fourth ≡ signed_decimal amount)
       × (next ≡ record { place = Resting (count_at at.place + 1) (sum_at at.place +ℤ amount); payee = at.payee; portions = at.portions + 1; total = at.total })
   pub rests : kind ≡ codes "T" → next ≡ record { place = Summed; payee = at.payee; portions = at.portions; total = at.total +ℤ sum_at at.place }
-  pub run : kind ≡ codes "R" → next ≡ record { place = Ended; payee = at.payee; portions = at.portions; total = at.total }
+  pub run : kind ≡ codes "R" → (lines : ℕ) × IsCount lines × (third ≡ decimal lines)
+      × (next ≡ record { place = Ended lines; payee = at.payee; portions = at.portions; total = at.total })
 
 -- a row fits and leads on
 pub record Follows (at : At) (row : List (List ℕ)) (next : At) : Type 0 where

@@ -55,6 +55,7 @@ impl<R: Read> RowReader<R> {
         ensures found { IfOk result (λ found. found ≡ true → Consumes self.old.left self.new.left (self.new.line ++ 10 ∷ [])) }
         ensures one { IfOk result (λ found. found ≡ true → list_any is_feed self.new.line ≡ false) }
         ensures end { IfOk result (λ found. found ≡ false → IsAtEnd self.old.left × IsAtEnd self.new.left) }
+        ensures still { IfOk result (λ found. found ≡ false → Keeps self.old.left self.new.left) }
         ensures none { IfOk result (λ found. found ≡ false → self.new.line ≡ []) }
         ensures fault { IfErr result (IsFaultOf self.old.left) }
         ensures kept { OnErr result (Keeps self.old.left self.new.left × (self.new.line ≡ [])) }

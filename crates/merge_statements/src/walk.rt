@@ -1,12 +1,13 @@
 //! The rows of a statement text one after another, of which each has to be one that can stand there.
 
 ghost use Rattle.std.specs.Fmt.{signed_decimal};
-ghost use Rattle.std.specs.Prelude.{◌≡◌, ◌⊎◌, ◌+◌, ◌+ℤ◌, ◌^◌, ◌≤◌, ◌↔◌, ℤ, unsigned_abs, IfErr, IfOk, IsTrue, OnOk, codes, decimal};
+ghost use Rattle.std.specs.Prelude.{◌≡◌, ◌⊎◌, ◌+◌, ◌+ℤ◌, ◌^◌, ◌≤◌, ◌↔◌, ℤ, true, unsigned_abs, IfErr, IfOk, IsTrue, OnOk, codes, decimal};
 ghost use Rattle.std.specs.Cmp.Lexicographic.{slice_cmp};
 ghost use Rattle.std.specs.Ordering.{nat_cmp};
 ghost use Rattle.std.specs.declared.cmp.Ordering.TheVariants.{Less};
 ghost use Rattle.merge_statements.specs.Places.{Fits, IsCount, IsPayeeAt, KindFits, Leads, at_first, count_at, sum_at};
 ghost use Rattle.merge_statements.specs.Statements.{IsAmount, IsName, IsReason};
+ghost use Rattle.merge_statements.specs.declared.walk.Place.TheVariants as Place;
 ghost use Rattle.merge_statements.specs.declared.walk.Wrong.TheVariants as Wrong;
 ghost use Rattle.merge_statements.specs.Wrong.{IsWrongAt};
 
@@ -14,7 +15,7 @@ use crate::amount::{MOST_COUNT, amount_of, count_of};
 use crate::row::Row;
 use csv_table::forms::is_printable;
 use itoa::Buffer;
-use std::alloc::Global;
+use std::alloc::{AllocError, Global};
 use std::cmp::Ordering;
 use std::marker::Model;
 
@@ -32,8 +33,8 @@ pub enum Place {
     Resting(u64, i128),
     /// Behind what nobody gets in all.
     Summed,
-    /// Behind the last row.
-    Ended,
+    /// Behind the last row: how many usage lines there were.
+    Ended(u64),
 }
 
 /// Which field of a row is the first that cannot stand there.
@@ -82,7 +83,7 @@ impl Place {
             Place::Within(_, _) => matches!(kind, b"L" | b"S"),
             Place::Resting(_, _) => matches!(kind, b"M" | b"T"),
             Place::Summed => matches!(kind, b"R"),
-            Place::Ended => false,
+            Place::Ended(_) => false,
         }
     }
 
@@ -93,7 +94,7 @@ impl Place {
     {
         match self {
             Place::Within(count, sum) | Place::Resting(count, sum) => (count, sum),
-            Place::Between | Place::Summed | Place::Ended => (0, 0),
+            Place::Between | Place::Summed | Place::Ended(_) => (0, 0),
         }
     }
 }
@@ -142,7 +143,9 @@ impl Progress {
         }
         let amount = self.amount_in(row)?;
         let (count, sum) = self.place.so_far();
-        replace(&mut self.payee, row.whose)?;
+        if replace(&mut self.payee, row.whose).is_err() {
+            return Err(Wrong::Memory);
+        }
         self.place = Place::Within(count + 1, plus(sum, amount as i128));
         self.portions += 1;
         Ok(())
@@ -213,14 +216,32 @@ impl Progress {
         if !row.whose.is_empty() {
             return Err(Wrong::Whose);
         }
-        if count_of(row.third).is_none() {
+        let Some(lines) = count_of(row.third) else {
             return Err(Wrong::Third);
-        }
+        };
         if !is_written(row.fourth, self.total) {
             return Err(Wrong::Fourth);
         }
-        self.place = Place::Ended;
+        self.place = Place::Ended(lines);
         Ok(())
+    }
+
+    /// Of how many portions a sum there is, and what they come to.
+    pub(crate) fn so_far(&self) -> (u64, i128)
+        ensures count { result.0 ≡ count_at self.now.place }
+        ensures sum { result.1 ≡ sum_at self.now.place }
+    {
+        self.place.so_far()
+    }
+
+    /// Whether the statement of this payee can begin here.
+    pub(crate) fn can_begin(&self, payee: &[u8]) -> bool
+        ensures { result ≡ true → (self.now.place ≡ Place.Between) × IsName payee.now × (slice_cmp nat_cmp self.now.payee payee.now ≡ Less) }
+    {
+        match self.place {
+            Place::Between => is_name(payee) && is_before(self.payee.as_slice(), payee),
+            Place::Within(_, _) | Place::Resting(_, _) | Place::Summed | Place::Ended(_) => false,
+        }
     }
 
     /// Whether a portion of this payee can stand here.
@@ -229,7 +250,7 @@ impl Progress {
     {
         match self.place {
             Place::Within(_, _) => whose == self.payee.as_slice(),
-            Place::Between | Place::Resting(_, _) | Place::Summed | Place::Ended => {
+            Place::Between | Place::Resting(_, _) | Place::Summed | Place::Ended(_) => {
                 is_name(whose) && is_before(self.payee.as_slice(), whose)
             }
         }
@@ -272,18 +293,14 @@ fn plus(one: i128, other: i128) -> i128
 }
 
 /// Puts a name in the place of another.
-fn replace(name: &mut Vec<u8>, by: &[u8]) -> Result<(), Wrong>
-    ensures name { OnOk result (name.new.items ≡ by.now) }
-    ensures memory { IfErr result (λ wrong. wrong ≡ Wrong.Memory) }
+pub(crate) fn replace(name: &mut Vec<u8>, by: &[u8]) -> Result<(), AllocError>
+    ensures { OnOk result (name.new.items ≡ by.now) }
 {
     if name.as_slice() == by {
         return Ok(());
     }
     name.clear();
-    match name.extend_from_slice(by) {
-        Ok(()) => Ok(()),
-        Err(_) => Err(Wrong::Memory),
-    }
+    name.extend_from_slice(by)
 }
 
 /// Sees that a sum is of so many portions, and that they come to this.
