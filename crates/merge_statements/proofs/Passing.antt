@@ -11,12 +11,12 @@ use Rattle.csv_table.proofs.ReadBack.{rows_read_back}
 use Rattle.csv_table.specs.Written.{text_of, text_of_row}
 use Rattle.line_split.proofs.IntSums.{int_sum_by-append, int_sum_by-cons, none_plus, plus_none}
 use Rattle.line_split.specs.Signs.{int_sum_by}
-use Rattle.merge_statements.specs.Passed.{IsNext, IsPortionAt, IsSumAt, IsWithin, IsWithinOne, PassesPortion, PassesSum, WritesStatement, total_of_portions}
+use Rattle.merge_statements.specs.Passed.{HasRests, IsNext, IsPortionAt, IsRestAt, IsRestsSumAt, IsSumAt, IsWithin, IsWithinOne, PassesPortion, PassesRest, PassesSum, WritesRests, WritesStatement, total_of_portions}
 use Rattle.merge_statements.specs.Places.{At, IsPayeeAt, count_at, row_of, sum_at}
-use Rattle.merge_statements.specs.Statements.{IsPortion, Portion, Statement, portion_row, total_row}
+use Rattle.merge_statements.specs.Statements.{IsPortion, IsRest, Portion, Rest, Statement, portion_row, rest_row, total_of_rests, total_row}
 use Rattle.merge_statements.specs.Unread.{Unread}
 use Rattle.merge_statements.specs.declared.walk.Place.{Place}
-use Rattle.merge_statements.specs.declared.walk.Place.TheVariants.{Between, Within}
+use Rattle.merge_statements.specs.declared.walk.Place.TheVariants.{Between, Summed, Within}
 
 -- ---- rows of one text have the same second field
 
@@ -190,3 +190,76 @@ opened from before after line found same more ends = subst (λ (known : Option (
 -- a row that begins with the letter of portions
 pub next_begins : (at : At) (line payee : List ℕ) → IsNext at line payee → get_or line 0 0 ≡ 76
 next_begins at line payee next = ap (λ (text : List ℕ). get_or text 0 0) (sym next.row)
+
+-- ---- what nobody gets
+
+pub no_rests : (old : Unread) (before : Option (List ℕ)) → old.at.place ≡ Between → HasRests old old before before
+no_rests old before between = record {
+  rests = [];
+  sound = All-nil IsRest;
+  count = ap count_at between;
+  sum = ap sum_at between;
+  payee = refl;
+  portions = omega arith;
+  total = refl;
+  consumed = nothing_consumed old.left;
+  written = nothing_appended before;
+}
+  where
+    nothing_consumed : (left : Option (List ℕ)) → Consumes left left []
+    nothing_consumed None = tt
+    nothing_consumed (Some xs) = refl
+
+    nothing_appended : (known : Option (List ℕ)) → Appends known known []
+    nothing_appended None = tt
+    nothing_appended (Some xs) = sym (append-nil xs)
+
+rests_text : (rests : List Rest) (rest : Rest) → text_of (map rest_row rests) ++ text_of_row (rest_row rest) ≡ text_of (map rest_row (rests ++ rest ∷ []))
+rests_text rests rest = text_more (map rest_row rests) (rest_row rest) ∙ ap text_of (sym (map-append rest_row rests (rest ∷ [])))
+
+rests_total : (rests : List Rest) (rest : Rest) → total_of_rests rests +ℤ rest.amount ≡ total_of_rests (rests ++ rest ∷ [])
+rests_total rests rest =
+    ap (λ (n : ℤ). total_of_rests rests +ℤ n) (sym (none_plus rest.amount)) ∙ sym (int_sum_by-append (λ (r : Rest). r.amount) rests (rest ∷ []))
+
+pub more_rests : (old between new : Unread) (before middle after : Option (List ℕ)) → HasRests old between before middle
+    → PassesRest between new → Appends middle after between.line → HasRests old new before after
+more_rests old between new before middle after was passed written =
+    let r = passed.rest in
+    let text = rests_text was.rests r.what in
+    record {
+      rests = was.rests ++ r.what ∷ [];
+      sound = All-push IsRest was.rests r.what was.sound r.sound;
+      count = ap (λ (at : At). count_at at.place) r.leads ∙ omega (arith, was.count, length_push was.rests r.what);
+      sum = ap (λ (at : At). sum_at at.place) r.leads ∙ (ap (λ (n : ℤ). n +ℤ r.what.amount) was.sum ∙ rests_total was.rests r.what);
+      payee = ap (λ (at : At). at.payee) r.leads ∙ was.payee;
+      portions = ap (λ (at : At). at.portions) r.leads ∙ omega (arith, was.portions, length_push was.rests r.what);
+      total = ap (λ (at : At). at.total) r.leads ∙ was.total;
+      consumed = subst (λ (t : List ℕ). Consumes old.left new.left t) text
+        (consumes_more old.left between.left new.left (text_of (map rest_row was.rests)) (text_of_row (rest_row r.what)) was.consumed
+        (subst (λ (row : List (List ℕ)). Consumes between.left new.left (text_of_row row)) r.form passed.consumed));
+      written = subst (λ (t : List ℕ). Appends before after t) text
+        (appends_more before middle after (text_of (map rest_row was.rests)) (text_of_row (rest_row r.what)) was.written
+        (subst (λ (t : List ℕ). Appends middle after t) (sym passed.line ∙ ap text_of_row r.form) written));
+    }
+
+pub rests_written : (old between new : Unread) (before after : Option (List ℕ)) (count : ℕ) (total : ℤ) → HasRests old between before after
+    → PassesSum IsRestsSumAt between new count total → WritesRests old new before after count total
+rests_written old between new before after count total was end =
+    let last = total_row (codes "T") [] (length was.rests) (total_of_rests was.rests) in
+    let form : end.row ≡ last = end.sum.form ∙ (λ i. total_row (codes "T") [] (was.count i) (was.sum i)) in
+    record {
+      rests = was.rests;
+      sound = was.sound;
+      counted = end.counted ∙ was.count;
+      sum = end.comes_to ∙ was.sum;
+      consumed = subst (λ (t : List ℕ). Consumes old.left new.left t) (text_more (map rest_row was.rests) last)
+        (consumes_more old.left between.left new.left (text_of (map rest_row was.rests)) (text_of_row last) was.consumed
+        (subst (λ (row : List (List ℕ)). Consumes between.left new.left (text_of_row row)) form end.consumed));
+      at = end.sum.leads ∙ (λ i. record {
+        place = Summed;
+        payee = was.payee i;
+        portions = was.portions i;
+        total = was.total i +ℤ was.sum i;
+      });
+      written = was.written;
+    }

@@ -1,7 +1,7 @@
 -- What was passed over of a statement text.
 use Rattle.std.specs.Prelude.{ℕ, ℤ, pos, ◌≡◌, ◌<◌, ◌+◌, ◌+ℤ◌, ◌∷◌, [], List, All, IfSome, Option, Some, codes, decimal, length, map}
 use Rattle.std.specs.Cmp.Lexicographic.{slice_cmp}
-use Rattle.std.specs.Io.KnownBytes.{Appends, Consumes}
+use Rattle.std.specs.Io.KnownBytes.{Appends, Consumes, IsAtEnd}
 use Rattle.std.specs.Ordering.{nat_cmp}
 use Rattle.std.specs.declared.cmp.Ordering.TheVariants.{Less}
 use Rattle.csv_table.specs.Written.{text_of, text_of_row}
@@ -106,3 +106,38 @@ pub record PassesSum (IsSum : At → List (List ℕ) → At → Type 0) (old new
   pub consumed : Consumes old.left new.left (text_of_row row)
   pub counted : count ≡ count_at old.at.place
   pub comes_to : total ≡ sum_at old.at.place
+
+-- a portion that nobody gets was passed over
+pub record PassesRest (old new : Unread) : Type 0 where
+  pub row : List (List ℕ)
+  pub rest : IsRestAt old.at row new.at
+  pub line : text_of_row row ≡ old.line
+  pub consumed : Consumes old.left new.left (text_of_row row)
+
+-- so many of these were passed over and written
+pub record HasRests (old new : Unread) (before after : Option (List ℕ)) : Type 0 where
+  pub rests : List Rest
+  pub sound : All IsRest rests
+  pub count : count_at new.at.place ≡ length rests
+  pub sum : sum_at new.at.place ≡ total_of_rests rests
+  pub payee : new.at.payee ≡ old.at.payee
+  pub portions : new.at.portions ≡ old.at.portions + length rests
+  pub total : new.at.total ≡ old.at.total
+  pub consumed : Consumes old.left new.left (text_of (map rest_row rests))
+  pub written : Appends before after (text_of (map rest_row rests))
+
+-- All that nobody gets was passed over, and written without its sum; there are so many portions, and they come to this.
+pub record WritesRests (old new : Unread) (before after : Option (List ℕ)) (count : ℕ) (total : ℤ) : Type 0 where
+  pub rests : List Rest
+  pub sound : All IsRest rests
+  pub counted : count ≡ length rests
+  pub sum : total ≡ total_of_rests rests
+  pub consumed : Consumes old.left new.left (text_of (rests_rows rests))
+  pub at : new.at ≡ record { place = Summed; payee = old.at.payee; portions = old.at.portions + length rests; total = old.at.total +ℤ total_of_rests rests }
+  pub written : Appends before after (text_of (map rest_row rests))
+
+-- The usage lines were passed over, of which there are so many, and the text ends behind them.
+pub record EndsText (old new : Unread) (lines : ℕ) : Type 0 where
+  pub few : IsCount lines
+  pub consumed : Consumes old.left new.left (text_of_row (total_row (codes "R") [] lines old.at.total))
+  pub ended : IsAtEnd new.left

@@ -1,13 +1,14 @@
 //! One of the texts that are merged, read statement by statement.
 
-ghost use Rattle.std.specs.Io.KnownBytes.{Appends, Consumes, Keeps};
+ghost use Rattle.std.specs.Io.KnownBytes.{Appends, Consumes, IsAtEnd, Keeps};
 ghost use Rattle.std.specs.Prelude.{◌≡◌, ◌<◌, ◌++◌, ◌∷◌, [], IfOk, IfSome, OnOk, slice_index, true, false};
 ghost use Rattle.std.specs.Option.{option_map};
 ghost use Rattle.csv_table.specs.Written.{text_of_row};
 ghost use Rattle.merge_statements.specs.Fields.{fields_of};
-ghost use Rattle.merge_statements.specs.Passed.{IsNext, IsSumAt, IsWithin, IsWithinOne, PassesPortion, PassesSum, WritesStatement};
+ghost use Rattle.merge_statements.specs.Passed.{EndsText, IsNext, IsRestsSumAt, IsSumAt, IsWithin, IsWithinOne, PassesPortion, PassesRest, PassesSum, WritesRests, WritesStatement};
 ghost use Rattle.merge_statements.specs.Places.{at_first};
 ghost use Rattle.merge_statements.specs.Unread.{FollowsAs, Steps};
+ghost use Rattle.merge_statements.specs.declared.walk.Place.TheVariants as Place;
 
 use crate::buffer::BUFFER_BYTES;
 use crate::output::Output;
@@ -36,13 +37,13 @@ pub struct Part<R: Read> {
 }
 
 impl<R: Read> Model for Part<R> {
-    ghost use Rattle.std.specs.Prelude.{◌≡◌, ◌++◌, ◌∷◌, [], None, Some, true, if◌then◌else◌};
+    ghost use Rattle.std.specs.Prelude.{◌≡◌, ◌++◌, ◌∷◌, [], None, Some, false, true, if◌then◌else◌};
     ghost use Rattle.merge_statements.specs.Passed.{IsNext};
-    ghost use Rattle.std.specs.Io.KnownBytes.{prepend_known};
+    ghost use Rattle.std.specs.Io.KnownBytes.{IsAtEnd, prepend_known};
     ghost use Rattle.std.specs.Option.{option_map};
 ghost use Rattle.csv_table.specs.Written.{text_of_row};
 ghost use Rattle.merge_statements.specs.Fields.{fields_of};
-ghost use Rattle.merge_statements.specs.Passed.{IsNext, IsSumAt, IsWithin, IsWithinOne, PassesPortion, PassesSum, WritesStatement};
+ghost use Rattle.merge_statements.specs.Passed.{EndsText, IsNext, IsRestsSumAt, IsSumAt, IsWithin, IsWithinOne, PassesPortion, PassesRest, PassesSum, WritesRests, WritesStatement};
 ghost use Rattle.merge_statements.specs.Places.{at_first};
 ghost use Rattle.merge_statements.specs.Unread.{Unread};
 
@@ -54,7 +55,8 @@ ghost use Rattle.merge_statements.specs.Unread.{Unread};
         left = prepend_known (if b.has_row then b.rows.line ++ 10 ∷ [] else []) b.rows.left;
         payee = if b.has_payee then Some b.payee.items else None } };
 
-    ghost invariant = { λ b. b.has_payee ≡ true → IsNext b.progress (if b.has_row then b.rows.line ++ 10 ∷ [] else []) b.payee.items };
+    ghost invariant = { λ b. (b.has_payee ≡ true → IsNext b.progress (if b.has_row then b.rows.line ++ 10 ∷ [] else []) b.payee.items)
+        × (b.has_row ≡ false → IsAtEnd b.rows.left) };
 }
 
 impl<R: Read + Drop> Part<R> {
@@ -205,6 +207,59 @@ impl<R: Read + Drop> Part<R> {
         }
         Err(Refusal::Fault(StatementFault::Fourth(self.number)))
     }
+
+    /// Passes over a portion that nobody gets, and adds it to the output.
+    fn pass_rest<W: Write>(&mut self, out: &mut Output<'_, W>) -> Result<(), Refusal>
+        requires { slice_index self.old.line 0 ≡ 77 }
+        ensures rest { OnOk result (PassesRest self.old self.new) }
+        ensures passed { OnOk result (Appends out.old out.new self.old.line) }
+    {
+        self.pass_row(out)?;
+        Ok(())
+    }
+
+    /// Passes over what nobody gets in all. Answers how many portions there were and what they come to.
+    fn end_rests(&mut self) -> Result<(u64, i128), Refusal>
+        ensures { IfOk result (λ sum. PassesSum IsRestsSumAt self.old self.new sum.0 sum.1) }
+    {
+        if !self.begins_with(b'T') {
+            return Err(Refusal::Fault(StatementFault::Kind(self.number)));
+        }
+        let sum = self.progress.so_far();
+        self.step()?;
+        Ok(sum)
+    }
+
+    /// Passes over all that nobody gets, behind the last payee, and adds it to the output without its sum. Answers how many portions there
+    /// are and what they come to.
+    pub fn pass_rests<W: Write>(
+        &mut self,
+        out: &mut Output<'_, W>,
+    ) -> Result<(u64, i128), Refusal>
+        requires { self.old.at.place ≡ Place.Between }
+        ensures { IfOk result (λ sum. WritesRests self.old self.new out.old out.new sum.0 sum.1) }
+    {
+        for _ in 0..u64::MAX {
+            if !self.begins_with(b'M') {
+                let sum = self.end_rests()?;
+                return Ok(sum);
+            }
+            self.pass_rest(out)?;
+        }
+        Err(Refusal::Fault(StatementFault::Fourth(self.number)))
+    }
+
+    /// Passes over the usage lines, behind which the text ends. Answers how many there were.
+    pub fn finish(&mut self) -> Result<u64, Refusal>
+        requires { self.old.at.place ≡ Place.Summed }
+        ensures { IfOk result (λ lines. EndsText self.old self.new lines) }
+    {
+        self.step()?;
+        if self.has_row {
+            return Err(Refusal::Fault(StatementFault::Kind(self.number)));
+        }
+        Ok(self.progress.lines())
+    }
 }
 
 /// Adds a line with its line feed.
@@ -254,6 +309,7 @@ fn row_of<'a>(line: &'a [u8], room: &'a mut [u8], number: u64) -> Result<Row<'a>
 fn advance<R: Read>(rows: &mut RowReader<R>, number: &mut u64) -> Result<bool, Refusal>
     ensures found { IfOk result (λ found. found ≡ true → Consumes rows.old.left rows.new.left (rows.new.line ++ 10 ∷ [])) }
     ensures end { IfOk result (λ found. found ≡ false → Keeps rows.old.left rows.new.left) }
+    ensures nothing { IfOk result (λ found. found ≡ false → IsAtEnd rows.new.left) }
 {
     *number = number.saturating_add(1);
     match rows.next() {

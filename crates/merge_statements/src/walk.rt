@@ -1,7 +1,7 @@
 //! The rows of a statement text one after another, of which each has to be one that can stand there.
 
 ghost use Rattle.std.specs.Fmt.{signed_decimal};
-ghost use Rattle.std.specs.Prelude.{◌≡◌, ◌⊎◌, ◌+◌, ◌+ℤ◌, ◌^◌, ◌≤◌, ◌↔◌, ℤ, true, unsigned_abs, IfErr, IfOk, IsTrue, OnOk, codes, decimal};
+ghost use Rattle.std.specs.Prelude.{◌≡◌, ◌⊎◌, ◌+◌, ◌+ℤ◌, ◌^◌, ◌≤◌, ◌↔◌, ℕ, ℤ, true, unsigned_abs, IfErr, IfOk, IsTrue, OnOk, codes, decimal};
 ghost use Rattle.std.specs.Cmp.Lexicographic.{slice_cmp};
 ghost use Rattle.std.specs.Ordering.{nat_cmp};
 ghost use Rattle.std.specs.declared.cmp.Ordering.TheVariants.{Less};
@@ -232,6 +232,16 @@ impl Progress {
         ensures sum { result.1 ≡ sum_at self.now.place }
     {
         self.place.so_far()
+    }
+
+    /// How many usage lines there were, behind the last row.
+    pub(crate) fn lines(&self) -> u64
+        ensures { (lines : ℕ) → self.now.place ≡ Place.Ended lines → result ≡ lines }
+    {
+        match self.place {
+            Place::Ended(lines) => lines,
+            Place::Between | Place::Within(_, _) | Place::Resting(_, _) | Place::Summed => 0,
+        }
     }
 
     /// Whether the statement of this payee can begin here.
