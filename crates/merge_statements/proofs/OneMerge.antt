@@ -28,7 +28,7 @@ abbrev pub HasPortion : Statement → Type 0
 HasPortion statement = 0 < length statement.portions
 
 -- a payee that comes after another is not the same
-differs : (payee later : List ℕ) → order payee later ≡ Less → bytes_eq later payee ≡ false
+pub differs : (payee later : List ℕ) → order payee later ≡ Less → bytes_eq later payee ≡ false
 differs payee later less = sym (is_eq-slice_cmp later payee) ∙ (ap is_eq (nat_list_cmp_total.antisymm later payee) ∙ ap (λ (o : Ordering). is_eq (ordering_reverse o)) less)
 
 itself : (payee : List ℕ) → bytes_eq payee payee ≡ true

@@ -16,7 +16,8 @@ pub fn law_texts_have_one_merge()
 
 /// One text by itself is merged already, byte for byte.
 pub fn law_one_text_is_its_own_merge()
-    ensures { (text merged : List ℕ) → IsMergeOf (text ∷ []) merged → merged ≡ text }
+    ensures merged { (all : Statements) → AreStatements all → IsMergeOf (text_of_statements all ∷ []) (text_of_statements all) }
+    ensures alone { (text merged : List ℕ) → IsMergeOf (text ∷ []) merged → merged ≡ text }
 {}
 
 /// Texts can be merged in groups, and then the merged texts: it comes to the same as merging all at once.
