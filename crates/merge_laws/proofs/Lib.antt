@@ -1,0 +1,5 @@
+mod Limits
+mod Names
+mod Parts
+mod Runs
+mod Said
