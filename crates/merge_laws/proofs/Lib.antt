@@ -1,5 +1,6 @@
 mod Limits
 mod Names
+mod OneList
 mod Parts
 mod Runs
 mod Said

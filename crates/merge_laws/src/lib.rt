@@ -2,7 +2,7 @@
 //! body: its contract is the law.
 #![tactic(auto)]
 
-ghost use Rattle.std.specs.Prelude.{◌≡◌, ◌<◌, ℕ, All, List, Option, length, map};
+ghost use Rattle.std.specs.Prelude.{◌≡◌, ◌<◌, ◌∷◌, ◌↔◌, [], ℕ, All, List, Option, length, map};
 ghost use Rattle.merge_laws.specs.Month.{AreStatementsOfAll};
 ghost use Rattle.merge_statements.specs.Merged.{IsMergeOf};
 ghost use Rattle.merge_statements.specs.Statements.{AreStatements, Statements, text_of_statements};
@@ -22,4 +22,14 @@ pub fn law_statements_of_a_run_can_be_merged()
     ensures { (territories_file : List ℕ) (payees_file : Option (List ℕ)) (registrations_file usage_file text : List ℕ)
         → AreStatementsOf territories_file payees_file registrations_file usage_file text
         → (all : Statements) × AreStatements all × (text ≡ text_of_statements all) }
+{}
+
+/// A list that is spread over files has one text, and that of a list in one file is what a run over the file prints.
+pub fn law_a_list_has_one_text()
+    ensures one { (territories_file : List ℕ) (payees_file : Option (List ℕ)) (registrations_file : List ℕ) (usage_files : List (List ℕ)) (text other : List ℕ)
+        → 0 < length usage_files → AreStatementsOfAll territories_file payees_file registrations_file usage_files text
+        → AreStatementsOfAll territories_file payees_file registrations_file usage_files other → text ≡ other }
+    ensures run { (territories_file : List ℕ) (payees_file : Option (List ℕ)) (registrations_file usage_file text : List ℕ)
+        → AreStatementsOfAll territories_file payees_file registrations_file (usage_file ∷ []) text
+        ↔ AreStatementsOf territories_file payees_file registrations_file usage_file text }
 {}
