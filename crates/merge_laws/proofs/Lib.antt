@@ -1,4 +1,5 @@
 mod Limits
+mod ManyRuns
 mod Names
 mod OneList
 mod Parts

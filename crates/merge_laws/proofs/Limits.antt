@@ -177,7 +177,7 @@ module _ (division : UsageLine → List (ℕ × ℤ)) (small : (account : ℕ) (
       (λ line limits some. (is_reason (reason line), limits.0, is_amount 0 line limits some)) lines sound)
 
   -- sums of so few are not large
-  total_small : length lines ≤ 1000000 → (account : ℕ) → unsigned_abs (int_sum_by (λ portion. portion.amount) (portions_by division lines account)) ≤ 10 ^ 30
+  pub total_small : length lines ≤ 1000000 → (account : ℕ) → unsigned_abs (int_sum_by (λ portion. portion.amount) (portions_by division lines account)) ≤ 10 ^ 18
   total_small few account =
       omega (
         arith,
@@ -187,7 +187,7 @@ module _ (division : UsageLine → List (ℕ × ℤ)) (small : (account : ℕ) (
         few,
       )
 
-  rest_small : length lines ≤ 1000000 → (reason : UsageLine → Reason) → unsigned_abs (total_of_rests (rests_by division reason lines)) ≤ 10 ^ 30
+  pub rest_small : length lines ≤ 1000000 → (reason : UsageLine → Reason) → unsigned_abs (total_of_rests (rests_by division reason lines)) ≤ 10 ^ 18
   rest_small few reason =
       omega (
         arith,
@@ -197,7 +197,7 @@ module _ (division : UsageLine → List (ℕ × ℤ)) (small : (account : ℕ) (
         few,
       )
 
-  amount_small : length lines ≤ 1000000 → unsigned_abs (int_sum_by (λ line. line.amount) lines) ≤ 10 ^ 30
+  pub amount_small : length lines ≤ 1000000 → unsigned_abs (int_sum_by (λ line. line.amount) lines) ≤ 10 ^ 18
   amount_small few =
       omega (
         arith,
@@ -216,7 +216,7 @@ module _ (division : UsageLine → List (ℕ × ℤ)) (small : (account : ℕ) (
     rests = are_rests reason;
     adds_up = adds_up;
     lines = omega (arith, few);
-    amount = amount_small few;
-    totals = all_statements division lines (λ statement. unsigned_abs (total_of statement) ≤ 10 ^ 30) IsName 1 names named (λ name account is some. total_small few account);
-    rest = rest_small few reason;
+    amount = omega (arith, amount_small few);
+    totals = all_statements division lines (λ statement. unsigned_abs (total_of statement) ≤ 10 ^ 30) IsName 1 names named (λ name account is some. omega (arith, total_small few account));
+    rest = omega (arith, rest_small few reason);
   }

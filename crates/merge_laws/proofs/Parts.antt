@@ -1,5 +1,5 @@
 -- What is said of the parts of a list comes to what is said of the list.
-use Rattle.std.proofs.Common.{◌≡◌, ◌∙◌, ◌+◌, ◌<◌, ◌++◌, ◌∷◌, [], ℕ, ℤ, ◌+ℤ◌, Bool, true, false, List, All, Option, length, map, ap, refl, sym, subst, arith}
+use Rattle.std.proofs.Common.{◌≡◌, ◌∙◌, ◌+◌, ◌<◌, ◌≤◌, ◌++◌, ◌∷◌, [], ℕ, ℤ, ◌+ℤ◌, unsigned_abs, Bool, true, false, List, All, Option, length, map, ap, refl, sym, subst, arith}
 use Rattle.std.specs.Prelude.{filter, flat_map, if◌then◌else◌, sum_by}
 use Rattle.std.specs.Cmp.Lexicographic.{slice_cmp}
 use Rattle.std.specs.List.{AllByRecursion}
@@ -27,7 +27,7 @@ use Rattle.split_run.specs.Divisions.{division_by}
 use Rattle.merge_statements.specs.Merged.{AreMerged, IsMergeOf, portions_of}
 use Rattle.merge_statements.specs.Statements.{AreStatements, IsName, Portion, Rest, Statement, Statements, text_of_statements, total_of, total_of_rests}
 use Rattle.merge_statements.proofs.Merges.{AreTogether, are_together, one_list_of_parts, one_whole}
-use Rattle.merge_statements.proofs.OneMerge.{HasPortion, differs, portions_in}
+use Rattle.merge_statements.proofs.OneMerge.{HasPortion, differs, first_kept, portions_in}
 use Rattle.merge_laws.specs.Month.{AreLinesOf, AreStatementsOfAll}
 use Rattle.merge_laws.proofs.Limits.{all_statements, payees_rise}
 use Rattle.merge_laws.proofs.Runs.{IsSaid, names_named, names_rise, text_said}
@@ -39,11 +39,6 @@ use Rattle.merge_statements.proofs.ReadBack.{the_portion, the_rest, the_statemen
 either_none : (told : Bool) (portions : List Portion) → portions ≡ (if told then [] else []) ++ portions
 either_none true portions = refl
 either_none false portions = refl
-
-first_kept : (told : Bool) (statement : Statement) (others : List Statement)
-    → flat_map (λ s. s.portions) (if told then statement ∷ others else others) ≡ (if told then statement.portions else []) ++ flat_map (λ s. s.portions) others
-first_kept true statement others = refl
-first_kept false statement others = refl
 
 with_own : (payee name : List ℕ) (portions : List Portion) (others : List Statement)
     → portions_in payee (statements_with name portions ++ others) ≡ (if bytes_eq name payee then portions else []) ++ portions_in payee others
@@ -66,6 +61,24 @@ module _ (division : UsageLine → List (ℕ × ℤ)) (payee : List ℕ) where
   none_own : (lines : List UsageLine) (account : ℕ) (names : List (List ℕ)) → AllByRecursion (λ name. slice_cmp nat_cmp payee name ≡ Less) names → own lines account names ≡ []
   none_own lines account [] after = refl
   none_own lines account (name ∷ names) after = rw (differs payee name after.0) (none_own lines (account + 1) names after.1)
+
+  -- they are those of one account, or none
+  own_small : (most : ℕ) (lines : List UsageLine) (account : ℕ) (names : List (List ℕ)) → IsStrictlySortedBy (slice_cmp nat_cmp) names
+      → ((account : ℕ) → unsigned_abs (int_sum_by (λ portion. portion.amount) (portions_by division lines account)) ≤ most)
+      → unsigned_abs (int_sum_by (λ portion. portion.amount) (own lines account names)) ≤ most
+  unfolding IsStrictlySortedBy
+  own_small most lines account [] rising small = omega arith
+  own_small most lines account (name ∷ names) rising small = on (bytes_eq name payee) refl (own_small most lines (account + 1) names rising.1 small)
+    where
+      on : (told : Bool) → bytes_eq name payee ≡ told → unsigned_abs (int_sum_by (λ portion. portion.amount) (own lines (account + 1) names)) ≤ most
+          → unsigned_abs (int_sum_by (λ portion. portion.amount) ((if told then portions_by division lines account else []) ++ own lines (account + 1) names)) ≤ most
+      on false other later = later
+      on true is later =
+          let after : AllByRecursion (λ next. slice_cmp nat_cmp payee next ≡ Less) names =
+          subst (λ (p : List ℕ). AllByRecursion (λ next. slice_cmp nat_cmp p next ≡ Less) names) ((bytes_eq-Decides name payee).0 is) rising.0 in
+          let alone : portions_by division lines account ++ own lines (account + 1) names ≡ portions_by division lines account =
+          ap (λ (l : List Portion). portions_by division lines account ++ l) (none_own lines (account + 1) names after) ∙ append-nil (portions_by division lines account) in
+          subst (λ (l : List Portion). unsigned_abs (int_sum_by (λ portion. portion.amount) l) ≤ most) (sym alone) (small account)
 
   own_nothing : (account : ℕ) (names : List (List ℕ)) → own [] account names ≡ []
   own_nothing account [] = refl
@@ -107,6 +120,14 @@ module _ (division : UsageLine → List (ℕ × ℤ)) (reason : UsageLine → Re
       portions_own division payee (first ++ others) 1 names
       ∙ own_joined division payee first others 1 names rising
       ∙ sym (λ i. portions_own division payee first 1 names i ++ portions_own division payee others 1 names i)
+
+  -- no payee has more than an account
+  pub payee_small : (payee : List ℕ) (lines : List UsageLine) (most : ℕ) → IsStrictlySortedBy (slice_cmp nat_cmp) names
+      → ((account : ℕ) → unsigned_abs (int_sum_by (λ portion. portion.amount) (portions_by division lines account)) ≤ most)
+      → unsigned_abs (int_sum_by (λ portion. portion.amount) (portions_of payee (said lines))) ≤ most
+  payee_small payee lines most rising small =
+      subst (λ (l : List Portion). unsigned_abs (int_sum_by (λ portion. portion.amount) l) ≤ most) (sym (portions_own division payee lines 1 names))
+      (own_small division payee most lines 1 names rising small)
 
   no_portions : (payee : List ℕ) → portions_of payee (said []) ≡ []
   no_portions payee = portions_own division payee [] 1 names ∙ own_nothing division payee 1 names

@@ -1,3 +1,4 @@
+pub mod Joining
 pub mod Merges
 mod Numbers
 pub mod OneMerge
