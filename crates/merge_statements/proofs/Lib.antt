@@ -1,10 +1,11 @@
 pub mod BufferLemmas
 pub mod FieldLemmas
+pub mod Joining
 pub mod Merges
 pub mod NumberLemmas
-mod Numbers
+pub mod Numbers
 pub mod OneMerge
-pub mod ReadBack
-pub mod WalkLemmas
-pub mod Steps
 pub mod Passing
+pub mod ReadBack
+pub mod Steps
+pub mod WalkLemmas

@@ -94,6 +94,20 @@ merged_alone text merged (part ∷ []) whole are each is all =
     all ∙ ap text_of_statements one ∙ sym same
 merged_alone text merged (part ∷ other ∷ parts) whole are each is all = absurd (omega (arith, ap length each))
 
+-- it is merged
+pub is_merged : (all : Statements) → AreStatements all → IsMergeOf (text_of_statements all ∷ []) (text_of_statements all)
+is_merged all are =
+    let is = alone all are in
+    record {
+      parts = all ∷ [];
+      sound = All-cons AreStatements all [] are (All-nil AreStatements);
+      each = refl;
+      whole = all;
+      together = record { sound = are; portions = is.portions; rests = is.rests; lines = is.lines; amount = is.amount };
+      all = refl;
+    }
+
+-- and nothing else is its merge
 pub own_merge : (text merged : List ℕ) → IsMergeOf (text ∷ []) merged → merged ≡ text
 own_merge text merged is = merged_alone text merged is.parts is.whole is.sound is.each is.together is.all
 

@@ -1,6 +1,6 @@
 -- Statements in order are known from what each payee has.
 use Rattle.std.proofs.Common.{◌≡◌, ◌∙◌, ◌<◌, ◌++◌, ◌∷◌, [], ℕ, Bool, true, false, List, All, length, map, ap, refl, sym, subst, arith}
-use Rattle.std.specs.Prelude.{filter, flat_map}
+use Rattle.std.specs.Prelude.{filter, flat_map, if◌then◌else◌}
 use Rattle.std.specs.Cmp.Lexicographic.{nat_list_cmp_total, slice_cmp}
 use Rattle.std.specs.List.{AllByRecursion}
 use Rattle.std.specs.List.Sorted.{IsStrictlySortedBy}
@@ -14,7 +14,7 @@ use Rattle.std.proofs.lemmas.Map.Text.{is_eq-slice_cmp}
 use Rattle.std.proofs.lemmas.Slice.Eq.{bytes_eq-Decides}
 use Rattle.merge_statements.specs.Statements.{Portion, Statement}
 
-abbrev order : List ℕ → List ℕ → Ordering
+abbrev pub order : List ℕ → List ℕ → Ordering
 order = slice_cmp nat_cmp
 
 -- a payee's portions in a list of statements
@@ -28,25 +28,31 @@ abbrev pub HasPortion : Statement → Type 0
 HasPortion statement = 0 < length statement.portions
 
 -- a payee that comes after another is not the same
-differs : (payee later : List ℕ) → order payee later ≡ Less → bytes_eq later payee ≡ false
+pub differs : (payee later : List ℕ) → order payee later ≡ Less → bytes_eq later payee ≡ false
 differs payee later less = sym (is_eq-slice_cmp later payee) ∙ (ap is_eq (nat_list_cmp_total.antisymm later payee) ∙ ap (λ (o : Ordering). is_eq (ordering_reverse o)) less)
 
 itself : (payee : List ℕ) → bytes_eq payee payee ≡ true
 itself payee = (bytes_eq-Decides payee payee).1 refl
 
 -- a payee that stands before all has no portion
-none_before : (payee : List ℕ) (payees : List Statement) → AllByRecursion (λ other. order payee other ≡ Less) (payees_of payees) → portions_in payee payees ≡ []
+pub none_before : (payee : List ℕ) (payees : List Statement) → AllByRecursion (λ other. order payee other ≡ Less) (payees_of payees) → portions_in payee payees ≡ []
 none_before payee [] after = refl
 none_before payee (statement ∷ payees) after = rw (differs payee statement.payee after.0) (none_before payee payees after.1)
 
+-- a statement's portions stand first, if it is the payee's
+pub first_kept : (kept : Bool) (statement : Statement) (others : List Statement)
+    → flat_map (λ s. s.portions) (if kept then statement ∷ others else others) ≡ (if kept then statement.portions else []) ++ flat_map (λ s. s.portions) others
+first_kept true statement others = refl
+first_kept false statement others = refl
+
 -- what the first payee has
-first_has : (statement : Statement) (payees : List Statement) → AllByRecursion (λ other. order statement.payee other ≡ Less) (payees_of payees)
+pub first_has : (statement : Statement) (payees : List Statement) → AllByRecursion (λ other. order statement.payee other ≡ Less) (payees_of payees)
     → portions_in statement.payee (statement ∷ payees) ≡ statement.portions
 first_has statement payees after =
     rw (itself statement.payee) (ap (λ (others : List Portion). statement.portions ++ others) (none_before statement.payee payees after) ∙ append-nil statement.portions)
 
 -- what comes before a payee comes before those behind it
-all_after : (payee next : List ℕ) (payees : List (List ℕ)) → order payee next ≡ Less → AllByRecursion (λ other. order next other ≡ Less) payees
+pub all_after : (payee next : List ℕ) (payees : List (List ℕ)) → order payee next ≡ Less → AllByRecursion (λ other. order next other ≡ Less) payees
     → AllByRecursion (λ other. order payee other ≡ Less) payees
 all_after payee next [] less after = tt
 all_after payee next (other ∷ payees) less after = (nat_list_cmp_total.trans payee next other less after.0, all_after payee next payees less after.1)

@@ -10,13 +10,13 @@ use Rattle.csv_table.proofs.ReadBack.{rows_read_back}
 use Rattle.merge_statements.specs.Statements.{AreStatements, IsPortion, IsRest, IsStatement, Portion, Rest, Statement, Statements, portion_row, rest_row, rows_of_statements, statement_rows, text_of_statements, total_of, total_of_rests, total_row}
 use Rattle.merge_statements.proofs.Numbers.{decimal_back, signed_back}
 
-abbrev the_portion : List ℕ → ℤ → Portion
+abbrev pub the_portion : List ℕ → ℤ → Portion
 the_portion usage amount = record { usage = usage; amount = amount }
 
-abbrev the_statement : List ℕ → List Portion → Statement
+abbrev pub the_statement : List ℕ → List Portion → Statement
 the_statement payee portions = record { payee = payee; portions = portions }
 
-abbrev the_rest : (reason usage : List ℕ) → ℤ → Rest
+abbrev pub the_rest : (reason usage : List ℕ) → ℤ → Rest
 the_rest reason usage amount = record { reason = reason; usage = usage; amount = amount }
 
 abbrev the_statements : List Statement → List Rest → ℕ → ℤ → Statements

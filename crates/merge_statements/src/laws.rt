@@ -1,12 +1,17 @@
 //! What merging keeps to. A law has an empty body: its contract is the law.
 
-ghost use Rattle.std.specs.Prelude.{◌≡◌, ◌∷◌, ◌↔◌, [], ℕ, List, flat_map};
-ghost use Rattle.merge_statements.specs.Merged.{AreMergesOf, IsMergeOf};
+ghost use Rattle.std.specs.Prelude.{◌≡◌, ◌∷◌, ◌↔◌, [], ℕ, All, List, flat_map};
+ghost use Rattle.merge_statements.specs.Merged.{AreInLimits, AreMerged, AreMergesOf, IsMergeOf};
 ghost use Rattle.merge_statements.specs.Statements.{AreStatements, Statements, text_of_statements};
 
 /// A text is that of one set of statements, if of any.
 pub fn law_a_text_says_one_thing()
     ensures { (all other : Statements) → AreStatements all → AreStatements other → text_of_statements all ≡ text_of_statements other → all ≡ other }
+{}
+
+/// Statements have a merge where no sum goes beyond its limit.
+pub fn law_statements_have_a_merge()
+    ensures { (parts : List Statements) → All AreStatements parts → AreInLimits parts → (whole : Statements) × AreMerged parts whole }
 {}
 
 /// Texts have one merged text.
@@ -16,7 +21,8 @@ pub fn law_texts_have_one_merge()
 
 /// One text by itself is merged already, byte for byte.
 pub fn law_one_text_is_its_own_merge()
-    ensures { (text merged : List ℕ) → IsMergeOf (text ∷ []) merged → merged ≡ text }
+    ensures merged { (all : Statements) → AreStatements all → IsMergeOf (text_of_statements all ∷ []) (text_of_statements all) }
+    ensures alone { (text merged : List ℕ) → IsMergeOf (text ∷ []) merged → merged ≡ text }
 {}
 
 /// Texts can be merged in groups, and then the merged texts: it comes to the same as merging all at once.
