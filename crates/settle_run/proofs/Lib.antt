@@ -1,3 +1,3 @@
 mod BookLemmas
-mod OneText
+pub mod OneText
 mod SettleLemmas

@@ -1,0 +1,11 @@
+pub mod BufferLemmas
+pub mod FieldLemmas
+pub mod Joining
+pub mod Merges
+pub mod NumberLemmas
+pub mod Numbers
+pub mod OneMerge
+pub mod Passing
+pub mod ReadBack
+pub mod Steps
+pub mod WalkLemmas

@@ -1,0 +1,265 @@
+-- A payee's statement is passed over, portion by portion.
+use Rattle.std.proofs.Common.{Bool, true, false, ◌≡◌, ◌∙◌, ◌<◌, ◌+◌, ◌+ℤ◌, ◌++◌, ◌∷◌, ℕ, ℤ, pos, List, [], Option, Some, None, All, length, map, get_or, ap, sym, refl, subst, append_assoc, arith, codes}
+use Rattle.std.specs.Prelude.{if◌then◌else◌, slice_index_or}
+use Rattle.std.specs.Io.KnownBytes.{Appends, Consumes, Keeps, prepend_known}
+use Rattle.std.proofs.lemmas.List.{append-nil, length_push, map-append}
+use Rattle.std.proofs.lemmas.List.Elements.{All-cons, All-nil, All-push}
+use Rattle.std.proofs.lemmas.Grind.{flat_map-append}
+use Rattle.csv.specs.Reading.{default_config, records}
+use Rattle.csv.specs.Writing.{read_back}
+use Rattle.csv_table.proofs.ReadBack.{rows_read_back}
+use Rattle.csv_table.specs.Written.{text_of, text_of_row}
+use Rattle.line_split.proofs.IntSums.{int_sum_by-append, int_sum_by-cons, none_plus, plus_none}
+use Rattle.line_split.specs.Signs.{int_sum_by}
+use Rattle.merge_statements.specs.Passed.{HasRests, IsNext, IsPortionAt, IsRestAt, IsRestsSumAt, IsSumAt, IsWithin, IsWithinOne, PassesPortion, PassesRest, PassesSum, WritesRests, WritesStatement, total_of_portions}
+use Rattle.merge_statements.specs.Places.{At, IsPayeeAt, count_at, row_of, sum_at}
+use Rattle.merge_statements.specs.Statements.{IsPortion, IsRest, Portion, Rest, Statement, portion_row, rest_row, total_of_rests, total_row}
+use Rattle.merge_statements.specs.Unread.{Unread}
+use Rattle.merge_statements.specs.declared.walk.Place.{Place}
+use Rattle.merge_statements.specs.declared.walk.Place.TheVariants.{Between, Summed, Within}
+
+-- ---- rows of one text have the same second field
+
+second : List (List ℕ) → List ℕ
+second row = slice_index_or row 1 []
+
+abbrev first_row : List (List (List ℕ)) → List (List ℕ)
+first_row rows = slice_index_or rows 0 []
+
+second_back : (row : List (List ℕ)) → slice_index_or (read_back row) 1 [] ≡ slice_index_or row 1 []
+second_back [] = refl
+second_back (field ∷ fields) = refl
+
+second_in : (row : List (List ℕ)) → slice_index_or (first_row (records default_config (text_of_row row ++ []))) 1 [] ≡ slice_index_or row 1 []
+second_in row = ap (λ (rows : List (List (List ℕ))). slice_index_or (first_row rows) 1 []) (rows_read_back (row ∷ [])) ∙ second_back row
+
+pub second_same : (row other : List (List ℕ)) → text_of_row row ≡ text_of_row other → slice_index_or row 1 [] ≡ slice_index_or other 1 []
+second_same row other same = sym (second_in row) ∙ ap (λ (text : List ℕ). slice_index_or (first_row (records default_config (text ++ []))) 1 []) same ∙ second_in other
+
+-- ---- known bytes
+
+pub consumes_more : (old between new : Option (List ℕ)) (first more : List ℕ) → Consumes old between first → Consumes between new more → Consumes old new (first ++ more)
+consumes_more None between new first more one two = tt
+consumes_more (Some xs) None new first more one two = absurd one
+consumes_more (Some xs) (Some ys) None first more one two = absurd two
+consumes_more (Some xs) (Some ys) (Some zs) first more one two = one ∙ (ap (λ (l : List ℕ). first ++ l) two ∙ sym (append_assoc first more zs))
+
+pub appends_more : (old between new : Option (List ℕ)) (first more : List ℕ) → Appends old between first → Appends between new more → Appends old new (first ++ more)
+appends_more None between new first more one two = tt
+appends_more (Some xs) None new first more one two = absurd one
+appends_more (Some xs) (Some ys) None first more one two = absurd two
+appends_more (Some xs) (Some ys) (Some zs) first more one two = two ∙ (ap (λ (l : List ℕ). l ++ more) one ∙ append_assoc xs first more)
+
+-- ---- the text of a row more
+
+text_more : (rows : List (List (List ℕ))) (row : List (List ℕ)) → text_of rows ++ text_of_row row ≡ text_of (rows ++ row ∷ [])
+text_more rows row = ap (λ (l : List ℕ). text_of rows ++ l) (sym (append-nil (text_of_row row))) ∙ sym (flat_map-append text_of_row rows (row ∷ []))
+
+pub portions_more : (payee : List ℕ) (portions : List Portion) (portion : Portion)
+    → text_of (map (portion_row payee) portions) ++ text_of_row (portion_row payee portion) ≡ text_of (map (portion_row payee) (portions ++ portion ∷ []))
+portions_more payee portions portion =
+    text_more (map (portion_row payee) portions) (portion_row payee portion) ∙ ap text_of (sym (map-append (portion_row payee) portions (portion ∷ [])))
+
+total_more : (portions : List Portion) (portion : Portion) → total_of_portions portions +ℤ portion.amount ≡ total_of_portions (portions ++ portion ∷ [])
+total_more portions portion =
+    ap (λ (n : ℤ). total_of_portions portions +ℤ n) (sym (none_plus portion.amount))
+    ∙ sym (int_sum_by-append (λ (p : Portion). p.amount) portions (portion ∷ []))
+
+-- ---- the first portion
+
+pub first_within : (old new : Unread) (before after : Option (List ℕ)) (payee : List ℕ) → old.payee ≡ Some payee → IsNext old.at old.line payee
+    → PassesPortion old new → Appends before after old.line → IsWithin old new before after
+first_within old new before after payee due next passed written =
+    let p = passed.portion in
+    let same : p.payee ≡ payee =
+        sym (ap (λ (row : List (List ℕ)). slice_index_or row 1 []) p.form)
+        ∙ second_same passed.row (row_of (codes "L") payee next.usage next.amount) (passed.line ∙ sym next.row) in
+    let form : passed.row ≡ portion_row payee p.portion = p.form ∙ ap (λ (name : List ℕ). portion_row name p.portion) same in
+    let text : text_of_row passed.row ≡ text_of (map (portion_row payee) (p.portion ∷ [])) = ap text_of_row form ∙ sym (append-nil (text_of_row (portion_row payee p.portion))) in
+    record {
+      payee = payee;
+      portions = p.portion ∷ [];
+      due = due;
+      name = next.name;
+      behind = next.after;
+      some = omega arith;
+      sound = All-cons IsPortion p.portion [] p.sound (All-nil IsPortion);
+      at = p.leads ∙ (λ i. record {
+        place = Within (one_more i) (sum i);
+        payee = same i;
+        portions = old.at.portions + 1;
+        total = old.at.total;
+      });
+      consumed = subst (λ (t : List ℕ). Consumes old.left new.left t) text passed.consumed;
+      written = subst (λ (t : List ℕ). Appends before after t) (sym passed.line ∙ text) written;
+    }
+  where
+    one_more : count_at old.at.place + 1 ≡ 1
+    one_more = ap (λ (place : Place). count_at place + 1) next.place
+
+    sum : sum_at old.at.place +ℤ passed.portion.portion.amount ≡ total_of_portions (passed.portion.portion ∷ [])
+    sum = ap (λ (place : Place). sum_at place +ℤ passed.portion.portion.amount) next.place
+
+-- ---- a further one
+
+pub more_within : (old between new : Unread) (before middle after : Option (List ℕ)) → IsWithin old between before middle
+    → PassesPortion between new → Appends middle after between.line → IsWithin old new before after
+more_within old between new before middle after was passed written =
+    let p = passed.portion in
+    let same : p.payee ≡ was.payee = subst (λ (at : At). IsPayeeAt at.place at.payee p.payee) was.at p.due in
+    let form : passed.row ≡ portion_row was.payee p.portion = p.form ∙ ap (λ (name : List ℕ). portion_row name p.portion) same in
+    let text = portions_more was.payee was.portions p.portion in
+    record {
+      payee = was.payee;
+      portions = was.portions ++ p.portion ∷ [];
+      due = was.due;
+      name = was.name;
+      behind = was.behind;
+      some = omega (arith, was.some, length_push was.portions p.portion);
+      sound = All-push IsPortion was.portions p.portion was.sound p.sound;
+      at = p.leads ∙ (λ i. record {
+        place = Within (count i) (sum i);
+        payee = same i;
+        portions = all i;
+        total = (was.at i).total;
+      });
+      consumed = subst (λ (t : List ℕ). Consumes old.left new.left t) text
+        (consumes_more old.left between.left new.left (text_of (map (portion_row was.payee) was.portions)) (text_of_row (portion_row was.payee p.portion)) was.consumed
+        (subst (λ (row : List (List ℕ)). Consumes between.left new.left (text_of_row row)) form passed.consumed));
+      written = subst (λ (t : List ℕ). Appends before after t) text
+        (appends_more before middle after (text_of (map (portion_row was.payee) was.portions)) (text_of_row (portion_row was.payee p.portion)) was.written
+        (subst (λ (t : List ℕ). Appends middle after t) (sym passed.line ∙ ap text_of_row form) written));
+    }
+  where
+    count : count_at between.at.place + 1 ≡ length (was.portions ++ passed.portion.portion ∷ [])
+    count = ap (λ (at : At). count_at at.place + 1) was.at ∙ sym (length_push was.portions passed.portion.portion)
+
+    sum : sum_at between.at.place +ℤ passed.portion.portion.amount ≡ total_of_portions (was.portions ++ passed.portion.portion ∷ [])
+    sum = ap (λ (at : At). sum_at at.place +ℤ passed.portion.portion.amount) was.at ∙ total_more was.portions passed.portion.portion
+
+    all : between.at.portions + 1 ≡ old.at.portions + length (was.portions ++ passed.portion.portion ∷ [])
+    all = omega (arith, ap (λ (at : At). at.portions) was.at, length_push was.portions passed.portion.portion)
+
+-- ---- the end of a statement
+
+pub statement_written : (old between new : Unread) (before after : Option (List ℕ)) (count : ℕ) (total : ℤ) → IsWithin old between before after
+    → (IsWithinOne between.at → PassesSum IsSumAt between new count total) → WritesStatement old new before after count total
+statement_written old between new before after count total was ends =
+    let statement : Statement = record { payee = was.payee; portions = was.portions } in
+    let place : between.at.place ≡ Within (length was.portions) (total_of_portions was.portions) = ap (λ (at : At). at.place) was.at in
+    let end = ends (length was.portions, total_of_portions was.portions, place) in
+    let payee : between.at.payee ≡ was.payee = ap (λ (at : At). at.payee) was.at in
+    let form : end.row ≡ total_row (codes "S") was.payee (length was.portions) (total_of_portions was.portions) =
+        end.sum.form ∙ (λ i. total_row (codes "S") (payee i) (count_at (place i)) (sum_at (place i))) in
+    record {
+      statement = statement;
+      passed = record {
+        due = was.due;
+        after = was.behind;
+        sound = record { payee = was.name; some = was.some; portions = was.sound };
+        consumed = subst (λ (t : List ℕ). Consumes old.left new.left t)
+          (text_more (map (portion_row was.payee) was.portions) (total_row (codes "S") was.payee (length was.portions) (total_of_portions was.portions)))
+          (consumes_more old.left between.left new.left (text_of (map (portion_row was.payee) was.portions)) (text_of_row (total_row (codes "S") was.payee (length was.portions) (total_of_portions was.portions))) was.consumed
+          (subst (λ (row : List (List ℕ)). Consumes between.left new.left (text_of_row row)) form end.consumed));
+        at = end.sum.leads ∙ (λ i. record {
+          place = Between;
+          payee = payee i;
+          portions = (was.at i).portions;
+          total = (was.at i).total +ℤ sum_at (place i);
+        });
+      };
+      counted = end.counted ∙ ap count_at place;
+      sum = end.comes_to ∙ ap sum_at place;
+      written = was.written;
+    }
+
+-- ---- the first row
+
+pub opened : (from before after : Option (List ℕ)) (line : List ℕ) (found : Bool) → before ≡ from → (found ≡ true → Consumes before after (line ++ 10 ∷ []))
+    → (found ≡ false → Keeps before after) → Keeps from (prepend_known (if found then line ++ 10 ∷ [] else []) after)
+opened from before after line found same more ends = subst (λ (known : Option (List ℕ)). Keeps known (prepend_known (if found then line ++ 10 ∷ [] else []) after)) same (by before after found more ends)
+  where
+    by : (before after : Option (List ℕ)) (found : Bool) → (found ≡ true → Consumes before after (line ++ 10 ∷ [])) → (found ≡ false → Keeps before after)
+        → Keeps before (prepend_known (if found then line ++ 10 ∷ [] else []) after)
+    by None after found more ends = tt
+    by (Some xs) None true more ends = absurd (more refl)
+    by (Some xs) None false more ends = absurd (ends refl)
+    by (Some xs) (Some ys) true more ends = sym (more refl)
+    by (Some xs) (Some ys) false more ends = ends refl
+
+-- a row that begins with the letter of portions
+pub next_begins : (at : At) (line payee : List ℕ) → IsNext at line payee → get_or line 0 0 ≡ 76
+next_begins at line payee next = ap (λ (text : List ℕ). get_or text 0 0) (sym next.row)
+
+-- ---- what nobody gets
+
+pub no_rests : (old : Unread) (before : Option (List ℕ)) → old.at.place ≡ Between → HasRests old old before before
+no_rests old before between = record {
+  rests = [];
+  sound = All-nil IsRest;
+  count = ap count_at between;
+  sum = ap sum_at between;
+  payee = refl;
+  portions = omega arith;
+  total = refl;
+  consumed = nothing_consumed old.left;
+  written = nothing_appended before;
+}
+  where
+    nothing_consumed : (left : Option (List ℕ)) → Consumes left left []
+    nothing_consumed None = tt
+    nothing_consumed (Some xs) = refl
+
+    nothing_appended : (known : Option (List ℕ)) → Appends known known []
+    nothing_appended None = tt
+    nothing_appended (Some xs) = sym (append-nil xs)
+
+rests_text : (rests : List Rest) (rest : Rest) → text_of (map rest_row rests) ++ text_of_row (rest_row rest) ≡ text_of (map rest_row (rests ++ rest ∷ []))
+rests_text rests rest = text_more (map rest_row rests) (rest_row rest) ∙ ap text_of (sym (map-append rest_row rests (rest ∷ [])))
+
+rests_total : (rests : List Rest) (rest : Rest) → total_of_rests rests +ℤ rest.amount ≡ total_of_rests (rests ++ rest ∷ [])
+rests_total rests rest =
+    ap (λ (n : ℤ). total_of_rests rests +ℤ n) (sym (none_plus rest.amount)) ∙ sym (int_sum_by-append (λ (r : Rest). r.amount) rests (rest ∷ []))
+
+pub more_rests : (old between new : Unread) (before middle after : Option (List ℕ)) → HasRests old between before middle
+    → PassesRest between new → Appends middle after between.line → HasRests old new before after
+more_rests old between new before middle after was passed written =
+    let r = passed.rest in
+    let text = rests_text was.rests r.what in
+    record {
+      rests = was.rests ++ r.what ∷ [];
+      sound = All-push IsRest was.rests r.what was.sound r.sound;
+      count = ap (λ (at : At). count_at at.place) r.leads ∙ omega (arith, was.count, length_push was.rests r.what);
+      sum = ap (λ (at : At). sum_at at.place) r.leads ∙ (ap (λ (n : ℤ). n +ℤ r.what.amount) was.sum ∙ rests_total was.rests r.what);
+      payee = ap (λ (at : At). at.payee) r.leads ∙ was.payee;
+      portions = ap (λ (at : At). at.portions) r.leads ∙ omega (arith, was.portions, length_push was.rests r.what);
+      total = ap (λ (at : At). at.total) r.leads ∙ was.total;
+      consumed = subst (λ (t : List ℕ). Consumes old.left new.left t) text
+        (consumes_more old.left between.left new.left (text_of (map rest_row was.rests)) (text_of_row (rest_row r.what)) was.consumed
+        (subst (λ (row : List (List ℕ)). Consumes between.left new.left (text_of_row row)) r.form passed.consumed));
+      written = subst (λ (t : List ℕ). Appends before after t) text
+        (appends_more before middle after (text_of (map rest_row was.rests)) (text_of_row (rest_row r.what)) was.written
+        (subst (λ (t : List ℕ). Appends middle after t) (sym passed.line ∙ ap text_of_row r.form) written));
+    }
+
+pub rests_written : (old between new : Unread) (before after : Option (List ℕ)) (count : ℕ) (total : ℤ) → HasRests old between before after
+    → PassesSum IsRestsSumAt between new count total → WritesRests old new before after count total
+rests_written old between new before after count total was end =
+    let last = total_row (codes "T") [] (length was.rests) (total_of_rests was.rests) in
+    let form : end.row ≡ last = end.sum.form ∙ (λ i. total_row (codes "T") [] (was.count i) (was.sum i)) in
+    record {
+      rests = was.rests;
+      sound = was.sound;
+      counted = end.counted ∙ was.count;
+      sum = end.comes_to ∙ was.sum;
+      consumed = subst (λ (t : List ℕ). Consumes old.left new.left t) (text_more (map rest_row was.rests) last)
+        (consumes_more old.left between.left new.left (text_of (map rest_row was.rests)) (text_of_row last) was.consumed
+        (subst (λ (row : List (List ℕ)). Consumes between.left new.left (text_of_row row)) form end.consumed));
+      at = end.sum.leads ∙ (λ i. record {
+        place = Summed;
+        payee = was.payee i;
+        portions = was.portions i;
+        total = was.total i +ℤ was.sum i;
+      });
+      written = was.written;
+    }

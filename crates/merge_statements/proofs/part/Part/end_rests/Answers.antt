@@ -1,0 +1,15 @@
+use Rattle.std.proofs.Common.{◌∙◌, ap, get_or}
+use Rattle.merge_statements.proofs.Steps.{rests_sum_passed}
+use Rattle.merge_statements.proofs.part.Part.end_rests.Goals as goal
+
+pub returns : goal.returns
+returns g c =
+    let steps = c.in_ok-step.ensures in
+    let first = c.begins_with.ensures.is c.if-not-begins_with.false in
+    record {
+      row = steps.row;
+      sum = rests_sum_passed c.args.self.now.at c.step.new.self.at steps.row steps.follows (ap (λ text. get_or text 0 0) steps.line ∙ first);
+      consumed = steps.consumed;
+      counted = c.so_far-sum.ensures.count;
+      comes_to = c.so_far-sum.ensures.sum;
+    }

@@ -1,0 +1,9 @@
+pub mod Buffered
+pub mod Fields
+pub mod Merged
+pub mod Passed
+pub mod Places
+pub mod Reading
+pub mod Statements
+pub mod Unread
+pub mod Wrong

@@ -1,0 +1,32 @@
+//! What merging keeps to. A law has an empty body: its contract is the law.
+
+ghost use Rattle.std.specs.Prelude.{◌≡◌, ◌∷◌, ◌↔◌, [], ℕ, All, List, flat_map};
+ghost use Rattle.merge_statements.specs.Merged.{AreInLimits, AreMerged, AreMergesOf, IsMergeOf};
+ghost use Rattle.merge_statements.specs.Statements.{AreStatements, Statements, text_of_statements};
+
+/// A text is that of one set of statements, if of any.
+pub fn law_a_text_says_one_thing()
+    ensures { (all other : Statements) → AreStatements all → AreStatements other → text_of_statements all ≡ text_of_statements other → all ≡ other }
+{}
+
+/// Statements have a merge where no sum goes beyond its limit.
+pub fn law_statements_have_a_merge()
+    ensures { (parts : List Statements) → All AreStatements parts → AreInLimits parts → (whole : Statements) × AreMerged parts whole }
+{}
+
+/// Texts have one merged text.
+pub fn law_texts_have_one_merge()
+    ensures { (texts : List (List ℕ)) (merged other : List ℕ) → IsMergeOf texts merged → IsMergeOf texts other → merged ≡ other }
+{}
+
+/// One text by itself is merged already, byte for byte.
+pub fn law_one_text_is_its_own_merge()
+    ensures merged { (all : Statements) → AreStatements all → IsMergeOf (text_of_statements all ∷ []) (text_of_statements all) }
+    ensures alone { (text merged : List ℕ) → IsMergeOf (text ∷ []) merged → merged ≡ text }
+{}
+
+/// Texts can be merged in groups, and then the merged texts: it comes to the same as merging all at once.
+pub fn law_merged_texts_merge_as_their_parts()
+    ensures { (groups : List (List (List ℕ))) (merged : List (List ℕ)) (all : List ℕ) → AreMergesOf groups merged
+        → IsMergeOf merged all ↔ IsMergeOf (flat_map (λ group. group) groups) all }
+{}

@@ -1,0 +1,21 @@
+//! The statements of several runs merged into one text.
+#![tactic(auto)]
+
+pub mod amount;
+mod buffer;
+pub mod laws;
+mod output;
+mod part;
+mod read_fault;
+mod reader;
+mod refusal;
+mod row;
+mod walk;
+
+pub use output::Output;
+pub use part::Part;
+pub use read_fault::ReadFault;
+pub use reader::RowReader;
+pub use refusal::{Refusal, StatementFault};
+pub use row::Row;
+pub use walk::{Place, Progress, Wrong};

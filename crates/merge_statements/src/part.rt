@@ -1,0 +1,319 @@
+//! One of the texts that are merged, read statement by statement.
+
+ghost use Rattle.std.specs.Io.KnownBytes.{Appends, Consumes, IsAtEnd, Keeps};
+ghost use Rattle.std.specs.Prelude.{◌≡◌, ◌<◌, ◌++◌, ◌∷◌, [], IfOk, IfSome, OnOk, slice_index, true, false};
+ghost use Rattle.std.specs.Option.{option_map};
+ghost use Rattle.csv_table.specs.Written.{text_of_row};
+ghost use Rattle.merge_statements.specs.Fields.{fields_of};
+ghost use Rattle.merge_statements.specs.Passed.{EndsText, IsNext, IsRestsSumAt, IsSumAt, IsWithin, IsWithinOne, PassesPortion, PassesRest, PassesSum, WritesRests, WritesStatement};
+ghost use Rattle.merge_statements.specs.Places.{at_first};
+ghost use Rattle.merge_statements.specs.Unread.{FollowsAs, Steps};
+ghost use Rattle.merge_statements.specs.declared.walk.Place.TheVariants as Place;
+
+use crate::buffer::BUFFER_BYTES;
+use crate::output::Output;
+use crate::reader::RowReader;
+use crate::refusal::{Refusal, StatementFault};
+use crate::row::Row;
+use crate::walk::{Progress, replace};
+use std::alloc::Global;
+use std::io::{Read, Write};
+use std::marker::Model;
+
+/// A text of statements, how far it was read, and the row at hand.
+#[derive(Drop)]
+pub struct Part<R: Read> {
+    rows: RowReader<R>,
+    /// Memory for the fields of a row that stand between quotes.
+    room: Vec<u8>,
+    progress: Progress,
+    /// The number of the row at hand, from 1.
+    number: u64,
+    /// Whether there is a row at hand, or the text has ended.
+    has_row: bool,
+    /// The payee that comes next, where one does.
+    payee: Vec<u8>,
+    has_payee: bool,
+}
+
+impl<R: Read> Model for Part<R> {
+    ghost use Rattle.std.specs.Prelude.{◌≡◌, ◌++◌, ◌∷◌, [], None, Some, false, true, if◌then◌else◌};
+    ghost use Rattle.merge_statements.specs.Passed.{IsNext};
+    ghost use Rattle.std.specs.Io.KnownBytes.{IsAtEnd, prepend_known};
+    ghost use Rattle.std.specs.Option.{option_map};
+ghost use Rattle.csv_table.specs.Written.{text_of_row};
+ghost use Rattle.merge_statements.specs.Fields.{fields_of};
+ghost use Rattle.merge_statements.specs.Passed.{EndsText, IsNext, IsRestsSumAt, IsSumAt, IsWithin, IsWithinOne, PassesPortion, PassesRest, PassesSum, WritesRests, WritesStatement};
+ghost use Rattle.merge_statements.specs.Places.{at_first};
+ghost use Rattle.merge_statements.specs.Unread.{Unread};
+
+    ghost Value = { Unread };
+
+    ghost view = { λ b. record {
+        at = b.progress;
+        line = if b.has_row then b.rows.line ++ 10 ∷ [] else [];
+        left = prepend_known (if b.has_row then b.rows.line ++ 10 ∷ [] else []) b.rows.left;
+        payee = if b.has_payee then Some b.payee.items else None } };
+
+    ghost invariant = { λ b. (b.has_payee ≡ true → IsNext b.progress (if b.has_row then b.rows.line ++ 10 ∷ [] else []) b.payee.items)
+        × (b.has_row ≡ false → IsAtEnd b.rows.left) };
+}
+
+impl<R: Read + Drop> Part<R> {
+    /// A text before its first row, which is read.
+    pub fn open(alloc: Global, from: R) -> Result<Part<R>, Refusal>
+        ensures at { IfOk result (λ part. part.at ≡ at_first) }
+        ensures left { IfOk result (λ part. Keeps (R.remaining from) part.left) }
+    {
+        let mut rows = RowReader::new(alloc, from)?;
+        let room = vec![in alloc; 0u8; BUFFER_BYTES]?;
+        let mut number = 0;
+        let has_row = advance(&mut rows, &mut number)?;
+        let mut part = Part {
+            rows,
+            room,
+            progress: Progress::new(alloc),
+            number,
+            has_row,
+            payee: Vec::new(alloc),
+            has_payee: false,
+        };
+        part.look()?;
+        Ok(part)
+    }
+
+    /// The payee that comes next, where one does.
+    pub fn payee(&self) -> Option<&[u8]>
+        ensures same { option_map (λ payee. payee.now) result ≡ self.now.payee }
+        ensures next { IfSome result (λ payee. IsNext self.now.at self.now.line payee.now) }
+    {
+        if self.has_payee {
+            Some(self.payee.as_slice())
+        } else {
+            None
+        }
+    }
+
+    /// Looks which payee comes next, behind a statement or before the first.
+    fn look(&mut self) -> Result<(), Refusal>
+        ensures { OnOk result ((self.new.at ≡ self.old.at) × (self.new.line ≡ self.old.line) × (self.new.left ≡ self.old.left)) }
+    {
+        self.has_payee = false;
+        if !self.has_row {
+            return Ok(());
+        }
+        let row = row_of(self.rows.line(), self.room.as_mut_slice(), self.number)?;
+        if row.kind != b"L".as_slice() {
+            return Ok(());
+        }
+        if !self.progress.can_begin(row.whose) {
+            return Err(Refusal::Fault(StatementFault::Whose(self.number)));
+        }
+        replace(&mut self.payee, row.whose)?;
+        self.has_payee = true;
+        Ok(())
+    }
+
+    /// Passes over the row at hand, if it can stand there.
+    fn step(&mut self) -> Result<(), Refusal>
+        ensures { OnOk result (Steps self.old self.new) }
+    {
+        if !self.has_row {
+            return Err(Refusal::Fault(StatementFault::End(self.number)));
+        }
+        self.has_payee = false;
+        follow(
+            &mut self.progress,
+            self.rows.line(),
+            self.room.as_mut_slice(),
+            self.number,
+        )?;
+        self.has_row = advance(&mut self.rows, &mut self.number)?;
+        Ok(())
+    }
+
+    /// The same, and adds it to the output as it stands.
+    fn pass_row<W: Write>(&mut self, out: &mut Output<'_, W>) -> Result<(), Refusal>
+        ensures steps { OnOk result (Steps self.old self.new) }
+        ensures passed { OnOk result (Appends out.old out.new self.old.line) }
+    {
+        if self.has_row {
+            push_line(out, self.rows.line())?;
+        }
+        self.step()
+    }
+
+    /// Whether the row at hand begins with a letter.
+    fn begins_with(&self, letter: u8) -> bool
+        ensures is { result ≡ true → slice_index self.now.line 0 ≡ letter }
+        ensures is_not { result ≡ false → 10 < letter → ¬ (slice_index self.now.line 0 ≡ letter) }
+    {
+        if !self.has_row {
+            return false;
+        }
+        match self.rows.line() {
+            [first, ..] => *first == letter,
+            [] => false,
+        }
+    }
+
+    /// Passes over a payee's portion, and adds it to the output.
+    fn pass_portion<W: Write>(&mut self, out: &mut Output<'_, W>) -> Result<(), Refusal>
+        requires { slice_index self.old.line 0 ≡ 76 }
+        ensures portion { OnOk result (PassesPortion self.old self.new) }
+        ensures passed { OnOk result (Appends out.old out.new self.old.line) }
+    {
+        self.pass_row(out)?;
+        Ok(())
+    }
+
+    /// Passes over the first portion of the payee that comes next, and adds it to the output.
+    fn pass_first<W: Write>(&mut self, out: &mut Output<'_, W>) -> Result<(), Refusal>
+        ensures { OnOk result (IsWithin self.old self.new out.old out.new) }
+    {
+        let Some(_) = self.payee() else {
+            return Err(Refusal::Fault(StatementFault::Kind(self.number)));
+        };
+        self.pass_portion(out)?;
+        Ok(())
+    }
+
+    /// Passes over the sum of a payee's portions, behind which the next payee comes. Answers how many portions there were and what they come to.
+    fn end_statement(&mut self) -> Result<(u64, i128), Refusal>
+        requires { ¬ (slice_index self.old.line 0 ≡ 76) }
+        ensures { IfOk result (λ sum. IsWithinOne self.old.at → PassesSum IsSumAt self.old self.new sum.0 sum.1) }
+    {
+        let sum = self.progress.so_far();
+        self.step()?;
+        self.look()?;
+        Ok(sum)
+    }
+
+    /// Passes over the statement of the payee that comes next, and adds its portions to the output. Answers how many there are and what
+    /// they come to.
+    pub fn pass_statement<W: Write>(
+        &mut self,
+        out: &mut Output<'_, W>,
+    ) -> Result<(u64, i128), Refusal>
+        ensures { IfOk result (λ sum. WritesStatement self.old self.new out.old out.new sum.0 sum.1) }
+    {
+        self.pass_first(out)?;
+        for _ in 0..u64::MAX {
+            if !self.begins_with(b'L') {
+                let sum = self.end_statement()?;
+                return Ok(sum);
+            }
+            self.pass_portion(out)?;
+        }
+        Err(Refusal::Fault(StatementFault::Fourth(self.number)))
+    }
+
+    /// Passes over a portion that nobody gets, and adds it to the output.
+    fn pass_rest<W: Write>(&mut self, out: &mut Output<'_, W>) -> Result<(), Refusal>
+        requires { slice_index self.old.line 0 ≡ 77 }
+        ensures rest { OnOk result (PassesRest self.old self.new) }
+        ensures passed { OnOk result (Appends out.old out.new self.old.line) }
+    {
+        self.pass_row(out)?;
+        Ok(())
+    }
+
+    /// Passes over what nobody gets in all. Answers how many portions there were and what they come to.
+    fn end_rests(&mut self) -> Result<(u64, i128), Refusal>
+        ensures { IfOk result (λ sum. PassesSum IsRestsSumAt self.old self.new sum.0 sum.1) }
+    {
+        if !self.begins_with(b'T') {
+            return Err(Refusal::Fault(StatementFault::Kind(self.number)));
+        }
+        let sum = self.progress.so_far();
+        self.step()?;
+        Ok(sum)
+    }
+
+    /// Passes over all that nobody gets, behind the last payee, and adds it to the output without its sum. Answers how many portions there
+    /// are and what they come to.
+    pub fn pass_rests<W: Write>(
+        &mut self,
+        out: &mut Output<'_, W>,
+    ) -> Result<(u64, i128), Refusal>
+        requires { self.old.at.place ≡ Place.Between }
+        ensures { IfOk result (λ sum. WritesRests self.old self.new out.old out.new sum.0 sum.1) }
+    {
+        for _ in 0..u64::MAX {
+            if !self.begins_with(b'M') {
+                let sum = self.end_rests()?;
+                return Ok(sum);
+            }
+            self.pass_rest(out)?;
+        }
+        Err(Refusal::Fault(StatementFault::Fourth(self.number)))
+    }
+
+    /// Passes over the usage lines, behind which the text ends. Answers how many there were.
+    pub fn finish(&mut self) -> Result<u64, Refusal>
+        requires { self.old.at.place ≡ Place.Summed }
+        ensures { IfOk result (λ lines. EndsText self.old self.new lines) }
+    {
+        self.step()?;
+        if self.has_row {
+            return Err(Refusal::Fault(StatementFault::Kind(self.number)));
+        }
+        Ok(self.progress.lines())
+    }
+}
+
+/// Adds a line with its line feed.
+fn push_line<W: Write>(out: &mut Output<'_, W>, line: &[u8]) -> Result<(), Refusal>
+    ensures { OnOk result (Appends out.old out.new (line.now ++ 10 ∷ [])) }
+{
+    match out.push(line) {
+        Ok(()) => {}
+        Err(error) => return Err(Refusal::Write(error)),
+    }
+    match out.push(b"\n") {
+        Ok(()) => Ok(()),
+        Err(error) => Err(Refusal::Write(error)),
+    }
+}
+
+/// Goes on behind a line, if it is a row that can stand there.
+fn follow(
+    progress: &mut Progress,
+    line: &[u8],
+    room: &mut [u8],
+    number: u64,
+) -> Result<(), Refusal>
+    ensures { OnOk result (FollowsAs progress.old (line.now ++ 10 ∷ []) progress.new) }
+{
+    let row = row_of(line, room, number)?;
+    match progress.follow(&row) {
+        Ok(()) => Ok(()),
+        Err(wrong) => Err(Refusal::of_field(wrong, number)),
+    }
+}
+
+/// The row that a line is.
+fn row_of<'a>(line: &'a [u8], room: &'a mut [u8], number: u64) -> Result<Row<'a>, Refusal>
+    ensures { IfOk result (λ row. text_of_row (fields_of row) ≡ line.now ++ 10 ∷ []) }
+{
+    if line.len() > room.len() {
+        return Err(Refusal::Fault(StatementFault::Row(number)));
+    }
+    match Row::of(line, room) {
+        Some(row) => Ok(row),
+        None => Err(Refusal::Fault(StatementFault::Row(number))),
+    }
+}
+
+/// Goes on to the next line, and answers whether there is one.
+fn advance<R: Read>(rows: &mut RowReader<R>, number: &mut u64) -> Result<bool, Refusal>
+    ensures found { IfOk result (λ found. found ≡ true → Consumes rows.old.left rows.new.left (rows.new.line ++ 10 ∷ [])) }
+    ensures end { IfOk result (λ found. found ≡ false → Keeps rows.old.left rows.new.left) }
+    ensures nothing { IfOk result (λ found. found ≡ false → IsAtEnd rows.new.left) }
+{
+    *number = number.saturating_add(1);
+    match rows.next() {
+        Ok(found) => Ok(found),
+        Err(fault) => Err(Refusal::of_line(fault, *number)),
+    }
+}

@@ -1,0 +1,91 @@
+//! The lines of a statement text, one after another, out of a reader and through a small buffer.
+
+ghost use Rattle.std.specs.Io.KnownBytes.{Consumes, IsAtEnd, Keeps};
+ghost use Rattle.std.specs.List.{list_any};
+ghost use Rattle.std.specs.Prelude.{◌≡◌, ◌<◌, ◌++◌, ◌∷◌, [], IfErr, IfOk, OnErr, false, length, true};
+ghost use Rattle.merge_statements.specs.Buffered.{is_feed, waiting_of};
+ghost use Rattle.merge_statements.specs.Reading.{IsFaultOf};
+ghost use Rattle.merge_statements.specs.declared.read_fault.ReadFault.TheVariants.{Unended};
+
+use crate::buffer::Buffer;
+use crate::read_fault::ReadFault;
+use std::alloc::{AllocError, Global};
+use std::io::{self, ErrorKind, Read};
+use std::marker::Model;
+
+/// A reader of lines: the line at hand, without its line feed, and what is yet to come.
+#[derive(Drop)]
+pub struct RowReader<R: Read> {
+    from: R,
+    buffer: Buffer,
+}
+
+impl<R: Read> Model for RowReader<R> {
+    ghost use Rattle.std.specs.Io.KnownBytes.{prepend_known};
+    ghost use Rattle.merge_statements.specs.Buffered.{line_of, waiting_of};
+    ghost use Rattle.merge_statements.specs.Reading.{Reading};
+
+    ghost Value = { Reading };
+
+    ghost view = { λ b. record { line = line_of b.buffer; left = prepend_known (waiting_of b.buffer) (R.remaining b.from) } };
+}
+
+impl<R: Read> RowReader<R> {
+    /// The lines of what a reader has, before the first. Its buffer has 65,536 bytes.
+    pub fn new(alloc: Global, from: R) -> Result<RowReader<R>, AllocError>
+    where
+        R: Drop,
+        ensures line { IfOk result (λ reader. reader.line ≡ []) }
+        ensures left { IfOk result (λ reader. reader.left ≡ R.remaining from) }
+    {
+        let buffer = Buffer::new(alloc)?;
+        Ok(RowReader { from, buffer })
+    }
+
+    /// The line at hand, without its line feed. Before the first line, at the end and after a fault it is empty.
+    pub fn line(&self) -> &[u8]
+        ensures { result.now ≡ self.now.line }
+    {
+        self.buffer.line()
+    }
+
+    /// Goes on to the next line, and answers whether there was one. After a fault everything is as it was but for the line
+    /// at hand, so that a read that was refused can be tried again.
+    pub fn next(&mut self) -> Result<bool, ReadFault>
+        ensures found { IfOk result (λ found. found ≡ true → Consumes self.old.left self.new.left (self.new.line ++ 10 ∷ [])) }
+        ensures one { IfOk result (λ found. found ≡ true → list_any is_feed self.new.line ≡ false) }
+        ensures end { IfOk result (λ found. found ≡ false → IsAtEnd self.old.left × IsAtEnd self.new.left) }
+        ensures still { IfOk result (λ found. found ≡ false → Keeps self.old.left self.new.left) }
+        ensures none { IfOk result (λ found. found ≡ false → self.new.line ≡ []) }
+        ensures fault { IfErr result (IsFaultOf self.old.left) }
+        ensures kept { OnErr result (Keeps self.old.left self.new.left × (self.new.line ≡ [])) }
+    {
+        self.buffer.drop_line();
+        'reads: for _ in 0..u64::MAX {
+            if self.buffer.take_line() {
+                return Ok(true);
+            }
+            if !self.buffer.make_room() {
+                return Err(ReadFault::TooLong);
+            }
+            match self.buffer.fill(&mut self.from) {
+                Ok(true) => {}
+                Ok(false) => return at_end(&self.buffer),
+                Err(error) => return Err(ReadFault::Refused(error)),
+            }
+        }
+        Err(ReadFault::Refused(io::Error::from(ErrorKind::TimedOut)))
+    }
+}
+
+/// The answer where a reader has no more: that is the end, if nothing waits.
+fn at_end(buffer: &Buffer) -> Result<bool, ReadFault>
+    ensures end { IfOk result (λ found. (found ≡ false) × (waiting_of buffer.now ≡ [])) }
+    ensures fault { IfErr result (λ fault. (fault ≡ Unended) × (0 < length (waiting_of buffer.now))) }
+{
+    if buffer.is_empty() {
+        Ok(false)
+    } else {
+        Err(ReadFault::Unended)
+    }
+}

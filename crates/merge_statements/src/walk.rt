@@ -1,0 +1,355 @@
+//! The rows of a statement text one after another, of which each has to be one that can stand there.
+
+ghost use Rattle.std.specs.Fmt.{signed_decimal};
+ghost use Rattle.std.specs.Prelude.{◌≡◌, ◌⊎◌, ◌+◌, ◌+ℤ◌, ◌^◌, ◌≤◌, ◌↔◌, ℕ, ℤ, true, unsigned_abs, IfErr, IfOk, IsTrue, OnOk, codes, decimal};
+ghost use Rattle.std.specs.Cmp.Lexicographic.{slice_cmp};
+ghost use Rattle.std.specs.Ordering.{nat_cmp};
+ghost use Rattle.std.specs.declared.cmp.Ordering.TheVariants.{Less};
+ghost use Rattle.merge_statements.specs.Places.{Fits, IsCount, IsPayeeAt, KindFits, Leads, at_first, count_at, sum_at};
+ghost use Rattle.merge_statements.specs.Statements.{IsAmount, IsName, IsReason};
+ghost use Rattle.merge_statements.specs.declared.walk.Place.TheVariants as Place;
+ghost use Rattle.merge_statements.specs.declared.walk.Wrong.TheVariants as Wrong;
+ghost use Rattle.merge_statements.specs.Wrong.{IsWrongAt};
+
+use crate::amount::{MOST_COUNT, amount_of, count_of};
+use crate::row::Row;
+use csv_table::forms::is_printable;
+use itoa::Buffer;
+use std::alloc::{AllocError, Global};
+use std::cmp::Ordering;
+use std::marker::Model;
+
+/// The longest name of a payee or of a use, in bytes.
+const MOST_NAME_BYTES: usize = 64;
+
+/// A place among the rows of a statement text.
+#[derive(Clone, Copy, Debug)]
+pub enum Place {
+    /// Before the first row, or behind the sum of a payee.
+    Between,
+    /// Among the portions of a payee: how many there were so far, and what they come to.
+    Within(u64, i128),
+    /// Among portions that nobody gets: how many so far, and what they come to.
+    Resting(u64, i128),
+    /// Behind what nobody gets in all.
+    Summed,
+    /// Behind the last row: how many usage lines there were.
+    Ended(u64),
+}
+
+/// Which field of a row is the first that cannot stand there.
+#[derive(Clone, Copy, Debug, PartialEq, Eq)]
+pub enum Wrong {
+    Kind,
+    Whose,
+    Third,
+    Fourth,
+    /// None: memory was refused.
+    Memory,
+}
+
+/// How far a text was read.
+#[derive(Drop)]
+pub struct Progress {
+    place: Place,
+    /// The payee that was read last.
+    payee: Vec<u8>,
+    /// How many portions were read, those that nobody gets among them.
+    portions: u64,
+    /// What the sums that were read come to.
+    total: i128,
+}
+
+impl Model for Progress {
+    ghost use Rattle.std.specs.Prelude.{◌≤◌, ◌^◌, ◌+◌, ◌*◌, unsigned_abs};
+    ghost use Rattle.merge_statements.specs.Places.{At, count_at, sum_at};
+
+    ghost Value = { At };
+
+    ghost view = { λ progress. record { place = progress.place; payee = progress.payee.items; portions = progress.portions; total = progress.total } };
+
+    ghost invariant = { λ progress. (progress.portions ≤ 10 ^ 18)
+        × (unsigned_abs (sum_at progress.place) ≤ 10 ^ 12 * count_at progress.place)
+        × (unsigned_abs progress.total + 10 ^ 12 * count_at progress.place ≤ 10 ^ 12 * progress.portions) };
+}
+
+impl Place {
+    /// Whether a row of this kind can stand there.
+    fn takes(self, kind: &[u8]) -> bool
+        ensures { IsTrue result ↔ KindFits self kind.now }
+    {
+        match self {
+            Place::Between => matches!(kind, b"L" | b"M" | b"T"),
+            Place::Within(_, _) => matches!(kind, b"L" | b"S"),
+            Place::Resting(_, _) => matches!(kind, b"M" | b"T"),
+            Place::Summed => matches!(kind, b"R"),
+            Place::Ended(_) => false,
+        }
+    }
+
+    /// Of how many portions a sum there is, and what they come to.
+    fn so_far(self) -> (u64, i128)
+        ensures count { result.0 ≡ count_at self }
+        ensures sum { result.1 ≡ sum_at self }
+    {
+        match self {
+            Place::Within(count, sum) | Place::Resting(count, sum) => (count, sum),
+            Place::Between | Place::Summed | Place::Ended(_) => (0, 0),
+        }
+    }
+}
+
+impl Progress {
+    /// Before the first row.
+    pub fn new(alloc: Global) -> Progress
+        ensures { result ≡ at_first }
+    {
+        Progress {
+            place: Place::Between,
+            payee: Vec::new(alloc),
+            portions: 0,
+            total: 0,
+        }
+    }
+
+    /// Goes on behind a row, where it can stand there.
+    pub fn follow(&mut self, row: &Row<'_>) -> Result<(), Wrong>
+        ensures follows { OnOk result (Fits self.old row.now.kind.now row.now.whose.now row.now.third.now row.now.fourth.now) }
+        ensures leads { OnOk result (Leads self.old row.now.kind.now row.now.whose.now row.now.third.now row.now.fourth.now self.new) }
+        ensures wrong { IfErr result (IsWrongAt self.old row.now.kind.now row.now.whose.now row.now.third.now row.now.fourth.now) }
+    {
+        if !self.place.takes(row.kind) {
+            return Err(Wrong::Kind);
+        }
+        match row.kind {
+            b"L" => self.portion(row),
+            b"S" => self.sum(row),
+            b"M" => self.rest(row),
+            b"T" => self.rests(row),
+            _ => self.run(row),
+        }
+    }
+
+    /// The same of a payee's portion.
+    fn portion(&mut self, row: &Row<'_>) -> Result<(), Wrong>
+        requires kind { row.now.kind.now ≡ codes "L" }
+        requires fits { KindFits self.old.place row.now.kind.now }
+        ensures follows { OnOk result (Fits self.old row.now.kind.now row.now.whose.now row.now.third.now row.now.fourth.now) }
+        ensures leads { OnOk result (Leads self.old row.now.kind.now row.now.whose.now row.now.third.now row.now.fourth.now self.new) }
+        ensures wrong { IfErr result (IsWrongAt self.old row.now.kind.now row.now.whose.now row.now.third.now row.now.fourth.now) }
+    {
+        if !self.is_payee_here(row.whose) {
+            return Err(Wrong::Whose);
+        }
+        let amount = self.amount_in(row)?;
+        let (count, sum) = self.place.so_far();
+        if replace(&mut self.payee, row.whose).is_err() {
+            return Err(Wrong::Memory);
+        }
+        self.place = Place::Within(count + 1, plus(sum, amount as i128));
+        self.portions += 1;
+        Ok(())
+    }
+
+    /// The same of a portion that nobody gets.
+    fn rest(&mut self, row: &Row<'_>) -> Result<(), Wrong>
+        requires kind { row.now.kind.now ≡ codes "M" }
+        requires fits { KindFits self.old.place row.now.kind.now }
+        ensures follows { OnOk result (Fits self.old row.now.kind.now row.now.whose.now row.now.third.now row.now.fourth.now) }
+        ensures leads { OnOk result (Leads self.old row.now.kind.now row.now.whose.now row.now.third.now row.now.fourth.now self.new) }
+        ensures wrong { IfErr result (IsWrongAt self.old row.now.kind.now row.now.whose.now row.now.third.now row.now.fourth.now) }
+    {
+        if !is_reason(row.whose) {
+            return Err(Wrong::Whose);
+        }
+        let amount = self.amount_in(row)?;
+        let (count, sum) = self.place.so_far();
+        self.place = Place::Resting(count + 1, plus(sum, amount as i128));
+        self.portions += 1;
+        Ok(())
+    }
+
+    /// The same of what a payee's portions come to.
+    fn sum(&mut self, row: &Row<'_>) -> Result<(), Wrong>
+        requires kind { row.now.kind.now ≡ codes "S" }
+        requires fits { KindFits self.old.place row.now.kind.now }
+        ensures follows { OnOk result (Fits self.old row.now.kind.now row.now.whose.now row.now.third.now row.now.fourth.now) }
+        ensures leads { OnOk result (Leads self.old row.now.kind.now row.now.whose.now row.now.third.now row.now.fourth.now self.new) }
+        ensures wrong { IfErr result (IsWrongAt self.old row.now.kind.now row.now.whose.now row.now.third.now row.now.fourth.now) }
+    {
+        if row.whose != self.payee.as_slice() {
+            return Err(Wrong::Whose);
+        }
+        let (count, sum) = self.place.so_far();
+        check_sum(row, count, sum)?;
+        self.place = Place::Between;
+        self.total = plus(self.total, sum);
+        Ok(())
+    }
+
+    /// The same of what nobody gets in all.
+    fn rests(&mut self, row: &Row<'_>) -> Result<(), Wrong>
+        requires kind { row.now.kind.now ≡ codes "T" }
+        requires fits { KindFits self.old.place row.now.kind.now }
+        ensures follows { OnOk result (Fits self.old row.now.kind.now row.now.whose.now row.now.third.now row.now.fourth.now) }
+        ensures leads { OnOk result (Leads self.old row.now.kind.now row.now.whose.now row.now.third.now row.now.fourth.now self.new) }
+        ensures wrong { IfErr result (IsWrongAt self.old row.now.kind.now row.now.whose.now row.now.third.now row.now.fourth.now) }
+    {
+        if !row.whose.is_empty() {
+            return Err(Wrong::Whose);
+        }
+        let (count, sum) = self.place.so_far();
+        check_sum(row, count, sum)?;
+        self.place = Place::Summed;
+        self.total = plus(self.total, sum);
+        Ok(())
+    }
+
+    /// The same of the usage lines.
+    fn run(&mut self, row: &Row<'_>) -> Result<(), Wrong>
+        requires kind { row.now.kind.now ≡ codes "R" }
+        requires fits { KindFits self.old.place row.now.kind.now }
+        ensures follows { OnOk result (Fits self.old row.now.kind.now row.now.whose.now row.now.third.now row.now.fourth.now) }
+        ensures leads { OnOk result (Leads self.old row.now.kind.now row.now.whose.now row.now.third.now row.now.fourth.now self.new) }
+        ensures wrong { IfErr result (IsWrongAt self.old row.now.kind.now row.now.whose.now row.now.third.now row.now.fourth.now) }
+    {
+        if !row.whose.is_empty() {
+            return Err(Wrong::Whose);
+        }
+        let Some(lines) = count_of(row.third) else {
+            return Err(Wrong::Third);
+        };
+        if !is_written(row.fourth, self.total) {
+            return Err(Wrong::Fourth);
+        }
+        self.place = Place::Ended(lines);
+        Ok(())
+    }
+
+    /// Of how many portions a sum there is, and what they come to.
+    pub(crate) fn so_far(&self) -> (u64, i128)
+        ensures count { result.0 ≡ count_at self.now.place }
+        ensures sum { result.1 ≡ sum_at self.now.place }
+    {
+        self.place.so_far()
+    }
+
+    /// How many usage lines there were, behind the last row.
+    pub(crate) fn lines(&self) -> u64
+        ensures { (lines : ℕ) → self.now.place ≡ Place.Ended lines → result ≡ lines }
+    {
+        match self.place {
+            Place::Ended(lines) => lines,
+            Place::Between | Place::Within(_, _) | Place::Resting(_, _) | Place::Summed => 0,
+        }
+    }
+
+    /// Whether the statement of this payee can begin here.
+    pub(crate) fn can_begin(&self, payee: &[u8]) -> bool
+        ensures { result ≡ true → (self.now.place ≡ Place.Between) × IsName payee.now × (slice_cmp nat_cmp self.now.payee payee.now ≡ Less) }
+    {
+        match self.place {
+            Place::Between => is_name(payee) && is_before(self.payee.as_slice(), payee),
+            Place::Within(_, _) | Place::Resting(_, _) | Place::Summed | Place::Ended(_) => false,
+        }
+    }
+
+    /// Whether a portion of this payee can stand here.
+    fn is_payee_here(&self, whose: &[u8]) -> bool
+        ensures { IsTrue result ↔ IsPayeeAt self.now.place self.now.payee whose.now }
+    {
+        match self.place {
+            Place::Within(_, _) => whose == self.payee.as_slice(),
+            Place::Between | Place::Resting(_, _) | Place::Summed | Place::Ended(_) => {
+                is_name(whose) && is_before(self.payee.as_slice(), whose)
+            }
+        }
+    }
+
+    /// The amount of a portion, where one more is counted and its use has a name.
+    fn amount_in(&self, row: &Row<'_>) -> Result<i64, Wrong>
+        ensures amount { IfOk result (λ amount. IsName row.now.third.now × IsCount (self.now.portions + 1) × IsAmount amount × (row.now.fourth.now ≡ signed_decimal amount)) }
+        ensures third { result ≡ Err Wrong.Third → ¬ IsName row.now.third.now }
+        ensures fourth { result ≡ Err Wrong.Fourth → IsName row.now.third.now × (¬ (IsCount (self.now.portions + 1) × ((amount : ℤ) × IsAmount amount × (row.now.fourth.now ≡ signed_decimal amount)))) }
+        ensures either { IfErr result (λ wrong. (wrong ≡ Wrong.Third) ⊎ (wrong ≡ Wrong.Fourth)) }
+    {
+        if !is_name(row.third) {
+            return Err(Wrong::Third);
+        }
+        if self.portions >= MOST_COUNT {
+            return Err(Wrong::Fourth);
+        }
+        match amount_of(row.fourth) {
+            Some(amount) => Ok(amount),
+            None => Err(Wrong::Fourth),
+        }
+    }
+}
+
+/// Whether a name comes before another, in byte order.
+fn is_before(name: &[u8], other: &[u8]) -> bool
+    ensures { IsTrue result ↔ (slice_cmp nat_cmp name.now other.now ≡ Less) }
+{
+    matches!(name.cmp(other), Ordering::Less)
+}
+
+/// The sum of two numbers, neither of which is too large.
+fn plus(one: i128, other: i128) -> i128
+    requires one { unsigned_abs one ≤ 10 ^ 30 }
+    requires other { unsigned_abs other ≤ 10 ^ 30 }
+    ensures { result ≡ one +ℤ other }
+{
+    one + other
+}
+
+/// Puts a name in the place of another.
+pub(crate) fn replace(name: &mut Vec<u8>, by: &[u8]) -> Result<(), AllocError>
+    ensures { OnOk result (name.new.items ≡ by.now) }
+{
+    if name.as_slice() == by {
+        return Ok(());
+    }
+    name.clear();
+    name.extend_from_slice(by)
+}
+
+/// Sees that a sum is of so many portions, and that they come to this.
+fn check_sum(row: &Row<'_>, count: u64, sum: i128) -> Result<(), Wrong>
+    ensures sound { OnOk result ((row.now.third.now ≡ decimal count) × (row.now.fourth.now ≡ signed_decimal sum)) }
+    ensures third { result ≡ Err Wrong.Third → ¬ (row.now.third.now ≡ decimal count) }
+    ensures fourth { result ≡ Err Wrong.Fourth → (row.now.third.now ≡ decimal count) × (¬ (row.now.fourth.now ≡ signed_decimal sum)) }
+    ensures either { IfErr result (λ wrong. (wrong ≡ Wrong.Third) ⊎ (wrong ≡ Wrong.Fourth)) }
+{
+    if row.third != Buffer::new().format(count).as_bytes() {
+        return Err(Wrong::Third);
+    }
+    if !is_written(row.fourth, sum) {
+        return Err(Wrong::Fourth);
+    }
+    Ok(())
+}
+
+/// Whether a field has a sum as a run writes it.
+fn is_written(field: &[u8], sum: i128) -> bool
+    ensures { IsTrue result ↔ (field.now ≡ signed_decimal sum) }
+{
+    let mut digits = Buffer::new();
+    field == digits.format(sum).as_bytes()
+}
+
+/// Whether a field is a name of a payee or of a use.
+fn is_name(field: &[u8]) -> bool
+    ensures { IsTrue result ↔ IsName field.now }
+{
+    is_printable(field, MOST_NAME_BYTES)
+}
+
+/// Whether a field is a reason why nobody gets a portion.
+fn is_reason(field: &[u8]) -> bool
+    ensures { IsTrue result ↔ IsReason field.now }
+{
+    field == b"WORK".as_slice()
+        || field == b"LAND".as_slice()
+        || field == b"OVER".as_slice()
+        || field == b"OPEN".as_slice()
+}
