@@ -6,11 +6,10 @@ ghost use Rattle.csv_table.specs.Table.{HaveNoLineFeed, rows_of};
 
 use memchr::memchr;
 
-/// The two parts of a text that is cut behind the first line feed of its second half. Its rows are
-/// those of the first part and then those of the second, if no field in the rows of the first part
-/// has a line feed. Where the cut falls within quotes, one of them has: the first part then ends in
-/// a field that is still open, and this field ends with the line feed at the cut. None: there is no
-/// such line feed, or behind it stands a byte with which a byte order mark begins.
+/// The two parts of a text that is cut behind the first line feed of its second half. Its rows are those of the first part and
+/// then those of the second, if no field in the rows of the first part has a line feed. Where the cut falls within quotes one of
+/// them has: the first part then ends in a field that is still open, and this field ends with the line feed at the cut. None:
+/// there is no such line feed, or behind it stands a byte with which a byte order mark begins.
 pub fn cut_in_two(text: &[u8]) -> Option<(&[u8], &[u8])>
     ensures { IfSome result (λ parts. HaveNoLineFeed (rows_of parts.0.now) → rows_of text.now ≡ rows_of parts.0.now ++ rows_of parts.1.now) }
 {

@@ -11,10 +11,9 @@ use std::alloc::Global;
 use std::thread::{Threads, join};
 
 impl Usage {
-    /// Reads a table of usage lines as `read` does, in two parts side by side, each of them in two
-    /// parts again, so many times over. The lines before a cut tell that it was right: within
-    /// quotes, the last of them would have a line feed in a field. So where what stands before a
-    /// cut is refused, one thread reads it again, with what stands behind it. A thread that the
+    /// Reads a table of usage lines as `read` does, in two parts side by side, each of them in two parts again, so many times
+    /// over. The lines before a cut tell that it was right: within quotes, the last of them would have a line feed in a field.
+    /// So where what stands before a cut is refused, one thread reads it again, with what stands behind it. A thread that the
     /// system refuses costs time alone.
     pub fn read_in_parts<R: Threads + Sync>(
         rt: &R,
