@@ -53,7 +53,13 @@ impl<'a, W: Write> Output<'a, W> {
     }
 
     /// Adds a row of so many portions or lines, and what they come to.
-    pub fn push_total(&mut self, kind: &str, whose: &[u8], count: u64, total: i128) -> io::Result<()>
+    pub fn push_total(
+        &mut self,
+        kind: &str,
+        whose: &[u8],
+        count: u64,
+        total: i128,
+    ) -> io::Result<()>
         ensures { OnOk result (Appends self.old self.new (text_of_row (total_row kind.now whose.now count total))) }
     {
         let text = total_text(self.alloc, kind, whose, count, total)?;
@@ -62,7 +68,13 @@ impl<'a, W: Write> Output<'a, W> {
 }
 
 /// The text of a row of so many portions or lines, and what they come to.
-fn total_text(alloc: Global, kind: &str, whose: &[u8], count: u64, total: i128) -> Result<Vec<u8>, io::Error>
+fn total_text(
+    alloc: Global,
+    kind: &str,
+    whose: &[u8],
+    count: u64,
+    total: i128,
+) -> Result<Vec<u8>, io::Error>
     ensures { IfOk result (λ text. text.items ≡ text_of_row (total_row kind.now whose.now count total)) }
 {
     let mut digits = Buffer::new();

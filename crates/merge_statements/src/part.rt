@@ -41,19 +41,20 @@ impl<R: Read> Model for Part<R> {
     ghost use Rattle.merge_statements.specs.Passed.{IsNext};
     ghost use Rattle.std.specs.Io.KnownBytes.{IsAtEnd, prepend_known};
     ghost use Rattle.std.specs.Option.{option_map};
-ghost use Rattle.csv_table.specs.Written.{text_of_row};
-ghost use Rattle.merge_statements.specs.Fields.{fields_of};
-ghost use Rattle.merge_statements.specs.Passed.{EndsText, IsNext, IsRestsSumAt, IsSumAt, IsWithin, IsWithinOne, PassesPortion, PassesRest, PassesSum, WritesRests, WritesStatement};
-ghost use Rattle.merge_statements.specs.Places.{at_first};
-ghost use Rattle.merge_statements.specs.Unread.{Unread};
+    ghost use Rattle.csv_table.specs.Written.{text_of_row};
+    ghost use Rattle.merge_statements.specs.Fields.{fields_of};
+    ghost use Rattle.merge_statements.specs.Passed.{EndsText, IsNext, IsRestsSumAt, IsSumAt, IsWithin, IsWithinOne, PassesPortion, PassesRest, PassesSum, WritesRests, WritesStatement};
+    ghost use Rattle.merge_statements.specs.Places.{at_first};
+    ghost use Rattle.merge_statements.specs.Unread.{Unread};
 
     ghost Value = { Unread };
 
     ghost view = { λ b. record {
-        at = b.progress;
-        line = if b.has_row then b.rows.line ++ 10 ∷ [] else [];
-        left = prepend_known (if b.has_row then b.rows.line ++ 10 ∷ [] else []) b.rows.left;
-        payee = if b.has_payee then Some b.payee.items else None } };
+      at = b.progress;
+      line = if b.has_row then b.rows.line ++ 10 ∷ [] else [];
+      left = prepend_known (if b.has_row then b.rows.line ++ 10 ∷ [] else []) b.rows.left;
+      payee = if b.has_payee then Some b.payee.items else None;
+    } };
 
     ghost invariant = { λ b. (b.has_payee ≡ true → IsNext b.progress (if b.has_row then b.rows.line ++ 10 ∷ [] else []) b.payee.items)
         × (b.has_row ≡ false → IsAtEnd b.rows.left) };
@@ -232,10 +233,7 @@ impl<R: Read + Drop> Part<R> {
 
     /// Passes over all that nobody gets, behind the last payee, and adds it to the output without its sum. Answers how many portions there
     /// are and what they come to.
-    pub fn pass_rests<W: Write>(
-        &mut self,
-        out: &mut Output<'_, W>,
-    ) -> Result<(u64, i128), Refusal>
+    pub fn pass_rests<W: Write>(&mut self, out: &mut Output<'_, W>) -> Result<(u64, i128), Refusal>
         requires { self.old.at.place ≡ Place.Between }
         ensures { IfOk result (λ sum. WritesRests self.old self.new out.old out.new sum.0 sum.1) }
     {
@@ -277,12 +275,7 @@ fn push_line<W: Write>(out: &mut Output<'_, W>, line: &[u8]) -> Result<(), Refus
 }
 
 /// Goes on behind a line, if it is a row that can stand there.
-fn follow(
-    progress: &mut Progress,
-    line: &[u8],
-    room: &mut [u8],
-    number: u64,
-) -> Result<(), Refusal>
+fn follow(progress: &mut Progress, line: &[u8], room: &mut [u8], number: u64) -> Result<(), Refusal>
     ensures { OnOk result (FollowsAs progress.old (line.now ++ 10 ∷ []) progress.new) }
 {
     let row = row_of(line, room, number)?;

@@ -1,7 +1,7 @@
 //! Why a text is refused, or cannot be merged.
 
-use crate::walk::Wrong;
 use crate::read_fault::ReadFault;
+use crate::walk::Wrong;
 use std::alloc::AllocError;
 use std::io;
 use thiserror::Error;
