@@ -47,7 +47,8 @@ impl Buffer {
 
     /// The line at hand.
     pub(crate) fn line(&self) -> &[u8]
-        ensures { result.now ≡ line_of self.now }
+        ensures line { result.now ≡ line_of self.now }
+        ensures short { length result.now ≤ 65536 }
     {
         let (start, end) = (self.start, self.end);
         let all = self.bytes.as_slice();

@@ -10,4 +10,4 @@ mod row;
 
 pub use read_fault::ReadFault;
 pub use reader::RowReader;
-pub use row::Row;
+pub use row::{Row, RowRoom};

@@ -2,13 +2,16 @@
 
 ghost use Rattle.std.specs.Io.KnownBytes.{Consumes, IsAtEnd, Keeps};
 ghost use Rattle.std.specs.List.{list_any};
-ghost use Rattle.std.specs.Prelude.{◌≡◌, ◌<◌, ◌++◌, ◌∷◌, [], IfErr, IfOk, OnErr, false, length, true};
+ghost use Rattle.std.specs.Prelude.{◌≡◌, ◌≤◌, ◌<◌, ◌++◌, ◌∷◌, [], List, ℕ, IfErr, IfNone, IfOk, IfSome, OnErr, false, length, true};
+ghost use Rattle.csv_table.specs.Written.{text_of_row};
 ghost use Rattle.merge_statements.specs.Buffered.{is_feed, waiting_of};
+ghost use Rattle.merge_statements.specs.Fields.{fields_of};
 ghost use Rattle.merge_statements.specs.Reading.{IsFaultOf};
 ghost use Rattle.merge_statements.specs.declared.read_fault.ReadFault.TheVariants.{Unended};
 
 use crate::buffer::Buffer;
 use crate::read_fault::ReadFault;
+use crate::row::{Row, RowRoom};
 use std::alloc::{AllocError, Global};
 use std::io::{self, ErrorKind, Read};
 use std::marker::Model;
@@ -44,9 +47,18 @@ impl<R: Read> RowReader<R> {
 
     /// The line at hand, without its line feed. Before the first line, at the end and after a fault it is empty.
     pub fn line(&self) -> &[u8]
-        ensures { result.now ≡ self.now.line }
+        ensures line { result.now ≡ self.now.line }
+        ensures short { length result.now ≤ 65536 }
     {
         self.buffer.line()
+    }
+
+    /// The row that the line at hand is, if it is one.
+    pub fn row<'a>(&'a self, room: &'a mut RowRoom) -> Option<Row<'a>>
+        ensures row { IfSome result (λ row. text_of_row (fields_of row) ≡ self.now.line ++ 10 ∷ []) }
+        ensures none { IfNone result ((fields : List (List ℕ)) → length fields ≡ 4 → ¬ (text_of_row fields ≡ self.now.line ++ 10 ∷ [])) }
+    {
+        Row::of(self.line(), room)
     }
 
     /// Goes on to the next line, and answers whether there was one. After a fault everything is as it was but for the line

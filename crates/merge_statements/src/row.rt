@@ -3,13 +3,15 @@
 //! A row is asked about for each line of a long text. So the fields of a line without a quote are lent out of it, and
 //! each of its bytes is looked at two or three times. Those of any other line are copied into memory that the caller keeps.
 
-ghost use Rattle.std.specs.Prelude.{◌≡◌, ◌≤◌, ◌<◌, ◌++◌, ◌∷◌, [], List, ℕ, ◌↔◌, IsTrue, IfNone, IfSome, drop, false, length, take};
+ghost use Rattle.std.specs.Prelude.{◌≡◌, ◌≤◌, ◌<◌, ◌++◌, ◌∷◌, [], List, ℕ, ◌↔◌, IsTrue, IfNone, IfSome, drop, false, length, take, vec_len};
 ghost use Rattle.std.specs.List.{list_any};
 ghost use Rattle.csv.specs.Writing.{default_writer, escaped, needs_quotes};
 ghost use Rattle.csv_table.specs.Written.{text_of_row};
 ghost use Rattle.merge_statements.specs.Fields.{IsBehindField, IsBehindQuote, IsFieldAt, fields_of, is_comma, is_mark};
 
+use crate::buffer::BUFFER_BYTES;
 use memchr::{memchr, memchr3};
+use std::alloc::{AllocError, Global};
 
 /// The four fields of a row.
 #[derive(Clone, Copy)]
@@ -32,15 +34,30 @@ struct Field<'a> {
     room: &'a mut [u8],
 }
 
+/// Memory for the fields of a row that are copied. It has room for the longest line.
+#[derive(Drop)]
+pub struct RowRoom {
+    bytes: Vec<u8>,
+    ghost size: { vec_len bytes ≡ 65536 },
+}
+
+impl RowRoom {
+    /// Room for one row at a time.
+    pub fn new(alloc: Global) -> Result<RowRoom, AllocError> {
+        let bytes = vec![in alloc; 0u8; BUFFER_BYTES]?;
+        Ok(RowRoom { bytes })
+    }
+}
+
 impl<'a> Row<'a> {
     /// The row that a line is, without its line feed. Where a quote stands in the line, its fields are copied into the room.
-    pub fn of(line: &'a [u8], room: &'a mut [u8]) -> Option<Row<'a>>
-        requires { length line.now ≤ length room.old }
+    pub fn of(line: &'a [u8], room: &'a mut RowRoom) -> Option<Row<'a>>
+        requires { length line.now ≤ 65536 }
         ensures row { IfSome result (λ row. text_of_row (fields_of row) ≡ line.now ++ 10 ∷ []) }
         ensures none { IfNone result ((fields : List (List ℕ)) → length fields ≡ 4 → ¬ (text_of_row fields ≡ line.now ++ 10 ∷ [])) }
     {
         if has_mark(line) {
-            quoted_row(line, room)
+            quoted_row(line, room.bytes.as_mut_slice())
         } else {
             plain_row(line)
         }
