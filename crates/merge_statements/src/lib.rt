@@ -7,6 +7,8 @@ pub mod laws;
 mod read_fault;
 mod reader;
 mod row;
+#[cfg(test)]
+mod tests;
 
 pub use read_fault::ReadFault;
 pub use reader::RowReader;
