@@ -1,7 +1,8 @@
-//! A row of a statement text: four fields, taken from a line exactly where a run writes them so.
+//! A row of a statement text: four fields, read from a line just as a run writes them.
 //!
-//! A row is asked about for each line of a long text. So the fields of a line without a quote are lent out of it, and
-//! each of its bytes is looked at two or three times. Those of any other line are copied into memory that the caller keeps.
+//! Texts have hundreds of millions of rows. So where no quote stands in a line, its fields are lent
+//! out of it, and each byte is looked at twice. Where one does, they are copied, without their
+//! quotes, into memory that the caller keeps.
 
 ghost use Rattle.std.specs.Prelude.{◌≡◌, ◌≤◌, ◌<◌, ◌++◌, ◌∷◌, [], List, ℕ, ◌↔◌, IsTrue, IfNone, IfSome, drop, false, length, take, vec_len};
 ghost use Rattle.std.specs.List.{list_any};
@@ -34,7 +35,7 @@ struct Field<'a> {
     room: &'a mut [u8],
 }
 
-/// Memory for the fields of a row that are copied. It has room for the longest line.
+/// Memory for fields that are copied, with room for the longest line.
 #[derive(Drop)]
 pub struct RowRoom {
     bytes: Vec<u8>,
@@ -50,7 +51,8 @@ impl RowRoom {
 }
 
 impl<'a> Row<'a> {
-    /// The row that a line is, without its line feed. Where a quote stands in the line, its fields are copied into the room.
+    /// The row that a line holds, given without its line feed. Only where a quote stands in the
+    /// line is the room used.
     pub fn of(line: &'a [u8], room: &'a mut RowRoom) -> Option<Row<'a>>
         requires { length line.now ≤ 65536 }
         ensures row { IfSome result (λ row. text_of_row (fields_of row) ≡ line.now ++ 10 ∷ []) }
@@ -71,7 +73,7 @@ fn has_mark(text: &[u8]) -> bool
     memchr3(b'"', b'\r', b'\n', text).is_some()
 }
 
-/// The row that a line is in which only commas mean anything.
+/// The row that a line holds in which no byte but a comma has a meaning.
 fn plain_row(line: &[u8]) -> Option<Row<'_>>
     requires { list_any is_mark line.now ≡ false }
     ensures row { IfSome result (λ row. text_of_row (fields_of row) ≡ line.now ++ 10 ∷ []) }
@@ -91,7 +93,7 @@ fn plain_row(line: &[u8]) -> Option<Row<'_>>
     })
 }
 
-/// What stands before the first comma of a text, and behind it.
+/// What stands before the first comma of a text, and what stands behind it.
 fn cut(text: &[u8]) -> Option<(&[u8], &[u8])>
     ensures parts { IfSome result (λ parts. (text.now ≡ parts.0.now ++ 44 ∷ parts.1.now) × (list_any is_comma parts.0.now ≡ false)) }
     ensures none { IfNone result (list_any is_comma text.now ≡ false) }
@@ -100,7 +102,7 @@ fn cut(text: &[u8]) -> Option<(&[u8], &[u8])>
     Some((&text[..comma], &text[comma + 1..]))
 }
 
-/// The row that a line is, with fields that are copied.
+/// The row that a line holds, with fields that may be copied.
 fn quoted_row<'a>(line: &'a [u8], room: &'a mut [u8]) -> Option<Row<'a>>
     requires { length line.now ≤ length room.old }
     ensures row { IfSome result (λ row. text_of_row (fields_of row) ≡ line.now ++ 10 ∷ []) }
@@ -133,7 +135,7 @@ fn behind_comma(text: &[u8]) -> Option<&[u8]>
     }
 }
 
-/// The field that a text begins with, up to a comma or the end.
+/// The field at the beginning of a text, up to a comma or the end.
 fn field_of<'a>(text: &'a [u8], room: &'a mut [u8]) -> Option<Field<'a>>
     requires { length text.now ≤ length room.old }
     ensures field { IfSome result (λ field. IsFieldAt text.now field.bytes.now field.rest.now) }
@@ -147,7 +149,7 @@ fn field_of<'a>(text: &'a [u8], room: &'a mut [u8]) -> Option<Field<'a>>
     }
 }
 
-/// The field that a text begins with, where no quote begins it.
+/// The field at the beginning of a text that does not begin with a quote.
 fn plain_field<'a>(text: &'a [u8], room: &'a mut [u8]) -> Option<Field<'a>>
     requires room { length text.now ≤ length room.old }
     requires plain { IsBehindQuote text.now }
@@ -162,7 +164,7 @@ fn plain_field<'a>(text: &'a [u8], room: &'a mut [u8]) -> Option<Field<'a>>
     Some(Field { bytes, rest, room })
 }
 
-/// What stands before the first comma of a text, if it has one, and the rest.
+/// A text up to its first comma, or all of it where there is none, and the rest.
 fn up_to_comma(text: &[u8]) -> (&[u8], &[u8])
     ensures parts { text.now ≡ result.0.now ++ result.1.now }
     ensures none { list_any is_comma result.0.now ≡ false }
@@ -174,7 +176,7 @@ fn up_to_comma(text: &[u8]) -> (&[u8], &[u8])
     }
 }
 
-/// The field that begins behind a quote.
+/// The field whose first quote stands just before a text.
 fn quoted_field<'a>(text: &'a [u8], room: &'a mut [u8]) -> Option<Field<'a>>
     requires { length text.now ≤ length room.old }
     ensures field { IfSome result (λ field. IsFieldAt (34 ∷ text.now) field.bytes.now field.rest.now) }
@@ -199,14 +201,15 @@ fn needs_quotes(field: &[u8]) -> bool
         .any(|byte| matches!(*byte, b',' | b'"' | b'\r' | b'\n'))
 }
 
-/// Whether nothing or a comma comes first.
+/// Whether a text is empty or begins with a comma.
 fn is_behind_field(text: &[u8]) -> bool
     ensures { IsTrue result ↔ IsBehindField text.now }
 {
     text.is_empty() || text[0] == b','
 }
 
-/// Copies what stands between quotes, from behind the first of them, and answers how many bytes it has and how many were read with the last quote.
+/// Copies a field from behind its first quote, and answers how many bytes it has, and how many
+/// were read with its last quote.
 #[tactic(auto, using(crate::proofs::FieldLemmas::read_none))]
 fn unquote(text: &[u8], room: &mut [u8]) -> Option<(usize, usize)>
     requires { length text.now ≤ length room.old }

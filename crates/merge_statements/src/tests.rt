@@ -1,4 +1,4 @@
-//! Rows, numbers and lines, as a table of questions and answers each.
+//! Rows, numbers and lines, as tables of texts and of what they are read as.
 
 use crate::amount::{amount_of, count_of};
 use crate::{ReadFault, Row, RowReader, RowRoom};
