@@ -1,9 +1,8 @@
 //! The part of a text that is in memory, and its lines.
 
-ghost use Rattle.std.specs.Io.KnownBytes.{IsAtEnd, Keeps, prepend_known};
-ghost use Rattle.std.specs.Prelude.{◌≡◌, ◌≤◌, ◌<◌, ◌+◌, ◌++◌, ◌∷◌, ◌↔◌, [], IfOk, IsTrue, OnErr, OnOk, drop, false, length, take, true, vec_len};
-ghost use Rattle.std.specs.List.{list_any, slice_range};
-ghost use Rattle.std.specs.Io.KnownBytes.{Consumes};
+ghost use Rattle.std.specs.Io.KnownBytes.{Consumes, IsAtEnd, Keeps, prepend_known};
+ghost use Rattle.std.specs.Prelude.{◌≡◌, ◌≤◌, ◌<◌, ◌+◌, ◌++◌, ◌∷◌, ◌↔◌, [], IfOk, IsTrue, OnErr, drop, false, length, take, true, vec_len};
+ghost use Rattle.std.specs.List.{list_any};
 
 use memchr::memchr;
 use std::alloc::{AllocError, Global};

@@ -51,8 +51,8 @@ impl RowRoom {
 }
 
 impl<'a> Row<'a> {
-    /// The row that a line holds, given without its line feed. Only where a quote stands in the
-    /// line is the room used.
+    /// The row that a line of at most 65,536 bytes holds, given without its line feed. Only where
+    /// a quote stands in the line is the room used.
     pub fn of(line: &'a [u8], room: &'a mut RowRoom) -> Option<Row<'a>>
         requires { length line.now ≤ 65536 }
         ensures row { IfSome result (λ row. text_of_row (fields_of row) ≡ line.now ++ 10 ∷ []) }
@@ -128,10 +128,9 @@ fn behind_comma(text: &[u8]) -> Option<&[u8]>
     ensures rest { IfSome result (λ rest. text.now ≡ 44 ∷ rest.now) }
     ensures none { IfNone result ((rest : List ℕ) → ¬ (text.now ≡ 44 ∷ rest)) }
 {
-    if !text.is_empty() && text[0] == b',' {
-        Some(&text[1..])
-    } else {
-        None
+    match text {
+        [b',', rest @ ..] => Some(rest),
+        _ => None,
     }
 }
 
