@@ -12,10 +12,13 @@ mod refusal;
 mod row;
 mod walk;
 
+#[cfg(test)]
+mod tests;
+
 pub use output::Output;
 pub use part::Part;
 pub use read_fault::ReadFault;
 pub use reader::RowReader;
 pub use refusal::{Refusal, StatementFault};
-pub use row::Row;
+pub use row::{Row, RowRoom};
 pub use walk::{Place, Progress, Wrong};
