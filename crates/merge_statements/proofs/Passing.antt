@@ -12,7 +12,7 @@ use Rattle.csv_table.specs.Written.{text_of, text_of_row}
 use Rattle.line_split.proofs.IntSums.{int_sum_by-append, int_sum_by-cons, none_plus, plus_none}
 use Rattle.line_split.specs.Signs.{int_sum_by}
 use Rattle.merge_statements.specs.Passed.{HasRests, IsNext, IsPortionAt, IsRestAt, IsRestsSumAt, IsSumAt, IsWithin, IsWithinOne, PassesPortion, PassesRest, PassesSum, WritesRests, WritesStatement, total_of_portions}
-use Rattle.merge_statements.specs.Places.{At, IsPayeeAt, count_at, row_of, sum_at}
+use Rattle.merge_statements.specs.Places.{At, IsCount, IsPayeeAt, count_at, row_of, sum_at}
 use Rattle.merge_statements.specs.Statements.{IsPortion, IsRest, Portion, Rest, Statement, portion_row, rest_row, total_of_rests, total_row}
 use Rattle.merge_statements.specs.Unread.{Unread}
 use Rattle.merge_statements.specs.declared.walk.Place.{Place}
@@ -167,6 +167,7 @@ statement_written old between new before after count total was ends =
           portions = (was.at i).portions;
           total = (was.at i).total +ℤ sum_at (place i);
         });
+        few = subst IsCount (sym (ap (λ (at : At). at.portions) end.sum.leads)) end.few;
       };
       counted = end.counted ∙ ap count_at place;
       sum = end.comes_to ∙ ap sum_at place;
@@ -261,5 +262,6 @@ rests_written old between new before after count total was end =
         portions = was.portions i;
         total = was.total i +ℤ was.sum i;
       });
+      few = subst IsCount (sym (ap (λ (at : At). at.portions) end.sum.leads)) end.few;
       written = was.written;
     }

@@ -90,6 +90,7 @@ pub record PassesStatement (old new : Unread) (statement : Statement) : Type 0 w
   pub sound : IsStatement statement
   pub consumed : Consumes old.left new.left (text_of (statement_rows statement))
   pub at : new.at ≡ record { place = Between; payee = statement.payee; portions = old.at.portions + length statement.portions; total = old.at.total +ℤ total_of statement }
+  pub few : IsCount new.at.portions
 
 -- and its portions were written; there are so many, and they come to this
 pub record WritesStatement (old new : Unread) (before after : Option (List ℕ)) (count : ℕ) (total : ℤ) : Type 0 where
@@ -106,6 +107,7 @@ pub record PassesSum (IsSum : At → List (List ℕ) → At → Type 0) (old new
   pub consumed : Consumes old.left new.left (text_of_row row)
   pub counted : count ≡ count_at old.at.place
   pub comes_to : total ≡ sum_at old.at.place
+  pub few : IsCount old.at.portions
 
 -- a portion that nobody gets was passed over
 pub record PassesRest (old new : Unread) : Type 0 where
@@ -134,6 +136,7 @@ pub record WritesRests (old new : Unread) (before after : Option (List ℕ)) (co
   pub sum : total ≡ total_of_rests rests
   pub consumed : Consumes old.left new.left (text_of (rests_rows rests))
   pub at : new.at ≡ record { place = Summed; payee = old.at.payee; portions = old.at.portions + length rests; total = old.at.total +ℤ total_of_rests rests }
+  pub few : IsCount new.at.portions
   pub written : Appends before after (text_of (map rest_row rests))
 
 -- The usage lines were passed over, of which there are so many, and the text ends behind them.

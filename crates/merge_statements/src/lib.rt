@@ -10,10 +10,9 @@ mod read_fault;
 mod reader;
 mod refusal;
 mod row;
-mod walk;
-
 #[cfg(test)]
 mod tests;
+mod walk;
 
 pub use output::Output;
 pub use part::Part;

@@ -10,11 +10,10 @@ ghost use Rattle.merge_statements.specs.Places.{at_first};
 ghost use Rattle.merge_statements.specs.Unread.{FollowsAs, Steps};
 ghost use Rattle.merge_statements.specs.declared.walk.Place.TheVariants as Place;
 
-use crate::buffer::BUFFER_BYTES;
 use crate::output::Output;
 use crate::reader::RowReader;
 use crate::refusal::{Refusal, StatementFault};
-use crate::row::Row;
+use crate::row::{Row, RowRoom};
 use crate::walk::{Progress, replace};
 use std::alloc::Global;
 use std::io::{Read, Write};
@@ -25,7 +24,7 @@ use std::marker::Model;
 pub struct Part<R: Read> {
     rows: RowReader<R>,
     /// Memory for the fields of a row that stand between quotes.
-    room: Vec<u8>,
+    room: RowRoom,
     progress: Progress,
     /// The number of the row at hand, from 1.
     number: u64,
@@ -67,7 +66,7 @@ impl<R: Read + Drop> Part<R> {
         ensures left { IfOk result (λ part. Keeps (R.remaining from) part.left) }
     {
         let mut rows = RowReader::new(alloc, from)?;
-        let room = vec![in alloc; 0u8; BUFFER_BYTES]?;
+        let room = RowRoom::new(alloc)?;
         let mut number = 0;
         let has_row = advance(&mut rows, &mut number)?;
         let mut part = Part {
@@ -103,7 +102,7 @@ impl<R: Read + Drop> Part<R> {
         if !self.has_row {
             return Ok(());
         }
-        let row = row_of(self.rows.line(), self.room.as_mut_slice(), self.number)?;
+        let row = row_of(&self.rows, &mut self.room, self.number)?;
         if row.kind != b"L".as_slice() {
             return Ok(());
         }
@@ -123,12 +122,7 @@ impl<R: Read + Drop> Part<R> {
             return Err(Refusal::Fault(StatementFault::End(self.number)));
         }
         self.has_payee = false;
-        follow(
-            &mut self.progress,
-            self.rows.line(),
-            self.room.as_mut_slice(),
-            self.number,
-        )?;
+        follow(&mut self.progress, &self.rows, &mut self.room, self.number)?;
         self.has_row = advance(&mut self.rows, &mut self.number)?;
         Ok(())
     }
@@ -274,25 +268,31 @@ fn push_line<W: Write>(out: &mut Output<'_, W>, line: &[u8]) -> Result<(), Refus
     }
 }
 
-/// Goes on behind a line, if it is a row that can stand there.
-fn follow(progress: &mut Progress, line: &[u8], room: &mut [u8], number: u64) -> Result<(), Refusal>
-    ensures { OnOk result (FollowsAs progress.old (line.now ++ 10 ∷ []) progress.new) }
+/// Goes on behind the line at hand, if it is a row that can stand there.
+fn follow<R: Read>(
+    progress: &mut Progress,
+    rows: &RowReader<R>,
+    room: &mut RowRoom,
+    number: u64,
+) -> Result<(), Refusal>
+    ensures { OnOk result (FollowsAs progress.old (rows.now.line ++ 10 ∷ []) progress.new) }
 {
-    let row = row_of(line, room, number)?;
+    let row = row_of(rows, room, number)?;
     match progress.follow(&row) {
         Ok(()) => Ok(()),
         Err(wrong) => Err(Refusal::of_field(wrong, number)),
     }
 }
 
-/// The row that a line is.
-fn row_of<'a>(line: &'a [u8], room: &'a mut [u8], number: u64) -> Result<Row<'a>, Refusal>
-    ensures { IfOk result (λ row. text_of_row (fields_of row) ≡ line.now ++ 10 ∷ []) }
+/// The row that the line at hand holds.
+fn row_of<'a, R: Read>(
+    rows: &'a RowReader<R>,
+    room: &'a mut RowRoom,
+    number: u64,
+) -> Result<Row<'a>, Refusal>
+    ensures { IfOk result (λ row. text_of_row (fields_of row) ≡ rows.now.line ++ 10 ∷ []) }
 {
-    if line.len() > room.len() {
-        return Err(Refusal::Fault(StatementFault::Row(number)));
-    }
-    match Row::of(line, room) {
+    match rows.row(room) {
         Some(row) => Ok(row),
         None => Err(Refusal::Fault(StatementFault::Row(number))),
     }

@@ -230,6 +230,7 @@ impl Progress {
     pub(crate) fn so_far(&self) -> (u64, i128)
         ensures count { result.0 ≡ count_at self.now.place }
         ensures sum { result.1 ≡ sum_at self.now.place }
+        ensures few { IsCount self.now.portions }
     {
         self.place.so_far()
     }
