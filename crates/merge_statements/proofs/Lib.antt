@@ -9,3 +9,4 @@ pub mod Passing
 pub mod ReadBack
 pub mod Steps
 pub mod WalkLemmas
+pub mod Merging

@@ -38,6 +38,9 @@ pub enum Refusal {
     /// Memory was refused.
     #[error("out of room")]
     Memory,
+    /// There are more portions or usage lines than are counted: 1,000,000,000,000,000,000.
+    #[error("too many")]
+    Many,
     /// A read was refused.
     #[error("{0}")]
     Read(io::Error),

@@ -288,7 +288,7 @@ impl Progress {
 }
 
 /// Whether a name comes before another, in byte order.
-fn is_before(name: &[u8], other: &[u8]) -> bool
+pub(crate) fn is_before(name: &[u8], other: &[u8]) -> bool
     ensures { IsTrue result ↔ (slice_cmp nat_cmp name.now other.now ≡ Less) }
 {
     matches!(name.cmp(other), Ordering::Less)
