@@ -12,8 +12,8 @@ use Rattle.std.proofs.lemmas.Grind.{flat_map-append}
 use Rattle.csv_table.specs.Written.{text_of, text_of_row}
 use Rattle.line_split.specs.Signs.{int_sum_by}
 use Rattle.line_split.proofs.IntSums.{int_sum_by-append, int_sum_by-cons, none_plus, plus_none}
-use Rattle.merge_statements.specs.Merging.{HasLeast, HasTaken, IsNextSound, TakesAll, TakesOne, WritesAll, WritesOne, order}
-use Rattle.merge_statements.specs.Merging.TakesAll.{none as none_of, more as more_of}
+use Rattle.merge_statements.specs.Merging.{HasLeast, HoldsOfFirst, IsNextSound, TakesEach, TakesOne, WritesAll, WritesOne, order}
+use Rattle.merge_statements.specs.Merging.TakesEach.{none as none_of, more as more_of}
 use Rattle.merge_statements.specs.Merging.TakesOne.{taken as taken_of, left as left_of}
 use Rattle.merge_statements.specs.Passed.{IsNext, PassesStatement, WritesStatement, total_of_portions}
 use Rattle.merge_statements.specs.Places.{IsCount}
@@ -76,19 +76,19 @@ text_joined payee xs ys =
     sym (flat_map-append text_of_row (map (portion_row payee) xs) (map (portion_row payee) ys)) ∙ ap text_of (sym (map-append (portion_row payee) xs ys))
 
 -- one text more at the end
-takes_push : (payee : List ℕ) (olds news : List Unread) (old new : Unread) (portions own : List Portion) → TakesAll payee olds news portions → TakesOne payee old new own
-    → TakesAll payee (olds ++ old ∷ []) (news ++ new ∷ []) (portions ++ own)
-takes_push payee _ _ old new _ own none_of takes = subst (TakesAll payee (old ∷ []) (new ∷ [])) (append-nil own) (more_of old new [] [] own [] takes none_of)
-takes_push payee _ _ old new _ own (more_of first next olds news its others takes all) one =
-    subst (TakesAll payee (first ∷ (olds ++ old ∷ [])) (next ∷ (news ++ new ∷ []))) (sym (append_assoc its others own))
-    (more_of first next (olds ++ old ∷ []) (news ++ new ∷ []) its (others ++ own) takes (takes_push payee olds news old new others own all one))
+pub takes_push : {X : Type 0} (One : Unread → Unread → List X → Type 0) (olds news : List Unread) (old new : Unread) (xs own : List X) → TakesEach One olds news xs → One old new own
+    → TakesEach One (olds ++ old ∷ []) (news ++ new ∷ []) (xs ++ own)
+takes_push One _ _ old new _ own none_of takes = subst (TakesEach One (old ∷ []) (new ∷ [])) (append-nil own) (more_of old new [] [] own [] takes none_of)
+takes_push One _ _ old new _ own (more_of first next olds news its others takes all) one =
+    subst (TakesEach One (first ∷ (olds ++ old ∷ [])) (next ∷ (news ++ new ∷ []))) (sym (append_assoc its others own))
+    (more_of first next (olds ++ old ∷ []) (news ++ new ∷ []) its (others ++ own) takes (takes_push One olds news old new others own all one))
 
 pub texts_more : (payee : List ℕ) (old new : Unread) (olds news : List Unread) (before middle after : Option (List ℕ)) (own so_far count : ℕ) (sum rest total : ℤ)
     → WritesAll payee olds news before middle so_far rest → WritesOne payee old new middle after own sum
     → count ≡ so_far + own → total ≡ rest +ℤ sum → IsCount count → WritesAll payee (olds ++ old ∷ []) (news ++ new ∷ []) before after count total
 texts_more payee old new olds news before middle after own so_far count sum rest total was one counted comes few = record {
   portions = was.portions ++ one.portions;
-  taken = takes_push payee olds news old new was.portions one.portions was.taken one.taken;
+  taken = takes_push (TakesOne payee) olds news old new was.portions one.portions was.taken one.taken;
   sound = All-append IsPortion was.portions one.portions was.sound one.sound;
   counted = omega (arith, counted, was.counted, one.counted, length-append was.portions one.portions);
   sum = comes ∙ ((λ i. was.sum i +ℤ one.sum i) ∙ sym (int_sum_by-append (λ (p : Portion). p.amount) was.portions one.portions));
@@ -97,27 +97,27 @@ texts_more payee old new olds news before middle after own so_far count sum rest
     (appends_more before middle after (text_of (map (portion_row payee) was.portions)) (text_of (map (portion_row payee) one.portions)) was.written one.written);
 }
 
--- the same by places
-pub none_taken : (payee : List ℕ) (parts : List Unread) (before : Option (List ℕ)) → HasTaken payee parts parts 0 before before 0 (pos 0)
-none_taken payee parts before = record {
+-- ---- by places
+
+pub holds_of_none : (P : List Unread → List Unread → Type 0) (parts : List Unread) → P [] [] → HoldsOfFirst P parts parts 0
+holds_of_none P parts holds = record {
   whole = refl;
   others = λ k d behind. refl;
-  written = subst (λ (few : List Unread). WritesAll payee few few before before 0 (pos 0)) (nothing_of parts) (no_texts payee before);
+  so_far = subst (λ (few : List Unread). P few few) (nothing_of parts) holds;
 }
   where
     nothing_of : (parts : List Unread) → ◌≡◌ {A = List Unread} [] (take 0 parts)
     nothing_of [] = refl
     nothing_of (part ∷ parts) = refl
 
-pub one_taken : (payee : List ℕ) (olds news : List Unread) (old new : Unread) (place : ℕ) (before middle after : Option (List ℕ)) (own so_far count : ℕ) (sum rest total : ℤ)
-    → place < length news → old ≡ get_or news place old → HasTaken payee olds news place before middle so_far rest → WritesOne payee old new middle after own sum
-    → count ≡ so_far + own → total ≡ rest +ℤ sum → IsCount count → HasTaken payee olds (set news place new) (place + 1) before after count total
-one_taken payee olds news old new place before middle after own so_far count sum rest total low is was one counted comes few = record {
+pub holds_of_more : (P Q : List Unread → List Unread → Type 0) (olds news : List Unread) (old new : Unread) (place : ℕ) → place < length news → old ≡ get_or news place old
+    → HoldsOfFirst P olds news place → (P (take place olds) (take place news) → Q (take place olds ++ old ∷ []) (take place news ++ new ∷ []))
+    → HoldsOfFirst Q olds (set news place new) (place + 1)
+holds_of_more P Q olds news old new place low is was one = record {
   whole = length-set news place new ∙ was.whole;
   others = λ k d behind. get_or-set_other news place k new d (λ same. omega (arith, same, behind)) ∙ was.others k d (omega (arith, behind));
-  written = subst (λ (l : List Unread). WritesAll payee l (take (place + 1) (set news place new)) before after count total) (sym olds_more)
-    (subst (λ (l : List Unread). WritesAll payee (take place olds ++ old ∷ []) l before after count total) (sym (take_more_set news place new low))
-    (texts_more payee old new (take place olds) (take place news) before middle after own so_far count sum rest total was.written one counted comes few));
+  so_far = subst (λ (l : List Unread). Q l (take (place + 1) (set news place new))) (sym olds_more)
+    (subst (λ (l : List Unread). Q (take place olds ++ old ∷ []) l) (sym (take_more_set news place new low)) (one was.so_far));
 }
   where
     low_old : place < length olds
@@ -128,15 +128,9 @@ one_taken payee olds news old new place before middle after own so_far count sum
         let more : place + 1 ≡ suc place = omega arith in
         rw more (take-suc olds place old low_old ∙ ap (λ (part : Unread). take place olds ++ part ∷ []) (sym (was.others place old (omega arith)) ∙ sym is))
 
--- and at the end of all
-pub all_taken : (payee : List ℕ) (olds news : List Unread) (place : ℕ) (before after : Option (List ℕ)) (count : ℕ) (total : ℤ) → length news ≤ place
-    → HasTaken payee olds news place before after count total → WritesAll payee olds news before after count total
-all_taken payee olds news place before after count total end was =
-    subst (λ (l : List Unread). WritesAll payee l news before after count total) (take-all olds (omega (arith, end, was.whole)))
-    (subst (λ (l : List Unread). WritesAll payee (take place olds) l before after count total) (take-all news end) was.written)
-  where
-    take-all : (parts : List Unread) → length parts ≤ place → take place parts ≡ parts
-    take-all parts few = take_all place parts few
+pub holds_of_all : (P : List Unread → List Unread → Type 0) (olds news : List Unread) (place : ℕ) → length news ≤ place → HoldsOfFirst P olds news place → P olds news
+holds_of_all P olds news place end was =
+    subst (λ (l : List Unread). P l news) (take_all place olds (omega (arith, end, was.whole))) (subst (λ (l : List Unread). P (take place olds) l) (take_all place news end) was.so_far)
 
 -- ---- the least payee
 

@@ -1,21 +1,28 @@
-use Rattle.std.proofs.Common.{◌<◌, arith, get_or, length}
+use Rattle.std.proofs.Common.{◌<◌, List, arith, get_or, length, take}
 use Rattle.std.proofs.lemmas.List.{get_or_default}
-use Rattle.merge_statements.proofs.Merging.{all_taken, none_taken, one_taken}
+use Rattle.merge_statements.specs.Merging.{WritesAll}
+use Rattle.merge_statements.specs.Unread.{Unread}
+use Rattle.merge_statements.proofs.Merging.{holds_of_all, holds_of_more, holds_of_none, no_texts, texts_more}
 use Rattle.merge_statements.proofs.merge.pass_payee.Goals as goal
 
 pub loop-place-init : goal.loop-place-init
-loop-place-init g c = none_taken c.args.payee.now c.args.parts.now c.args.out.now
+loop-place-init g c =
+    holds_of_none (λ olds news. WritesAll c.args.payee.now olds news c.args.out.now c.args.out.now 0 _) c.args.parts.now (no_texts c.args.payee.now c.args.out.now)
 
 pub loop-place-preserved : goal.loop-place-preserved
 loop-place-preserved g c =
     let l = c.loop-place in
     let own = c.in-Ok.own in
     let all = c.in_ok-all.ensures in
+    let old = get_or l.parts l.place c.index-parts-place.result in
     let low : l.place < length l.parts = omega (arith, c.loop-place-test.true, l.auto.parts) in
-    one_taken c.args.payee.now c.args.parts.now l.parts (get_or l.parts l.place c.index-parts-place.result) c.pass_if_next.new.part l.place c.args.out.now l.out c.pass_if_next.new.out own.0 l.all.0 _ own.1 l.all.1 _
-    low (get_or_default l.parts l.place c.index-parts-place.result (get_or l.parts l.place c.index-parts-place.result) low) l.invariant c.in-Ok.ensures all.count all.sum all.few
+    holds_of_more (λ olds news. WritesAll c.args.payee.now olds news c.args.out.now l.out l.all.0 l.all.1)
+    (λ olds news. WritesAll c.args.payee.now olds news c.args.out.now c.pass_if_next.new.out c.in_ok-all.all.0 c.in_ok-all.all.1)
+    c.args.parts.now l.parts old c.pass_if_next.new.part l.place low (get_or_default l.parts l.place c.index-parts-place.result old low) l.invariant
+    (λ was. texts_more c.args.payee.now old c.pass_if_next.new.part (take l.place c.args.parts.now) (take l.place l.parts) c.args.out.now l.out c.pass_if_next.new.out own.0 l.all.0 c.in_ok-all.all.0 own.1 l.all.1 c.in_ok-all.all.1
+      was c.in-Ok.ensures all.count all.sum all.few)
 
 pub returns : goal.returns
 returns g c =
     let l = c.loop-place in
-    all_taken c.args.payee.now c.args.parts.now l.parts l.place c.args.out.now l.out l.all.0 l.all.1 (omega (arith, c.loop-place-test.false, l.auto.parts)) l.invariant
+    holds_of_all (λ olds news. WritesAll c.args.payee.now olds news c.args.out.now l.out l.all.0 l.all.1) c.args.parts.now l.parts l.place (omega (arith, c.loop-place-test.false, l.auto.parts)) l.invariant
