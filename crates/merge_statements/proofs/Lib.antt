@@ -10,3 +10,4 @@ pub mod ReadBack
 pub mod Steps
 pub mod WalkLemmas
 pub mod Merging
+pub mod SoFar
