@@ -10,7 +10,7 @@ use Rattle.std.specs.Str.{bytes_eq}
 use Rattle.std.specs.declared.cmp.Ordering.{Ordering}
 use Rattle.std.specs.declared.cmp.Ordering.TheVariants.{Less, Equal, Greater}
 use Rattle.std.proofs.lemmas.Int.{ints}
-use Rattle.std.proofs.lemmas.List.{append-nil, get_or-map, length-append, map-append}
+use Rattle.std.proofs.lemmas.List.{append-nil, get_or-map, length-append, length-map, map-append}
 use Rattle.std.proofs.lemmas.List.Elements.{All-append, All-cons, All-head, All-nil, All-push, All-tail, All-weaker, filter-append}
 use Rattle.std.proofs.lemmas.List.Sums.{sum_by-append, sum_by-cons}
 use Rattle.std.proofs.lemmas.Grind.{flat_map-append}
@@ -206,3 +206,176 @@ all_done payee _ _ _ _ _ (more_passed start part done starts parts dones has hav
         ∙ (moved (int_sum_by total_of done) (total_of_portions own) (int_sum_by (λ (d : List Statement). int_sum_by total_of d) dones) (total_of_portions others)
         ∙ (λ i. sym (int_sum_by-cons (λ (d : List Statement). int_sum_by total_of d) done dones) i +ℤ sym (int_sum_by-append (λ (p : Portion). p.amount) own others) i)));
     }
+
+-- ---- which payee can come next
+
+-- the payee that comes next comes behind the last of all
+next_behind : (last : List ℕ) (part : Unread) → IsBehind last part → IsNextSound part → IfSome part.payee (λ payee. order last payee ≡ Less)
+next_behind last part behind next = by part.payee refl
+  where
+    by : (known : Option (List ℕ)) → part.payee ≡ known → IfSome known (λ payee. order last payee ≡ Less)
+    by None is = tt
+    by (Some payee) is = elim behind [
+      | inl same ↦ subst (λ (p : List ℕ). order p payee ≡ Less) same (subst (λ (o : Option (List ℕ)). IfSome o (λ p. IsNext part.at part.line p)) is next).after
+      | inr less ↦ subst (λ (o : Option (List ℕ)). IfSome o (λ p. order last p ≡ Less)) is less
+    ]
+
+-- a fact of the payee that comes next
+known_fact : (P : List ℕ → Type 0) (known : Option (List ℕ)) (payee : List ℕ) → known ≡ Some payee → IfSome known P → P payee
+known_fact P known payee is holds = subst (λ (o : Option (List ℕ)). IfSome o P) is holds
+
+-- the text in which the least comes next
+record IsFound (parts : List Unread) (least : List ℕ) : Type 0 where
+  pub place : ℕ
+  pub low : place < length parts
+  pub default : Unread
+  pub is : (get_or parts place default).payee ≡ Some least
+
+found : (parts : List Unread) (least : List ℕ) → Contains (map (λ part. part.payee) parts) (Some least) → IsFound parts least
+found [] least (k, low, is) = absurd (omega (arith, low))
+found (part ∷ parts) least (k, low, is) =
+    let whole : length (map (λ (p : Unread). p.payee) (part ∷ parts)) ≡ length (part ∷ parts) = length-map (part ∷ parts) (λ (p : Unread). p.payee) in
+    let within : k < length (part ∷ parts) = omega (arith, low, whole) in
+    record {
+      place = k;
+      low = within;
+      default = part;
+      is = sym (get_or-map (λ (p : Unread). p.payee) (part ∷ parts) k part (Some least) within) ∙ is;
+    }
+
+-- behind the payee whose statements were passed over comes every payee that is next
+behind_least : (least : List ℕ) (olds news : List Unread) (portions : List Portion) → TakesEach (TakesOne least) olds news portions
+    → All (λ part. IfSome part.payee (λ payee. ¬ (order payee least ≡ Less))) olds → All (IsBehind least) news
+behind_least least _ _ _ none_of at = All-nil (IsBehind least)
+behind_least least _ _ _ (more_of old new olds news own others takes each) at =
+    All-cons (IsBehind least) new news (one takes) (behind_least least olds news others each (All-tail (λ (part : Unread). IfSome part.payee (λ payee. ¬ (order payee least ≡ Less))) old olds at))
+  where
+    from : ¬ (old.payee ≡ Some least) → IfSome old.payee (λ payee. ¬ (order payee least ≡ Less)) → IfSome old.payee (λ payee. order least payee ≡ Less)
+    from other behind = by old.payee refl
+      where
+        by : (known : Option (List ℕ)) → old.payee ≡ known → IfSome known (λ payee. order least payee ≡ Less)
+        by None is = tt
+        by (Some payee) is = lesser least payee (λ same. other (is ∙ ap Some (sym same))) (known_fact (λ p. ¬ (order p least ≡ Less)) old.payee payee is behind)
+
+    one : {portions : List Portion} → TakesOne least old new portions → IsBehind least new
+    one (taken_of statement passes same) = inl (ap (λ (at : At). at.payee) passes.at ∙ same)
+    one (left_of other same) = inr (subst (λ (part : Unread). IfSome part.payee (λ payee. order least payee ≡ Less)) (sym same)
+      (from other (All-head (λ (part : Unread). IfSome part.payee (λ payee. ¬ (order payee least ≡ Less))) old olds at)))
+
+-- where a payee comes next it has a portion
+some_taken : (least : List ℕ) (olds news : List Unread) (portions : List Portion) → TakesEach (TakesOne least) olds news portions → (k : ℕ) (d : Unread) → k < length olds
+    → (get_or olds k d).payee ≡ Some least → 0 < length portions
+some_taken least _ _ _ none_of k d low is = absurd (omega (arith, low))
+some_taken least _ _ _ (more_of old new olds news own others takes each) zero d low is = omega (arith, one takes, length-append own others)
+  where
+    one : {portions : List Portion} → TakesOne least old new portions → 0 < length portions
+    one (taken_of statement passes same) = passes.sound.some
+    one (left_of other same) = absurd (other is)
+some_taken least _ _ _ (more_of old new olds news own others takes each) (suc k) d low is =
+    omega (arith, some_taken least olds news others each k d (omega (arith, low)) is, length-append own others)
+
+-- ---- a payee more
+
+pub payee_merged : (starts : List (Option (List ℕ))) (olds news : List Unread) (least : List ℕ) (before middle written after : Option (List ℕ)) (count own all : ℕ) (total sum whole : ℤ)
+    → AreMergedSoFar starts olds before middle count total → HasLeast olds least true → WritesAll least olds news middle written own sum
+    → Appends written after (text_of_row (total_row (codes "S") least own sum)) → all ≡ count + own → whole ≡ total +ℤ sum → IsCount all
+    → AreMergedSoFar starts news before after all whole
+payee_merged starts olds news least before middle written after count own all total sum whole was has wrote ended counted comes few = record {
+  dones = done.more;
+  whole = was.whole ++ statement ∷ [];
+  passed = done.passed;
+  sound = All-push IsStatement was.whole statement was.sound record { payee = next.name; some = some_taken least olds news wrote.portions wrote.taken at.place at.default at.low at.is; portions = wrote.sound };
+  rising = rises_more was.whole statement was.rising earlier;
+  behind = subst (λ (last : List ℕ). All (IsBehind last) news) (sym (last_is was.whole statement)) (behind_least least olds news wrote.portions wrote.taken (has.least_of refl));
+  portions = λ payee. portions_more payee was.whole statement ∙ by payee (bytes_eq least payee) refl;
+  counted = omega (arith, counted, was.counted, wrote.counted, count_more was.whole statement);
+  sum = comes ∙ ((λ i. was.sum i +ℤ wrote.sum i) ∙ sym (total_more was.whole statement));
+  sums = total_more was.whole statement ∙ (ap (λ (n : ℤ). n +ℤ total_of statement) was.sums ∙ sym done.sums);
+  few = few;
+  written = subst (λ (t : List ℕ). Appends before after t) (rows_more was.whole statement)
+    (appends_more before middle after (text_of (flat_map statement_rows was.whole)) (text_of (statement_rows statement)) was.written
+    (subst (λ (t : List ℕ). Appends middle after t) whole_text (appends_more middle written after (text_of (map (portion_row least) wrote.portions)) (text_of_row (total_row (codes "S") least own sum)) wrote.written ended)));
+}
+  where
+    at : IsFound olds least
+    at = found olds least (has.some refl)
+
+    part : Unread
+    part = get_or olds at.place at.default
+
+    next : IsNext part.at part.line least
+    next = known_fact (λ p. IsNext part.at part.line p) part.payee least at.is (has.sound at.place at.default at.low)
+
+    statement : Statement
+    statement = the_statement least wrote.portions
+
+    earlier : AllByRecursion (λ name. order name least ≡ Less) (payees_of was.whole)
+    earlier = all_before was.whole least was.rising
+      (known_fact (λ p. order (last_payee was.whole) p ≡ Less) part.payee least at.is (next_behind (last_payee was.whole) part (was.behind at.place at.default at.low) (has.sound at.place at.default at.low)))
+
+    done : AreDone least starts news was.dones wrote.portions
+    done = all_done least starts olds news was.dones wrote.portions was.passed wrote.taken
+
+    by : (payee : List ℕ) (told : Bool) → bytes_eq least payee ≡ told → portions_in payee was.whole ++ portions_in payee (statement ∷ []) ≡ flat_map (portions_in payee) done.more
+    by payee false apart =
+        ap (λ (l : List Portion). portions_in payee was.whole ++ l) (none_of_another payee statement apart) ∙ append-nil (portions_in payee was.whole) ∙ was.portions payee ∙ sym (done.others payee apart)
+    by payee true one =
+        let nothing : portions_in payee was.whole ≡ [] = none_with was.whole payee (subst (λ (p : List ℕ). AllByRecursion (λ name. order name p ≡ Less) (payees_of was.whole)) ((bytes_eq-Decides least payee).0 one) earlier) in
+        (λ i. nothing i ++ portions_in payee (statement ∷ [])) ∙ all_of_own payee statement one ∙ sym (done.own payee one (sym (was.portions payee) ∙ nothing))
+
+    whole_text : text_of (map (portion_row least) wrote.portions) ++ text_of_row (total_row (codes "S") least own sum) ≡ text_of (statement_rows statement)
+    whole_text =
+        ap (λ (row : List (List ℕ)). text_of (map (portion_row least) wrote.portions) ++ text_of_row row) (λ i. total_row (codes "S") least (wrote.counted i) (wrote.sum i))
+        ∙ ap (λ (l : List ℕ). text_of (map (portion_row least) wrote.portions) ++ l) (sym (append-nil (text_of_row (total_row (codes "S") least (length wrote.portions) (total_of_portions wrote.portions)))))
+        ∙ sym (flat_map-append text_of_row (map (portion_row least) wrote.portions) (total_row (codes "S") least (length wrote.portions) (total_of_portions wrote.portions) ∷ []))
+
+-- ---- before the first payee
+
+pub none_merged : (starts : List (Option (List ℕ))) (parts : List Unread) (before : Option (List ℕ)) → AreOpen starts parts → AreMergedSoFar starts parts before before 0 (pos 0)
+unfolding IsStrictlySortedBy
+none_merged starts parts before open_ = record {
+  dones = dones starts parts open_;
+  whole = [];
+  passed = passed starts parts open_;
+  sound = All-nil IsStatement;
+  rising = tt;
+  behind = behind starts parts open_;
+  portions = λ payee. nothing payee starts parts open_;
+  counted = refl;
+  sum = refl;
+  sums = nought starts parts open_;
+  few = omega arith;
+  written = nothing_more before;
+}
+  where
+    dones : (starts : List (Option (List ℕ))) (parts : List Unread) → AreOpen starts parts → List (List Statement)
+    dones _ _ no_open = []
+    dones _ _ (more_open start part starts parts at left others) = [] ∷ dones starts parts others
+
+    begun : (start left : Option (List ℕ)) → Keeps start left → Consumes start left []
+    begun None left keeps = tt
+    begun (Some xs) None keeps = absurd keeps
+    begun (Some xs) (Some ys) keeps = sym keeps
+
+    passed : (starts : List (Option (List ℕ))) (parts : List Unread) (are : AreOpen starts parts) → HavePassed starts parts (dones starts parts are)
+    passed _ _ no_open = no_passed
+    passed _ _ (more_open start part starts parts at left others) =
+        more_passed start part [] starts parts (dones starts parts others)
+        record { sound = All-nil IsStatement; rising = tt; at = at; consumed = begun start part.left left } (passed starts parts others)
+
+    behind : (starts : List (Option (List ℕ))) (parts : List Unread) → AreOpen starts parts → All (IsBehind []) parts
+    behind _ _ no_open = All-nil (IsBehind [])
+    behind _ _ (more_open start part starts parts at left others) = All-cons (IsBehind []) part parts (inl (ap (λ (a : At). a.payee) at)) (behind starts parts others)
+
+    nothing : (payee : List ℕ) (starts : List (Option (List ℕ))) (parts : List Unread) (are : AreOpen starts parts) → ◌≡◌ {A = List Portion} [] (flat_map (portions_in payee) (dones starts parts are))
+    nothing payee _ _ no_open = refl
+    nothing payee _ _ (more_open start part starts parts at left others) = nothing payee starts parts others
+
+    nought : (starts : List (Option (List ℕ))) (parts : List Unread) (are : AreOpen starts parts) → pos 0 ≡ int_sum_by (λ done. int_sum_by total_of done) (dones starts parts are)
+    nought _ _ no_open = refl
+    nought _ _ (more_open start part starts parts at left others) =
+        nought starts parts others ∙ (sym (none_plus (int_sum_by (λ done. int_sum_by total_of done) (dones starts parts others))) ∙ sym (int_sum_by-cons (λ (done : List Statement). int_sum_by total_of done) [] (dones starts parts others)))
+
+    nothing_more : (known : Option (List ℕ)) → Appends known known []
+    nothing_more None = tt
+    nothing_more (Some xs) = sym (append-nil xs)
