@@ -11,3 +11,4 @@ pub mod Steps
 pub mod WalkLemmas
 pub mod Merging
 pub mod SoFar
+pub mod Endings

@@ -9,6 +9,7 @@ use Rattle.std.specs.declared.cmp.Ordering.{Ordering}
 use Rattle.std.specs.declared.cmp.Ordering.TheVariants.{Less}
 use Rattle.csv_table.specs.Written.{text_of, text_of_row}
 use Rattle.line_split.specs.Signs.{int_sum_by}
+use Rattle.merge_statements.specs.Merged.{IsMergeOf}
 use Rattle.merge_statements.specs.Passed.{IsNext, PassesStatement, total_of_portions}
 use Rattle.merge_statements.specs.Places.{At, IsCount, at_first}
 use Rattle.merge_statements.specs.Statements.{IsPortion, IsRest, IsStatement, Portion, Rest, Statement, portion_row, rest_row, rests_rows, statement_rows, total_of, total_of_rests, total_row}
@@ -148,3 +149,32 @@ pub record AreMergedSoFar (starts : List (Option (List ℕ))) (parts : List Unre
   pub sums : int_sum_by total_of whole ≡ int_sum_by (λ done. int_sum_by total_of done) dones
   pub few : IsCount count
   pub written : Appends before after (text_of (flat_map statement_rows whole))
+
+-- ---- the ends of texts
+
+-- a text was passed over to its end, and what nobody gets was written without its sum
+pub record WritesEnding (old new : Unread) (before after : Option (List ℕ)) (count : ℕ) (total : ℤ) (lines : ℕ) : Type 0 where
+  pub ending : Ending
+  pub ends : EndsAs old new ending
+  pub counted : count ≡ length ending.rests
+  pub sum : total ≡ total_of_rests ending.rests
+  pub all_lines : lines ≡ ending.lines
+  pub written : Appends before after (text_of (map rest_row ending.rests))
+
+-- a reader stands behind the last payee, or before the first
+abbrev pub IsBetween : Unread → Type 0
+IsBetween part = part.at.place ≡ Between
+
+-- these are the texts, where their bytes are known
+pub data AreTexts : List (Option (List ℕ)) → List (List ℕ) → Type 0 where
+  none : AreTexts [] []
+  more : (start : Option (List ℕ)) (text : List ℕ) (starts : List (Option (List ℕ))) (texts : List (List ℕ))
+      → IfSome start (λ bytes. bytes ≡ text) → AreTexts starts texts → AreTexts (start ∷ starts) (text ∷ texts)
+
+-- What these bytes merge to was written. Where bytes are not known, it is what some texts merge to.
+pub record WritesMerge (starts : List (Option (List ℕ))) (before after : Option (List ℕ)) : Type 0 where
+  pub texts : List (List ℕ)
+  pub are : AreTexts starts texts
+  pub merged : List ℕ
+  pub merge : IsMergeOf texts merged
+  pub written : Appends before after merged

@@ -1,7 +1,10 @@
 //! Texts of statements merged into one.
 
-ghost use Rattle.std.specs.Prelude.{◌≡◌, ◌+◌, ◌+ℤ◌, IfOk, Some, false, true};
-ghost use Rattle.merge_statements.specs.Merging.{HasLeast, WritesAll, WritesOne};
+ghost use Rattle.std.specs.Prelude.{◌≡◌, ◌+◌, ◌+ℤ◌, ℕ, All, List, Option, IfOk, OnOk, Some, false, true};
+ghost use Rattle.std.specs.Io.KnownBytes.{Appends};
+ghost use Rattle.csv_table.specs.Written.{text_of_row};
+ghost use Rattle.merge_statements.specs.Merging.{AreMergedSoFar, AreOpen, EndsEach, HasLeast, IsBetween, WritesAll, WritesEnding, WritesOne};
+ghost use Rattle.merge_statements.specs.Statements.{total_row};
 ghost use Rattle.merge_statements.specs.Places.{IsCount};
 
 use crate::amount::MOST_COUNT;
@@ -9,7 +12,7 @@ use crate::output::Output;
 use crate::part::Part;
 use crate::refusal::Refusal;
 use crate::walk::{is_before, replace};
-use std::alloc::AllocError;
+use std::alloc::{AllocError, Global};
 use std::io::{Read, Write};
 
 /// Which text is refused, counted from 0, and why.
@@ -84,6 +87,98 @@ fn pass_payee<R: Read + Drop, W: Write>(
         all = both(all, own, place)?;
     }
     Ok(all)
+}
+
+/// Merges the statements of all payees, in byte order, and adds them to the output. Answers how many portions there are and what they come
+/// to.
+fn merge_payees<R: Read + Drop, W: Write>(
+    alloc: Global,
+    parts: &mut [Part<R>],
+    out: &mut Output<'_, W>,
+) -> Result<(u64, i128), TextRefusal>
+    ensures { IfOk result (λ sum. (starts : List (Option (List ℕ))) → AreOpen starts parts.old → AreMergedSoFar starts parts.new out.old out.new sum.0 sum.1) }
+{
+    let mut payee = Vec::new(alloc);
+    let mut all = (0, 0);
+    for _ in 0..u64::MAX {
+        let found = has_payee(parts, &mut payee)?;
+        if !found {
+            return Ok(all);
+        }
+        let own = pass_payee(parts, payee.as_slice(), out)?;
+        push_total(out, "S", payee.as_slice(), own)?;
+        all = both(all, own, 0)?;
+    }
+    Err(refused(0, Refusal::Many))
+}
+
+/// The least of the payees that come next, as above.
+fn has_payee<R: Read + Drop>(parts: &[Part<R>], least: &mut Vec<u8>) -> Result<bool, TextRefusal>
+    ensures { IfOk result (HasLeast parts.now least.new.items) }
+{
+    match least_payee(parts, least) {
+        Ok(found) => Ok(found),
+        Err(_) => Err(refused(0, Refusal::Memory)),
+    }
+}
+
+/// Adds a row of so many portions or usage lines, and what they come to.
+fn push_total<W: Write>(
+    out: &mut Output<'_, W>,
+    kind: &str,
+    whose: &[u8],
+    sum: (u64, i128),
+) -> Result<(), TextRefusal>
+    ensures { OnOk result (Appends out.old out.new (text_of_row (total_row kind.now whose.now sum.0 sum.1))) }
+{
+    match out.push_total(kind, whose, sum.0, sum.1) {
+        Ok(()) => Ok(()),
+        Err(error) => Err(refused(0, Refusal::Write(error))),
+    }
+}
+
+/// Passes over a text from behind its last payee to its end, and adds what nobody gets to the output without its sum. Answers how many
+/// portions that is, what they come to, and how many usage lines there were.
+fn end_text<R: Read + Drop, W: Write>(
+    part: &mut Part<R>,
+    out: &mut Output<'_, W>,
+) -> Result<((u64, i128), u64), Refusal>
+    requires { IsBetween part.old }
+    ensures { IfOk result (λ end. WritesEnding part.old part.new out.old out.new end.0.0 end.0.1 end.1) }
+{
+    let sum = part.pass_rests(out)?;
+    let lines = part.finish()?;
+    Ok((sum, lines))
+}
+
+/// The same of all texts.
+fn end_all<R: Read + Drop, W: Write>(
+    parts: &mut [Part<R>],
+    out: &mut Output<'_, W>,
+) -> Result<((u64, i128), u64), TextRefusal>
+    requires { All IsBetween parts.old }
+    ensures { IfOk result (λ end. EndsEach parts.old parts.new out.old out.new end.0.0 end.0.1 end.1) }
+{
+    let mut all = ((0, 0), 0);
+    for place in 0..parts.len() {
+        let own = match end_text(&mut parts[place], out) {
+            Ok(own) => own,
+            Err(refusal) => return Err(refused(place, refusal)),
+        };
+        all = (both(all.0, own.0, place)?, more_lines(all.1, own.1, place)?);
+    }
+    Ok(all)
+}
+
+/// So many usage lines and more, as long as they can be counted.
+fn more_lines(lines: u64, more: u64, place: usize) -> Result<u64, TextRefusal>
+    ensures sum { IfOk result (λ all. all ≡ lines + more) }
+    ensures few { IfOk result IsCount }
+{
+    match lines.checked_add(more) {
+        Some(all) if all <= MOST_COUNT => Ok(all),
+        _ => Err(refused(place, Refusal::Many)),
+    }
 }
 
 /// The refusal of the text with a number.
