@@ -1,19 +1,18 @@
 -- Texts are passed over to their ends.
-use Rattle.std.proofs.Common.{◌≡◌, ◌∙◌, ◌+◌, ◌+ℤ◌, ◌++◌, ◌∷◌, ℕ, ℤ, pos, List, [], Option, Some, None, All, length, map, ap, sym, refl, subst, append_assoc, arith, codes}
-use Rattle.std.specs.Prelude.{flat_map, sum_by}
+use Rattle.std.proofs.Common.{◌≡◌, ◌∙◌, ◌+◌, ◌+ℤ◌, ◌++◌, ◌∷◌, ℕ, ℤ, pos, List, [], Option, Some, None, length, map, ap, sym, refl, subst, arith, codes}
 use Rattle.std.specs.Io.KnownBytes.{Appends, Consumes}
 use Rattle.std.proofs.lemmas.List.{append-nil, length-append, map-append}
 use Rattle.std.proofs.lemmas.List.Sums.{sum_by-append}
 use Rattle.std.proofs.lemmas.Grind.{flat_map-append}
 use Rattle.csv_table.specs.Written.{text_of, text_of_row}
 use Rattle.line_split.proofs.IntSums.{int_sum_by-append}
-use Rattle.merge_statements.specs.Merging.{Ending, EndsAs, EndsEach, EndsOne, WritesEnding, lines_of, rests_of}
-use Rattle.merge_statements.specs.Merging.TakesEach.{none as none_of}
+use Rattle.merge_statements.specs.Together.{Ending, EndsEach, EndsOne, WritesEnding, lines_of, rests_of}
+use Rattle.merge_statements.specs.Together.TakesEach.{none as none_of}
 use Rattle.merge_statements.specs.Passed.{EndsText, WritesRests}
 use Rattle.merge_statements.specs.Places.{At, IsCount}
 use Rattle.merge_statements.specs.Statements.{Rest, rest_row, rests_rows, total_of_rests, total_row}
 use Rattle.merge_statements.specs.Unread.{Unread}
-use Rattle.merge_statements.proofs.Merging.{takes_push}
+use Rattle.merge_statements.proofs.Taking.{takes_push}
 use Rattle.merge_statements.proofs.Passing.{appends_more, consumes_more}
 
 pub ending_written : (old between new : Unread) (before after : Option (List ℕ)) (count : ℕ) (total : ℤ) (lines : ℕ) → WritesRests old between before after count total
@@ -25,8 +24,8 @@ ending_written old between new before after count total lines was end = record {
     few = end.few;
     few_rests = subst IsCount (ap (λ (at : At). at.portions) was.at) was.few;
     consumed = subst (λ (t : List ℕ). Consumes old.left new.left t) text
-      (consumes_more old.left between.left new.left (text_of (rests_rows was.rests)) (text_of_row last) was.consumed
-      (subst (λ (all : ℤ). Consumes between.left new.left (text_of_row (total_row (codes "R") [] lines all))) (ap (λ (at : At). at.total) was.at) end.consumed));
+        (consumes_more old.left between.left new.left (text_of (rests_rows was.rests)) (text_of_row last) was.consumed
+        (subst (λ (all : ℤ). Consumes between.left new.left (text_of_row (total_row (codes "R") [] lines all))) (ap (λ (at : At). at.total) was.at) end.consumed));
     ended = end.ended;
   };
   counted = was.counted;
@@ -85,5 +84,5 @@ ends_more old new olds news before middle after so_far own count rest sum total 
       all_lines = omega (arith, lined, was.all_lines, one.all_lines, lines_more was.endings one.ending);
       few_lines = few_lines;
       written = subst (λ (t : List ℕ). Appends before after t) (text_joined (rests_of was.endings) one.ending.rests ∙ ap (λ (l : List Rest). text_of (map rest_row l)) (sym joined))
-        (appends_more before middle after (text_of (map rest_row (rests_of was.endings))) (text_of (map rest_row one.ending.rests)) was.written one.written);
+          (appends_more before middle after (text_of (map rest_row (rests_of was.endings))) (text_of (map rest_row one.ending.rests)) was.written one.written);
     }

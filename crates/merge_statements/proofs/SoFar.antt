@@ -1,5 +1,5 @@
 -- Statements are merged payee by payee.
-use Rattle.std.proofs.Common.{◌≡◌, ◌∙◌, ◌⊎◌, inl, inr, ◌<◌, ◌≤◌, ◌+◌, ◌+ℤ◌, ◌++◌, ◌∷◌, ℕ, ℤ, zero, suc, pos, List, [], Option, Some, None, Bool, true, false, All, Contains, length, map, get_or, ap, sym, refl, subst, append_assoc, arith, codes}
+use Rattle.std.proofs.Common.{◌≡◌, ◌∙◌, inl, inr, ◌<◌, ◌+◌, ◌+ℤ◌, ◌++◌, ◌∷◌, ℕ, ℤ, zero, suc, pos, List, [], Option, Some, None, Bool, true, false, All, Contains, length, map, get_or, ap, sym, refl, subst, arith, codes}
 use Rattle.std.specs.Prelude.{IfSome, filter, flat_map, sum_by}
 use Rattle.std.specs.Cmp.Lexicographic.{nat_list_cmp_total}
 use Rattle.std.specs.Io.KnownBytes.{Appends, Consumes, Keeps}
@@ -10,26 +10,25 @@ use Rattle.std.specs.Str.{bytes_eq}
 use Rattle.std.specs.declared.cmp.Ordering.{Ordering}
 use Rattle.std.specs.declared.cmp.Ordering.TheVariants.{Less, Equal, Greater}
 use Rattle.std.proofs.lemmas.Int.{ints}
-use Rattle.std.proofs.lemmas.List.{append-nil, get_or-map, length-append, length-map, map-append}
-use Rattle.std.proofs.lemmas.List.Elements.{All-append, All-cons, All-head, All-nil, All-push, All-tail, All-weaker, filter-append}
-use Rattle.std.proofs.lemmas.List.Sums.{sum_by-append, sum_by-cons}
+use Rattle.std.proofs.lemmas.List.{append-nil, get_or-map, length-append, length-map}
+use Rattle.std.proofs.lemmas.List.Elements.{All-cons, All-head, All-nil, All-push, All-tail, filter-append}
+use Rattle.std.proofs.lemmas.List.Sums.{sum_by-append}
 use Rattle.std.proofs.lemmas.Grind.{flat_map-append}
 use Rattle.std.proofs.lemmas.Map.Text.{is_eq-slice_cmp}
 use Rattle.std.proofs.lemmas.Slice.Eq.{bytes_eq-Decides}
 use Rattle.csv_table.specs.Written.{text_of, text_of_row}
 use Rattle.line_split.specs.Signs.{int_sum_by}
 use Rattle.line_split.proofs.IntSums.{int_sum_by-append, int_sum_by-cons, none_plus, plus_none}
-use Rattle.merge_statements.specs.Merging.{AreMergedSoFar, AreOpen, HasLeast, HasPassed, HavePassed, IsBehind, IsNextSound, TakesEach, TakesOne, WritesAll, last_payee, order, payees_of, portions_in}
-use Rattle.merge_statements.specs.Merging.AreOpen.{none as no_open, more as more_open}
-use Rattle.merge_statements.specs.Merging.HavePassed.{none as no_passed, more as more_passed}
-use Rattle.merge_statements.specs.Merging.TakesEach.{none as none_of, more as more_of}
-use Rattle.merge_statements.specs.Merging.TakesOne.{taken as taken_of, left as left_of}
+use Rattle.merge_statements.specs.Together.{AreMergedSoFar, AreOpen, HasLeast, HasPassed, HavePassed, IsBehind, IsNextSound, TakesEach, TakesOne, WritesAll, last_payee, order, payees_of, portions_in}
+use Rattle.merge_statements.specs.Together.AreOpen.{none as no_open, more as more_open}
+use Rattle.merge_statements.specs.Together.HavePassed.{none as no_passed, more as more_passed}
+use Rattle.merge_statements.specs.Together.TakesEach.{none as none_of, more as more_of}
+use Rattle.merge_statements.specs.Together.TakesOne.{taken as taken_of, left as left_of}
 use Rattle.merge_statements.specs.Passed.{IsNext, PassesStatement, total_of_portions}
 use Rattle.merge_statements.specs.Places.{At, IsCount}
-use Rattle.merge_statements.specs.Statements.{IsName, IsPortion, IsStatement, Portion, Statement, portion_row, statement_rows, total_of, total_row}
+use Rattle.merge_statements.specs.Statements.{IsStatement, Portion, Statement, portion_row, statement_rows, total_of, total_row}
 use Rattle.merge_statements.specs.Unread.{Unread}
 use Rattle.merge_statements.specs.declared.walk.Place.TheVariants.{Between}
-use Rattle.merge_statements.proofs.OneMerge.{all_after}
 use Rattle.merge_statements.proofs.Passing.{appends_more, consumes_more}
 use Rattle.merge_statements.proofs.ReadBack.{the_statement}
 
@@ -121,7 +120,7 @@ passed_more start old new done statement was passes =
         total = summed i;
       });
       consumed = subst (λ (t : List ℕ). Consumes start new.left t) (rows_more done statement)
-        (consumes_more start old.left new.left (text_of (flat_map statement_rows done)) (text_of (statement_rows statement)) was.consumed passes.consumed);
+          (consumes_more start old.left new.left (text_of (flat_map statement_rows done)) (text_of (statement_rows statement)) was.consumed passes.consumed);
     }
   where
     counted : old.at.portions + length statement.portions ≡ sum_by (λ s. length s.portions) (done ++ statement ∷ [])
@@ -163,11 +162,11 @@ one_done payee start old new done _ was (taken_of statement passes same) = recor
   more = done ++ statement ∷ [];
   passed = passed_more start old new done statement was passes;
   others = λ other apart.
-    portions_more other done statement
-    ∙ (ap (λ (l : List Portion). portions_in other done ++ l) (none_of_another other statement (ap (λ (p : List ℕ). bytes_eq p other) same ∙ apart)) ∙ append-nil (portions_in other done));
+      portions_more other done statement
+      ∙ (ap (λ (l : List Portion). portions_in other done ++ l) (none_of_another other statement (ap (λ (p : List ℕ). bytes_eq p other) same ∙ apart)) ∙ append-nil (portions_in other done));
   own = λ other one nothing.
-    portions_more other done statement
-    ∙ ((λ i. nothing i ++ portions_in other (statement ∷ [])) ∙ all_of_own other statement (ap (λ (p : List ℕ). bytes_eq p other) same ∙ one));
+      portions_more other done statement
+      ∙ ((λ i. nothing i ++ portions_in other (statement ∷ [])) ∙ all_of_own other statement (ap (λ (p : List ℕ). bytes_eq p other) same ∙ one));
   sum = total_more done statement;
 }
 one_done payee start old new done _ was (left_of other same) = record {
@@ -198,13 +197,13 @@ all_done payee _ _ _ _ _ (more_passed start part done starts parts dones has hav
       passed = more_passed start new first.more starts news rest.more first.passed rest.passed;
       others = λ other apart. (λ i. first.others other apart i ++ rest.others other apart i);
       own = λ other one nothing. (λ i.
-        first.own other one (first_nothing (portions_in other done) (flat_map (portions_in other) dones) nothing) i
-        ++ rest.own other one (second_nothing (portions_in other done) (flat_map (portions_in other) dones) nothing) i);
+          first.own other one (first_nothing (portions_in other done) (flat_map (portions_in other) dones) nothing) i
+          ++ rest.own other one (second_nothing (portions_in other done) (flat_map (portions_in other) dones) nothing) i);
       sums =
-        int_sum_by-cons (λ (d : List Statement). int_sum_by total_of d) first.more rest.more
-        ∙ ((λ i. first.sum i +ℤ rest.sums i)
-        ∙ (moved (int_sum_by total_of done) (total_of_portions own) (int_sum_by (λ (d : List Statement). int_sum_by total_of d) dones) (total_of_portions others)
-        ∙ (λ i. sym (int_sum_by-cons (λ (d : List Statement). int_sum_by total_of d) done dones) i +ℤ sym (int_sum_by-append (λ (p : Portion). p.amount) own others) i)));
+          int_sum_by-cons (λ (d : List Statement). int_sum_by total_of d) first.more rest.more
+          ∙ ((λ i. first.sum i +ℤ rest.sums i)
+          ∙ (moved (int_sum_by total_of done) (total_of_portions own) (int_sum_by (λ (d : List Statement). int_sum_by total_of d) dones) (total_of_portions others)
+          ∙ (λ i. sym (int_sum_by-cons (λ (d : List Statement). int_sum_by total_of d) done dones) i +ℤ sym (int_sum_by-append (λ (p : Portion). p.amount) own others) i)));
     }
 
 -- ---- which payee can come next
@@ -260,7 +259,7 @@ behind_least least _ _ _ (more_of old new olds news own others takes each) at =
     one : {portions : List Portion} → TakesOne least old new portions → IsBehind least new
     one (taken_of statement passes same) = inl (ap (λ (at : At). at.payee) passes.at ∙ same)
     one (left_of other same) = inr (subst (λ (part : Unread). IfSome part.payee (λ payee. order least payee ≡ Less)) (sym same)
-      (from other (All-head (λ (part : Unread). IfSome part.payee (λ payee. ¬ (order payee least ≡ Less))) old olds at)))
+        (from other (All-head (λ (part : Unread). IfSome part.payee (λ payee. ¬ (order payee least ≡ Less))) old olds at)))
 
 -- where a payee comes next it has a portion
 some_taken : (least : List ℕ) (olds news : List Unread) (portions : List Portion) → TakesEach (TakesOne least) olds news portions → (k : ℕ) (d : Unread) → k < length olds
@@ -293,8 +292,8 @@ payee_merged starts olds news least before middle written after count own all to
   sums = total_more was.whole statement ∙ (ap (λ (n : ℤ). n +ℤ total_of statement) was.sums ∙ sym done.sums);
   few = few;
   written = subst (λ (t : List ℕ). Appends before after t) (rows_more was.whole statement)
-    (appends_more before middle after (text_of (flat_map statement_rows was.whole)) (text_of (statement_rows statement)) was.written
-    (subst (λ (t : List ℕ). Appends middle after t) whole_text (appends_more middle written after (text_of (map (portion_row least) wrote.portions)) (text_of_row (total_row (codes "S") least own sum)) wrote.written ended)));
+      (appends_more before middle after (text_of (flat_map statement_rows was.whole)) (text_of (statement_rows statement)) was.written
+      (subst (λ (t : List ℕ). Appends middle after t) whole_text (appends_more middle written after (text_of (map (portion_row least) wrote.portions)) (text_of_row (total_row (codes "S") least own sum)) wrote.written ended)));
 }
   where
     at : IsFound olds least
@@ -311,7 +310,7 @@ payee_merged starts olds news least before middle written after count own all to
 
     earlier : AllByRecursion (λ name. order name least ≡ Less) (payees_of was.whole)
     earlier = all_before was.whole least was.rising
-      (known_fact (λ p. order (last_payee was.whole) p ≡ Less) part.payee least at.is (next_behind (last_payee was.whole) part (was.behind at.place at.default at.low) (has.sound at.place at.default at.low)))
+        (known_fact (λ p. order (last_payee was.whole) p ≡ Less) part.payee least at.is (next_behind (last_payee was.whole) part (was.behind at.place at.default at.low) (has.sound at.place at.default at.low)))
 
     done : AreDone least starts news was.dones wrote.portions
     done = all_done least starts olds news was.dones wrote.portions was.passed wrote.taken

@@ -4,7 +4,7 @@
 pub mod amount;
 mod buffer;
 pub mod laws;
-mod merge;
+mod merging;
 mod output;
 mod part;
 mod read_fault;
@@ -15,7 +15,7 @@ mod row;
 mod tests;
 mod walk;
 
-pub use merge::TextRefusal;
+pub use merging::{TextRefusal, merge};
 pub use output::Output;
 pub use part::Part;
 pub use read_fault::ReadFault;

@@ -1,9 +1,8 @@
-use Rattle.std.proofs.Common.{◌<◌, List, arith, get_or, length, take}
+use Rattle.std.proofs.Common.{◌<◌, arith, get_or, length, take}
 use Rattle.std.proofs.lemmas.List.{get_or_default}
-use Rattle.merge_statements.specs.Merging.{WritesAll}
-use Rattle.merge_statements.specs.Unread.{Unread}
-use Rattle.merge_statements.proofs.Merging.{holds_of_all, holds_of_more, holds_of_none, no_texts, texts_more}
-use Rattle.merge_statements.proofs.merge.pass_payee.Goals as goal
+use Rattle.merge_statements.specs.Together.{WritesAll}
+use Rattle.merge_statements.proofs.Taking.{holds_of_all, holds_of_more, holds_of_none, no_texts, texts_more}
+use Rattle.merge_statements.proofs.merging.pass_payee.Goals as goal
 
 pub loop-place-init : goal.loop-place-init
 loop-place-init g c =
@@ -20,7 +19,7 @@ loop-place-preserved g c =
     (λ olds news. WritesAll c.args.payee.now olds news c.args.out.now c.pass_if_next.new.out c.in_ok-all.all.0 c.in_ok-all.all.1)
     c.args.parts.now l.parts old c.pass_if_next.new.part l.place low (get_or_default l.parts l.place c.index-parts-place.result old low) l.invariant
     (λ was. texts_more c.args.payee.now old c.pass_if_next.new.part (take l.place c.args.parts.now) (take l.place l.parts) c.args.out.now l.out c.pass_if_next.new.out own.0 l.all.0 c.in_ok-all.all.0 own.1 l.all.1 c.in_ok-all.all.1
-      was c.in-Ok.ensures all.count all.sum all.few)
+    was c.in-Ok.ensures all.count all.sum all.few)
 
 pub returns : goal.returns
 returns g c =

@@ -1,10 +1,10 @@
 use Rattle.std.proofs.Common.{List, codes, subst, ℕ}
 use Rattle.std.specs.Io.KnownBytes.{Appends}
 use Rattle.csv_table.specs.Written.{text_of_row}
-use Rattle.merge_statements.specs.Merging.{HasLeast, WritesAll}
+use Rattle.merge_statements.specs.Together.{HasLeast, WritesAll}
 use Rattle.merge_statements.specs.Statements.{total_row}
 use Rattle.merge_statements.proofs.SoFar.{none_merged, payee_merged}
-use Rattle.merge_statements.proofs.merge.merge_payees.Goals as goal
+use Rattle.merge_statements.proofs.merging.merge_payees.Goals as goal
 
 pub loop-init : goal.loop-init
 loop-init g c = λ starts are. none_merged starts c.args.parts.now c.args.out.now are

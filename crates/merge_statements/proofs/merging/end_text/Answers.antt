@@ -1,7 +1,7 @@
 use Rattle.std.proofs.Common.{ap}
 use Rattle.merge_statements.specs.Places.{At}
 use Rattle.merge_statements.proofs.Endings.{ending_written}
-use Rattle.merge_statements.proofs.merge.end_text.Goals as goal
+use Rattle.merge_statements.proofs.merging.end_text.Goals as goal
 
 pub finish-requires : goal.finish-requires
 finish-requires g c = ap (λ (at : At). at.place) c.in_ok-sum.ensures.at

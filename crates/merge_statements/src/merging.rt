@@ -1,9 +1,9 @@
 //! Texts of statements merged into one.
 
-ghost use Rattle.std.specs.Prelude.{◌≡◌, ◌+◌, ◌+ℤ◌, ℕ, All, List, Option, IfOk, OnOk, Some, false, true};
+ghost use Rattle.std.specs.Prelude.{◌≡◌, ◌+◌, ◌+ℤ◌, [], ℕ, All, List, Option, codes, IfOk, OnOk, Some, false, map, true};
 ghost use Rattle.std.specs.Io.KnownBytes.{Appends};
 ghost use Rattle.csv_table.specs.Written.{text_of_row};
-ghost use Rattle.merge_statements.specs.Merging.{AreMergedSoFar, AreOpen, EndsEach, HasLeast, IsBetween, WritesAll, WritesEnding, WritesOne};
+ghost use Rattle.merge_statements.specs.Together.{AreMergedSoFar, AreOpen, EndsEach, HasLeast, IsBetween, WritesAll, WritesEnding, WritesMerge, WritesOne};
 ghost use Rattle.merge_statements.specs.Statements.{total_row};
 ghost use Rattle.merge_statements.specs.Places.{IsCount};
 
@@ -22,11 +22,58 @@ pub struct TextRefusal {
     pub refusal: Refusal,
 }
 
+/// Merges texts of statements, in this order, and adds the merged text to the output, which is still to pass its last page on. Each text
+/// is read once, through a small buffer. Where a text is refused, the output has the beginning of what could be merged.
+pub fn merge<R: Read + Drop, W: Write>(
+    alloc: Global,
+    from: Vec<R>,
+    out: &mut Output<'_, W>,
+) -> Result<(), TextRefusal>
+    ensures { OnOk result (WritesMerge (map R.remaining from.items) out.old out.new) }
+{
+    let mut parts = open_all(alloc, from)?;
+    merge_parts(alloc, parts.as_mut_slice(), out)?;
+    Ok(())
+}
+
+/// The same of texts that stand before their first rows.
+fn merge_parts<R: Read + Drop, W: Write>(
+    alloc: Global,
+    parts: &mut [Part<R>],
+    out: &mut Output<'_, W>,
+) -> Result<(), TextRefusal>
+    requires { (starts : List (Option (List ℕ))) × AreOpen starts parts.old }
+    ensures { OnOk result ((starts : List (Option (List ℕ))) → AreOpen starts parts.old → WritesMerge starts out.old out.new) }
+{
+    let paid = merge_payees(alloc, parts, out)?;
+    let (left, lines) = end_all(parts, out)?;
+    push_total(out, "T", b"", left)?;
+    let all = both(paid, left, 0)?;
+    push_run(out, lines, all)?;
+    Ok(())
+}
+
+/// The texts, before their first rows.
+fn open_all<R: Read + Drop>(alloc: Global, from: Vec<R>) -> Result<Vec<Part<R>>, TextRefusal>
+    ensures { IfOk result (λ parts. AreOpen (map R.remaining from.items) parts.items) }
+{
+    let mut parts = Vec::new(alloc);
+    for reader in from {
+        let place = parts.len();
+        let part = match Part::open(alloc, reader) {
+            Ok(part) => part,
+            Err(refusal) => return Err(refused(place, refusal)),
+        };
+        match parts.push(part) {
+            Ok(()) => {}
+            Err(_) => return Err(refused(place, Refusal::Memory)),
+        }
+    }
+    Ok(parts)
+}
+
 /// The least of the payees that come next in the texts, in byte order, and whether one does in any.
-fn least_payee<R: Read + Drop>(
-    parts: &[Part<R>],
-    least: &mut Vec<u8>,
-) -> Result<bool, AllocError>
+fn least_payee<R: Read + Drop>(parts: &[Part<R>], least: &mut Vec<u8>) -> Result<bool, AllocError>
     ensures { IfOk result (HasLeast parts.now least.new.items) }
 {
     let [first, others @ ..] = parts else {
@@ -135,6 +182,17 @@ fn push_total<W: Write>(
         Ok(()) => Ok(()),
         Err(error) => Err(refused(0, Refusal::Write(error))),
     }
+}
+
+/// Adds the row of so many usage lines, and what the portions of them come to.
+fn push_run<W: Write>(
+    out: &mut Output<'_, W>,
+    lines: u64,
+    portions: (u64, i128),
+) -> Result<(), TextRefusal>
+    ensures { OnOk result (Appends out.old out.new (text_of_row (total_row (codes "R") [] lines portions.1))) }
+{
+    push_total(out, "R", b"", (lines, portions.1))
 }
 
 /// Passes over a text from behind its last payee to its end, and adds what nobody gets to the output without its sum. Answers how many

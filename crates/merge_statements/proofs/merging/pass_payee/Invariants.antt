@@ -1,5 +1,5 @@
-use Rattle.merge_statements.specs.Merging.{HoldsOfFirst, WritesAll}
-use Rattle.merge_statements.proofs.merge.pass_payee.Given as goal
+use Rattle.merge_statements.specs.Together.{HoldsOfFirst, WritesAll}
+use Rattle.merge_statements.proofs.merging.pass_payee.Given as goal
 
 -- the payee's statements were passed over in the texts before this one
 abbrev pub invariant-loop-place : goal.invariant-loop-place

@@ -1,5 +1,5 @@
 -- Texts of statements that are passed over together.
-use Rattle.std.specs.Prelude.{ℕ, ℤ, pos, ◌≡◌, ◌≤◌, ◌+◌, ◌+ℤ◌, ◌++◌, ◌∷◌, ◌⊎◌, [], Bool, true, false, List, All, Contains, IfSome, Option, None, Some, codes, filter, flat_map, length, map, slice_index_or, sum_by, take}
+use Rattle.std.specs.Prelude.{ℕ, ℤ, ◌≡◌, ◌≤◌, ◌+◌, ◌+ℤ◌, ◌++◌, ◌∷◌, ◌⊎◌, [], Bool, true, false, List, All, Contains, IfSome, Option, None, Some, codes, filter, flat_map, length, map, slice_index_or, sum_by, take}
 use Rattle.std.specs.Cmp.Lexicographic.{slice_cmp}
 use Rattle.std.specs.Io.KnownBytes.{Appends, Consumes, IsAtEnd, Keeps}
 use Rattle.std.specs.List.Sorted.{IsStrictlySortedBy}
@@ -7,11 +7,11 @@ use Rattle.std.specs.Ordering.{nat_cmp}
 use Rattle.std.specs.Str.{bytes_eq}
 use Rattle.std.specs.declared.cmp.Ordering.{Ordering}
 use Rattle.std.specs.declared.cmp.Ordering.TheVariants.{Less}
-use Rattle.csv_table.specs.Written.{text_of, text_of_row}
+use Rattle.csv_table.specs.Written.{text_of}
 use Rattle.line_split.specs.Signs.{int_sum_by}
 use Rattle.merge_statements.specs.Merged.{IsMergeOf}
 use Rattle.merge_statements.specs.Passed.{IsNext, PassesStatement, total_of_portions}
-use Rattle.merge_statements.specs.Places.{At, IsCount, at_first}
+use Rattle.merge_statements.specs.Places.{IsCount, at_first}
 use Rattle.merge_statements.specs.Statements.{IsPortion, IsRest, IsStatement, Portion, Rest, Statement, portion_row, rest_row, rests_rows, statement_rows, total_of, total_of_rests, total_row}
 use Rattle.merge_statements.specs.Unread.{Unread}
 use Rattle.merge_statements.specs.declared.walk.Place.TheVariants.{Between}

@@ -1,21 +1,20 @@
 -- Statements are passed over in many texts.
-use Rattle.std.proofs.Common.{◌≡◌, ◌∙◌, ◌<◌, ◌≤◌, ◌+◌, ◌-◌, ◌+ℤ◌, take, drop, set, ◌++◌, ◌∷◌, ℕ, ℤ, zero, suc, pos, List, [], Option, Some, None, Bool, true, false, All, Contains, length, map, get_or, ap, sym, refl, subst, append_assoc, arith}
+use Rattle.std.proofs.Common.{◌≡◌, ◌∙◌, ◌<◌, ◌≤◌, ◌+◌, ◌-◌, ◌+ℤ◌, take, drop, set, ◌++◌, ◌∷◌, ℕ, ℤ, suc, pos, List, [], Option, Some, None, Bool, true, false, All, Contains, length, map, get_or, ap, sym, refl, subst, append_assoc, arith}
 use Rattle.std.specs.Prelude.{IfSome}
 use Rattle.std.specs.Cmp.Lexicographic.{nat_list_cmp_total}
-use Rattle.std.specs.Io.KnownBytes.{Appends, Consumes}
+use Rattle.std.specs.Io.KnownBytes.{Appends}
 use Rattle.std.specs.declared.cmp.Ordering.{Ordering}
 use Rattle.std.specs.declared.cmp.Ordering.TheVariants.{Less, Equal, Greater}
 use Rattle.std.proofs.Math.Seq.{take-length, take-suc}
 use Rattle.std.proofs.lemmas.List.{append-nil, get_or-set_other, length-append, length-set, map-append, take_all, take_more_set}
-use Rattle.std.proofs.lemmas.List.Elements.{All-append, All-cons, All-head, All-nil, All-tail, All-weaker}
+use Rattle.std.proofs.lemmas.List.Elements.{All-append, All-cons, All-nil, All-weaker}
 use Rattle.std.proofs.lemmas.Grind.{flat_map-append}
 use Rattle.csv_table.specs.Written.{text_of, text_of_row}
-use Rattle.line_split.specs.Signs.{int_sum_by}
-use Rattle.line_split.proofs.IntSums.{int_sum_by-append, int_sum_by-cons, none_plus, plus_none}
-use Rattle.merge_statements.specs.Merging.{HasLeast, HoldsOfFirst, IsNextSound, TakesEach, TakesOne, WritesAll, WritesOne, order}
-use Rattle.merge_statements.specs.Merging.TakesEach.{none as none_of, more as more_of}
-use Rattle.merge_statements.specs.Merging.TakesOne.{taken as taken_of, left as left_of}
-use Rattle.merge_statements.specs.Passed.{IsNext, PassesStatement, WritesStatement, total_of_portions}
+use Rattle.line_split.proofs.IntSums.{int_sum_by-append}
+use Rattle.merge_statements.specs.Together.{HasLeast, HoldsOfFirst, IsNextSound, TakesEach, TakesOne, WritesAll, WritesOne, order}
+use Rattle.merge_statements.specs.Together.TakesEach.{none as none_of, more as more_of}
+use Rattle.merge_statements.specs.Together.TakesOne.{taken as taken_of, left as left_of}
+use Rattle.merge_statements.specs.Passed.{IsNext, WritesStatement}
 use Rattle.merge_statements.specs.Places.{IsCount}
 use Rattle.merge_statements.specs.Statements.{IsPortion, Portion, portion_row}
 use Rattle.merge_statements.specs.Unread.{Unread}
@@ -94,7 +93,7 @@ texts_more payee old new olds news before middle after own so_far count sum rest
   sum = comes ∙ ((λ i. was.sum i +ℤ one.sum i) ∙ sym (int_sum_by-append (λ (p : Portion). p.amount) was.portions one.portions));
   few = few;
   written = subst (λ (t : List ℕ). Appends before after t) (text_joined payee was.portions one.portions)
-    (appends_more before middle after (text_of (map (portion_row payee) was.portions)) (text_of (map (portion_row payee) one.portions)) was.written one.written);
+      (appends_more before middle after (text_of (map (portion_row payee) was.portions)) (text_of (map (portion_row payee) one.portions)) was.written one.written);
 }
 
 -- ---- by places
@@ -117,7 +116,7 @@ holds_of_more P Q olds news old new place low is was one = record {
   whole = length-set news place new ∙ was.whole;
   others = λ k d behind. get_or-set_other news place k new d (λ same. omega (arith, same, behind)) ∙ was.others k d (omega (arith, behind));
   so_far = subst (λ (l : List Unread). Q l (take (place + 1) (set news place new))) (sym olds_more)
-    (subst (λ (l : List Unread). Q (take place olds ++ old ∷ []) l) (sym (take_more_set news place new low)) (one was.so_far));
+      (subst (λ (l : List Unread). Q (take place olds ++ old ∷ []) l) (sym (take_more_set news place new low)) (one was.so_far));
 }
   where
     low_old : place < length olds
@@ -202,7 +201,7 @@ least_is_first first others payee least found is next has less = record {
   where
     behind : (told : Bool) → found ≡ told → All (IsAtLeast payee) others
     behind true e = All-weaker (IsAtLeast least) (IsAtLeast payee)
-      (λ part at. weaker_known (λ p. ¬ (order p least ≡ Less)) (λ p. ¬ (order p payee ≡ Less)) part.payee (λ p. not_before least payee p (less e)) at) others (has.least_of e)
+        (λ part at. weaker_known (λ p. ¬ (order p least ≡ Less)) (λ p. ¬ (order p payee ≡ Less)) part.payee (λ p. not_before least payee p (less e)) at) others (has.least_of e)
     behind false e = All-weaker HasNone (IsAtLeast payee) (λ part none. if_none (λ p. ¬ (order p payee ≡ Less)) part.payee none) others (has.none e)
 
 -- or the one that was found stays the least

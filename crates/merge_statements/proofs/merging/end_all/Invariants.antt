@@ -1,5 +1,5 @@
-use Rattle.merge_statements.specs.Merging.{EndsEach, HoldsOfFirst}
-use Rattle.merge_statements.proofs.merge.end_all.Given as goal
+use Rattle.merge_statements.specs.Together.{EndsEach, HoldsOfFirst}
+use Rattle.merge_statements.proofs.merging.end_all.Given as goal
 
 -- the texts before this one were passed over to their ends
 abbrev pub invariant-loop-place : goal.invariant-loop-place

@@ -1,6 +1,6 @@
 use Rattle.std.proofs.Common.{List, Option, ℕ}
-use Rattle.merge_statements.specs.Merging.{AreMergedSoFar, AreOpen}
-use Rattle.merge_statements.proofs.merge.merge_payees.Given as goal
+use Rattle.merge_statements.specs.Together.{AreMergedSoFar, AreOpen}
+use Rattle.merge_statements.proofs.merging.merge_payees.Given as goal
 
 -- some payees are merged
 abbrev pub invariant-loop : goal.invariant-loop
