@@ -1,7 +1,7 @@
 -- A payee's statement is passed over, portion by portion.
 use Rattle.std.proofs.Common.{Bool, true, false, ◌≡◌, ◌∙◌, ◌+◌, ◌+ℤ◌, ◌++◌, ◌∷◌, ℕ, ℤ, List, [], Option, Some, None, length, map, get_or, ap, sym, refl, subst, append_assoc, arith, codes}
 use Rattle.std.specs.Prelude.{if◌then◌else◌, slice_index_or}
-use Rattle.std.specs.Io.KnownBytes.{Appends, Consumes, Keeps, prepend_known}
+use Rattle.std.specs.Io.KnownBytes.{Appends, Consumes, Keeps, append_known, prepend_known}
 use Rattle.std.proofs.lemmas.List.{append-nil, length_push, map-append}
 use Rattle.std.proofs.lemmas.List.Elements.{All-cons, All-nil, All-push}
 use Rattle.std.proofs.lemmas.Grind.{flat_map-append}
@@ -264,3 +264,11 @@ rests_written old between new before after count total was end =
       few = subst IsCount (sym (ap (λ (at : At). at.portions) end.sum.leads)) end.few;
       written = was.written;
     }
+
+-- ---- the last page
+
+pub page_passed : (known written flushed : Option (List ℕ)) (page : List ℕ) → Appends known written page → Keeps written flushed → Appends (append_known known page) flushed []
+page_passed None written flushed page passed kept = tt
+page_passed (Some xs) None flushed page passed kept = absurd passed
+page_passed (Some xs) (Some ys) None page passed kept = absurd kept
+page_passed (Some xs) (Some ys) (Some zs) page passed kept = kept ∙ (passed ∙ sym (append-nil (xs ++ page)))

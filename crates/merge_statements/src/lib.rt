@@ -15,7 +15,7 @@ mod row;
 mod tests;
 mod walk;
 
-pub use merging::{TextRefusal, merge};
+pub use merging::{TextRefusal, merge, merge_to};
 pub use output::Output;
 pub use part::Part;
 pub use read_fault::ReadFault;

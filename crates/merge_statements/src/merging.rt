@@ -24,10 +24,10 @@ pub struct TextRefusal {
 
 /// Merges texts of statements, in this order, and adds the merged text to the output, which is still to pass its last page on. Each text
 /// is read once, through a small buffer. Where a text is refused, the output has the beginning of what could be merged.
-pub fn merge<R: Read + Drop, W: Write>(
+pub fn merge<R: Read + Drop, W: Write + Drop>(
     alloc: Global,
     from: Vec<R>,
-    out: &mut Output<'_, W>,
+    out: &mut Output<W>,
 ) -> Result<(), TextRefusal>
     ensures { OnOk result (WritesMerge (map R.remaining from.items) out.old out.new) }
 {
@@ -36,11 +36,27 @@ pub fn merge<R: Read + Drop, W: Write>(
     Ok(())
 }
 
+/// The same, into an output that is given back with the merged text.
+pub fn merge_to<R: Read + Drop, W: Write + Drop>(
+    alloc: Global,
+    from: Vec<R>,
+    to: W,
+) -> Result<W, TextRefusal>
+    ensures { IfOk result (λ written. WritesMerge (map R.remaining from.items) (W.contents to) (W.contents written)) }
+{
+    let mut out = Output::new(alloc, to);
+    merge(alloc, from, &mut out)?;
+    match out.finish() {
+        Ok(written) => Ok(written),
+        Err(error) => Err(refused(0, Refusal::Write(error))),
+    }
+}
+
 /// The same of texts that stand before their first rows.
-fn merge_parts<R: Read + Drop, W: Write>(
+fn merge_parts<R: Read + Drop, W: Write + Drop>(
     alloc: Global,
     parts: &mut [Part<R>],
-    out: &mut Output<'_, W>,
+    out: &mut Output<W>,
 ) -> Result<(), TextRefusal>
     requires { (starts : List (Option (List ℕ))) × AreOpen starts parts.old }
     ensures { OnOk result ((starts : List (Option (List ℕ))) → AreOpen starts parts.old → WritesMerge starts out.old out.new) }
@@ -92,10 +108,10 @@ fn least_payee<R: Read + Drop>(parts: &[Part<R>], least: &mut Vec<u8>) -> Result
 }
 
 /// Passes over the statement of a payee in a text, if it comes next there.
-fn pass_if_next<R: Read + Drop, W: Write>(
+fn pass_if_next<R: Read + Drop, W: Write + Drop>(
     part: &mut Part<R>,
     payee: &[u8],
-    out: &mut Output<'_, W>,
+    out: &mut Output<W>,
 ) -> Result<(u64, i128), Refusal>
     ensures { IfOk result (λ sum. WritesOne payee.now part.old part.new out.old out.new sum.0 sum.1) }
 {
@@ -118,10 +134,10 @@ fn is_next<R: Read + Drop>(part: &Part<R>, payee: &[u8]) -> bool
 }
 
 /// Passes over the statements of a payee in all texts where it comes next.
-fn pass_payee<R: Read + Drop, W: Write>(
+fn pass_payee<R: Read + Drop, W: Write + Drop>(
     parts: &mut [Part<R>],
     payee: &[u8],
-    out: &mut Output<'_, W>,
+    out: &mut Output<W>,
 ) -> Result<(u64, i128), TextRefusal>
     ensures { IfOk result (λ sum. WritesAll payee.now parts.old parts.new out.old out.new sum.0 sum.1) }
 {
@@ -138,10 +154,10 @@ fn pass_payee<R: Read + Drop, W: Write>(
 
 /// Merges the statements of all payees, in byte order, and adds them to the output. Answers how many portions there are and what they come
 /// to.
-fn merge_payees<R: Read + Drop, W: Write>(
+fn merge_payees<R: Read + Drop, W: Write + Drop>(
     alloc: Global,
     parts: &mut [Part<R>],
-    out: &mut Output<'_, W>,
+    out: &mut Output<W>,
 ) -> Result<(u64, i128), TextRefusal>
     ensures { IfOk result (λ sum. (starts : List (Option (List ℕ))) → AreOpen starts parts.old → AreMergedSoFar starts parts.new out.old out.new sum.0 sum.1) }
 {
@@ -170,8 +186,8 @@ fn has_payee<R: Read + Drop>(parts: &[Part<R>], least: &mut Vec<u8>) -> Result<b
 }
 
 /// Adds a row of so many portions or usage lines, and what they come to.
-fn push_total<W: Write>(
-    out: &mut Output<'_, W>,
+fn push_total<W: Write + Drop>(
+    out: &mut Output<W>,
     kind: &str,
     whose: &[u8],
     sum: (u64, i128),
@@ -185,8 +201,8 @@ fn push_total<W: Write>(
 }
 
 /// Adds the row of so many usage lines, and what the portions of them come to.
-fn push_run<W: Write>(
-    out: &mut Output<'_, W>,
+fn push_run<W: Write + Drop>(
+    out: &mut Output<W>,
     lines: u64,
     portions: (u64, i128),
 ) -> Result<(), TextRefusal>
@@ -197,9 +213,9 @@ fn push_run<W: Write>(
 
 /// Passes over a text from behind its last payee to its end, and adds what nobody gets to the output without its sum. Answers how many
 /// portions that is, what they come to, and how many usage lines there were.
-fn end_text<R: Read + Drop, W: Write>(
+fn end_text<R: Read + Drop, W: Write + Drop>(
     part: &mut Part<R>,
-    out: &mut Output<'_, W>,
+    out: &mut Output<W>,
 ) -> Result<((u64, i128), u64), Refusal>
     requires { IsBetween part.old }
     ensures { IfOk result (λ end. WritesEnding part.old part.new out.old out.new end.0.0 end.0.1 end.1) }
@@ -210,9 +226,9 @@ fn end_text<R: Read + Drop, W: Write>(
 }
 
 /// The same of all texts.
-fn end_all<R: Read + Drop, W: Write>(
+fn end_all<R: Read + Drop, W: Write + Drop>(
     parts: &mut [Part<R>],
-    out: &mut Output<'_, W>,
+    out: &mut Output<W>,
 ) -> Result<((u64, i128), u64), TextRefusal>
     requires { All IsBetween parts.old }
     ensures { IfOk result (λ end. EndsEach parts.old parts.new out.old out.new end.0.0 end.0.1 end.1) }

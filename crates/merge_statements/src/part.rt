@@ -128,7 +128,7 @@ impl<R: Read + Drop> Part<R> {
     }
 
     /// The same, and adds it to the output as it stands.
-    fn pass_row<W: Write>(&mut self, out: &mut Output<'_, W>) -> Result<(), Refusal>
+    fn pass_row<W: Write + Drop>(&mut self, out: &mut Output<W>) -> Result<(), Refusal>
         ensures steps { OnOk result (Steps self.old self.new) }
         ensures passed { OnOk result (Appends out.old out.new self.old.line) }
     {
@@ -153,7 +153,7 @@ impl<R: Read + Drop> Part<R> {
     }
 
     /// Passes over a payee's portion, and adds it to the output.
-    fn pass_portion<W: Write>(&mut self, out: &mut Output<'_, W>) -> Result<(), Refusal>
+    fn pass_portion<W: Write + Drop>(&mut self, out: &mut Output<W>) -> Result<(), Refusal>
         requires { slice_index self.old.line 0 ≡ 76 }
         ensures portion { OnOk result (PassesPortion self.old self.new) }
         ensures passed { OnOk result (Appends out.old out.new self.old.line) }
@@ -163,7 +163,7 @@ impl<R: Read + Drop> Part<R> {
     }
 
     /// Passes over the first portion of the payee that comes next, and adds it to the output.
-    fn pass_first<W: Write>(&mut self, out: &mut Output<'_, W>) -> Result<(), Refusal>
+    fn pass_first<W: Write + Drop>(&mut self, out: &mut Output<W>) -> Result<(), Refusal>
         ensures { OnOk result (IsWithin self.old self.new out.old out.new) }
     {
         let Some(_) = self.payee() else {
@@ -186,9 +186,9 @@ impl<R: Read + Drop> Part<R> {
 
     /// Passes over the statement of the payee that comes next, and adds its portions to the output. Answers how many there are and what
     /// they come to.
-    pub fn pass_statement<W: Write>(
+    pub fn pass_statement<W: Write + Drop>(
         &mut self,
-        out: &mut Output<'_, W>,
+        out: &mut Output<W>,
     ) -> Result<(u64, i128), Refusal>
         ensures { IfOk result (λ sum. WritesStatement self.old self.new out.old out.new sum.0 sum.1) }
     {
@@ -204,7 +204,7 @@ impl<R: Read + Drop> Part<R> {
     }
 
     /// Passes over a portion that nobody gets, and adds it to the output.
-    fn pass_rest<W: Write>(&mut self, out: &mut Output<'_, W>) -> Result<(), Refusal>
+    fn pass_rest<W: Write + Drop>(&mut self, out: &mut Output<W>) -> Result<(), Refusal>
         requires { slice_index self.old.line 0 ≡ 77 }
         ensures rest { OnOk result (PassesRest self.old self.new) }
         ensures passed { OnOk result (Appends out.old out.new self.old.line) }
@@ -218,16 +218,28 @@ impl<R: Read + Drop> Part<R> {
         ensures { IfOk result (λ sum. PassesSum IsRestsSumAt self.old self.new sum.0 sum.1) }
     {
         if !self.begins_with(b'T') {
-            return Err(Refusal::Fault(StatementFault::Kind(self.number)));
+            return Err(self.not_here());
         }
         let sum = self.progress.so_far();
         self.step()?;
         Ok(sum)
     }
 
+    /// Why the row at hand cannot stand here: there is none, or it is of another kind.
+    fn not_here(&self) -> Refusal {
+        if self.has_row {
+            Refusal::Fault(StatementFault::Kind(self.number))
+        } else {
+            Refusal::Fault(StatementFault::End(self.number))
+        }
+    }
+
     /// Passes over all that nobody gets, behind the last payee, and adds it to the output without its sum. Answers how many portions there
     /// are and what they come to.
-    pub fn pass_rests<W: Write>(&mut self, out: &mut Output<'_, W>) -> Result<(u64, i128), Refusal>
+    pub fn pass_rests<W: Write + Drop>(
+        &mut self,
+        out: &mut Output<W>,
+    ) -> Result<(u64, i128), Refusal>
         requires { self.old.at.place ≡ Place.Between }
         ensures { IfOk result (λ sum. WritesRests self.old self.new out.old out.new sum.0 sum.1) }
     {
@@ -255,7 +267,7 @@ impl<R: Read + Drop> Part<R> {
 }
 
 /// Adds a line with its line feed.
-fn push_line<W: Write>(out: &mut Output<'_, W>, line: &[u8]) -> Result<(), Refusal>
+fn push_line<W: Write + Drop>(out: &mut Output<W>, line: &[u8]) -> Result<(), Refusal>
     ensures { OnOk result (Appends out.old out.new (line.now ++ 10 ∷ [])) }
 {
     match out.push(line) {

@@ -1,7 +1,7 @@
-//! Rows, numbers and lines, as tables of texts and of what they are read as.
+//! Rows, numbers, lines and merged texts, as tables of texts and of what they are read as.
 
 use crate::amount::{amount_of, count_of};
-use crate::{ReadFault, Row, RowReader, RowRoom};
+use crate::{ReadFault, Row, RowReader, RowRoom, TextRefusal, merge_to};
 use std::alloc::Global;
 use std::io::{self, ErrorKind, Read};
 use std::test::Fail;
@@ -210,5 +210,96 @@ fn lines_cross_the_border_of_the_buffer(rt: HostRuntime) -> Result<(), Fail> {
     let fault = "a line has more than 65535 bytes";
     let three = format!(in alloc; "{fault}{fault}{fault}")?;
     assert_eq!(rt; told_sizes(alloc, 65536)?.as_str(), three.as_str());
+    Ok(())
+}
+
+/// What texts merge to, or which is refused and why.
+fn told_merge(alloc: Global, texts: &[&str]) -> Result<String, Fail> {
+    let mut from = Vec::new(alloc);
+    for text in texts {
+        from.push(text.as_bytes())?;
+    }
+    let told = match merge_to(alloc, from, Vec::new(alloc)) {
+        Ok(merged) => String::from_str(alloc, text_of(merged.as_slice()))?,
+        Err(TextRefusal { place, refusal }) => format!(in alloc; "text {place}: {refusal}")?,
+    };
+    Ok(told)
+}
+
+const FIRST: &str = "L,A,u1,60\nS,A,1,60\nL,B,u1,40\nS,B,1,40\nT,,0,0\nR,,1,100\n";
+
+const SECOND: &str =
+    "L,\"A,\"\"1\",u3,7\nS,\"A,\"\"1\",1,7\nL,B,u2,20\nS,B,1,20\nM,OPEN,u2,30\nT,,1,30\nR,,2,57\n";
+
+#[test]
+fn texts_are_merged_payee_by_payee(rt: HostRuntime) -> Result<(), Fail> {
+    let both =
+        "L,A,u1,60\nS,A,1,60\nL,\"A,\"\"1\",u3,7\nS,\"A,\"\"1\",1,7\nL,B,u1,40\nL,B,u2,20\nS,B,2,60\nM,OPEN,u2,30\nT,,1,30\nR,,3,157\n";
+    let turned =
+        "L,A,u1,60\nS,A,1,60\nL,\"A,\"\"1\",u3,7\nS,\"A,\"\"1\",1,7\nL,B,u2,20\nL,B,u1,40\nS,B,2,60\nM,OPEN,u2,30\nT,,1,30\nR,,3,157\n";
+    let alloc = rt.alloc();
+    assert_eq!(rt; told_merge(alloc, &[FIRST, SECOND])?.as_str(), both);
+    assert_eq!(rt; told_merge(alloc, &[SECOND, FIRST])?.as_str(), turned);
+    assert_eq!(rt; told_merge(alloc, &[SECOND])?.as_str(), SECOND);
+    assert_eq!(rt; told_merge(alloc, &[both])?.as_str(), both);
+    assert_eq!(rt; told_merge(alloc, &[])?.as_str(), "T,,0,0\nR,,0,0\n");
+    Ok(())
+}
+
+#[test]
+fn a_text_that_is_no_statement_text_is_refused(rt: HostRuntime) -> Result<(), Fail> {
+    let texts = [
+        ("", "text 1: row 1 is missing"),
+        ("T,,0,0\n", "text 1: row 2 is missing"),
+        ("L,A,u1,60\nS,A,1,60\n", "text 1: row 3 is missing"),
+        ("T,,0,0\nR,,0,0", "text 1: row 2 is no row of four fields"),
+        (
+            "T,,0,0\r\nR,,0,0\r\n",
+            "text 1: row 1 is no row of four fields",
+        ),
+        (
+            "T,,0,0\nR,,0,0\nR,,0,0\n",
+            "text 1: row 3 is of a kind that cannot stand there",
+        ),
+        (
+            "L,A,u1,60\nT,,0,0\nR,,1,60\n",
+            "text 1: row 2 is of a kind that cannot stand there",
+        ),
+        (
+            "L,B,u1,6\nS,B,1,6\nL,A,u1,6\nS,A,1,6\nT,,0,0\nR,,1,12\n",
+            "text 1: row 3 is not of this payee, or has no reason",
+        ),
+        (
+            "L,A,u1,6\nS,A,1,6\nL,A,u1,6\nS,A,1,6\nT,,0,0\nR,,1,12\n",
+            "text 1: row 3 is not of this payee, or has no reason",
+        ),
+        (
+            "L,A,u1,6\nS,A,2,6\nT,,0,0\nR,,1,6\n",
+            "text 1: row 2 has no use, or another count than its rows",
+        ),
+        (
+            "L,A,u1,6\nS,A,1,7\nT,,0,0\nR,,1,7\n",
+            "text 1: row 2 has no amount in range, or another total than its rows",
+        ),
+        (
+            "L,A,u1,6\nS,A,1,6\nT,,0,0\nR,,1,7\n",
+            "text 1: row 4 has no amount in range, or another total than its rows",
+        ),
+        (
+            "M,OPENED,u1,6\nT,,1,6\nR,,1,6\n",
+            "text 1: row 1 is not of this payee, or has no reason",
+        ),
+        (
+            "M,OPEN,u1,0\nT,,1,0\nR,,1,0\n",
+            "text 1: row 1 has no amount in range, or another total than its rows",
+        ),
+    ];
+    for (text, want) in texts {
+        assert_eq!(rt;
+            told_merge(rt.alloc(), &[FIRST, text])?.as_str(),
+            want,
+            "at {text}"
+        );
+    }
     Ok(())
 }
