@@ -1,5 +1,5 @@
 -- What a buffer holds once a reader wrote behind it.
-use Rattle.std.proofs.Common.{◌≡◌, ◌≤◌, ◌<◌, ◌+◌, ◌-◌, ◌∙◌, ℕ, List, [], ◌∷◌, ◌++◌, length, take, drop, Option, Some, None, Result, Ok, Err, Bool, true, false, refl, sym, ap, append_assoc, arith}
+use Rattle.std.proofs.Common.{◌≡◌, ◌≤◌, ◌+◌, ◌-◌, ◌∙◌, ℕ, List, [], ◌++◌, length, take, drop, Option, Some, None, Result, Ok, Err, Bool, true, false, refl, sym, ap, append_assoc, arith}
 use Rattle.std.specs.List.{list_any, slice_range}
 use Rattle.std.specs.Option.{IfSome}
 use Rattle.merge_statements.specs.Buffered.{is_feed}

@@ -1,5 +1,5 @@
 -- How a text begins with a field, and what a line is the row of.
-use Rattle.std.proofs.Common.{◌≡◌, ◌≤◌, ◌<◌, ◌+◌, ◌-◌, ◌∙◌, ◌⊎◌, ℕ, zero, suc, List, [], ◌∷◌, ◌++◌, length, get_or, set, take, drop, Bool, true, false, Option, Some, None, inl, inr, refl, sym, ap, subst, append_assoc, arith}
+use Rattle.std.proofs.Common.{◌≡◌, ◌≤◌, ◌<◌, ◌+◌, ◌-◌, ◌∙◌, ◌⊎◌, ℕ, suc, List, [], ◌∷◌, ◌++◌, length, get_or, set, take, drop, Bool, true, false, Option, Some, None, inl, inr, refl, sym, ap, subst, append_assoc, arith}
 use Rattle.std.specs.Prelude.{◌==◌, ◌||◌}
 use Rattle.std.specs.Option.{IfNone, is_some}
 use Rattle.std.specs.List.{list_any}
@@ -10,7 +10,7 @@ use Rattle.std.proofs.Math.Seq.{drop-cons, take-length}
 use Rattle.std.proofs.lemmas.List.{take-append-drop}
 use Rattle.csv.specs.Writing.{default_writer, escaped, field_text, fields_text, is_blank, needs_byte, needs_quotes, row_body}
 use Rattle.csv_table.specs.Written.{text_of_row}
-use Rattle.memchr.specs.Find.{IsFirstByte, NoneBefore, Nowhere, Passes}
+use Rattle.memchr.specs.Find.{IsFirstByte, Nowhere, Passes}
 use Rattle.merge_statements.specs.Fields.{IsBehindField, IsBehindQuote, IsFieldAt, is_comma, is_mark}
 
 or-left : (a b : Bool) → (a || b) ≡ false → a ≡ false

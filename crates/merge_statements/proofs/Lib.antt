@@ -9,3 +9,7 @@ pub mod Passing
 pub mod ReadBack
 pub mod Steps
 pub mod WalkLemmas
+pub mod Taking
+pub mod SoFar
+pub mod Endings
+pub mod Whole

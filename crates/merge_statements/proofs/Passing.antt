@@ -1,7 +1,7 @@
 -- A payee's statement is passed over, portion by portion.
-use Rattle.std.proofs.Common.{Bool, true, false, ◌≡◌, ◌∙◌, ◌<◌, ◌+◌, ◌+ℤ◌, ◌++◌, ◌∷◌, ℕ, ℤ, pos, List, [], Option, Some, None, All, length, map, get_or, ap, sym, refl, subst, append_assoc, arith, codes}
+use Rattle.std.proofs.Common.{Bool, true, false, ◌≡◌, ◌∙◌, ◌+◌, ◌+ℤ◌, ◌++◌, ◌∷◌, ℕ, ℤ, List, [], Option, Some, None, length, map, get_or, ap, sym, refl, subst, append_assoc, arith, codes}
 use Rattle.std.specs.Prelude.{if◌then◌else◌, slice_index_or}
-use Rattle.std.specs.Io.KnownBytes.{Appends, Consumes, Keeps, prepend_known}
+use Rattle.std.specs.Io.KnownBytes.{Appends, Consumes, Keeps, append_known, prepend_known}
 use Rattle.std.proofs.lemmas.List.{append-nil, length_push, map-append}
 use Rattle.std.proofs.lemmas.List.Elements.{All-cons, All-nil, All-push}
 use Rattle.std.proofs.lemmas.Grind.{flat_map-append}
@@ -9,10 +9,9 @@ use Rattle.csv.specs.Reading.{default_config, records}
 use Rattle.csv.specs.Writing.{read_back}
 use Rattle.csv_table.proofs.ReadBack.{rows_read_back}
 use Rattle.csv_table.specs.Written.{text_of, text_of_row}
-use Rattle.line_split.proofs.IntSums.{int_sum_by-append, int_sum_by-cons, none_plus, plus_none}
-use Rattle.line_split.specs.Signs.{int_sum_by}
-use Rattle.merge_statements.specs.Passed.{HasRests, IsNext, IsPortionAt, IsRestAt, IsRestsSumAt, IsSumAt, IsWithin, IsWithinOne, PassesPortion, PassesRest, PassesSum, WritesRests, WritesStatement, total_of_portions}
-use Rattle.merge_statements.specs.Places.{At, IsPayeeAt, count_at, row_of, sum_at}
+use Rattle.line_split.proofs.IntSums.{int_sum_by-append, none_plus}
+use Rattle.merge_statements.specs.Passed.{HasRests, IsNext, IsRestsSumAt, IsSumAt, IsWithin, IsWithinOne, PassesPortion, PassesRest, PassesSum, WritesRests, WritesStatement, total_of_portions}
+use Rattle.merge_statements.specs.Places.{At, IsCount, IsPayeeAt, count_at, row_of, sum_at}
 use Rattle.merge_statements.specs.Statements.{IsPortion, IsRest, Portion, Rest, Statement, portion_row, rest_row, total_of_rests, total_row}
 use Rattle.merge_statements.specs.Unread.{Unread}
 use Rattle.merge_statements.specs.declared.walk.Place.{Place}
@@ -72,8 +71,8 @@ pub first_within : (old new : Unread) (before after : Option (List ℕ)) (payee 
 first_within old new before after payee due next passed written =
     let p = passed.portion in
     let same : p.payee ≡ payee =
-        sym (ap (λ (row : List (List ℕ)). slice_index_or row 1 []) p.form)
-        ∙ second_same passed.row (row_of (codes "L") payee next.usage next.amount) (passed.line ∙ sym next.row) in
+    sym (ap (λ (row : List (List ℕ)). slice_index_or row 1 []) p.form)
+    ∙ second_same passed.row (row_of (codes "L") payee next.usage next.amount) (passed.line ∙ sym next.row) in
     let form : passed.row ≡ portion_row payee p.portion = p.form ∙ ap (λ (name : List ℕ). portion_row name p.portion) same in
     let text : text_of_row passed.row ≡ text_of (map (portion_row payee) (p.portion ∷ [])) = ap text_of_row form ∙ sym (append-nil (text_of_row (portion_row payee p.portion))) in
     record {
@@ -124,11 +123,11 @@ more_within old between new before middle after was passed written =
         total = (was.at i).total;
       });
       consumed = subst (λ (t : List ℕ). Consumes old.left new.left t) text
-        (consumes_more old.left between.left new.left (text_of (map (portion_row was.payee) was.portions)) (text_of_row (portion_row was.payee p.portion)) was.consumed
-        (subst (λ (row : List (List ℕ)). Consumes between.left new.left (text_of_row row)) form passed.consumed));
+          (consumes_more old.left between.left new.left (text_of (map (portion_row was.payee) was.portions)) (text_of_row (portion_row was.payee p.portion)) was.consumed
+          (subst (λ (row : List (List ℕ)). Consumes between.left new.left (text_of_row row)) form passed.consumed));
       written = subst (λ (t : List ℕ). Appends before after t) text
-        (appends_more before middle after (text_of (map (portion_row was.payee) was.portions)) (text_of_row (portion_row was.payee p.portion)) was.written
-        (subst (λ (t : List ℕ). Appends middle after t) (sym passed.line ∙ ap text_of_row form) written));
+          (appends_more before middle after (text_of (map (portion_row was.payee) was.portions)) (text_of_row (portion_row was.payee p.portion)) was.written
+          (subst (λ (t : List ℕ). Appends middle after t) (sym passed.line ∙ ap text_of_row form) written));
     }
   where
     count : count_at between.at.place + 1 ≡ length (was.portions ++ passed.portion.portion ∷ [])
@@ -150,7 +149,7 @@ statement_written old between new before after count total was ends =
     let end = ends (length was.portions, total_of_portions was.portions, place) in
     let payee : between.at.payee ≡ was.payee = ap (λ (at : At). at.payee) was.at in
     let form : end.row ≡ total_row (codes "S") was.payee (length was.portions) (total_of_portions was.portions) =
-        end.sum.form ∙ (λ i. total_row (codes "S") (payee i) (count_at (place i)) (sum_at (place i))) in
+    end.sum.form ∙ (λ i. total_row (codes "S") (payee i) (count_at (place i)) (sum_at (place i))) in
     record {
       statement = statement;
       passed = record {
@@ -158,15 +157,16 @@ statement_written old between new before after count total was ends =
         after = was.behind;
         sound = record { payee = was.name; some = was.some; portions = was.sound };
         consumed = subst (λ (t : List ℕ). Consumes old.left new.left t)
-          (text_more (map (portion_row was.payee) was.portions) (total_row (codes "S") was.payee (length was.portions) (total_of_portions was.portions)))
-          (consumes_more old.left between.left new.left (text_of (map (portion_row was.payee) was.portions)) (text_of_row (total_row (codes "S") was.payee (length was.portions) (total_of_portions was.portions))) was.consumed
-          (subst (λ (row : List (List ℕ)). Consumes between.left new.left (text_of_row row)) form end.consumed));
+            (text_more (map (portion_row was.payee) was.portions) (total_row (codes "S") was.payee (length was.portions) (total_of_portions was.portions)))
+            (consumes_more old.left between.left new.left (text_of (map (portion_row was.payee) was.portions)) (text_of_row (total_row (codes "S") was.payee (length was.portions) (total_of_portions was.portions))) was.consumed
+            (subst (λ (row : List (List ℕ)). Consumes between.left new.left (text_of_row row)) form end.consumed));
         at = end.sum.leads ∙ (λ i. record {
           place = Between;
           payee = payee i;
           portions = (was.at i).portions;
           total = (was.at i).total +ℤ sum_at (place i);
         });
+        few = subst IsCount (sym (ap (λ (at : At). at.portions) end.sum.leads)) end.few;
       };
       counted = end.counted ∙ ap count_at place;
       sum = end.comes_to ∙ ap sum_at place;
@@ -235,11 +235,11 @@ more_rests old between new before middle after was passed written =
       portions = ap (λ (at : At). at.portions) r.leads ∙ omega (arith, was.portions, length_push was.rests r.what);
       total = ap (λ (at : At). at.total) r.leads ∙ was.total;
       consumed = subst (λ (t : List ℕ). Consumes old.left new.left t) text
-        (consumes_more old.left between.left new.left (text_of (map rest_row was.rests)) (text_of_row (rest_row r.what)) was.consumed
-        (subst (λ (row : List (List ℕ)). Consumes between.left new.left (text_of_row row)) r.form passed.consumed));
+          (consumes_more old.left between.left new.left (text_of (map rest_row was.rests)) (text_of_row (rest_row r.what)) was.consumed
+          (subst (λ (row : List (List ℕ)). Consumes between.left new.left (text_of_row row)) r.form passed.consumed));
       written = subst (λ (t : List ℕ). Appends before after t) text
-        (appends_more before middle after (text_of (map rest_row was.rests)) (text_of_row (rest_row r.what)) was.written
-        (subst (λ (t : List ℕ). Appends middle after t) (sym passed.line ∙ ap text_of_row r.form) written));
+          (appends_more before middle after (text_of (map rest_row was.rests)) (text_of_row (rest_row r.what)) was.written
+          (subst (λ (t : List ℕ). Appends middle after t) (sym passed.line ∙ ap text_of_row r.form) written));
     }
 
 pub rests_written : (old between new : Unread) (before after : Option (List ℕ)) (count : ℕ) (total : ℤ) → HasRests old between before after
@@ -253,13 +253,22 @@ rests_written old between new before after count total was end =
       counted = end.counted ∙ was.count;
       sum = end.comes_to ∙ was.sum;
       consumed = subst (λ (t : List ℕ). Consumes old.left new.left t) (text_more (map rest_row was.rests) last)
-        (consumes_more old.left between.left new.left (text_of (map rest_row was.rests)) (text_of_row last) was.consumed
-        (subst (λ (row : List (List ℕ)). Consumes between.left new.left (text_of_row row)) form end.consumed));
+          (consumes_more old.left between.left new.left (text_of (map rest_row was.rests)) (text_of_row last) was.consumed
+          (subst (λ (row : List (List ℕ)). Consumes between.left new.left (text_of_row row)) form end.consumed));
       at = end.sum.leads ∙ (λ i. record {
         place = Summed;
         payee = was.payee i;
         portions = was.portions i;
         total = was.total i +ℤ was.sum i;
       });
+      few = subst IsCount (sym (ap (λ (at : At). at.portions) end.sum.leads)) end.few;
       written = was.written;
     }
+
+-- ---- the last page
+
+pub page_passed : (known written flushed : Option (List ℕ)) (page : List ℕ) → Appends known written page → Keeps written flushed → Appends (append_known known page) flushed []
+page_passed None written flushed page passed kept = tt
+page_passed (Some xs) None flushed page passed kept = absurd passed
+page_passed (Some xs) (Some ys) None page passed kept = absurd kept
+page_passed (Some xs) (Some ys) (Some zs) page passed kept = kept ∙ (passed ∙ sym (append-nil (xs ++ page)))

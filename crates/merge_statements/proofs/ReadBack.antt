@@ -19,7 +19,7 @@ the_statement payee portions = record { payee = payee; portions = portions }
 abbrev pub the_rest : (reason usage : List ℕ) → ℤ → Rest
 the_rest reason usage amount = record { reason = reason; usage = usage; amount = amount }
 
-abbrev the_statements : List Statement → List Rest → ℕ → ℤ → Statements
+abbrev pub the_statements : List Statement → List Rest → ℕ → ℤ → Statements
 the_statements payees rests lines amount = record { payees = payees; rests = rests; lines = lines; amount = amount }
 
 -- the first statement with a portion more, which stands first

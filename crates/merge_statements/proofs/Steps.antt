@@ -1,8 +1,7 @@
 -- Which row was passed over, by its first byte and by where a reader stood.
-use Rattle.std.proofs.Common.{◌≡◌, ◌∙◌, ◌⊎◌, ◌+◌, ◌+ℤ◌, ◌∷◌, inl, inr, ℕ, ℤ, List, [], get_or, ap, sym, refl, subst, arith, codes, decimal}
-use Rattle.std.specs.Fmt.{signed_decimal}
+use Rattle.std.proofs.Common.{◌≡◌, ◌∙◌, ◌⊎◌, inl, inr, ℕ, ℤ, List, get_or, ap, sym, refl, subst, arith, codes}
 use Rattle.csv_table.specs.Written.{text_of_row}
-use Rattle.merge_statements.specs.Places.{At, Fits, Follows, IsCount, IsPayeeAt, KindFits, Leads, count_at, row_of, sum_at}
+use Rattle.merge_statements.specs.Places.{At, Follows, KindFits, row_of}
 use Rattle.merge_statements.specs.Passed.{IsPortionAt, IsRestAt, IsRestsSumAt, IsRunAt, IsSumAt}
 use Rattle.merge_statements.specs.declared.walk.Place.{Place}
 use Rattle.merge_statements.specs.declared.walk.Place.TheVariants.{Between, Within, Resting, Summed, Ended}

@@ -1,5 +1,5 @@
 -- Rows that stand where a reader is.
-use Rattle.std.proofs.Common.{◌≡◌, ◌∙◌, ◌⊎◌, ◌+◌, ◌+ℤ◌, ◌∷◌, inl, inr, ℕ, ℤ, Bool, true, List, [], length, get_or, ap, sym, refl, arith, codes, decimal}
+use Rattle.std.proofs.Common.{◌≡◌, ◌∙◌, ◌+◌, ◌+ℤ◌, ◌∷◌, inl, inr, ℕ, ℤ, Bool, true, List, [], length, get_or, ap, sym, refl, arith, codes, decimal}
 use Rattle.std.specs.Prelude.{◌==◌}
 use Rattle.std.proofs.lemmas.Bool.{eqb-true}
 use Rattle.std.specs.Fmt.{signed_decimal}

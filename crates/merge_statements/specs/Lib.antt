@@ -1,6 +1,7 @@
 pub mod Buffered
 pub mod Fields
 pub mod Merged
+pub mod Together
 pub mod Passed
 pub mod Places
 pub mod Reading

@@ -1,5 +1,5 @@
 -- What was passed over of a statement text.
-use Rattle.std.specs.Prelude.{ℕ, ℤ, pos, ◌≡◌, ◌<◌, ◌+◌, ◌+ℤ◌, ◌∷◌, [], List, All, IfSome, Option, Some, codes, decimal, length, map}
+use Rattle.std.specs.Prelude.{ℕ, ℤ, ◌≡◌, ◌<◌, ◌+◌, ◌+ℤ◌, [], List, All, Option, Some, codes, length, map}
 use Rattle.std.specs.Cmp.Lexicographic.{slice_cmp}
 use Rattle.std.specs.Io.KnownBytes.{Appends, Consumes, IsAtEnd}
 use Rattle.std.specs.Ordering.{nat_cmp}
@@ -7,7 +7,7 @@ use Rattle.std.specs.declared.cmp.Ordering.TheVariants.{Less}
 use Rattle.csv_table.specs.Written.{text_of, text_of_row}
 use Rattle.line_split.specs.Signs.{int_sum_by}
 use Rattle.merge_statements.specs.Places.{At, IsCount, IsPayeeAt, count_at, row_of, sum_at}
-use Rattle.merge_statements.specs.Statements.{IsAmount, IsName, IsPortion, IsRest, IsStatement, Portion, Rest, Statement, portion_row, rest_row, rests_rows, statement_rows, total_of, total_of_rests, total_row}
+use Rattle.merge_statements.specs.Statements.{IsName, IsPortion, IsRest, IsStatement, Portion, Rest, Statement, portion_row, rest_row, rests_rows, statement_rows, total_of, total_of_rests, total_row}
 use Rattle.merge_statements.specs.Unread.{Unread}
 use Rattle.merge_statements.specs.declared.walk.Place.TheVariants.{Between, Within, Resting, Summed, Ended}
 
@@ -90,6 +90,7 @@ pub record PassesStatement (old new : Unread) (statement : Statement) : Type 0 w
   pub sound : IsStatement statement
   pub consumed : Consumes old.left new.left (text_of (statement_rows statement))
   pub at : new.at ≡ record { place = Between; payee = statement.payee; portions = old.at.portions + length statement.portions; total = old.at.total +ℤ total_of statement }
+  pub few : IsCount new.at.portions
 
 -- and its portions were written; there are so many, and they come to this
 pub record WritesStatement (old new : Unread) (before after : Option (List ℕ)) (count : ℕ) (total : ℤ) : Type 0 where
@@ -106,6 +107,7 @@ pub record PassesSum (IsSum : At → List (List ℕ) → At → Type 0) (old new
   pub consumed : Consumes old.left new.left (text_of_row row)
   pub counted : count ≡ count_at old.at.place
   pub comes_to : total ≡ sum_at old.at.place
+  pub few : IsCount old.at.portions
 
 -- a portion that nobody gets was passed over
 pub record PassesRest (old new : Unread) : Type 0 where
@@ -134,6 +136,7 @@ pub record WritesRests (old new : Unread) (before after : Option (List ℕ)) (co
   pub sum : total ≡ total_of_rests rests
   pub consumed : Consumes old.left new.left (text_of (rests_rows rests))
   pub at : new.at ≡ record { place = Summed; payee = old.at.payee; portions = old.at.portions + length rests; total = old.at.total +ℤ total_of_rests rests }
+  pub few : IsCount new.at.portions
   pub written : Appends before after (text_of (map rest_row rests))
 
 -- The usage lines were passed over, of which there are so many, and the text ends behind them.

@@ -10,7 +10,7 @@ pub record Reading : Type 0 where
   pub line : List ℕ
   pub left : Option (List ℕ)
 
--- Why there is no next line in the bytes that are left. Of a read that was refused nothing is claimed.
+-- Why no line comes next of the bytes that are left. Nothing is claimed of a read that was refused.
 abbrev pub IsFaultOf : Option (List ℕ) → ReadFault → Type 0
 IsFaultOf left (Refused error) = Unit {0}
 IsFaultOf left Unended = IfSome left (λ text. (0 < length text) × (list_any is_feed text ≡ false))

@@ -1,4 +1,4 @@
-//! The numbers of a row, where a field has them exactly as a run writes them.
+//! The numbers of a row, read just as a run writes them: no plus, no needless zero, no `-0`.
 
 ghost use Rattle.std.specs.Fmt.{signed_decimal};
 ghost use Rattle.std.specs.Prelude.{◌≡◌, ◌≤◌, ◌<◌, ◌^◌, ◌∷◌, ◌↔◌, List, ℕ, ℤ, IfNone, IfSome, IsTrue, decimal, length, slice_index};
@@ -12,7 +12,7 @@ pub const MOST_AMOUNT: u64 = 1_000_000_000_000;
 /// The most that rows or usage lines are counted to.
 pub const MOST_COUNT: u64 = 1_000_000_000_000_000_000;
 
-/// The amount that a field has, in minor units: not 0, and the most at most either way.
+/// The amount that a field writes, in minor units. It is not 0, and no larger than the most.
 pub fn amount_of(field: &[u8]) -> Option<i64>
     ensures amount { IfSome result (λ amount. IsAmount amount × (field.now ≡ signed_decimal amount)) }
     ensures none { IfNone result ((amount : ℤ) → IsAmount amount → ¬ (field.now ≡ signed_decimal amount)) }
@@ -23,7 +23,7 @@ pub fn amount_of(field: &[u8]) -> Option<i64>
     }
 }
 
-/// How many there are, as a field has it.
+/// The count that a field writes.
 pub fn count_of(field: &[u8]) -> Option<u64>
     ensures count { IfSome result (λ count. (count ≤ 10 ^ 18) × (field.now ≡ decimal count)) }
     ensures none { IfNone result ((count : ℕ) → count ≤ 10 ^ 18 → ¬ (field.now ≡ decimal count)) }
@@ -31,7 +31,7 @@ pub fn count_of(field: &[u8]) -> Option<u64>
     number_of(field, MOST_COUNT)
 }
 
-/// A field without the minus that it begins with.
+/// A field without its minus, where it begins with one.
 fn behind_minus(field: &[u8]) -> Option<&[u8]>
     ensures digits { IfSome result (λ digits. field.now ≡ 45 ∷ digits.now) }
     ensures none { IfNone result ((digits : List ℕ) → ¬ (field.now ≡ 45 ∷ digits)) }
@@ -42,7 +42,7 @@ fn behind_minus(field: &[u8]) -> Option<&[u8]>
     }
 }
 
-/// The size of an amount, without its sign.
+/// The size of an amount, which stands without its sign.
 fn size_of(digits: &[u8]) -> Option<u64>
     ensures size { IfSome result (λ size. (0 < size) × (size ≤ 1000000000000) × (digits.now ≡ decimal size)) }
     ensures none { IfNone result ((size : ℕ) → 0 < size → size ≤ 1000000000000 → ¬ (digits.now ≡ decimal size)) }
@@ -53,7 +53,7 @@ fn size_of(digits: &[u8]) -> Option<u64>
     }
 }
 
-/// The number that a field has in decimal digits, none of them needless, where it is at most `most`.
+/// The number that a field writes in decimal digits, where it is at most `most`.
 fn number_of(field: &[u8], most: u64) -> Option<u64>
     ensures number { IfSome result (λ number. (number ≤ most) × (field.now ≡ decimal number)) }
     ensures none { IfNone result ((number : ℕ) → number ≤ most → ¬ (field.now ≡ decimal number)) }

@@ -1,16 +1,15 @@
-//! A part of a text at a time, and the lines in it.
+//! The part of a text that is in memory, and its lines.
 
-ghost use Rattle.std.specs.Io.KnownBytes.{IsAtEnd, Keeps, prepend_known};
-ghost use Rattle.std.specs.Prelude.{◌≡◌, ◌≤◌, ◌<◌, ◌+◌, ◌++◌, ◌∷◌, ◌↔◌, [], IfOk, IsTrue, OnErr, OnOk, drop, false, length, take, true, vec_len};
-ghost use Rattle.std.specs.List.{list_any, slice_range};
-ghost use Rattle.std.specs.Io.KnownBytes.{Consumes};
+ghost use Rattle.std.specs.Io.KnownBytes.{Consumes, IsAtEnd, Keeps, prepend_known};
+ghost use Rattle.std.specs.Prelude.{◌≡◌, ◌≤◌, ◌<◌, ◌+◌, ◌++◌, ◌∷◌, ◌↔◌, [], IfOk, IsTrue, OnErr, drop, false, length, take, true, vec_len};
+ghost use Rattle.std.specs.List.{list_any};
 
 use memchr::memchr;
 use std::alloc::{AllocError, Global};
 use std::io::{self, ErrorKind, Read};
 
-/// How many bytes of a text are in memory at most, and so the longest line with its line feed.
-pub const BUFFER_BYTES: usize = 65_536;
+/// How many bytes of a text are in memory at most: the longest line with its line feed.
+pub(crate) const BUFFER_BYTES: usize = 65_536;
 
 /// `bytes[start..end]` is the line at hand, and `bytes[at..filled]` waits.
 #[derive(Drop)]
@@ -30,7 +29,7 @@ pub(crate) struct Buffer {
 impl Buffer {
     ghost use Rattle.merge_statements.specs.Buffered.{is_feed, line_of, waiting_of};
 
-    /// Nothing is read yet.
+    /// A buffer that nothing was read into yet.
     pub(crate) fn new(alloc: Global) -> Result<Buffer, AllocError>
         ensures line { IfOk result (λ buffer. line_of buffer ≡ []) }
         ensures waiting { IfOk result (λ buffer. waiting_of buffer ≡ []) }
@@ -47,7 +46,8 @@ impl Buffer {
 
     /// The line at hand.
     pub(crate) fn line(&self) -> &[u8]
-        ensures { result.now ≡ line_of self.now }
+        ensures line { result.now ≡ line_of self.now }
+        ensures short { length result.now ≤ 65536 }
     {
         let (start, end) = (self.start, self.end);
         let all = self.bytes.as_slice();
@@ -70,7 +70,7 @@ impl Buffer {
         self.at == self.filled
     }
 
-    /// Has no line at hand any more.
+    /// Leaves no line at hand.
     pub(crate) fn drop_line(&mut self)
         ensures line { line_of self.new ≡ [] }
         ensures kept { waiting_of self.new ≡ waiting_of self.old }
@@ -79,7 +79,7 @@ impl Buffer {
         self.end = self.at;
     }
 
-    /// Goes on to the next line, if all of it waits, and answers whether it does.
+    /// Goes on to the next line, if its line feed waits, and answers whether it does.
     pub(crate) fn take_line(&mut self) -> bool
         ensures found { result ≡ true → waiting_of self.old ≡ line_of self.new ++ 10 ∷ waiting_of self.new }
         ensures whole { result ≡ true → list_any is_feed (line_of self.new) ≡ false }
@@ -116,7 +116,7 @@ impl Buffer {
         self.filled < BUFFER_BYTES
     }
 
-    /// Reads once behind what waits, and answers whether the text goes on.
+    /// Reads once, behind what waits, and answers whether the text may go on.
     pub(crate) fn fill<R: Read>(&mut self, from: &mut R) -> io::Result<bool>
         requires { self.old.filled < 65536 }
         ensures kept { Keeps (prepend_known (waiting_of self.old) (R.remaining from.old)) (prepend_known (waiting_of self.new) (R.remaining from.new)) }
@@ -133,7 +133,7 @@ impl Buffer {
     }
 }
 
-/// An error, but where a read was interrupted, which is tried again.
+/// Refuses with an error, unless it says that a read was interrupted: such a read is tried again.
 fn unless_interrupted(error: io::Error) -> io::Result<bool>
     ensures { IfOk result (λ more. more ≡ true) }
 {
@@ -143,7 +143,7 @@ fn unless_interrupted(error: io::Error) -> io::Result<bool>
     }
 }
 
-/// Reads once into what stands behind a place.
+/// Reads once into the bytes from a place on.
 fn read_behind<R: Read>(from: &mut R, bytes: &mut Vec<u8>, place: usize) -> io::Result<usize>
     requires { place < vec_len bytes.old }
     ensures size { vec_len bytes.new ≡ vec_len bytes.old }

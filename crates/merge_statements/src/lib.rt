@@ -4,18 +4,22 @@
 pub mod amount;
 mod buffer;
 pub mod laws;
+mod merging;
 mod output;
 mod part;
 mod read_fault;
 mod reader;
 mod refusal;
 mod row;
+#[cfg(test)]
+mod tests;
 mod walk;
 
+pub use merging::{TextRefusal, merge, merge_to};
 pub use output::Output;
 pub use part::Part;
 pub use read_fault::ReadFault;
 pub use reader::RowReader;
 pub use refusal::{Refusal, StatementFault};
-pub use row::Row;
+pub use row::{Row, RowRoom};
 pub use walk::{Place, Progress, Wrong};

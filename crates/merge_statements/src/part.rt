@@ -10,11 +10,10 @@ ghost use Rattle.merge_statements.specs.Places.{at_first};
 ghost use Rattle.merge_statements.specs.Unread.{FollowsAs, Steps};
 ghost use Rattle.merge_statements.specs.declared.walk.Place.TheVariants as Place;
 
-use crate::buffer::BUFFER_BYTES;
 use crate::output::Output;
 use crate::reader::RowReader;
 use crate::refusal::{Refusal, StatementFault};
-use crate::row::Row;
+use crate::row::{Row, RowRoom};
 use crate::walk::{Progress, replace};
 use std::alloc::Global;
 use std::io::{Read, Write};
@@ -25,7 +24,7 @@ use std::marker::Model;
 pub struct Part<R: Read> {
     rows: RowReader<R>,
     /// Memory for the fields of a row that stand between quotes.
-    room: Vec<u8>,
+    room: RowRoom,
     progress: Progress,
     /// The number of the row at hand, from 1.
     number: u64,
@@ -41,19 +40,20 @@ impl<R: Read> Model for Part<R> {
     ghost use Rattle.merge_statements.specs.Passed.{IsNext};
     ghost use Rattle.std.specs.Io.KnownBytes.{IsAtEnd, prepend_known};
     ghost use Rattle.std.specs.Option.{option_map};
-ghost use Rattle.csv_table.specs.Written.{text_of_row};
-ghost use Rattle.merge_statements.specs.Fields.{fields_of};
-ghost use Rattle.merge_statements.specs.Passed.{EndsText, IsNext, IsRestsSumAt, IsSumAt, IsWithin, IsWithinOne, PassesPortion, PassesRest, PassesSum, WritesRests, WritesStatement};
-ghost use Rattle.merge_statements.specs.Places.{at_first};
-ghost use Rattle.merge_statements.specs.Unread.{Unread};
+    ghost use Rattle.csv_table.specs.Written.{text_of_row};
+    ghost use Rattle.merge_statements.specs.Fields.{fields_of};
+    ghost use Rattle.merge_statements.specs.Passed.{EndsText, IsNext, IsRestsSumAt, IsSumAt, IsWithin, IsWithinOne, PassesPortion, PassesRest, PassesSum, WritesRests, WritesStatement};
+    ghost use Rattle.merge_statements.specs.Places.{at_first};
+    ghost use Rattle.merge_statements.specs.Unread.{Unread};
 
     ghost Value = { Unread };
 
     ghost view = { λ b. record {
-        at = b.progress;
-        line = if b.has_row then b.rows.line ++ 10 ∷ [] else [];
-        left = prepend_known (if b.has_row then b.rows.line ++ 10 ∷ [] else []) b.rows.left;
-        payee = if b.has_payee then Some b.payee.items else None } };
+      at = b.progress;
+      line = if b.has_row then b.rows.line ++ 10 ∷ [] else [];
+      left = prepend_known (if b.has_row then b.rows.line ++ 10 ∷ [] else []) b.rows.left;
+      payee = if b.has_payee then Some b.payee.items else None;
+    } };
 
     ghost invariant = { λ b. (b.has_payee ≡ true → IsNext b.progress (if b.has_row then b.rows.line ++ 10 ∷ [] else []) b.payee.items)
         × (b.has_row ≡ false → IsAtEnd b.rows.left) };
@@ -66,7 +66,7 @@ impl<R: Read + Drop> Part<R> {
         ensures left { IfOk result (λ part. Keeps (R.remaining from) part.left) }
     {
         let mut rows = RowReader::new(alloc, from)?;
-        let room = vec![in alloc; 0u8; BUFFER_BYTES]?;
+        let room = RowRoom::new(alloc)?;
         let mut number = 0;
         let has_row = advance(&mut rows, &mut number)?;
         let mut part = Part {
@@ -102,7 +102,7 @@ impl<R: Read + Drop> Part<R> {
         if !self.has_row {
             return Ok(());
         }
-        let row = row_of(self.rows.line(), self.room.as_mut_slice(), self.number)?;
+        let row = row_of(&self.rows, &mut self.room, self.number)?;
         if row.kind != b"L".as_slice() {
             return Ok(());
         }
@@ -122,18 +122,13 @@ impl<R: Read + Drop> Part<R> {
             return Err(Refusal::Fault(StatementFault::End(self.number)));
         }
         self.has_payee = false;
-        follow(
-            &mut self.progress,
-            self.rows.line(),
-            self.room.as_mut_slice(),
-            self.number,
-        )?;
+        follow(&mut self.progress, &self.rows, &mut self.room, self.number)?;
         self.has_row = advance(&mut self.rows, &mut self.number)?;
         Ok(())
     }
 
     /// The same, and adds it to the output as it stands.
-    fn pass_row<W: Write>(&mut self, out: &mut Output<'_, W>) -> Result<(), Refusal>
+    fn pass_row<W: Write + Drop>(&mut self, out: &mut Output<W>) -> Result<(), Refusal>
         ensures steps { OnOk result (Steps self.old self.new) }
         ensures passed { OnOk result (Appends out.old out.new self.old.line) }
     {
@@ -158,7 +153,7 @@ impl<R: Read + Drop> Part<R> {
     }
 
     /// Passes over a payee's portion, and adds it to the output.
-    fn pass_portion<W: Write>(&mut self, out: &mut Output<'_, W>) -> Result<(), Refusal>
+    fn pass_portion<W: Write + Drop>(&mut self, out: &mut Output<W>) -> Result<(), Refusal>
         requires { slice_index self.old.line 0 ≡ 76 }
         ensures portion { OnOk result (PassesPortion self.old self.new) }
         ensures passed { OnOk result (Appends out.old out.new self.old.line) }
@@ -168,7 +163,7 @@ impl<R: Read + Drop> Part<R> {
     }
 
     /// Passes over the first portion of the payee that comes next, and adds it to the output.
-    fn pass_first<W: Write>(&mut self, out: &mut Output<'_, W>) -> Result<(), Refusal>
+    fn pass_first<W: Write + Drop>(&mut self, out: &mut Output<W>) -> Result<(), Refusal>
         ensures { OnOk result (IsWithin self.old self.new out.old out.new) }
     {
         let Some(_) = self.payee() else {
@@ -191,9 +186,9 @@ impl<R: Read + Drop> Part<R> {
 
     /// Passes over the statement of the payee that comes next, and adds its portions to the output. Answers how many there are and what
     /// they come to.
-    pub fn pass_statement<W: Write>(
+    pub fn pass_statement<W: Write + Drop>(
         &mut self,
-        out: &mut Output<'_, W>,
+        out: &mut Output<W>,
     ) -> Result<(u64, i128), Refusal>
         ensures { IfOk result (λ sum. WritesStatement self.old self.new out.old out.new sum.0 sum.1) }
     {
@@ -209,7 +204,7 @@ impl<R: Read + Drop> Part<R> {
     }
 
     /// Passes over a portion that nobody gets, and adds it to the output.
-    fn pass_rest<W: Write>(&mut self, out: &mut Output<'_, W>) -> Result<(), Refusal>
+    fn pass_rest<W: Write + Drop>(&mut self, out: &mut Output<W>) -> Result<(), Refusal>
         requires { slice_index self.old.line 0 ≡ 77 }
         ensures rest { OnOk result (PassesRest self.old self.new) }
         ensures passed { OnOk result (Appends out.old out.new self.old.line) }
@@ -223,18 +218,27 @@ impl<R: Read + Drop> Part<R> {
         ensures { IfOk result (λ sum. PassesSum IsRestsSumAt self.old self.new sum.0 sum.1) }
     {
         if !self.begins_with(b'T') {
-            return Err(Refusal::Fault(StatementFault::Kind(self.number)));
+            return Err(self.not_here());
         }
         let sum = self.progress.so_far();
         self.step()?;
         Ok(sum)
     }
 
+    /// Why the row at hand cannot stand here: there is none, or it is of another kind.
+    fn not_here(&self) -> Refusal {
+        if self.has_row {
+            Refusal::Fault(StatementFault::Kind(self.number))
+        } else {
+            Refusal::Fault(StatementFault::End(self.number))
+        }
+    }
+
     /// Passes over all that nobody gets, behind the last payee, and adds it to the output without its sum. Answers how many portions there
     /// are and what they come to.
-    pub fn pass_rests<W: Write>(
+    pub fn pass_rests<W: Write + Drop>(
         &mut self,
-        out: &mut Output<'_, W>,
+        out: &mut Output<W>,
     ) -> Result<(u64, i128), Refusal>
         requires { self.old.at.place ≡ Place.Between }
         ensures { IfOk result (λ sum. WritesRests self.old self.new out.old out.new sum.0 sum.1) }
@@ -263,7 +267,7 @@ impl<R: Read + Drop> Part<R> {
 }
 
 /// Adds a line with its line feed.
-fn push_line<W: Write>(out: &mut Output<'_, W>, line: &[u8]) -> Result<(), Refusal>
+fn push_line<W: Write + Drop>(out: &mut Output<W>, line: &[u8]) -> Result<(), Refusal>
     ensures { OnOk result (Appends out.old out.new (line.now ++ 10 ∷ [])) }
 {
     match out.push(line) {
@@ -276,30 +280,31 @@ fn push_line<W: Write>(out: &mut Output<'_, W>, line: &[u8]) -> Result<(), Refus
     }
 }
 
-/// Goes on behind a line, if it is a row that can stand there.
-fn follow(
+/// Goes on behind the line at hand, if it is a row that can stand there.
+fn follow<R: Read>(
     progress: &mut Progress,
-    line: &[u8],
-    room: &mut [u8],
+    rows: &RowReader<R>,
+    room: &mut RowRoom,
     number: u64,
 ) -> Result<(), Refusal>
-    ensures { OnOk result (FollowsAs progress.old (line.now ++ 10 ∷ []) progress.new) }
+    ensures { OnOk result (FollowsAs progress.old (rows.now.line ++ 10 ∷ []) progress.new) }
 {
-    let row = row_of(line, room, number)?;
+    let row = row_of(rows, room, number)?;
     match progress.follow(&row) {
         Ok(()) => Ok(()),
         Err(wrong) => Err(Refusal::of_field(wrong, number)),
     }
 }
 
-/// The row that a line is.
-fn row_of<'a>(line: &'a [u8], room: &'a mut [u8], number: u64) -> Result<Row<'a>, Refusal>
-    ensures { IfOk result (λ row. text_of_row (fields_of row) ≡ line.now ++ 10 ∷ []) }
+/// The row that the line at hand holds.
+fn row_of<'a, R: Read>(
+    rows: &'a RowReader<R>,
+    room: &'a mut RowRoom,
+    number: u64,
+) -> Result<Row<'a>, Refusal>
+    ensures { IfOk result (λ row. text_of_row (fields_of row) ≡ rows.now.line ++ 10 ∷ []) }
 {
-    if line.len() > room.len() {
-        return Err(Refusal::Fault(StatementFault::Row(number)));
-    }
-    match Row::of(line, room) {
+    match rows.row(room) {
         Some(row) => Ok(row),
         None => Err(Refusal::Fault(StatementFault::Row(number))),
     }

@@ -12,7 +12,7 @@ pub enum ReadFault {
     /// No line feed ends the last line.
     #[error("the last line has no line feed at its end")]
     Unended,
-    /// A line is longer than the buffer: 65,536 bytes have no line feed.
+    /// No line feed stands in the next 65,536 bytes.
     #[error("a line has more than 65535 bytes")]
     TooLong,
 }

@@ -1,19 +1,22 @@
-//! The lines of a statement text, one after another, out of a reader and through a small buffer.
+//! The lines of a statement text, one after another, through a small buffer.
 
 ghost use Rattle.std.specs.Io.KnownBytes.{Consumes, IsAtEnd, Keeps};
 ghost use Rattle.std.specs.List.{list_any};
-ghost use Rattle.std.specs.Prelude.{◌≡◌, ◌<◌, ◌++◌, ◌∷◌, [], IfErr, IfOk, OnErr, false, length, true};
+ghost use Rattle.std.specs.Prelude.{◌≡◌, ◌≤◌, ◌<◌, ◌++◌, ◌∷◌, [], List, ℕ, IfErr, IfNone, IfOk, IfSome, OnErr, false, length, true};
+ghost use Rattle.csv_table.specs.Written.{text_of_row};
 ghost use Rattle.merge_statements.specs.Buffered.{is_feed, waiting_of};
+ghost use Rattle.merge_statements.specs.Fields.{fields_of};
 ghost use Rattle.merge_statements.specs.Reading.{IsFaultOf};
 ghost use Rattle.merge_statements.specs.declared.read_fault.ReadFault.TheVariants.{Unended};
 
 use crate::buffer::Buffer;
 use crate::read_fault::ReadFault;
+use crate::row::{Row, RowRoom};
 use std::alloc::{AllocError, Global};
 use std::io::{self, ErrorKind, Read};
 use std::marker::Model;
 
-/// A reader of lines: the line at hand, without its line feed, and what is yet to come.
+/// A text that is read line by line: the line at hand, and the bytes yet to come.
 #[derive(Drop)]
 pub struct RowReader<R: Read> {
     from: R,
@@ -31,7 +34,7 @@ impl<R: Read> Model for RowReader<R> {
 }
 
 impl<R: Read> RowReader<R> {
-    /// The lines of what a reader has, before the first. Its buffer has 65,536 bytes.
+    /// What a reader gives, before the first line. 65,536 bytes are in memory at a time.
     pub fn new(alloc: Global, from: R) -> Result<RowReader<R>, AllocError>
     where
         R: Drop,
@@ -42,15 +45,25 @@ impl<R: Read> RowReader<R> {
         Ok(RowReader { from, buffer })
     }
 
-    /// The line at hand, without its line feed. Before the first line, at the end and after a fault it is empty.
+    /// The line at hand, without its line feed. Before the first line, at the end and after a
+    /// fault there is none, and this is empty.
     pub fn line(&self) -> &[u8]
-        ensures { result.now ≡ self.now.line }
+        ensures line { result.now ≡ self.now.line }
+        ensures short { length result.now ≤ 65536 }
     {
         self.buffer.line()
     }
 
-    /// Goes on to the next line, and answers whether there was one. After a fault everything is as it was but for the line
-    /// at hand, so that a read that was refused can be tried again.
+    /// The row that the line at hand holds, if it holds one.
+    pub fn row<'a>(&'a self, room: &'a mut RowRoom) -> Option<Row<'a>>
+        ensures row { IfSome result (λ row. text_of_row (fields_of row) ≡ self.now.line ++ 10 ∷ []) }
+        ensures none { IfNone result ((fields : List (List ℕ)) → length fields ≡ 4 → ¬ (text_of_row fields ≡ self.now.line ++ 10 ∷ [])) }
+    {
+        Row::of(self.line(), room)
+    }
+
+    /// Goes on to the next line, and answers whether there was one. A fault leaves the bytes yet
+    /// to come as they were, so a read that was refused can be tried again.
     pub fn next(&mut self) -> Result<bool, ReadFault>
         ensures found { IfOk result (λ found. found ≡ true → Consumes self.old.left self.new.left (self.new.line ++ 10 ∷ [])) }
         ensures one { IfOk result (λ found. found ≡ true → list_any is_feed self.new.line ≡ false) }
@@ -78,7 +91,7 @@ impl<R: Read> RowReader<R> {
     }
 }
 
-/// The answer where a reader has no more: that is the end, if nothing waits.
+/// The answer once a reader has nothing more to give: the end, if nothing waits.
 fn at_end(buffer: &Buffer) -> Result<bool, ReadFault>
     ensures end { IfOk result (λ found. (found ≡ false) × (waiting_of buffer.now ≡ [])) }
     ensures fault { IfErr result (λ fault. (fault ≡ Unended) × (0 < length (waiting_of buffer.now))) }

@@ -1,7 +1,7 @@
 //! Why a text is refused, or cannot be merged.
 
-use crate::walk::Wrong;
 use crate::read_fault::ReadFault;
+use crate::walk::Wrong;
 use std::alloc::AllocError;
 use std::io;
 use thiserror::Error;
@@ -38,6 +38,9 @@ pub enum Refusal {
     /// Memory was refused.
     #[error("out of room")]
     Memory,
+    /// There are more portions or usage lines than are counted: 1,000,000,000,000,000,000.
+    #[error("too many")]
+    Many,
     /// A read was refused.
     #[error("{0}")]
     Read(io::Error),

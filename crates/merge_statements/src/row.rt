@@ -1,15 +1,18 @@
-//! A row of a statement text: four fields, taken from a line exactly where a run writes them so.
+//! A row of a statement text: four fields, read from a line just as a run writes them.
 //!
-//! A row is asked about for each line of a long text. So the fields of a line without a quote are lent out of it, and
-//! each of its bytes is looked at two or three times. Those of any other line are copied into memory that the caller keeps.
+//! Texts have hundreds of millions of rows. So where no quote stands in a line, its fields are lent
+//! out of it, and each byte is looked at twice. Where one does, they are copied, without their
+//! quotes, into memory that the caller keeps.
 
-ghost use Rattle.std.specs.Prelude.{◌≡◌, ◌≤◌, ◌<◌, ◌++◌, ◌∷◌, [], List, ℕ, ◌↔◌, IsTrue, IfNone, IfSome, drop, false, length, take};
+ghost use Rattle.std.specs.Prelude.{◌≡◌, ◌≤◌, ◌<◌, ◌++◌, ◌∷◌, [], List, ℕ, ◌↔◌, IsTrue, IfNone, IfSome, drop, false, length, take, vec_len};
 ghost use Rattle.std.specs.List.{list_any};
 ghost use Rattle.csv.specs.Writing.{default_writer, escaped, needs_quotes};
 ghost use Rattle.csv_table.specs.Written.{text_of_row};
 ghost use Rattle.merge_statements.specs.Fields.{IsBehindField, IsBehindQuote, IsFieldAt, fields_of, is_comma, is_mark};
 
+use crate::buffer::BUFFER_BYTES;
 use memchr::{memchr, memchr3};
+use std::alloc::{AllocError, Global};
 
 /// The four fields of a row.
 #[derive(Clone, Copy)]
@@ -32,15 +35,31 @@ struct Field<'a> {
     room: &'a mut [u8],
 }
 
+/// Memory for fields that are copied, with room for the longest line.
+#[derive(Drop)]
+pub struct RowRoom {
+    bytes: Vec<u8>,
+    ghost size: { vec_len bytes ≡ 65536 },
+}
+
+impl RowRoom {
+    /// Room for one row at a time.
+    pub fn new(alloc: Global) -> Result<RowRoom, AllocError> {
+        let bytes = vec![in alloc; 0u8; BUFFER_BYTES]?;
+        Ok(RowRoom { bytes })
+    }
+}
+
 impl<'a> Row<'a> {
-    /// The row that a line is, without its line feed. Where a quote stands in the line, its fields are copied into the room.
-    pub fn of(line: &'a [u8], room: &'a mut [u8]) -> Option<Row<'a>>
-        requires { length line.now ≤ length room.old }
+    /// The row that a line of at most 65,536 bytes holds, given without its line feed. Only where
+    /// a quote stands in the line is the room used.
+    pub fn of(line: &'a [u8], room: &'a mut RowRoom) -> Option<Row<'a>>
+        requires { length line.now ≤ 65536 }
         ensures row { IfSome result (λ row. text_of_row (fields_of row) ≡ line.now ++ 10 ∷ []) }
         ensures none { IfNone result ((fields : List (List ℕ)) → length fields ≡ 4 → ¬ (text_of_row fields ≡ line.now ++ 10 ∷ [])) }
     {
         if has_mark(line) {
-            quoted_row(line, room)
+            quoted_row(line, room.bytes.as_mut_slice())
         } else {
             plain_row(line)
         }
@@ -54,7 +73,7 @@ fn has_mark(text: &[u8]) -> bool
     memchr3(b'"', b'\r', b'\n', text).is_some()
 }
 
-/// The row that a line is in which only commas mean anything.
+/// The row that a line holds in which no byte but a comma has a meaning.
 fn plain_row(line: &[u8]) -> Option<Row<'_>>
     requires { list_any is_mark line.now ≡ false }
     ensures row { IfSome result (λ row. text_of_row (fields_of row) ≡ line.now ++ 10 ∷ []) }
@@ -74,7 +93,7 @@ fn plain_row(line: &[u8]) -> Option<Row<'_>>
     })
 }
 
-/// What stands before the first comma of a text, and behind it.
+/// What stands before the first comma of a text, and what stands behind it.
 fn cut(text: &[u8]) -> Option<(&[u8], &[u8])>
     ensures parts { IfSome result (λ parts. (text.now ≡ parts.0.now ++ 44 ∷ parts.1.now) × (list_any is_comma parts.0.now ≡ false)) }
     ensures none { IfNone result (list_any is_comma text.now ≡ false) }
@@ -83,7 +102,7 @@ fn cut(text: &[u8]) -> Option<(&[u8], &[u8])>
     Some((&text[..comma], &text[comma + 1..]))
 }
 
-/// The row that a line is, with fields that are copied.
+/// The row that a line holds, with fields that may be copied.
 fn quoted_row<'a>(line: &'a [u8], room: &'a mut [u8]) -> Option<Row<'a>>
     requires { length line.now ≤ length room.old }
     ensures row { IfSome result (λ row. text_of_row (fields_of row) ≡ line.now ++ 10 ∷ []) }
@@ -109,14 +128,13 @@ fn behind_comma(text: &[u8]) -> Option<&[u8]>
     ensures rest { IfSome result (λ rest. text.now ≡ 44 ∷ rest.now) }
     ensures none { IfNone result ((rest : List ℕ) → ¬ (text.now ≡ 44 ∷ rest)) }
 {
-    if !text.is_empty() && text[0] == b',' {
-        Some(&text[1..])
-    } else {
-        None
+    match text {
+        [b',', rest @ ..] => Some(rest),
+        _ => None,
     }
 }
 
-/// The field that a text begins with, up to a comma or the end.
+/// The field at the beginning of a text, up to a comma or the end.
 fn field_of<'a>(text: &'a [u8], room: &'a mut [u8]) -> Option<Field<'a>>
     requires { length text.now ≤ length room.old }
     ensures field { IfSome result (λ field. IsFieldAt text.now field.bytes.now field.rest.now) }
@@ -130,7 +148,7 @@ fn field_of<'a>(text: &'a [u8], room: &'a mut [u8]) -> Option<Field<'a>>
     }
 }
 
-/// The field that a text begins with, where no quote begins it.
+/// The field at the beginning of a text that does not begin with a quote.
 fn plain_field<'a>(text: &'a [u8], room: &'a mut [u8]) -> Option<Field<'a>>
     requires room { length text.now ≤ length room.old }
     requires plain { IsBehindQuote text.now }
@@ -145,7 +163,7 @@ fn plain_field<'a>(text: &'a [u8], room: &'a mut [u8]) -> Option<Field<'a>>
     Some(Field { bytes, rest, room })
 }
 
-/// What stands before the first comma of a text, if it has one, and the rest.
+/// A text up to its first comma, or all of it where there is none, and the rest.
 fn up_to_comma(text: &[u8]) -> (&[u8], &[u8])
     ensures parts { text.now ≡ result.0.now ++ result.1.now }
     ensures none { list_any is_comma result.0.now ≡ false }
@@ -157,7 +175,7 @@ fn up_to_comma(text: &[u8]) -> (&[u8], &[u8])
     }
 }
 
-/// The field that begins behind a quote.
+/// The field whose first quote stands just before a text.
 fn quoted_field<'a>(text: &'a [u8], room: &'a mut [u8]) -> Option<Field<'a>>
     requires { length text.now ≤ length room.old }
     ensures field { IfSome result (λ field. IsFieldAt (34 ∷ text.now) field.bytes.now field.rest.now) }
@@ -182,14 +200,15 @@ fn needs_quotes(field: &[u8]) -> bool
         .any(|byte| matches!(*byte, b',' | b'"' | b'\r' | b'\n'))
 }
 
-/// Whether nothing or a comma comes first.
+/// Whether a text is empty or begins with a comma.
 fn is_behind_field(text: &[u8]) -> bool
     ensures { IsTrue result ↔ IsBehindField text.now }
 {
     text.is_empty() || text[0] == b','
 }
 
-/// Copies what stands between quotes, from behind the first of them, and answers how many bytes it has and how many were read with the last quote.
+/// Copies a field from behind its first quote, and answers how many bytes it has, and how many
+/// were read with its last quote.
 #[tactic(auto, using(crate::proofs::FieldLemmas::read_none))]
 fn unquote(text: &[u8], room: &mut [u8]) -> Option<(usize, usize)>
     requires { length text.now ≤ length room.old }

@@ -230,6 +230,7 @@ impl Progress {
     pub(crate) fn so_far(&self) -> (u64, i128)
         ensures count { result.0 ≡ count_at self.now.place }
         ensures sum { result.1 ≡ sum_at self.now.place }
+        ensures few { IsCount self.now.portions }
     {
         self.place.so_far()
     }
@@ -287,7 +288,7 @@ impl Progress {
 }
 
 /// Whether a name comes before another, in byte order.
-fn is_before(name: &[u8], other: &[u8]) -> bool
+pub(crate) fn is_before(name: &[u8], other: &[u8]) -> bool
     ensures { IsTrue result ↔ (slice_cmp nat_cmp name.now other.now ≡ Less) }
 {
     matches!(name.cmp(other), Ordering::Less)

@@ -1,4 +1,6 @@
-use Rattle.std.proofs.Common.{◌∙◌, ap, get_or}
+use Rattle.std.proofs.Common.{◌∙◌, ap, get_or, subst}
+use Rattle.merge_statements.specs.Places.{IsCount, count_at, sum_at}
+use Rattle.merge_statements.specs.Unread.{Unread}
 use Rattle.merge_statements.proofs.Steps.{rests_sum_passed}
 use Rattle.merge_statements.proofs.part.Part.end_rests.Goals as goal
 
@@ -10,6 +12,7 @@ returns g c =
       row = steps.row;
       sum = rests_sum_passed c.args.self.now.at c.step.new.self.at steps.row steps.follows (ap (λ text. get_or text 0 0) steps.line ∙ first);
       consumed = steps.consumed;
-      counted = c.so_far-sum.ensures.count;
-      comes_to = c.so_far-sum.ensures.sum;
+      counted = c.so_far-sum.ensures.count ∙ ap (λ (unread : Unread). count_at unread.at.place) c.self.view_is;
+      few = subst IsCount (ap (λ (unread : Unread). unread.at.portions) c.self.view_is) c.so_far-sum.ensures.few;
+      comes_to = c.so_far-sum.ensures.sum ∙ ap (λ (unread : Unread). sum_at unread.at.place) c.self.view_is;
     }

@@ -1,0 +1,88 @@
+-- Texts are passed over to their ends.
+use Rattle.std.proofs.Common.{◌≡◌, ◌∙◌, ◌+◌, ◌+ℤ◌, ◌++◌, ◌∷◌, ℕ, ℤ, pos, List, [], Option, Some, None, length, map, ap, sym, refl, subst, arith, codes}
+use Rattle.std.specs.Io.KnownBytes.{Appends, Consumes}
+use Rattle.std.proofs.lemmas.List.{append-nil, length-append, map-append}
+use Rattle.std.proofs.lemmas.List.Sums.{sum_by-append}
+use Rattle.std.proofs.lemmas.Grind.{flat_map-append}
+use Rattle.csv_table.specs.Written.{text_of, text_of_row}
+use Rattle.line_split.proofs.IntSums.{int_sum_by-append}
+use Rattle.merge_statements.specs.Together.{Ending, EndsEach, EndsOne, WritesEnding, lines_of, rests_of}
+use Rattle.merge_statements.specs.Together.TakesEach.{none as none_of}
+use Rattle.merge_statements.specs.Passed.{EndsText, WritesRests}
+use Rattle.merge_statements.specs.Places.{At, IsCount}
+use Rattle.merge_statements.specs.Statements.{Rest, rest_row, rests_rows, total_of_rests, total_row}
+use Rattle.merge_statements.specs.Unread.{Unread}
+use Rattle.merge_statements.proofs.Taking.{takes_push}
+use Rattle.merge_statements.proofs.Passing.{appends_more, consumes_more}
+
+pub ending_written : (old between new : Unread) (before after : Option (List ℕ)) (count : ℕ) (total : ℤ) (lines : ℕ) → WritesRests old between before after count total
+    → EndsText between new lines → WritesEnding old new before after count total lines
+ending_written old between new before after count total lines was end = record {
+  ending = ending;
+  ends = record {
+    sound = was.sound;
+    few = end.few;
+    few_rests = subst IsCount (ap (λ (at : At). at.portions) was.at) was.few;
+    consumed = subst (λ (t : List ℕ). Consumes old.left new.left t) text
+        (consumes_more old.left between.left new.left (text_of (rests_rows was.rests)) (text_of_row last) was.consumed
+        (subst (λ (all : ℤ). Consumes between.left new.left (text_of_row (total_row (codes "R") [] lines all))) (ap (λ (at : At). at.total) was.at) end.consumed));
+    ended = end.ended;
+  };
+  counted = was.counted;
+  sum = was.sum;
+  all_lines = refl;
+  written = was.written;
+}
+  where
+    ending : Ending
+    ending = record { rests = was.rests; lines = lines }
+
+    last : List (List ℕ)
+    last = total_row (codes "R") [] lines (old.at.total +ℤ total_of_rests was.rests)
+
+    text : text_of (rests_rows was.rests) ++ text_of_row last ≡ text_of (rests_rows was.rests ++ last ∷ [])
+    text = ap (λ (l : List ℕ). text_of (rests_rows was.rests) ++ l) (sym (append-nil (text_of_row last))) ∙ sym (flat_map-append text_of_row (rests_rows was.rests) (last ∷ []))
+
+nothing : (known : Option (List ℕ)) → Appends known known []
+nothing None = tt
+nothing (Some xs) = sym (append-nil xs)
+
+pub no_ends : (before : Option (List ℕ)) → EndsEach [] [] before before 0 (pos 0) 0
+no_ends before = record {
+  endings = [];
+  taken = none_of;
+  counted = refl;
+  sum = refl;
+  few = omega arith;
+  all_lines = refl;
+  few_lines = omega arith;
+  written = nothing before;
+}
+
+rests_more : (endings : List Ending) (ending : Ending) → rests_of (endings ++ ending ∷ []) ≡ rests_of endings ++ ending.rests
+rests_more endings ending =
+    flat_map-append (λ (e : Ending). e.rests) endings (ending ∷ []) ∙ ap (λ (l : List Rest). rests_of endings ++ l) (append-nil ending.rests)
+
+lines_more : (endings : List Ending) (ending : Ending) → lines_of (endings ++ ending ∷ []) ≡ lines_of endings + ending.lines
+lines_more endings ending = sum_by-append (λ (e : Ending). e.lines) endings (ending ∷ []) ∙ omega arith
+
+text_joined : (xs ys : List Rest) → text_of (map rest_row xs) ++ text_of (map rest_row ys) ≡ text_of (map rest_row (xs ++ ys))
+text_joined xs ys = sym (flat_map-append text_of_row (map rest_row xs) (map rest_row ys)) ∙ ap text_of (sym (map-append rest_row xs ys))
+
+pub ends_more : (old new : Unread) (olds news : List Unread) (before middle after : Option (List ℕ)) (so_far own count : ℕ) (rest sum total : ℤ) (lines more all : ℕ)
+    → EndsEach olds news before middle so_far rest lines → WritesEnding old new middle after own sum more
+    → count ≡ so_far + own → total ≡ rest +ℤ sum → IsCount count → all ≡ lines + more → IsCount all
+    → EndsEach (olds ++ old ∷ []) (news ++ new ∷ []) before after count total all
+ends_more old new olds news before middle after so_far own count rest sum total lines more all was one counted comes few lined few_lines =
+    let joined = rests_more was.endings one.ending in
+    record {
+      endings = was.endings ++ one.ending ∷ [];
+      taken = takes_push EndsOne olds news old new was.endings (one.ending ∷ []) was.taken (one.ending, refl, one.ends);
+      counted = omega (arith, counted, was.counted, one.counted, ap length joined, length-append (rests_of was.endings) one.ending.rests);
+      sum = comes ∙ ((λ i. was.sum i +ℤ one.sum i) ∙ (sym (int_sum_by-append (λ (r : Rest). r.amount) (rests_of was.endings) one.ending.rests) ∙ ap total_of_rests (sym joined)));
+      few = few;
+      all_lines = omega (arith, lined, was.all_lines, one.all_lines, lines_more was.endings one.ending);
+      few_lines = few_lines;
+      written = subst (λ (t : List ℕ). Appends before after t) (text_joined (rests_of was.endings) one.ending.rests ∙ ap (λ (l : List Rest). text_of (map rest_row l)) (sym joined))
+          (appends_more before middle after (text_of (map rest_row (rests_of was.endings))) (text_of (map rest_row one.ending.rests)) was.written one.written);
+    }

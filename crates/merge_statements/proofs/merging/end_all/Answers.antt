@@ -1,0 +1,35 @@
+use Rattle.std.proofs.Common.{◌<◌, arith, get_or, length, take, subst, sym}
+use Rattle.std.proofs.lemmas.List.{get_or_default}
+use Rattle.merge_statements.specs.Together.{EndsEach, IsBetween}
+use Rattle.merge_statements.proofs.Endings.{ends_more, no_ends}
+use Rattle.merge_statements.proofs.Taking.{holds_of_all, holds_of_more, holds_of_none}
+use Rattle.merge_statements.proofs.merging.end_all.Goals as goal
+
+pub loop-place-init : goal.loop-place-init
+loop-place-init g c = holds_of_none (λ olds news. EndsEach olds news c.args.out.now c.args.out.now 0 _ 0) c.args.parts.now (no_ends c.args.out.now)
+
+pub end_text-requires : goal.end_text-requires
+end_text-requires g c =
+    let l = c.loop-place in
+    let d = c.index-parts-place.result in
+    subst IsBetween (sym (l.invariant.others l.place d (omega arith))) (c.requires l.place d (omega (arith, c.loop-place-test.true)))
+
+pub loop-place-preserved : goal.loop-place-preserved
+loop-place-preserved g c =
+    let l = c.loop-place in
+    let own = c.in-Ok.own in
+    let old = get_or l.parts l.place c.index-parts-place.result in
+    let low : l.place < length l.parts = omega (arith, c.loop-place-test.true, l.auto.parts) in
+    let both = c.in_ok-both.ensures in
+    let lines = c.in_ok-more_lines.ensures in
+    holds_of_more (λ olds news. EndsEach olds news c.args.out.now l.out l.all.0.0 l.all.0.1 l.all.1)
+    (λ olds news. EndsEach olds news c.args.out.now c.end_text.new.out c.in_ok-both.field-0.0 c.in_ok-both.field-0.1 c.in_ok-more_lines.field-0)
+    c.args.parts.now l.parts old c.end_text.new.part l.place low (get_or_default l.parts l.place c.index-parts-place.result old low) l.invariant
+    (λ was. ends_more old c.end_text.new.part (take l.place c.args.parts.now) (take l.place l.parts) c.args.out.now l.out c.end_text.new.out
+    l.all.0.0 own.0.0 c.in_ok-both.field-0.0 l.all.0.1 own.0.1 c.in_ok-both.field-0.1 l.all.1 own.1 c.in_ok-more_lines.field-0
+    was c.in-Ok.ensures both.count both.sum both.few lines.sum lines.few)
+
+pub returns : goal.returns
+returns g c =
+    let l = c.loop-place in
+    holds_of_all (λ olds news. EndsEach olds news c.args.out.now l.out l.all.0.0 l.all.0.1 l.all.1) c.args.parts.now l.parts l.place (omega (arith, c.loop-place-test.false, l.auto.parts)) l.invariant

@@ -1,0 +1,11 @@
+use Rattle.std.proofs.Common.{ap}
+use Rattle.merge_statements.specs.Places.{At}
+use Rattle.merge_statements.proofs.Endings.{ending_written}
+use Rattle.merge_statements.proofs.merging.end_text.Goals as goal
+
+pub finish-requires : goal.finish-requires
+finish-requires g c = ap (λ (at : At). at.place) c.in_ok-sum.ensures.at
+
+pub returns : goal.returns
+returns g c =
+    ending_written c.args.part.now c.pass_rests.new.self c.finish.new.self c.args.out.now c.pass_rests.new.out c.in_ok-sum.sum.0 c.in_ok-sum.sum.1 c.in_ok-lines.lines c.in_ok-sum.ensures c.in_ok-lines.ensures

@@ -1,0 +1,7 @@
+use Rattle.std.proofs.Common.{List, Option, ℕ}
+use Rattle.merge_statements.specs.Together.{AreMergedSoFar, AreOpen}
+use Rattle.merge_statements.proofs.merging.merge_payees.Given as goal
+
+-- some payees are merged
+abbrev pub invariant-loop : goal.invariant-loop
+invariant-loop g l = (starts : List (Option (List ℕ))) → AreOpen starts l.fn.parts → AreMergedSoFar starts l.parts l.fn.out l.out l.all.0 l.all.1

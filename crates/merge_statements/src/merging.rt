@@ -1,0 +1,276 @@
+//! Texts of statements merged into one.
+
+ghost use Rattle.std.specs.Prelude.{◌≡◌, ◌+◌, ◌+ℤ◌, [], ℕ, All, List, Option, codes, IfOk, OnOk, Some, false, map, true};
+ghost use Rattle.std.specs.Io.KnownBytes.{Appends};
+ghost use Rattle.csv_table.specs.Written.{text_of_row};
+ghost use Rattle.merge_statements.specs.Together.{AreMergedSoFar, AreOpen, EndsEach, HasLeast, IsBetween, WritesAll, WritesEnding, WritesMerge, WritesOne};
+ghost use Rattle.merge_statements.specs.Statements.{total_row};
+ghost use Rattle.merge_statements.specs.Places.{IsCount};
+
+use crate::amount::MOST_COUNT;
+use crate::output::Output;
+use crate::part::Part;
+use crate::refusal::Refusal;
+use crate::walk::{is_before, replace};
+use std::alloc::{AllocError, Global};
+use std::io::{Read, Write};
+
+/// Which text is refused, counted from 0, and why.
+#[derive(Debug, Drop)]
+pub struct TextRefusal {
+    pub place: u64,
+    pub refusal: Refusal,
+}
+
+/// Merges texts of statements, in this order, and adds the merged text to the output, which is still to pass its last page on. Each text
+/// is read once, through a small buffer. Where a text is refused, the output has the beginning of what could be merged.
+pub fn merge<R: Read + Drop, W: Write + Drop>(
+    alloc: Global,
+    from: Vec<R>,
+    out: &mut Output<W>,
+) -> Result<(), TextRefusal>
+    ensures { OnOk result (WritesMerge (map R.remaining from.items) out.old out.new) }
+{
+    let mut parts = open_all(alloc, from)?;
+    merge_parts(alloc, parts.as_mut_slice(), out)?;
+    Ok(())
+}
+
+/// The same, into an output that is given back with the merged text.
+pub fn merge_to<R: Read + Drop, W: Write + Drop>(
+    alloc: Global,
+    from: Vec<R>,
+    to: W,
+) -> Result<W, TextRefusal>
+    ensures { IfOk result (λ written. WritesMerge (map R.remaining from.items) (W.contents to) (W.contents written)) }
+{
+    let mut out = Output::new(alloc, to);
+    merge(alloc, from, &mut out)?;
+    match out.finish() {
+        Ok(written) => Ok(written),
+        Err(error) => Err(refused(0, Refusal::Write(error))),
+    }
+}
+
+/// The same of texts that stand before their first rows.
+fn merge_parts<R: Read + Drop, W: Write + Drop>(
+    alloc: Global,
+    parts: &mut [Part<R>],
+    out: &mut Output<W>,
+) -> Result<(), TextRefusal>
+    requires { (starts : List (Option (List ℕ))) × AreOpen starts parts.old }
+    ensures { OnOk result ((starts : List (Option (List ℕ))) → AreOpen starts parts.old → WritesMerge starts out.old out.new) }
+{
+    let paid = merge_payees(alloc, parts, out)?;
+    let (left, lines) = end_all(parts, out)?;
+    push_total(out, "T", b"", left)?;
+    let all = both(paid, left, 0)?;
+    push_run(out, lines, all)?;
+    Ok(())
+}
+
+/// The texts, before their first rows.
+fn open_all<R: Read + Drop>(alloc: Global, from: Vec<R>) -> Result<Vec<Part<R>>, TextRefusal>
+    ensures { IfOk result (λ parts. AreOpen (map R.remaining from.items) parts.items) }
+{
+    let mut parts = Vec::new(alloc);
+    for reader in from {
+        let place = parts.len();
+        let part = match Part::open(alloc, reader) {
+            Ok(part) => part,
+            Err(refusal) => return Err(refused(place, refusal)),
+        };
+        match parts.push(part) {
+            Ok(()) => {}
+            Err(_) => return Err(refused(place, Refusal::Memory)),
+        }
+    }
+    Ok(parts)
+}
+
+/// The least of the payees that come next in the texts, in byte order, and whether one does in any.
+fn least_payee<R: Read + Drop>(parts: &[Part<R>], least: &mut Vec<u8>) -> Result<bool, AllocError>
+    ensures { IfOk result (HasLeast parts.now least.new.items) }
+{
+    let [first, others @ ..] = parts else {
+        return Ok(false);
+    };
+    let found = least_payee(others, least)?;
+    match first.payee() {
+        None => Ok(found),
+        Some(payee) => {
+            if !found || is_before(payee, least.as_slice()) {
+                replace(least, payee)?;
+            }
+            Ok(true)
+        }
+    }
+}
+
+/// Passes over the statement of a payee in a text, if it comes next there.
+fn pass_if_next<R: Read + Drop, W: Write + Drop>(
+    part: &mut Part<R>,
+    payee: &[u8],
+    out: &mut Output<W>,
+) -> Result<(u64, i128), Refusal>
+    ensures { IfOk result (λ sum. WritesOne payee.now part.old part.new out.old out.new sum.0 sum.1) }
+{
+    if !is_next(part, payee) {
+        return Ok((0, 0));
+    }
+    let sum = part.pass_statement(out)?;
+    Ok(sum)
+}
+
+/// Whether a payee comes next in a text.
+fn is_next<R: Read + Drop>(part: &Part<R>, payee: &[u8]) -> bool
+    ensures is { result ≡ true → part.now.payee ≡ Some payee.now }
+    ensures is_not { result ≡ false → ¬ (part.now.payee ≡ Some payee.now) }
+{
+    match part.payee() {
+        Some(next) => next == payee,
+        None => false,
+    }
+}
+
+/// Passes over the statements of a payee in all texts where it comes next.
+fn pass_payee<R: Read + Drop, W: Write + Drop>(
+    parts: &mut [Part<R>],
+    payee: &[u8],
+    out: &mut Output<W>,
+) -> Result<(u64, i128), TextRefusal>
+    ensures { IfOk result (λ sum. WritesAll payee.now parts.old parts.new out.old out.new sum.0 sum.1) }
+{
+    let mut all = (0, 0);
+    for place in 0..parts.len() {
+        let own = match pass_if_next(&mut parts[place], payee, out) {
+            Ok(own) => own,
+            Err(refusal) => return Err(refused(place, refusal)),
+        };
+        all = both(all, own, place)?;
+    }
+    Ok(all)
+}
+
+/// Merges the statements of all payees, in byte order, and adds them to the output. Answers how many portions there are and what they come
+/// to.
+fn merge_payees<R: Read + Drop, W: Write + Drop>(
+    alloc: Global,
+    parts: &mut [Part<R>],
+    out: &mut Output<W>,
+) -> Result<(u64, i128), TextRefusal>
+    ensures { IfOk result (λ sum. (starts : List (Option (List ℕ))) → AreOpen starts parts.old → AreMergedSoFar starts parts.new out.old out.new sum.0 sum.1) }
+{
+    let mut payee = Vec::new(alloc);
+    let mut all = (0, 0);
+    for _ in 0..u64::MAX {
+        let found = has_payee(parts, &mut payee)?;
+        if !found {
+            return Ok(all);
+        }
+        let own = pass_payee(parts, payee.as_slice(), out)?;
+        push_total(out, "S", payee.as_slice(), own)?;
+        all = both(all, own, 0)?;
+    }
+    Err(refused(0, Refusal::Many))
+}
+
+/// The least of the payees that come next, as above.
+fn has_payee<R: Read + Drop>(parts: &[Part<R>], least: &mut Vec<u8>) -> Result<bool, TextRefusal>
+    ensures { IfOk result (HasLeast parts.now least.new.items) }
+{
+    match least_payee(parts, least) {
+        Ok(found) => Ok(found),
+        Err(_) => Err(refused(0, Refusal::Memory)),
+    }
+}
+
+/// Adds a row of so many portions or usage lines, and what they come to.
+fn push_total<W: Write + Drop>(
+    out: &mut Output<W>,
+    kind: &str,
+    whose: &[u8],
+    sum: (u64, i128),
+) -> Result<(), TextRefusal>
+    ensures { OnOk result (Appends out.old out.new (text_of_row (total_row kind.now whose.now sum.0 sum.1))) }
+{
+    match out.push_total(kind, whose, sum.0, sum.1) {
+        Ok(()) => Ok(()),
+        Err(error) => Err(refused(0, Refusal::Write(error))),
+    }
+}
+
+/// Adds the row of so many usage lines, and what the portions of them come to.
+fn push_run<W: Write + Drop>(
+    out: &mut Output<W>,
+    lines: u64,
+    portions: (u64, i128),
+) -> Result<(), TextRefusal>
+    ensures { OnOk result (Appends out.old out.new (text_of_row (total_row (codes "R") [] lines portions.1))) }
+{
+    push_total(out, "R", b"", (lines, portions.1))
+}
+
+/// Passes over a text from behind its last payee to its end, and adds what nobody gets to the output without its sum. Answers how many
+/// portions that is, what they come to, and how many usage lines there were.
+fn end_text<R: Read + Drop, W: Write + Drop>(
+    part: &mut Part<R>,
+    out: &mut Output<W>,
+) -> Result<((u64, i128), u64), Refusal>
+    requires { IsBetween part.old }
+    ensures { IfOk result (λ end. WritesEnding part.old part.new out.old out.new end.0.0 end.0.1 end.1) }
+{
+    let sum = part.pass_rests(out)?;
+    let lines = part.finish()?;
+    Ok((sum, lines))
+}
+
+/// The same of all texts.
+fn end_all<R: Read + Drop, W: Write + Drop>(
+    parts: &mut [Part<R>],
+    out: &mut Output<W>,
+) -> Result<((u64, i128), u64), TextRefusal>
+    requires { All IsBetween parts.old }
+    ensures { IfOk result (λ end. EndsEach parts.old parts.new out.old out.new end.0.0 end.0.1 end.1) }
+{
+    let mut all = ((0, 0), 0);
+    for place in 0..parts.len() {
+        let own = match end_text(&mut parts[place], out) {
+            Ok(own) => own,
+            Err(refusal) => return Err(refused(place, refusal)),
+        };
+        all = (both(all.0, own.0, place)?, more_lines(all.1, own.1, place)?);
+    }
+    Ok(all)
+}
+
+/// So many usage lines and more, as long as they can be counted.
+fn more_lines(lines: u64, more: u64, place: usize) -> Result<u64, TextRefusal>
+    ensures sum { IfOk result (λ all. all ≡ lines + more) }
+    ensures few { IfOk result IsCount }
+{
+    match lines.checked_add(more) {
+        Some(all) if all <= MOST_COUNT => Ok(all),
+        _ => Err(refused(place, Refusal::Many)),
+    }
+}
+
+/// The refusal of the text with a number.
+fn refused(place: usize, refusal: Refusal) -> TextRefusal {
+    TextRefusal {
+        place: place as u64,
+        refusal,
+    }
+}
+
+/// The number and the sum of portions of two kinds, as long as they can be counted.
+fn both(own: (u64, i128), more: (u64, i128), place: usize) -> Result<(u64, i128), TextRefusal>
+    ensures count { IfOk result (λ sum. sum.0 ≡ own.0 + more.0) }
+    ensures sum { IfOk result (λ sum. sum.1 ≡ own.1 +ℤ more.1) }
+    ensures few { IfOk result (λ sum. IsCount sum.0) }
+{
+    match (own.0.checked_add(more.0), own.1.checked_add(more.1)) {
+        (Some(count), Some(sum)) if count <= MOST_COUNT => Ok((count, sum)),
+        _ => Err(refused(place, Refusal::Many)),
+    }
+}
