@@ -1,5 +1,5 @@
 //! `royalty_run run`, `explain` and `check` once more, as one would write them by hand in Rust, with no proofs. The words and the
-//! text that comes out are the same. `--mode` says how the book is filled: one (where there is no such word), threads, channels,
+//! text that comes out are the same. And `merge`, with the paths of statement texts behind it, merges them, as `merge_statements` does. `--mode` says how the book is filled: one (where there is no such word), threads, channels,
 //! batches, linked, pool or bells. With `--times` it says how long each phase took.
 
 mod bells;
@@ -8,6 +8,7 @@ mod check;
 mod cwr;
 mod explain;
 mod linked;
+mod merge;
 mod payees;
 mod pool;
 mod rows;
@@ -145,6 +146,24 @@ fn check_main() -> Result<ExitCode, ExitCode> {
     }
 }
 
+/// Prints the statements of several texts together.
+fn merge_main() -> Result<ExitCode, ExitCode> {
+    let mut all = merge::Statements::default();
+    for path in std::env::args().skip(2) {
+        let text = std::fs::read(&path).map_err(|_| fail(4, format!("cannot read {path}")))?;
+        match merge::Statements::read(&text) {
+            Ok(others) => all.join(others),
+            Err(rows::Fault(number, row)) => {
+                return Err(fail(1, format!("statement fault {number} at row {} of {path}", row.unwrap_or(0))));
+            }
+        }
+    }
+    match all.write(&mut std::io::BufWriter::new(std::io::stdout())) {
+        Ok(()) => Ok(ExitCode::SUCCESS),
+        Err(_) => Err(fail(4, "cannot write".into())),
+    }
+}
+
 fn fail(status: u8, text: String) -> ExitCode {
     eprintln!("plain: {text}");
     ExitCode::from(status)
@@ -168,6 +187,7 @@ fn main() -> ExitCode {
     let done = match std::env::args().nth(1).as_deref() {
         Some("explain") => explain_main(),
         Some("check") => check_main(),
+        Some("merge") => merge_main(),
         _ => run_main(),
     };
     done.unwrap_or_else(|failed| failed)

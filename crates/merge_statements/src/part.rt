@@ -225,12 +225,14 @@ impl<R: Read + Drop> Part<R> {
         Ok(sum)
     }
 
-    /// Why the row at hand cannot stand here: there is none, or it is of another kind.
-    fn not_here(&self) -> Refusal {
-        if self.has_row {
-            Refusal::Fault(StatementFault::Kind(self.number))
-        } else {
-            Refusal::Fault(StatementFault::End(self.number))
+    /// Why the row at hand cannot stand here: there is none, it is no row, or it is of another kind.
+    fn not_here(&mut self) -> Refusal {
+        if !self.has_row {
+            return Refusal::Fault(StatementFault::End(self.number));
+        }
+        match row_of(&self.rows, &mut self.room, self.number) {
+            Ok(_) => Refusal::Fault(StatementFault::Kind(self.number)),
+            Err(refusal) => refusal,
         }
     }
 
@@ -260,7 +262,7 @@ impl<R: Read + Drop> Part<R> {
     {
         self.step()?;
         if self.has_row {
-            return Err(Refusal::Fault(StatementFault::Kind(self.number)));
+            return Err(self.not_here());
         }
         Ok(self.progress.lines())
     }

@@ -262,6 +262,14 @@ fn a_text_that_is_no_statement_text_is_refused(rt: HostRuntime) -> Result<(), Fa
             "text 1: row 3 is of a kind that cannot stand there",
         ),
         (
+            "T,,0,0\nR,,0,0\nR,,0\n",
+            "text 1: row 3 is no row of four fields",
+        ),
+        (
+            "L,A,u1,60\nS,A,1,60\n\nT,,0,0\nR,,1,60\n",
+            "text 1: row 3 is no row of four fields",
+        ),
+        (
             "L,A,u1,60\nT,,0,0\nR,,1,60\n",
             "text 1: row 2 is of a kind that cannot stand there",
         ),
