@@ -97,8 +97,3 @@ pub record Follows (at : At) (row : List (List ℕ)) (next : At) : Type 0 where
   pub form : row ≡ row_of kind whose third fourth
   pub fits : Fits at kind whose third fourth
   pub leads : Leads at kind whose third fourth next
-
--- rows that follow one another
-pub data Follow : At → List (List (List ℕ)) → At → Type 0 where
-  none : (at : At) → Follow at [] at
-  more : (at next last : At) (row : List (List ℕ)) (rows : List (List (List ℕ))) → Follows at row next → Follow next rows last → Follow at (row ∷ rows) last
