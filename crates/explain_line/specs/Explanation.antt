@@ -13,10 +13,10 @@ use Rattle.cwr_share.specs.Registrations.{ShareLine}
 use Rattle.line_split.specs.Claims.{base_of, participants_of}
 use Rattle.line_split.specs.FairSplit.{value_at}
 use Rattle.line_split.specs.LargestRemainder.{contenders_of, portion_of, quota_of, rank_of, remainder_of, units_left}
+use Rattle.line_split.specs.ReasonTexts.{reason_text}
 use Rattle.line_split.specs.Signs.{with_sign_of}
 use Rattle.line_split.specs.UsageLine.{UsageLine}
 use Rattle.line_split.specs.declared.reason.Reason.{Reason}
-use Rattle.line_split.specs.declared.reason.Reason.TheVariants.{Work, Land, Over, Open}
 use Rattle.line_split.specs.declared.usage.Right.{Right}
 use Rattle.line_split.specs.declared.usage.Right.TheVariants.{P, M, S}
 use Rattle.run_inputs.specs.Inputs.{IsReading}
@@ -25,12 +25,6 @@ abbrev pub right_text : Right → List ℕ
 right_text P = codes "P"
 right_text M = codes "M"
 right_text S = codes "S"
-
-abbrev pub reason_text : Reason → List ℕ
-reason_text Work = codes "WORK"
-reason_text Land = codes "LAND"
-reason_text Over = codes "OVER"
-reason_text Open = codes "OPEN"
 
 abbrev pub yes_or_no : Bool → List ℕ
 yes_or_no b = if b then codes "yes" else codes "no"

@@ -10,7 +10,7 @@ ghost use Rattle.cwr_share.specs.Filed.{IsFiled};
 ghost use Rattle.cwr_share.specs.Payees.{payee_of};
 ghost use Rattle.cwr_share.specs.Registrations.{ShareLine};
 ghost use Rattle.cwr_share.specs.declared.TheConstants.{MOST_SHARES};
-ghost use Rattle.explain_line.specs.Explanation.{base_row, claim_row, division_rows, line_row, mark_text, participant_row, payee_at, reason_text, registration_rows, right_text, share_row, yes_or_no};
+ghost use Rattle.explain_line.specs.Explanation.{base_row, claim_row, division_rows, line_row, mark_text, participant_row, payee_at, registration_rows, right_text, share_row, yes_or_no};
 ghost use Rattle.line_split.specs.Claims.{participants_of};
 ghost use Rattle.line_split.specs.Signs.{with_sign_of};
 ghost use Rattle.line_split.specs.UsageLine.{usage_line_of};
@@ -128,10 +128,7 @@ fn reason_word(reason: Option<Reason>) -> &'static str
     ensures { result.now ≡ option_map_or reason_text reason [] }
 {
     match reason {
-        Some(Reason::Work) => "WORK",
-        Some(Reason::Land) => "LAND",
-        Some(Reason::Over) => "OVER",
-        Some(Reason::Open) => "OPEN",
+        Some(reason) => reason.word(),
         None => "",
     }
 }

@@ -21,7 +21,7 @@ use Rattle.line_split.proofs.Fair.{portions_are_fair}
 use Rattle.line_split.proofs.IntSums.{int_sum_by_size}
 use Rattle.line_split.proofs.Signs.{signed_sum, size_of_signed}
 use Rattle.payee_book.specs.Run.{portion_of}
-use Rattle.payee_book.specs.Text.{reason_text}
+use Rattle.line_split.specs.ReasonTexts.{reason_text}
 use Rattle.merge_statements.specs.Statements.{AreStatements, IsAmount, IsName, IsPortion, IsReason, IsRest, IsStatement, Portion, Rest, Statement, total_of, total_of_rests}
 use Rattle.merge_statements.proofs.OneMerge.{payees_of}
 use Rattle.merge_laws.proofs.Said.{made_of, portions_by, rests_by, said_of, statements_by, statements_with}

@@ -19,7 +19,8 @@ use Rattle.line_split.specs.UsageLine.{UsageLine}
 use Rattle.line_split.specs.declared.reason.Reason.{Reason}
 use Rattle.line_split.proofs.IntSums.{int_sum_by-append, int_sum_by-cons}
 use Rattle.payee_book.specs.Run.{IsBookOf}
-use Rattle.payee_book.specs.Text.{reason_text, rows_of_book}
+use Rattle.line_split.specs.ReasonTexts.{reason_text}
+use Rattle.payee_book.specs.Text.{rows_of_book}
 use Rattle.run_inputs.specs.Inputs.{IsReading}
 use Rattle.settle_run.specs.Settled.{AreStatementsOf, reason_of}
 use Rattle.settle_run.proofs.OneText.{read_alike, statements_alike}

@@ -11,7 +11,8 @@ use Rattle.line_split.specs.UsageLine.{UsageLine}
 use Rattle.line_split.specs.declared.reason.Reason.{Reason}
 use Rattle.payee_book.specs.Run.{IsBookOf, portion_of, statement_of}
 use Rattle.payee_book.specs.Statement.{total_of as total_of_postings}
-use Rattle.payee_book.specs.Text.{payee_rows, reason_at, reason_text, residue_rows, rows_of_book, run_row, usage_at}
+use Rattle.line_split.specs.ReasonTexts.{reason_text}
+use Rattle.payee_book.specs.Text.{payee_rows, reason_at, residue_rows, rows_of_book, run_row, usage_at}
 use Rattle.merge_statements.proofs.ReadBack.{the_portion, the_rest, the_statement}
 use Rattle.merge_statements.specs.Statements.{Portion, Rest, Statement, Statements, portion_row, rest_row, rests_rows, rows_of_statements, statement_rows, total_of, total_of_rests, total_row}
 

@@ -6,7 +6,9 @@ use Rattle.std.specs.Cmp.Lexicographic.{slice_cmp}
 use Rattle.std.specs.Ordering.{nat_cmp}
 use Rattle.csv_table.specs.Forms.{IsPrintable}
 use Rattle.csv_table.specs.Written.{text_of}
+use Rattle.line_split.specs.ReasonTexts.{reason_text}
 use Rattle.line_split.specs.Signs.{int_sum_by}
+use Rattle.line_split.specs.declared.reason.Reason.{Reason}
 
 -- a portion of a use: what the use is called, and the portion in minor units
 pub record Portion : Type 0 where
@@ -77,7 +79,7 @@ abbrev pub IsPortion : Portion → Type 0
 IsPortion portion = IsName portion.usage × IsAmount portion.amount
 
 abbrev pub IsReason : List ℕ → Type 0
-IsReason reason = (reason ≡ codes "WORK") ⊎ (reason ≡ codes "LAND") ⊎ (reason ≡ codes "OVER") ⊎ (reason ≡ codes "OPEN")
+IsReason text = (reason : Reason) × (text ≡ reason_text reason)
 
 abbrev pub IsRest : Rest → Type 0
 IsRest rest = IsReason rest.reason × IsName rest.usage × IsAmount rest.amount

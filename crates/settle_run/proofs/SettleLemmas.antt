@@ -7,7 +7,8 @@ use Rattle.std.proofs.lemmas.List.Elements.{All-push, All-tail}
 use Rattle.line_split.specs.UsageLine.{UsageLine}
 use Rattle.line_split.specs.declared.reason.Reason.{Reason}
 use Rattle.line_split.specs.declared.reason.Reason.TheVariants.{Open}
-use Rattle.payee_book.specs.Text.{payee_rows, posting_row, reason_at, reason_text, residue_rows, rows_of_book, run_row, total_row}
+use Rattle.line_split.specs.ReasonTexts.{reason_text}
+use Rattle.payee_book.specs.Text.{payee_rows, posting_row, reason_at, residue_rows, rows_of_book, run_row, total_row}
 
 -- the reasons of the lines of those postings that are done; at any place there is the line's own reason, or none is set
 pub record AreReasons (owns : List Reason) (done : List (ℕ × ℤ)) (reasons : List Reason) : Type 0 where
