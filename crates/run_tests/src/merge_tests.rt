@@ -345,3 +345,17 @@ fn a_statement_text_is_read_through(rt: HostRuntime) -> Result<(), Fail> {
     }
     Ok(())
 }
+
+#[test]
+fn a_text_that_is_cut_off_is_refused(rt: HostRuntime) -> Result<(), Fail> {
+    for text in [FIRST, SECOND] {
+        for size in 0..text.len() {
+            let part = &text.as_bytes()[..size];
+            assert!(rt;
+                check(rt.alloc(), part).is_err(),
+                "at {size} bytes of {text}"
+            );
+        }
+    }
+    Ok(())
+}
