@@ -155,10 +155,7 @@ not_zero : (amount : ℤ) → is_not_zero amount ≡ true → 0 < unsigned_abs a
 not_zero amount is = grind (arith, is)
 
 is_reason : (reason : Reason) → IsReason (reason_text reason)
-is_reason Work = inl refl
-is_reason Land = inr (inl refl)
-is_reason Over = inr (inr (inl refl))
-is_reason Open = inr (inr (inr refl))
+is_reason reason = (reason, refl)
 
 module _ (division : UsageLine → List (ℕ × ℤ)) (small : (account : ℕ) (line : UsageLine) → unsigned_abs (portion_of account (division line)) ≤ unsigned_abs line.amount)
     (lines : List UsageLine) (sound : All IsInLimits lines) where
