@@ -70,6 +70,7 @@ else
     "$program" "${words[@]}" > "$output.new" || status=$?
     if [[ $status == 0 ]]; then mv "$output.new" "$output"; else rm "$output.new"; fi
 fi
+[[ $1 != merge || ! -e $room/accidents/merge_touch ]] || touch parts/part-0001.statements
 [[ $1 != merge || ! -e $room/accidents/merge ]] || sed -i '$s/^R,,4/R,,5/' "$output"
 exit "$status"
 TEXT
@@ -310,8 +311,11 @@ with_few_files() (
 )
 hold 'merging with few files' with_few_files
 is_merged 'merging with few files' here whole
+touch accidents/merge_touch
+check 'statements that change while they are merged' 1 'statements changed while they were merged' "$month" merge here
+rm accidents/merge_touch
 touch accidents/merge
-check 'a merged text of other lines' 1 'the list has 4000 usage lines' "$month" merge here
+check 'a merged text of other lines' 1 'the list has 4000 usage lines' "$month" run here
 cmp -s here/month.statements whole || not_so 'a merged text of other lines is kept'
 
 rm accidents/*
