@@ -312,7 +312,7 @@ with_few_files() (
 hold 'merging with few files' with_few_files
 is_merged 'merging with few files' here whole
 touch accidents/merge_touch
-check 'statements that change while they are merged' 1 'statements changed while they were merged' "$month" merge here
+check 'statements that change while they are merged' 1 'changed while parts were merged' "$month" merge here
 rm accidents/merge_touch
 touch accidents/merge
 check 'a merged text of other lines' 1 'the list has 4000 usage lines' "$month" run here
