@@ -280,6 +280,7 @@ touch accidents/part-0005.kill accidents/part-0012.kill_job
 hold 'submit, and two are killed' "$month" submit killed
 called 'submit, and two are killed' "${all[@]}"
 not_merged 'two are killed' killed
+[[ $(< "spool/$(find spool -name '*.script' | wc -l).result") == never ]] || not_so 'two are killed: the job that merges was run'
 check 'merging without two' 1 '2 of 16 parts are not made; nothing was merged' "$month" merge killed
 check 'the status of a killed part' 1 'part-0005: the program was killed by signal 9' "$month" status killed
 check 'the status of a killed job' 1 'part-0012: it was begun, and has not ended' "$month" status killed
@@ -289,7 +290,7 @@ hold 'again, and one is killed' "$month" again killed
 called 'again, and one is killed' 'run part-0005' 'run part-0012'
 not_merged 'one is killed' killed
 rm accidents/part-0005.kill
-hold 'again' "$month" again killed
+check 'again' 0 $'makes parts 5\njob' "$month" again killed
 called 'again' 'run part-0005' "$last"
 is_merged 'again' killed whole
 
