@@ -1,4 +1,4 @@
-.PHONY: help build demo test edits compare fuzz sizes refuse bench explore
+.PHONY: help build demo test edits compare fuzz sizes refuse bench explore months cluster
 
 help:
 	@echo 'make demo     make the statements of the example in about a minute, with a build that is not proved'
@@ -11,14 +11,16 @@ help:
 	@echo 'make refuse   run the program with each allocation, thread, read and write refused in turn, and each call as make test does; a minute once both are built'
 	@echo 'make bench    run both on a million usage lines, print times and peak memory; and a mailbox alone and pools'
 	@echo 'make explore  go through every state of a small mailbox and of a small pool, with the model in Python, and find each wrong one out; a minute'
+	@echo 'make months   run small months in parts, with stand-ins for Slurm; kill parts, change files, and compare with the plain program; a minute'
+	@echo 'make cluster  run a small month under Slurm, which is started for it on this machine alone and has to be installed'
 	@echo 'make help     this list'
-	@echo 'compare, fuzz, sizes, refuse and bench build and prove the program first, unless they are given one: make bench PROGRAM=out/royalty_run'
-	@echo 'All but explore need the command rt of the Rattle kit on the path; compare, fuzz, sizes, bench and explore also'
-	@echo 'python3, compare, fuzz, sizes and bench cargo, and test and refuse a C compiler.'
+	@echo 'compare, fuzz, sizes, refuse, bench, months and cluster build and prove the program first, unless they are given one: make bench PROGRAM=out/royalty_run'
+	@echo 'All but explore need the command rt of the Rattle kit on the path; compare, fuzz, sizes, bench, explore, months and cluster also'
+	@echo 'python3, compare, fuzz, sizes, bench and months cargo, and test and refuse a C compiler.'
 
 PROGRAM = out/royalty_run
 ifeq ($(origin PROGRAM),file)
-compare fuzz sizes refuse bench: build
+compare fuzz sizes refuse bench months: build
 endif
 
 build:
@@ -70,3 +72,14 @@ explore:
 	python3 model/explore.py 2 1 1
 	python3 model/explore.py 1 1 2 --mailboxes 2
 	python3 model/explore.py 1 1 2 --mailboxes 2 --wrong all
+
+months:
+	cluster/test.sh $(PROGRAM)
+
+# What is missing is said before an hour of proving.
+cluster:
+	cluster/one_machine.sh --needs
+ifeq ($(origin PROGRAM),file)
+	$(MAKE) build
+endif
+	cluster/one_machine.sh $(PROGRAM)

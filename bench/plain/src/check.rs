@@ -304,7 +304,7 @@ fn greatest<K: Ord>(tallies: BTreeMap<K, Tally>) -> Vec<(K, Tally)> {
 fn summary(tis_file: File, payees: &Payees, cwr_file: File, usage_file: File) -> String {
     let tis = Tis::read(&mut tis_file.1.to_vec()).unwrap();
     let registry = Registry::read(cwr_file.1, &tis, payees, ACCOUNTS).unwrap();
-    let usage = Usage::read(usage_file.1.to_vec()).unwrap();
+    let usage = Usage::read(usage_file.1.to_vec(), crate::LARGEST_LIST.lines).unwrap();
     let input = Input { tis: &tis, registry: &registry, usage: &usage };
 
     let lines = &usage.lines;

@@ -1,6 +1,7 @@
 //! `royalty_run run`, `explain` and `check` once more, as one would write them by hand in Rust, with no proofs. The words and the
 //! text that comes out are the same. And `merge`, with the paths of statement texts behind it, merges them, as `merge_statements` does. `--mode` says how the book is filled: one (where there is no such word), threads, channels,
-//! batches, linked, pool or bells. With `--times` it says how long each phase took.
+//! batches, linked, pool or bells. With `--times` it says how long each phase took. With `--whole` the usage list may have any number
+//! of lines, and 4,294,967,295 bytes.
 
 mod bells;
 mod book;
@@ -29,11 +30,22 @@ const ACCOUNTS: usize = 16_384;
 
 const LARGEST_FILE: u64 = 268_435_456;
 
-/// The values of the six options that have to be there, and the path of the payees.
-fn words() -> Option<(Vec<String>, Option<String>, bool, Mode)> {
+/// What a usage list has at most.
+struct Most {
+    bytes: u64,
+    lines: u64,
+}
+
+const LARGEST_LIST: Most = Most { bytes: LARGEST_FILE, lines: 1_000_000 };
+
+/// The list of a month: places in it are kept in 32 bits.
+const WHOLE_LIST: Most = Most { bytes: u32::MAX as u64, lines: u64::MAX };
+
+/// The values of the six options that have to be there, the path of the payees, whether times are told, the mode, and the limits of the list.
+fn words() -> Option<(Vec<String>, Option<String>, bool, Mode, Most)> {
     let names = ["--tis", "--cwr", "--usage", "--workers", "--readers", "--nodes", "--payees"];
     let mut values: Vec<Option<String>> = vec![None; names.len()];
-    let (mut times, mut mode) = (false, Mode::One);
+    let (mut times, mut mode, mut most) = (false, Mode::One, LARGEST_LIST);
     let mut args = std::env::args().skip(1);
     if args.next()? != "run" {
         return None;
@@ -43,6 +55,10 @@ fn words() -> Option<(Vec<String>, Option<String>, bool, Mode)> {
             times = true;
             continue;
         }
+        if name == "--whole" {
+            most = WHOLE_LIST;
+            continue;
+        }
         if name == "--mode" {
             mode = Mode::of(&args.next()?)?;
             continue;
@@ -50,7 +66,7 @@ fn words() -> Option<(Vec<String>, Option<String>, bool, Mode)> {
         values[names.iter().position(|n| *n == name)?] = Some(args.next()?);
     }
     let payees = values.pop()?;
-    Some((values.into_iter().collect::<Option<_>>()?, payees, times, mode))
+    Some((values.into_iter().collect::<Option<_>>()?, payees, times, mode, most))
 }
 
 /// `explain`: the values of the options that have to be there, the path of the payees, and the row.
@@ -88,13 +104,14 @@ struct Files {
 
 impl Files {
     /// Reads them in this order.
-    fn load(words: &[String], payees: &Option<String>) -> Result<Files, ExitCode> {
-        let read = |f: &String| read(f).map_err(|_| fail(4, format!("cannot read {f}")));
+    fn load(words: &[String], payees: &Option<String>, largest_list: u64) -> Result<Files, ExitCode> {
+        let read_up_to = |f: &String, most| read(f, most).map_err(|_| fail(4, format!("cannot read {f}")));
+        let read = |f: &String| read_up_to(f, LARGEST_FILE);
         Ok(Files {
             tis: read(&words[0])?,
             payees: payees.as_ref().map(read).transpose()?,
             cwr: read(&words[1])?,
-            usage: read(&words[2])?,
+            usage: read_up_to(&words[2], largest_list)?,
         })
     }
 }
@@ -117,12 +134,12 @@ fn explain_main() -> Result<ExitCode, ExitCode> {
     let Some((words, payees, row)) = explain_words() else {
         return Err(fail(2, "explain --tis F [--payees F] --cwr F --usage F --row N".into()));
     };
-    let mut files = Files::load(&words, &payees)?;
+    let mut files = Files::load(&words, &payees, LARGEST_FILE)?;
     let mut table = files.tis.clone();
     let tis = sound("tis", tis::Tis::read(&mut files.tis))?;
     let payees = payees_of(files.payees)?;
     let registry = sound("cwr", cwr::Registry::read(&files.cwr, &tis, &payees, ACCOUNTS))?;
-    let usage = sound("usage", usage::Usage::read(files.usage))?;
+    let usage = sound("usage", usage::Usage::read(files.usage, LARGEST_LIST.lines))?;
     let groups = explain::Groups::read(&mut table);
     match explain::explain(&groups, &payees, &files.cwr, &registry, &usage, row) {
         Some(text) if std::io::stdout().write_all(&text).is_ok() => Ok(ExitCode::SUCCESS),
@@ -136,7 +153,7 @@ fn check_main() -> Result<ExitCode, ExitCode> {
     let Some((words, payees)) = check_words() else {
         return Err(fail(2, "check --tis F [--payees F] --cwr F --usage F".into()));
     };
-    let files = Files::load(&words, &payees)?;
+    let files = Files::load(&words, &payees, LARGEST_FILE)?;
     let table = payees.as_deref().zip(files.payees.as_deref());
     let (text, sound) =
         check::check((&words[0], &files.tis), table, (&words[1], &files.cwr), (&words[2], &files.usage));
@@ -175,9 +192,9 @@ fn refused(what: &str, fault: rows::Fault) -> ExitCode {
     fail(1, format!("{what} fault {}{at}", fault.0))
 }
 
-/// The bytes of a file that is no larger than the limit.
-fn read(path: &str) -> std::io::Result<Vec<u8>> {
-    if std::fs::metadata(path)?.len() > LARGEST_FILE {
+/// The bytes of a file that has at most so many.
+fn read(path: &str, most: u64) -> std::io::Result<Vec<u8>> {
+    if std::fs::metadata(path)?.len() > most {
         return Err(std::io::ErrorKind::FileTooLarge.into());
     }
     std::fs::read(path)
@@ -195,8 +212,8 @@ fn main() -> ExitCode {
 
 /// Prints the statements of a run.
 fn run_main() -> Result<ExitCode, ExitCode> {
-    let Some((words, payees, times, mode)) = words() else {
-        let usage = "run --tis F [--payees F] --cwr F --usage F --workers n --readers n --nodes n [--mode m] [--times]";
+    let Some((words, payees, times, mode, most)) = words() else {
+        let usage = "run --tis F [--payees F] --cwr F --usage F --workers n --readers n --nodes n [--mode m] [--times] [--whole]";
         return Err(fail(2, usage.into()));
     };
     let number = |i: usize, most: usize| {
@@ -216,7 +233,7 @@ fn run_main() -> Result<ExitCode, ExitCode> {
         last = now;
     };
 
-    let mut files = Files::load(&words, &payees)?;
+    let mut files = Files::load(&words, &payees, most.bytes)?;
     lap("load files");
     let tis = sound("tis", tis::Tis::read(&mut files.tis))?;
     drop(files.tis);
@@ -225,7 +242,7 @@ fn run_main() -> Result<ExitCode, ExitCode> {
     let registry = sound("cwr", cwr::Registry::read(&files.cwr, &tis, &payees, ACCOUNTS))?;
     drop(files.cwr);
     lap("read cwr");
-    let usage = sound("usage", usage::Usage::read(files.usage))?;
+    let usage = sound("usage", usage::Usage::read(files.usage, most.lines))?;
     lap("read usage");
     let reasons: Vec<_> = usage.lines.iter().map(|_| AtomicU8::new(0)).collect();
     let input = split::Input { tis: &tis, registry: &registry, usage: &usage };

@@ -83,6 +83,13 @@ impl Out {
         self.fixed::<20>(t[i..].first_chunk().unwrap(), 20 - i);
     }
 
+    fn total(&mut self, n: i128) {
+        match i64::try_from(n) {
+            Ok(n) => self.amount(n),
+            Err(_) => self.put(n.to_string().as_bytes()),
+        }
+    }
+
     /// `text` as a quoted field.
     fn quoted(&mut self, text: &[u8]) {
         self.byte(b'"');
@@ -157,6 +164,11 @@ impl Prefix {
     }
 }
 
+/// What amounts come to; those of a million items do not go beyond 64 bits.
+fn sum<T>(items: &[T], amount: impl Fn(&T) -> i64) -> i128 {
+    items.chunks(1_000_000).map(|some| some.iter().map(&amount).sum::<i64>() as i128).sum()
+}
+
 /// Writes the text to `file`; answers the time that the writes took.
 pub fn text(
     input: &Input,
@@ -165,7 +177,7 @@ pub fn text(
     file: File,
 ) -> io::Result<Duration> {
     let mut out = Out { buf: vec![0; CHUNK + SPARE], at: 0, file, write: Duration::ZERO };
-    let total = |list: &[Posting]| list.iter().map(|p| p.amount).sum::<i64>();
+    let total = |list: &[Posting]| sum(list, |p| p.amount);
     for (list, party) in book.iter().zip(&input.registry.parties).skip(1) {
         if list.is_empty() {
             continue;
@@ -193,7 +205,7 @@ pub fn text(
         out.put(&prefix);
         out.number(list.len() as u64);
         out.byte(b',');
-        out.amount(total(list));
+        out.total(total(list));
         out.byte(b'\n');
     }
     let prefixes = REASONS.map(|r| Prefix::new(&[b"M,", r, b","].concat()));
@@ -205,11 +217,11 @@ pub fn text(
     out.put(b"T,,");
     out.number(book[0].len() as u64);
     out.byte(b',');
-    out.amount(total(&book[0]));
+    out.total(total(&book[0]));
     out.put(b"\nR,,");
     out.number(input.usage.lines.len() as u64);
     out.byte(b',');
-    out.amount(input.usage.lines.iter().map(|l| l.amount).sum());
+    out.total(sum(&input.usage.lines, |l| l.amount));
     out.byte(b'\n');
     out.flush()?;
     Ok(out.write)

@@ -69,7 +69,8 @@ fn size(digits: &[u8]) -> Option<i64> {
 }
 
 impl Usage {
-    pub fn read(mut buf: Vec<u8>) -> Result<Usage, Fault> {
+    /// Of at most so many lines.
+    pub fn read(mut buf: Vec<u8>, most: u64) -> Result<Usage, Fault> {
         let mut lines = Vec::with_capacity((buf.len() / 24).min(1_000_000));
         let mut rows = Rows::new(&mut buf);
         if !rows.header(&["usage", "work", "territory", "right", "amount"]) {
@@ -79,7 +80,7 @@ impl Usage {
         while let Some(count) = rows.next(&mut f) {
             let row = lines.len() as u64 + 1;
             let at = |n| Fault(n, Some(row));
-            if row > 1_000_000 {
+            if row > most {
                 return Err(Fault(6, None));
             }
             if count != 5 {
