@@ -14,3 +14,5 @@ pub mod SoFar
 pub mod Endings
 pub mod Whole
 pub mod ReadThrough
+pub mod Chains
+pub mod FirstFault

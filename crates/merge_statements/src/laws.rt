@@ -2,7 +2,9 @@
 
 ghost use Rattle.std.specs.Prelude.{◌≡◌, ◌∷◌, ◌↔◌, [], ℕ, All, List, flat_map};
 ghost use Rattle.merge_statements.specs.Merged.{AreInLimits, AreMerged, AreMergesOf, IsMergeOf};
+ghost use Rattle.merge_statements.specs.Refused.{IsFaultIn, IsStatementText};
 ghost use Rattle.merge_statements.specs.Statements.{AreStatements, Statements, text_of_statements};
+ghost use Rattle.merge_statements.specs.declared.refusal.StatementFault.{StatementFault};
 
 /// A text is that of one set of statements, if of any.
 pub fn law_a_text_says_one_thing()
@@ -29,4 +31,9 @@ pub fn law_one_text_is_its_own_merge()
 pub fn law_merged_texts_merge_as_their_parts()
     ensures { (groups : List (List (List ℕ))) (merged : List (List ℕ)) (all : List ℕ) → AreMergesOf groups merged
         → IsMergeOf merged all ↔ IsMergeOf (flat_map (λ group. group) groups) all }
+{}
+
+/// A text with a fault is no text of statements.
+pub fn law_a_text_with_a_fault_is_no_statement_text()
+    ensures { (text : List ℕ) (fault : StatementFault) (lines : ℕ) → IsFaultIn text fault → ¬ IsStatementText text lines }
 {}
