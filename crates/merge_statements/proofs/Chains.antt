@@ -30,6 +30,7 @@ use Rattle.merge_statements.specs.declared.walk.Place.{Place}
 use Rattle.merge_statements.specs.declared.walk.Place.TheVariants.{Between, Within, Resting, Summed, Ended}
 use Rattle.merge_statements.proofs.FieldLemmas.{or-left, or-right}
 use Rattle.merge_statements.proofs.Numbers.{decimal_back, signed_back}
+use Rattle.merge_statements.proofs.Steps.{IsKind, kind_of}
 
 -- ---- a text begins with one row
 
@@ -47,17 +48,6 @@ same_row one other rest behind same =
     (ap row_in both, ap left_in both)
 
 -- ---- where a row leads
-
--- a kind of row is one of five
-abbrev IsKind : List ℕ → Type 0
-IsKind kind = (kind ≡ codes "L") ⊎ (kind ≡ codes "S") ⊎ (kind ≡ codes "M") ⊎ (kind ≡ codes "T") ⊎ (kind ≡ codes "R")
-
-kind_of : (place : Place) (kind : List ℕ) → KindFits place kind → IsKind kind
-kind_of Between kind fits = elim fits [ inl l ↦ inl l | inr other ↦ elim other [ inl m ↦ inr (inr (inl m)) | inr t ↦ inr (inr (inr (inl t))) ] ]
-kind_of (Within count sum) kind fits = elim fits [ inl l ↦ inl l | inr s ↦ inr (inl s) ]
-kind_of (Resting count sum) kind fits = elim fits [ inl m ↦ inr (inr (inl m)) | inr t ↦ inr (inr (inr (inl t))) ]
-kind_of Summed kind fits = inr (inr (inr (inr fits)))
-kind_of (Ended lines) kind fits = absurd fits
 
 same_amount : (one other : ℤ) → IsAmount one → IsAmount other → signed_decimal one ≡ signed_decimal other → one ≡ other
 same_amount one other small low same =

@@ -16,3 +16,5 @@ pub mod Whole
 pub mod ReadThrough
 pub mod Chains
 pub mod FirstFault
+pub mod ToStatements
+pub mod FromStatements

@@ -1,7 +1,8 @@
 //! What merging keeps to. A law has an empty body: its contract is the law.
 
-ghost use Rattle.std.specs.Prelude.{◌≡◌, ◌∷◌, ◌↔◌, [], ℕ, All, List, flat_map};
+ghost use Rattle.std.specs.Prelude.{◌≡◌, ◌+◌, ◌∷◌, ◌↔◌, [], ℕ, All, List, flat_map, length, sum_by};
 ghost use Rattle.merge_statements.specs.Merged.{AreInLimits, AreMerged, AreMergesOf, IsMergeOf};
+ghost use Rattle.merge_statements.specs.Places.{IsCount};
 ghost use Rattle.merge_statements.specs.Refused.{IsFaultIn, IsStatementText};
 ghost use Rattle.merge_statements.specs.Statements.{AreStatements, Statements, text_of_statements};
 ghost use Rattle.merge_statements.specs.declared.refusal.StatementFault.{StatementFault};
@@ -36,4 +37,9 @@ pub fn law_merged_texts_merge_as_their_parts()
 /// A text with a fault is no text of statements.
 pub fn law_a_text_with_a_fault_is_no_statement_text()
     ensures { (text : List ℕ) (fault : StatementFault) (lines : ℕ) → IsFaultIn text fault → ¬ IsStatementText text lines }
+{}
+
+/// What is found to be a text of statements is one, and each text of statements with no more portions than are counted is found to be one.
+pub fn law_a_statement_text_is_that_of_statements()
+    ensures { (text : List ℕ) (lines : ℕ) → IsStatementText text lines ↔ ((all : Statements) × AreStatements all × IsCount (sum_by (λ statement. length statement.portions) all.payees + length all.rests) × (all.lines ≡ lines) × (text ≡ text_of_statements all)) }
 {}
