@@ -1,13 +1,12 @@
 -- Rows that can stand one after another are known from their text, and each is one short line.
-use Rattle.std.proofs.Common.{◌≡◌, ◌∙◌, ◌⊎◌, inl, inr, ◌≤◌, ◌<◌, ◌+◌, ◌*◌, ◌^◌, ◌+ℤ◌, ◌++◌, ◌∷◌, [], ◌||◌, ℕ, zero, suc, ℤ, pos, negsuc, unsigned_abs, List, Option, Some, None, All, Bool, true, false, length, get_or, ap, sym, refl, subst, append_assoc, arith, codes, decimal}
+use Rattle.std.proofs.Common.{◌≡◌, ◌∙◌, inl, inr, ◌≤◌, ◌<◌, ◌+◌, ◌*◌, ◌^◌, ◌+ℤ◌, ◌++◌, ◌∷◌, [], ℕ, zero, suc, ℤ, pos, negsuc, unsigned_abs, List, Option, Some, None, All, false, length, get_or, ap, sym, refl, subst, arith, codes, decimal}
 use Rattle.std.specs.Prelude.{◌==◌}
 use Rattle.std.specs.Fmt.{signed_decimal}
 use Rattle.std.specs.List.{list_any}
 use Rattle.std.specs.Str.Parse.{AllDigits}
 use Rattle.std.proofs.lemmas.Bool.{cases_Bool, ne_eqb}
 use Rattle.std.proofs.lemmas.Fmt.{decimal_is_IsNumeral_wide, length-decimal-le_wide}
-use Rattle.std.proofs.lemmas.Int.{ints}
-use Rattle.std.proofs.lemmas.List.{append-nil, length-append}
+use Rattle.std.proofs.lemmas.List.{length-append}
 use Rattle.std.proofs.lemmas.List.Elements.{All-head, All-tail}
 use Rattle.std.proofs.lemmas.List.Folds.{list_any-append}
 use Rattle.std.proofs.lemmas.Str.Parse.{digit_from_value}
@@ -23,8 +22,7 @@ use Rattle.line_split.specs.declared.reason.Reason.{Reason}
 use Rattle.line_split.specs.declared.reason.Reason.TheVariants.{Work, Land, Over, Open}
 use Rattle.line_split.proofs.IntSums.{size_plus}
 use Rattle.merge_statements.specs.Buffered.{is_feed}
-use Rattle.merge_statements.specs.Places.{At, Fits, Follows, FourthFits, IsCount, IsPayeeAt, KindFits, Leads, ThirdFits, WhoseFits, at_first, count_at, row_of, sum_at}
-use Rattle.merge_statements.specs.Refused.{AreRows, IsLine}
+use Rattle.merge_statements.specs.Places.{At, Follows, IsCount, IsPayeeAt, Leads, at_first, count_at, row_of, sum_at}
 use Rattle.merge_statements.specs.Statements.{IsAmount, IsName, IsReason}
 use Rattle.merge_statements.specs.declared.walk.Place.{Place}
 use Rattle.merge_statements.specs.declared.walk.Place.TheVariants.{Between, Within, Resting, Summed, Ended}

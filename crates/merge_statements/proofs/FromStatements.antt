@@ -1,5 +1,5 @@
 -- The rows of statements can stand one after another, from the first to the last.
-use Rattle.std.proofs.Common.{◌≡◌, ◌∙◌, inl, inr, ◌<◌, ◌≤◌, ◌+◌, ◌^◌, ◌+ℤ◌, ◌++◌, ◌∷◌, [], ℕ, ℤ, pos, List, All, length, get_or, map, ap, sym, refl, subst, append_assoc, arith, codes, decimal}
+use Rattle.std.proofs.Common.{◌≡◌, ◌∙◌, inl, inr, ◌<◌, ◌≤◌, ◌+◌, ◌^◌, ◌+ℤ◌, ◌++◌, ◌∷◌, [], ℕ, ℤ, pos, List, All, length, get_or, map, ap, sym, refl, subst, arith, codes, decimal}
 use Rattle.std.specs.Prelude.{flat_map}
 use Rattle.std.specs.Fmt.{signed_decimal}
 use Rattle.std.specs.List.{AllByRecursion}
@@ -8,12 +8,11 @@ use Rattle.std.specs.declared.cmp.Ordering.TheVariants.{Less}
 use Rattle.std.proofs.lemmas.Int.{ints}
 use Rattle.std.proofs.lemmas.List.Elements.{All-head, All-tail}
 use Rattle.std.proofs.lemmas.List.Sums.{sum_by-cons}
-use Rattle.csv_table.specs.Written.{text_of}
 use Rattle.line_split.specs.Signs.{int_sum_by}
-use Rattle.line_split.proofs.IntSums.{int_sum_by-cons, plus_none}
+use Rattle.line_split.proofs.IntSums.{int_sum_by-cons, none_plus, plus_none}
 use Rattle.merge_statements.specs.Passed.{total_of_portions}
-use Rattle.merge_statements.specs.Places.{At, Fits, Follows, IsCount, IsPayeeAt, KindFits, Leads, at_first, count_at, row_of, sum_at}
-use Rattle.merge_statements.specs.Refused.{AreRows, IsStatementText}
+use Rattle.merge_statements.specs.Places.{At, Fits, Follows, IsCount, IsPayeeAt, KindFits, Leads, at_first, count_at, sum_at}
+use Rattle.merge_statements.specs.Refused.{AreRows, IsStatementText, count_of_portions}
 use Rattle.merge_statements.specs.Refused.AreRows.{none as no_rows, more as more_rows}
 use Rattle.merge_statements.specs.Statements.{AreStatements, IsAmount, IsName, IsPortion, IsReason, IsRest, IsStatement, Portion, Rest, Statement, Statements, portion_row, rest_row, rests_rows, rows_of_statements, statement_rows, text_of_statements, total_of, total_of_rests, total_row}
 use Rattle.merge_statements.specs.Together.{order, payees_of}
@@ -213,16 +212,13 @@ statement_stands last payee [] read total name behind some sound few = absurd (o
 statement_stands last payee (portion ∷ portions) read total name behind some sound few =
     let all = total_of_portions (portion ∷ portions) in
     let read_is : (read + 1) + length portions ≡ read + length (portion ∷ portions) = omega arith in
-    let sum_is = moved (pos 0) portion.amount (total_of_portions portions) ∙ (ap (λ (n : ℤ). pos 0 +ℤ n) (sym (int_sum_by-cons (λ (p : Portion). p.amount) portion portions)) ∙ none_before all) in
+    let sum_is = moved (pos 0) portion.amount (total_of_portions portions) ∙ (ap (λ (n : ℤ). pos 0 +ℤ n) (sym (int_sum_by-cons (λ (p : Portion). p.amount) portion portions)) ∙ none_plus all) in
     more_rows (there Between last read total) (there (Within 1 (pos 0 +ℤ portion.amount)) payee (read + 1) total)
     (there Between payee (read + length (portion ∷ portions)) (total +ℤ all)) (portion_row payee portion) (map (portion_row payee) portions ++ total_row (codes "S") payee (length (portion ∷ portions)) all ∷ [])
     (portion_follows (there Between last read total) payee portion (inl refl) (name, behind) (All-head IsPortion portion portions sound) (omega (arith, few)))
     (subst (λ (n : ℕ). AreRows (there (Within 1 (pos 0 +ℤ portion.amount)) payee (read + 1) total) (map (portion_row payee) portions ++ total_row (codes "S") payee (length (portion ∷ portions)) all ∷ [])
     (there Between payee n (total +ℤ all))) read_is
     (portions_stand payee portions 1 (pos 0 +ℤ portion.amount) (read + 1) total (length (portion ∷ portions)) all (All-tail IsPortion portion portions sound) (omega (arith, few)) (omega arith) sum_is))
-  where
-    none_before : (a : ℤ) → pos 0 +ℤ a ≡ a
-    none_before a = omega (arith, ints)
 
 -- all payees
 abbrev last_of : List ℕ → List Statement → List ℕ
@@ -283,7 +279,7 @@ behind_none (statement ∷ payees) sound = (some statement.payee (All-head IsSta
     some [] is = absurd (omega (arith, is.some))
     some (byte ∷ name) is = refl
 
-pub from_statements : (all : Statements) → AreStatements all → IsCount (count_of all.payees + length all.rests) → IsStatementText (text_of_statements all) all.lines
+pub from_statements : (all : Statements) → AreStatements all → IsCount (count_of_portions all) → IsStatementText (text_of_statements all) all.lines
 from_statements all are few = record {
   rows = rows_of_statements all;
   last = there (Ended all.lines) (last_of [] all.payees) ((0 + count_of all.payees) + length all.rests) all.amount;
@@ -294,15 +290,12 @@ from_statements all are few = record {
       (total_row (codes "R") [] all.lines all.amount ∷ [])
       (subst (λ (total : ℤ). AreRows paid (rests_rows all.rests) (there Summed (last_of [] all.payees) ((0 + count_of all.payees) + length all.rests) total)) comes
       (rests_stand Between (last_of [] all.payees) all.rests (0 + count_of all.payees) (pos 0 +ℤ int_sum_by total_of all.payees) (length all.rests) (total_of_rests all.rests)
-      (inr (inl refl)) (inr (inr refl)) are.rests (omega (arith, few)) (omega arith) (none_before (total_of_rests all.rests))))
+      (inr (inl refl)) (inr (inr refl)) are.rests (omega (arith, few)) (omega arith) (none_plus (total_of_rests all.rests))))
       (more_rows summed _ _ (total_row (codes "R") [] all.lines all.amount) [] (run_follows summed all.lines refl are.lines) (no_rows _)));
   ended = refl;
   bytes = refl;
 }
   where
-    none_before : (a : ℤ) → pos 0 +ℤ a ≡ a
-    none_before a = omega (arith, ints)
-
     paid : At
     paid = there Between (last_of [] all.payees) (0 + count_of all.payees) (pos 0 +ℤ int_sum_by total_of all.payees)
 
@@ -310,4 +303,4 @@ from_statements all are few = record {
     summed = there Summed (last_of [] all.payees) ((0 + count_of all.payees) + length all.rests) all.amount
 
     comes : (pos 0 +ℤ int_sum_by total_of all.payees) +ℤ total_of_rests all.rests ≡ all.amount
-    comes = ap (λ (n : ℤ). n +ℤ total_of_rests all.rests) (none_before (int_sum_by total_of all.payees)) ∙ are.adds_up
+    comes = ap (λ (n : ℤ). n +ℤ total_of_rests all.rests) (none_plus (int_sum_by total_of all.payees)) ∙ are.adds_up

@@ -1,5 +1,5 @@
 -- Rows that can stand one after another, from the first to the last, are those of statements.
-use Rattle.std.proofs.Common.{◌≡◌, ◌∙◌, ◌⊎◌, inl, inr, ◌<◌, ◌≤◌, ◌+◌, ◌+ℤ◌, ◌++◌, ◌∷◌, [], ℕ, ℤ, pos, List, All, length, map, ap, sym, refl, subst, append_assoc, arith, codes}
+use Rattle.std.proofs.Common.{◌≡◌, ◌∙◌, inl, inr, ◌<◌, ◌+◌, ◌+ℤ◌, ◌++◌, ◌∷◌, [], ℕ, ℤ, List, All, length, map, ap, sym, refl, subst, append_assoc, arith, codes}
 use Rattle.std.specs.Prelude.{flat_map}
 use Rattle.std.specs.List.Sorted.{IsStrictlySortedBy}
 use Rattle.std.specs.declared.cmp.Ordering.TheVariants.{Less}
@@ -11,7 +11,7 @@ use Rattle.line_split.specs.Signs.{int_sum_by}
 use Rattle.line_split.proofs.IntSums.{int_sum_by_push}
 use Rattle.merge_statements.specs.Passed.{total_of_portions}
 use Rattle.merge_statements.specs.Places.{At, Follows, IsCount, IsPayeeAt, KindFits, at_first, count_at, row_of, sum_at}
-use Rattle.merge_statements.specs.Refused.{AreRows, IsStatementText}
+use Rattle.merge_statements.specs.Refused.{AreRows, IsStatementText, count_of_portions}
 use Rattle.merge_statements.specs.Refused.AreRows.{none as no_rows, more as more_rows}
 use Rattle.merge_statements.specs.Statements.{AreStatements, IsName, IsPortion, IsRest, IsStatement, Portion, Rest, Statement, Statements, portion_row, rest_row, rests_rows, rows_of_statements, statement_rows, text_of_statements, total_of, total_of_rests, total_row}
 use Rattle.merge_statements.specs.Together.{last_payee, order, payees_of}
@@ -76,7 +76,7 @@ record AreSummed (at : At) (rows : List (List (List ℕ))) : Type 0 where
 record AreWhole (rows : List (List (List ℕ))) (lines : ℕ) : Type 0 where
   pub all : Statements
   pub are : AreStatements all
-  pub counted : IsCount (count_of all.payees + length all.rests)
+  pub counted : IsCount (count_of_portions all)
   pub lines_are : all.lines ≡ lines
   pub rows_are : rows ≡ rows_of_statements all
 
@@ -264,7 +264,7 @@ all_reached _ _ before _ sound reached (more_rows at next last row rows follows 
 pub record IsOfStatements (text : List ℕ) (lines : ℕ) : Type 0 where
   pub all : Statements
   pub are : AreStatements all
-  pub counted : IsCount (count_of all.payees + length all.rests)
+  pub counted : IsCount (count_of_portions all)
   pub lines_are : all.lines ≡ lines
   pub text_is : text ≡ text_of_statements all
 

@@ -1,9 +1,9 @@
 //! What merging keeps to. A law has an empty body: its contract is the law.
 
-ghost use Rattle.std.specs.Prelude.{◌≡◌, ◌+◌, ◌∷◌, ◌↔◌, [], ℕ, All, List, flat_map, length, sum_by};
+ghost use Rattle.std.specs.Prelude.{◌≡◌, ◌∷◌, ◌↔◌, [], ℕ, All, List, flat_map};
 ghost use Rattle.merge_statements.specs.Merged.{AreInLimits, AreMerged, AreMergesOf, IsMergeOf};
 ghost use Rattle.merge_statements.specs.Places.{IsCount};
-ghost use Rattle.merge_statements.specs.Refused.{IsFaultIn, IsStatementText};
+ghost use Rattle.merge_statements.specs.Refused.{IsFaultIn, IsStatementText, count_of_portions};
 ghost use Rattle.merge_statements.specs.Statements.{AreStatements, Statements, text_of_statements};
 ghost use Rattle.merge_statements.specs.declared.refusal.StatementFault.{StatementFault};
 
@@ -34,12 +34,19 @@ pub fn law_merged_texts_merge_as_their_parts()
         → IsMergeOf merged all ↔ IsMergeOf (flat_map (λ group. group) groups) all }
 {}
 
-/// A text with a fault is no text of statements.
+/// A text with a fault is no text of statements: so none is refused for one.
 pub fn law_a_text_with_a_fault_is_no_statement_text()
-    ensures { (text : List ℕ) (fault : StatementFault) (lines : ℕ) → IsFaultIn text fault → ¬ IsStatementText text lines }
+    ensures found { (text : List ℕ) (fault : StatementFault) (lines : ℕ) → IsFaultIn text fault → ¬ IsStatementText text lines }
+    ensures refused { (text : List ℕ) (fault : StatementFault) (all : Statements) → IsFaultIn text fault → AreStatements all → IsCount (count_of_portions all) → ¬ (text ≡ text_of_statements all) }
 {}
 
-/// What is found to be a text of statements is one, and each text of statements with no more portions than are counted is found to be one.
+/// A text whose rows can stand one after another, from the first to the last, is that of some statements; and the text of any statements is such a text, where their
+/// portions are as many as are counted.
 pub fn law_a_statement_text_is_that_of_statements()
-    ensures { (text : List ℕ) (lines : ℕ) → IsStatementText text lines ↔ ((all : Statements) × AreStatements all × IsCount (sum_by (λ statement. length statement.portions) all.payees + length all.rests) × (all.lines ≡ lines) × (text ≡ text_of_statements all)) }
+    ensures { (text : List ℕ) (lines : ℕ) → IsStatementText text lines ↔ ((all : Statements) × AreStatements all × IsCount (count_of_portions all) × (all.lines ≡ lines) × (text ≡ text_of_statements all)) }
+{}
+
+/// A text has one first fault, if any, in one row.
+pub fn law_a_text_has_one_first_fault()
+    ensures { (text : List ℕ) (fault other : StatementFault) → IsFaultIn text fault → IsFaultIn text other → fault ≡ other }
 {}
