@@ -78,31 +78,33 @@ no_row_refused at number (Some text) (Some behind) line takes one none = (
 )
 
 begun_wrong : (at : At) (number : ℕ) (left new : Option (List ℕ)) (line kind whose third fourth : List ℕ) (field : Wrong) → Consumes left new (line ++ 10 ∷ [])
-    → text_of_row (row_of kind whose third fourth) ≡ line ++ 10 ∷ [] → IsWrongAt at kind whose third fourth field
+    → list_any is_feed line ≡ false → length line < 32768 → text_of_row (row_of kind whose third fourth) ≡ line ++ 10 ∷ [] → IsWrongAt at kind whose third fourth field
     → IfSome left (λ text. (number ≡ number) × BeginsWithWrong at text field)
-begun_wrong at number None new line kind whose third fourth field takes is wrong_at = tt
-begun_wrong at number (Some text) None line kind whose third fourth field takes is wrong_at = absurd takes
-begun_wrong at number (Some text) (Some behind) line kind whose third fourth field takes is wrong_at = (
+begun_wrong at number None new line kind whose third fourth field takes one short is wrong_at = tt
+begun_wrong at number (Some text) None line kind whose third fourth field takes one short is wrong_at = absurd takes
+begun_wrong at number (Some text) (Some behind) line kind whose third fourth field takes one short is wrong_at = (
   refl,
   record {
     kind = kind;
     whose = whose;
     third = third;
     fourth = fourth;
+    line = line;
     rest = behind;
-    bytes = takes ∙ ap (λ (l : List ℕ). l ++ behind) (sym is);
+    begins = record { bytes = takes ∙ append_assoc line (10 ∷ []) behind; one = one; short = short };
+    row = is;
     wrong_at = wrong_at;
   },
 )
 
 pub field_refused : (at : At) (number : ℕ) (left new : Option (List ℕ)) (line kind whose third fourth : List ℕ) (field : Wrong) → Consumes left new (line ++ 10 ∷ [])
-    → text_of_row (row_of kind whose third fourth) ≡ line ++ 10 ∷ [] → IsWrongAt at kind whose third fourth field
+    → list_any is_feed line ≡ false → length line < 32768 → text_of_row (row_of kind whose third fourth) ≡ line ++ 10 ∷ [] → IsWrongAt at kind whose third fourth field
     → IsRefusedFrom at number left (refusal_of_field field number)
-field_refused at number left new line kind whose third fourth wrong.Kind takes is wrong_at = begun_wrong at number left new line kind whose third fourth wrong.Kind takes is wrong_at
-field_refused at number left new line kind whose third fourth wrong.Whose takes is wrong_at = begun_wrong at number left new line kind whose third fourth wrong.Whose takes is wrong_at
-field_refused at number left new line kind whose third fourth wrong.Third takes is wrong_at = begun_wrong at number left new line kind whose third fourth wrong.Third takes is wrong_at
-field_refused at number left new line kind whose third fourth wrong.Fourth takes is wrong_at = begun_wrong at number left new line kind whose third fourth wrong.Fourth takes is wrong_at
-field_refused at number left new line kind whose third fourth wrong.Memory takes is wrong_at = tt
+field_refused at number left new line kind whose third fourth wrong.Kind takes one short is wrong_at = begun_wrong at number left new line kind whose third fourth wrong.Kind takes one short is wrong_at
+field_refused at number left new line kind whose third fourth wrong.Whose takes one short is wrong_at = begun_wrong at number left new line kind whose third fourth wrong.Whose takes one short is wrong_at
+field_refused at number left new line kind whose third fourth wrong.Third takes one short is wrong_at = begun_wrong at number left new line kind whose third fourth wrong.Third takes one short is wrong_at
+field_refused at number left new line kind whose third fourth wrong.Fourth takes one short is wrong_at = begun_wrong at number left new line kind whose third fourth wrong.Fourth takes one short is wrong_at
+field_refused at number left new line kind whose third fourth wrong.Memory takes one short is wrong_at = tt
 
 -- ---- row by row
 

@@ -46,7 +46,7 @@ not_same : (a b : List ℕ) → order a b ≡ Less → bytes_eq a b ≡ false
 not_same a b less = sym (is_eq-slice_cmp a b) ∙ ap is_eq less
 
 -- what is behind the last payee is behind all
-all_before : (statements : List Statement) (payee : List ℕ) → IsStrictlySortedBy order (payees_of statements) → order (last_payee statements) payee ≡ Less
+pub all_before : (statements : List Statement) (payee : List ℕ) → IsStrictlySortedBy order (payees_of statements) → order (last_payee statements) payee ≡ Less
     → AllByRecursion (λ name. order name payee ≡ Less) (payees_of statements)
 unfolding IsStrictlySortedBy
 all_before [] payee rising less = tt
@@ -60,7 +60,7 @@ rises_after : (payee : List ℕ) (statements : List Statement) (last : Statement
 rises_after payee [] last after less = (less, tt)
 rises_after payee (statement ∷ statements) last after less = (after.0, rises_after payee statements last after.1 less)
 
-rises_more : (statements : List Statement) (last : Statement) → IsStrictlySortedBy order (payees_of statements)
+pub rises_more : (statements : List Statement) (last : Statement) → IsStrictlySortedBy order (payees_of statements)
     → AllByRecursion (λ name. order name last.payee ≡ Less) (payees_of statements) → IsStrictlySortedBy order (payees_of (statements ++ last ∷ []))
 unfolding IsStrictlySortedBy
 rises_more [] last rising before = (tt, tt)
@@ -71,7 +71,7 @@ none_with : (statements : List Statement) (payee : List ℕ) → AllByRecursion 
 none_with [] payee before = refl
 none_with (statement ∷ statements) payee before = rw (not_same statement.payee payee before.0) (none_with statements payee before.1)
 
-last_is : (statements : List Statement) (last : Statement) → last_payee (statements ++ last ∷ []) ≡ last.payee
+pub last_is : (statements : List Statement) (last : Statement) → last_payee (statements ++ last ∷ []) ≡ last.payee
 last_is [] last = refl
 last_is (statement ∷ []) last = refl
 last_is (statement ∷ next ∷ others) last = last_is (next ∷ others) last
@@ -89,11 +89,11 @@ none_of_another payee last other = rw other refl
 all_of_own : (payee : List ℕ) (last : Statement) → bytes_eq last.payee payee ≡ true → portions_in payee (last ∷ []) ≡ last.portions
 all_of_own payee last own = rw own (append-nil last.portions)
 
-total_more : (statements : List Statement) (last : Statement) → int_sum_by total_of (statements ++ last ∷ []) ≡ int_sum_by total_of statements +ℤ total_of last
+pub total_more : (statements : List Statement) (last : Statement) → int_sum_by total_of (statements ++ last ∷ []) ≡ int_sum_by total_of statements +ℤ total_of last
 total_more statements last =
     int_sum_by-append total_of statements (last ∷ []) ∙ ap (λ (n : ℤ). int_sum_by total_of statements +ℤ n) (none_plus (total_of last))
 
-count_more : (statements : List Statement) (last : Statement)
+pub count_more : (statements : List Statement) (last : Statement)
     → sum_by (λ s. length s.portions) (statements ++ last ∷ []) ≡ sum_by (λ s. length s.portions) statements + length last.portions
 count_more statements last = sum_by-append (λ (s : Statement). length s.portions) statements (last ∷ []) ∙ omega arith
 

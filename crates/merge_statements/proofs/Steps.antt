@@ -7,10 +7,10 @@ use Rattle.merge_statements.specs.declared.walk.Place.{Place}
 use Rattle.merge_statements.specs.declared.walk.Place.TheVariants.{Between, Within, Resting, Summed, Ended}
 
 -- a kind of row is one of five
-abbrev IsKind : List ℕ → Type 0
+abbrev pub IsKind : List ℕ → Type 0
 IsKind kind = (kind ≡ codes "L") ⊎ (kind ≡ codes "S") ⊎ (kind ≡ codes "M") ⊎ (kind ≡ codes "T") ⊎ (kind ≡ codes "R")
 
-kind_of : (place : Place) (kind : List ℕ) → KindFits place kind → IsKind kind
+pub kind_of : (place : Place) (kind : List ℕ) → KindFits place kind → IsKind kind
 kind_of Between kind fits = elim fits [ inl l ↦ inl l | inr other ↦ elim other [ inl m ↦ inr (inr (inl m)) | inr t ↦ inr (inr (inr (inl t))) ] ]
 kind_of (Within count sum) kind fits = elim fits [ inl l ↦ inl l | inr s ↦ inr (inl s) ]
 kind_of (Resting count sum) kind fits = elim fits [ inl m ↦ inr (inr (inl m)) | inr t ↦ inr (inr (inr (inl t))) ]

@@ -41,7 +41,7 @@ portions_small portions sound = sum_small (λ (p : Portion). p.amount) portions 
 rests_small : (rests : List Rest) → All IsRest rests → unsigned_abs (total_of_rests rests) ≤ 1000000000000 * length rests
 rests_small rests sound = sum_small (λ (r : Rest). r.amount) rests (All-weaker IsRest (λ r. unsigned_abs r.amount ≤ 1000000000000) (λ r is. is.2.1) rests sound)
 
-abbrev count_of : List Statement → ℕ
+abbrev pub count_of : List Statement → ℕ
 count_of statements = sum_by (λ statement. length statement.portions) statements
 
 statements_small : (statements : List Statement) → All IsStatement statements → unsigned_abs (int_sum_by total_of statements) ≤ 1000000000000 * count_of statements
@@ -61,7 +61,7 @@ each_small (statement ∷ statements) most sound few =
     (each_small statements most (All-tail IsStatement statement statements sound) (omega (arith, count, few)))
 
 -- statements whose portions can be counted keep to their limits
-sound_statements : (payees : List Statement) (rests : List Rest) (lines : ℕ) (amount : ℤ) → IsStrictlySortedBy order (payees_of payees) → All IsStatement payees → All IsRest rests
+pub sound_statements : (payees : List Statement) (rests : List Rest) (lines : ℕ) (amount : ℤ) → IsStrictlySortedBy order (payees_of payees) → All IsStatement payees → All IsRest rests
     → IsCount (count_of payees + length rests) → IsCount lines → int_sum_by total_of payees +ℤ total_of_rests rests ≡ amount → AreStatements (the_statements payees rests lines amount)
 sound_statements payees rests lines amount rising sound left few lined adds =
     let paid = statements_small payees sound in

@@ -1,9 +1,10 @@
 -- Why a text is no text of statements: the first row that cannot stand where it does.
-use Rattle.std.specs.Prelude.{ℕ, ◌≡◌, ◌<◌, ◌+◌, ◌++◌, ◌∷◌, [], List, Option, IfSome, false, length, ⊤}
+use Rattle.std.specs.Prelude.{ℕ, ◌≡◌, ◌<◌, ◌+◌, ◌++◌, ◌∷◌, [], List, Option, IfSome, false, length, sum_by, ⊤}
 use Rattle.std.specs.List.{list_any}
 use Rattle.csv_table.specs.Written.{text_of, text_of_row}
 use Rattle.merge_statements.specs.Buffered.{is_feed}
 use Rattle.merge_statements.specs.Places.{At, Follows, at_first, row_of}
+use Rattle.merge_statements.specs.Statements.{Statements}
 use Rattle.merge_statements.specs.Wrong.{IsWrongAt}
 use Rattle.merge_statements.specs.declared.read_fault.ReadFault.{ReadFault}
 use Rattle.merge_statements.specs.declared.read_fault.ReadFault.TheVariants.{Refused, TooLong, Unended}
@@ -28,6 +29,10 @@ pub record IsStatementText (text : List ℕ) (lines : ℕ) : Type 0 where
   pub ended : last.place ≡ Ended lines
   pub bytes : text ≡ text_of rows
 
+-- how many portions statements have, those that nobody gets among them
+abbrev pub count_of_portions : Statements → ℕ
+count_of_portions all = sum_by (λ statement. length statement.portions) all.payees + length all.rests
+
 -- a line that ends within the next 32,768 bytes
 pub record IsLine (text line rest : List ℕ) : Type 0 where
   pub bytes : text ≡ line ++ 10 ∷ rest
@@ -38,14 +43,16 @@ pub record IsLine (text line rest : List ℕ) : Type 0 where
 abbrev pub BeginsWithNoRow : List ℕ → Type 0
 BeginsWithNoRow text = (line rest : List ℕ) (row : List (List ℕ)) → IsLine text line rest → length row ≡ 4 → ¬ (text_of_row row ≡ line ++ 10 ∷ [])
 
--- the text begins with a row of four fields, of which this is the first that cannot stand at a place
+-- the text begins with a line that is a row of four fields, of which this is the first that cannot stand at a place
 pub record BeginsWithWrong (at : At) (text : List ℕ) (field : Wrong) : Type 0 where
   pub kind : List ℕ
   pub whose : List ℕ
   pub third : List ℕ
   pub fourth : List ℕ
+  pub line : List ℕ
   pub rest : List ℕ
-  pub bytes : text ≡ text_of_row (row_of kind whose third fourth) ++ rest
+  pub begins : IsLine text line rest
+  pub row : text_of_row (row_of kind whose third fourth) ≡ line ++ 10 ∷ []
   pub wrong_at : IsWrongAt at kind whose third fourth field
 
 -- what is wrong with the rest of a text, from the row of a number on

@@ -83,6 +83,7 @@ impl Buffer {
     pub(crate) fn take_line(&mut self) -> bool
         ensures found { result ≡ true → waiting_of self.old ≡ line_of self.new ++ 10 ∷ waiting_of self.new }
         ensures whole { result ≡ true → list_any is_feed (line_of self.new) ≡ false }
+        ensures short { result ≡ true → length (line_of self.new) < 32768 }
         ensures none { result ≡ false → list_any is_feed (waiting_of self.old) ≡ false }
         ensures kept { result ≡ false → self.new ≡ self.old }
     {

@@ -2,7 +2,10 @@
 
 ghost use Rattle.std.specs.Prelude.{◌≡◌, ◌∷◌, ◌↔◌, [], ℕ, All, List, flat_map};
 ghost use Rattle.merge_statements.specs.Merged.{AreInLimits, AreMerged, AreMergesOf, IsMergeOf};
+ghost use Rattle.merge_statements.specs.Places.{IsCount};
+ghost use Rattle.merge_statements.specs.Refused.{IsFaultIn, IsStatementText, count_of_portions};
 ghost use Rattle.merge_statements.specs.Statements.{AreStatements, Statements, text_of_statements};
+ghost use Rattle.merge_statements.specs.declared.refusal.StatementFault.{StatementFault};
 
 /// A text is that of one set of statements, if of any.
 pub fn law_a_text_says_one_thing()
@@ -29,4 +32,21 @@ pub fn law_one_text_is_its_own_merge()
 pub fn law_merged_texts_merge_as_their_parts()
     ensures { (groups : List (List (List ℕ))) (merged : List (List ℕ)) (all : List ℕ) → AreMergesOf groups merged
         → IsMergeOf merged all ↔ IsMergeOf (flat_map (λ group. group) groups) all }
+{}
+
+/// A text with a fault is no text of statements: so none is refused for one.
+pub fn law_a_text_with_a_fault_is_no_statement_text()
+    ensures found { (text : List ℕ) (fault : StatementFault) (lines : ℕ) → IsFaultIn text fault → ¬ IsStatementText text lines }
+    ensures refused { (text : List ℕ) (fault : StatementFault) (all : Statements) → IsFaultIn text fault → AreStatements all → IsCount (count_of_portions all) → ¬ (text ≡ text_of_statements all) }
+{}
+
+/// A text whose rows can stand one after another, from the first to the last, is that of some statements; and the text of any statements is such a text, where their
+/// portions are as many as are counted.
+pub fn law_a_statement_text_is_that_of_statements()
+    ensures { (text : List ℕ) (lines : ℕ) → IsStatementText text lines ↔ ((all : Statements) × AreStatements all × IsCount (count_of_portions all) × (all.lines ≡ lines) × (text ≡ text_of_statements all)) }
+{}
+
+/// A text has one first fault, if any, in one row.
+pub fn law_a_text_has_one_first_fault()
+    ensures { (text : List ℕ) (fault other : StatementFault) → IsFaultIn text fault → IsFaultIn text other → fault ≡ other }
 {}

@@ -67,6 +67,7 @@ impl<R: Read> RowReader<R> {
     pub fn next(&mut self) -> Result<bool, ReadFault>
         ensures found { IfOk result (λ found. found ≡ true → Consumes self.old.left self.new.left (self.new.line ++ 10 ∷ [])) }
         ensures one { IfOk result (λ found. found ≡ true → list_any is_feed self.new.line ≡ false) }
+        ensures short { IfOk result (λ found. found ≡ true → length self.new.line < 32768) }
         ensures end { IfOk result (λ found. found ≡ false → IsAtEnd self.old.left × IsAtEnd self.new.left) }
         ensures still { IfOk result (λ found. found ≡ false → Keeps self.old.left self.new.left) }
         ensures none { IfOk result (λ found. found ≡ false → self.new.line ≡ []) }

@@ -18,4 +18,5 @@ returns-in-Err-follow-clause-refused g c =
     let row = c.in-Some.row in
     subst (IsRefusedFrom c.args.progress.now c.args.number c.args.rows.now.left) (sym c.of_field.ensures)
     (field_refused c.args.progress.now c.args.number c.args.rows.now.left c.next.new.self.left c.next.new.self.line row.kind.now row.whose.now row.third.now row.fourth.now
-    c.in-Err-follow.wrong (c.in-Ok-true.ensures.found c.in-Ok-true.field-0-test) c.in-Some.ensures.row c.in-Err-follow.ensures.wrong)
+    c.in-Err-follow.wrong (c.in-Ok-true.ensures.found c.in-Ok-true.field-0-test) (c.in-Ok-true.ensures.one c.in-Ok-true.field-0-test)
+    (c.in-Ok-true.ensures.short c.in-Ok-true.field-0-test) c.in-Some.ensures.row c.in-Err-follow.ensures.wrong)
