@@ -1,5 +1,5 @@
 -- Lines in order of a hash of their keys, and of these where that is the same.
-use Rattle.std.proofs.Common.{◌≡◌, ◌∙◌, ◌<◌, ℕ, Bool, true, List, Some, Less, Equal, Greater, ap, false, get_or, length, map, option_map, slice_get, sym}
+use Rattle.std.proofs.Common.{◌≡◌, ◌∙◌, ◌<◌, Bool, true, List, Less, Equal, Greater, ap, get_or, length, map, option_map, slice_get, sym}
 use Rattle.std.specs.Cmp.{IsEquivalence, IsTotalOrder, nat_cmp_total, on_total, then_total}
 use Rattle.std.specs.Cmp.Lexicographic.{options_total}
 use Rattle.std.specs.List.Sorted.{IsPermutation, IsSorted}

@@ -95,7 +95,7 @@ fn places_for<'a, K: Key<'a>>(
     Ok(places)
 }
 
-/// A hash of a key.
+/// A hash of a key. Whoever writes a list can give many keys one hash: these take longer to sort.
 fn hash_of<K: Hash>(key: &K) -> u32
     ensures { result ≡ hash_by (K.hash_input key.now) }
 {

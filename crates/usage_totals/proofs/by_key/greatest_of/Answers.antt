@@ -1,4 +1,4 @@
-use Rattle.std.proofs.Common.{◌≡◌, ◌==◌, ◌<◌, ◌≤◌, ◌++◌, ◌∷◌, [], ℕ, zero, suc, false, arith, eqb-true, length, map, sym, take}
+use Rattle.std.proofs.Common.{◌≡◌, ◌==◌, ◌<◌, ◌++◌, ◌∷◌, [], ℕ, zero, suc, false, arith, eqb-true, length, map, sym, take}
 use Rattle.std.proofs.lemmas.Bool.{false≢true}
 use Rattle.usage_totals.specs.SoFar.{AreCounted, amount_at}
 use Rattle.usage_totals.proofs.ByKeyLemmas.{nothing, total_with}
