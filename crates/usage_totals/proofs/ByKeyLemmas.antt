@@ -1,24 +1,25 @@
 -- What amounts come to by their keys, taken one amount after another.
-use Rattle.std.proofs.Common.{◌≡◌, ◌∙◌, ◌+◌, ◌<◌, ◌≤◌, ◌++◌, ◌∷◌, [], ℕ, ℤ, pos, unsigned_abs, Bool, true, false, List, Option, Some, ap, cond, filter, get_or, length, map, refl, rules, subst, sym, take, unwrap_or}
+use Rattle.std.proofs.Common.{◌≡◌, ◌∙◌, ◌+◌, ◌++◌, ◌∷◌, [], ℤ, pos, ◌+ℤ◌, unsigned_abs, Bool, true, false, List, None, Option, Some, ap, cond, refl, rules, sym, unwrap_or}
 use Rattle.std.specs.Cmp.{IsEquivalence, IsTotalOrder, IsStrictWeakOrder}
-use Rattle.std.specs.List.{IsDistinct}
+use Rattle.std.specs.List.{AllByRecursion, IsDistinct}
 use Rattle.std.specs.Map.{keys_of, lookup}
 use Rattle.std.specs.Ordering.{is_lt}
 use Rattle.std.specs.declared.cmp.Ordering.{Ordering}
 use Rattle.std.specs.Cmp.{back_total, nat_cmp_total, on_total, then_total}
-use Rattle.std.proofs.lemmas.List.{append-nil, length_push, map_push}
+use Rattle.std.proofs.lemmas.List.{append-nil, length_push}
 use Rattle.std.proofs.lemmas.List.Elements.{filter-append, filter_agree}
 use Rattle.std.proofs.lemmas.List.Sorted.{ranks_by}
+use Rattle.std.proofs.lemmas.Option.{none-some}
 use Rattle.line_split.proofs.IntSums.{int_sum_by_push}
-use Rattle.line_split.specs.UsageLine.{UsageLine}
-use Rattle.line_split.specs.declared.TheConstants.{MOST_AMOUNT}
 use Rattle.usage_totals.specs.Greatest.{AreTotals, amounts_at, by_money, total_if_any}
 use Rattle.usage_totals.specs.declared.total.Total.{Total}
-use Rattle.usage_totals.specs.SoFar.{total_so_far, total_with}
-use Rattle.usage_totals.proofs.TotalLemmas.{IsWithin, kept_more, left_more, within_later, within_more}
 
-abbrev nothing : Total
+abbrev pub nothing : Total
 nothing = record { lines = 0; amount = pos 0 }
+
+-- a total with one amount more
+abbrev pub total_with : Total → ℤ → Total
+total_with total amount = record { lines = total.lines + 1; amount = total.amount +ℤ amount }
 
 -- one amount more
 total_if_any_push : {K : Type 0} (amounts : List (K × ℤ)) (amount : K × ℤ) → total_if_any (amounts ++ amount ∷ []) ≡ Some (total_with (unwrap_or (total_if_any amounts) nothing) amount.1)
@@ -35,49 +36,57 @@ module _ {K : Type 0} (eq : K → K → Bool) (laws : IsEquivalence eq) where
   amounts_push q amounts amount b told =
       filter-append (λ (a : K × ℤ). eq q a.0) amounts (amount ∷ []) ∙ ap (λ (c : Bool). amounts_at eq q amounts ++ cond c (amount ∷ []) []) told
 
-  module _ (key : K) (amount : ℤ) (old new : List (K × Total))
-      (updates : (q : K) → lookup (eq q) new ≡ cond (eq key q) (Some (total_with (total_so_far eq key old) amount)) (lookup (eq q) old)) where
-    updated : (q : K) (b : Bool) → eq q key ≡ b → lookup (eq q) new ≡ cond b (Some (total_with (total_so_far eq key old) amount)) (lookup (eq q) old)
-    updated q b told = updates q ∙ ap (λ (c : Bool). cond c (Some (total_with (total_so_far eq key old) amount)) (lookup (eq q) old)) (laws.symm key q ∙ told)
+  -- keys that are the same are the same as another
+  same_test : (key k q : K) (b : Bool) → eq key k ≡ true → eq q k ≡ b → eq q key ≡ b
+  same_test key k q b same told = laws.symm q key ∙ laws.congr key k q same ∙ laws.symm k q ∙ told
 
-    pub totals_more : (amounts : List (K × ℤ)) → AreTotals eq amounts old → IsDistinct eq (keys_of new) → AreTotals eq (amounts ++ (key, amount) ∷ []) new
-    totals_more amounts totals once = record { once = once; each = λ q. by q (eq q key) refl }
-      where
-        by : (q : K) (b : Bool) → eq q key ≡ b → lookup (eq q) new ≡ total_if_any (amounts_at eq q (amounts ++ (key, amount) ∷ []))
-        by q true told =
-            updated q true told
-            ∙ ap (λ (o : Option Total). Some (total_with (unwrap_or o nothing) amount)) (totals.each key ∙ ap total_if_any (sym (same_amounts key q amounts told)))
-            ∙ sym (total_if_any_push (amounts_at eq q amounts) (key, amount))
-            ∙ sym (ap total_if_any (amounts_push q amounts (key, amount) true told))
-        by q false told =
-            updated q false told ∙ totals.each q
-            ∙ ap total_if_any (sym (append-nil (amounts_at eq q amounts)) ∙ sym (amounts_push q amounts (key, amount) false told))
+  -- an amount more of the key at hand
+  pub totals_more : (key k : K) (amount : ℤ) (total : Total) (before : List (K × Total)) (amounts : List (K × ℤ)) → eq key k ≡ true
+      → AreTotals eq amounts ((k, total) ∷ before) → AreTotals eq (amounts ++ (key, amount) ∷ []) ((k, total_with total amount) ∷ before)
+  totals_more key k amount total before amounts same totals = record { once = totals.once; each = λ q. by q (eq q k) refl (totals.each q) }
+    where
+      by : (q : K) (b : Bool) → eq q k ≡ b → cond (eq q k) (Some total) (lookup (eq q) before) ≡ total_if_any (amounts_at eq q amounts)
+          → cond (eq q k) (Some (total_with total amount)) (lookup (eq q) before) ≡ total_if_any (amounts_at eq q (amounts ++ (key, amount) ∷ []))
+      by q true told had =
+          let at : Some total ≡ total_if_any (amounts_at eq q amounts) = ap (λ (b : Bool). cond b (Some total) (lookup (eq q) before)) (sym told) ∙ had in
+          ap (λ (b : Bool). cond b (Some (total_with total amount)) (lookup (eq q) before)) told
+          ∙ ap (λ (o : Option Total). Some (total_with (unwrap_or o nothing) amount)) at
+          ∙ sym (total_if_any_push (amounts_at eq q amounts) (key, amount))
+          ∙ sym (ap total_if_any (amounts_push q amounts (key, amount) true (same_test key k q true same told)))
+      by q false told had =
+          ap (λ (b : Bool). cond b (Some (total_with total amount)) (lookup (eq q) before)) told
+          ∙ ap (λ (b : Bool). cond b (Some total) (lookup (eq q) before)) (sym told)
+          ∙ had
+          ∙ ap total_if_any (sym (append-nil (amounts_at eq q amounts)) ∙ sym (amounts_push q amounts (key, amount) false (same_test key k q false same told)))
 
-    -- what is kept stays small
-    pub all_within_more : (count : ℕ) → ((q : K) → IsWithin count (total_so_far eq q old)) → unsigned_abs amount ≤ MOST_AMOUNT → (q : K) → IsWithin (count + 1) (total_so_far eq q new)
-    all_within_more count all small q = by (eq q key) refl
-      where
-        by : (b : Bool) → eq q key ≡ b → IsWithin (count + 1) (total_so_far eq q new)
-        by true told = subst (λ (o : Option Total). IsWithin (count + 1) (unwrap_or o nothing)) (sym (updated q true told)) (within_more count (total_so_far eq key old) amount (all key) small)
-        by false told = subst (λ (o : Option Total). IsWithin (count + 1) (unwrap_or o nothing)) (sym (updated q false told)) (within_later count (total_so_far eq q old) (all q))
+  -- a key that is not found is none of these
+  none_found : (key : K) (entries : List (K × Total)) → lookup (eq key) entries ≡ None → AllByRecursion (λ k. eq key k ≡ false) (keys_of entries)
+  none_found key [] none = tt
+  none_found key (e ∷ entries) none = by (eq key e.0) refl (none_found key entries)
+    where
+      by : (b : Bool) → eq key e.0 ≡ b → (lookup (eq key) entries ≡ None → AllByRecursion (λ k. eq key k ≡ false) (keys_of entries)) → AllByRecursion (λ k. eq key k ≡ false) (keys_of (e ∷ entries))
+      by true told rest = absurd (none-some e.1 (sym none ∙ ap (λ (b : Bool). cond b (Some e.1) (lookup (eq key) entries)) told))
+      by false told rest = (told, rest (ap (λ (b : Bool). cond b (Some e.1) (lookup (eq key) entries)) (sym told) ∙ none))
 
--- Lines by their keys, of which those count that pass a test: one line more, with its amount as it is kept.
-module _ {K : Type 0} (eq : K → K → Bool) (laws : IsEquivalence eq) (key_of : UsageLine → K) (lines : List UsageLine) (place : ℕ) (line : UsageLine) (below : place < length lines) (at : get_or lines place line ≡ line) where
-  abbrev amounts_of : (UsageLine → Bool) → ℕ → List (K × ℤ)
-  amounts_of p count = map (λ l. (key_of l, l.amount)) (filter p (take count lines))
-
-  pub by_more : (p : UsageLine → Bool) (key : K) (amount : ℤ) (old new : List (K × Total)) → p line ≡ true → key ≡ key_of line → amount ≡ line.amount
-      → ((q : K) → lookup (eq q) new ≡ cond (eq key q) (Some (total_with (total_so_far eq key old) amount)) (lookup (eq q) old)) → IsDistinct eq (keys_of new)
-      → AreTotals eq (amounts_of p place) old → AreTotals eq (amounts_of p (place + 1)) new
-  by_more p key amount old new passes key_is amount_is updates once totals =
-      let longer : amounts_of p place ++ (key, amount) ∷ [] ≡ amounts_of p (place + 1) =
-      (λ i. amounts_of p place ++ (key_is i, amount_is i) ∷ [])
-      ∙ sym (map_push (λ (l : UsageLine). (key_of l, l.amount)) (filter p (take place lines)) line)
-      ∙ ap (map (λ (l : UsageLine). (key_of l, l.amount))) (sym (kept_more p lines place line below at passes)) in
-      subst (λ (l : List (K × ℤ)). AreTotals eq l new) longer (totals_more eq laws key amount old new updates (amounts_of p place) totals once)
-
-  pub by_same : (p : UsageLine → Bool) (totals : List (K × Total)) → p line ≡ false → AreTotals eq (amounts_of p place) totals → AreTotals eq (amounts_of p (place + 1)) totals
-  by_same p totals fails are = subst (λ (l : List (K × ℤ)). AreTotals eq l totals) (ap (map (λ (l : UsageLine). (key_of l, l.amount))) (sym (left_more p lines place line below at fails))) are
+  -- an amount of a key that has none so far
+  pub totals_first : (key : K) (amount : ℤ) (entries : List (K × Total)) (amounts : List (K × ℤ)) → amounts_at eq key amounts ≡ []
+      → AreTotals eq amounts entries → AreTotals eq (amounts ++ (key, amount) ∷ []) ((key, total_with nothing amount) ∷ entries)
+  unfolding IsDistinct
+  totals_first key amount entries amounts none totals = record {
+    once = (none_found key entries (totals.each key ∙ ap total_if_any none), totals.once);
+    each = λ q. by q (eq q key) refl;
+  }
+    where
+      by : (q : K) (b : Bool) → eq q key ≡ b → cond (eq q key) (Some (total_with nothing amount)) (lookup (eq q) entries) ≡ total_if_any (amounts_at eq q (amounts ++ (key, amount) ∷ []))
+      by q true told =
+          ap (λ (b : Bool). cond b (Some (total_with nothing amount)) (lookup (eq q) entries)) told
+          ∙ ap (λ (l : List (K × ℤ)). Some (total_with (unwrap_or (total_if_any l) nothing) amount)) (sym (same_amounts key q amounts told ∙ none))
+          ∙ sym (total_if_any_push (amounts_at eq q amounts) (key, amount))
+          ∙ sym (ap total_if_any (amounts_push q amounts (key, amount) true told))
+      by q false told =
+          ap (λ (b : Bool). cond b (Some (total_with nothing amount)) (lookup (eq q) entries)) told
+          ∙ totals.each q
+          ∙ ap total_if_any (sym (append-nil (amounts_at eq q amounts)) ∙ sym (amounts_push q amounts (key, amount) false told))
 
 -- no amounts
 pub totals_none : {K : Type 0} (eq : K → K → Bool) → AreTotals eq [] []

@@ -1,5 +1,5 @@
 -- The first items of a list in an order, and one item more.
-use Rattle.std.proofs.Common.{◌≡◌, ◌∙◌, ◌+◌, ◌-◌, ◌<◌, ◌≤◌, ◌++◌, ◌∷◌, [], ℕ, zero, suc, Bool, true, false, List, ap, arith, cond, get_or, length, refl, sym, take}
+use Rattle.std.proofs.Common.{◌≡◌, ◌∙◌, ◌+◌, ◌-◌, ◌<◌, ◌≤◌, ◌∷◌, [], ℕ, zero, suc, Bool, true, false, List, ap, arith, cond, get_or, length, refl, sym, take}
 use Rattle.std.specs.Cmp.{IsStrictWeakOrder}
 use Rattle.std.specs.List.{insert}
 use Rattle.std.specs.List.Sorted.{IsPartitionPoint, IsPartitionedBy, IsPermutation, IsSorted}
@@ -8,7 +8,7 @@ use Rattle.std.specs.declared.cmp.Ordering.{Ordering}
 use Rattle.std.proofs.lemmas.Bool.{false≢true}
 use Rattle.std.proofs.lemmas.List.{get_or-take, length-take, take-take, take_at}
 use Rattle.std.proofs.lemmas.List.Edits.{insert_end}
-use Rattle.std.proofs.lemmas.List.Sorted.{IsPermutation-cons, IsPermutation-middle, IsPermutation-refl, IsPermutation-to_front, IsPermutation-trans, sorted_far}
+use Rattle.std.proofs.lemmas.List.Sorted.{IsPermutation-cons, IsPermutation-middle, IsPermutation-refl, IsPermutation-trans, sorted_far}
 use Rattle.usage_totals.specs.Greatest.{AreFirst}
 
 -- a list in order, by its first item and the rest
@@ -118,12 +118,10 @@ module _ {X : Type 0} (cmp : X → X → Ordering) (ranks : IsStrictWeakOrder (�
       point : IsPartitionPoint (λ x. goes_before x ≡ true) (λ x. goes_before x ≡ false) shown place
       point = rw same at (parts (rw same first_parted))
 
-      with_item : (after : List X) → after ≡ take most (insert shown place item) → AreFirst cmp most (all ++ item ∷ []) after
+      with_item : (after : List X) → after ≡ take most (insert shown place item) → AreFirst cmp most (item ∷ all) after
       with_item after is = record {
         sorted = placed first.sorted;
-        same =
-            IsPermutation-trans (all ++ item ∷ []) (item ∷ all) (placed first.sorted) (IsPermutation-to_front all item)
-            (IsPermutation-trans (item ∷ all) (item ∷ first.sorted) (placed first.sorted) (IsPermutation-cons item all first.sorted first.same) (placed_same first.sorted));
+        same = IsPermutation-trans (item ∷ all) (item ∷ first.sorted) (placed first.sorted) (IsPermutation-cons item all first.sorted first.same) (placed_same first.sorted);
         order = placed_sorted first.sorted first.order;
         first =
             is ∙ ap (take most) (placed_at shown place within point)
@@ -131,14 +129,14 @@ module _ {X : Type 0} (cmp : X → X → Ordering) (ranks : IsStrictWeakOrder (�
       }
 
       -- the item is among the first, where its place is, and the last may fall off
-      pub first_with : place < most → (cut after : List X) → cut ≡ take (most - 1) shown → after ≡ insert cut place item → AreFirst cmp most (all ++ item ∷ []) after
+      pub first_with : place < most → (cut after : List X) → cut ≡ take (most - 1) shown → after ≡ insert cut place item → AreFirst cmp most (item ∷ all) after
       first_with among cut after shorter is =
           let one_less : suc (most - 1) ≡ most = omega arith in
           with_item after
           (is ∙ ap (λ (l : List X). insert l place item) shorter ∙ put_first shown place (most - 1) within (omega arith) ∙ ap (λ n. take n (insert shown place item)) one_less)
 
       -- or it is not
-      pub first_without : most ≤ place → AreFirst cmp most (all ++ item ∷ []) shown
+      pub first_without : most ≤ place → AreFirst cmp most (item ∷ all) shown
       first_without beyond =
           let full : length shown ≡ most = omega (arith, few, within) in
           let end : place ≡ length shown = omega (arith, few, within) in

@@ -1,8 +1,12 @@
+pub mod AnyOrderLemmas
 pub mod ByKeyLemmas
+pub mod CountedLemmas
 pub mod FirstLemmas
+pub mod HashedLemmas
 pub mod MostMoneyLemmas
 pub mod ReasonLemmas
 pub mod ResidueLemmas
 pub mod RestLemmas
 pub mod SameGreatestLemmas
 pub mod TotalLemmas
+pub mod TogetherLemmas

@@ -65,7 +65,7 @@ falls Equal apart no_tie = absurd (no_tie refl)
 falls Greater apart no_tie = refl
 
 -- a tie in money is one of keys
-key_tie : (o other : Ordering) → ordering_then o other ≡ Equal → other ≡ Equal
+pub key_tie : (o other : Ordering) → ordering_then o other ≡ Equal → other ≡ Equal
 key_tie Less other is = absurd (cc)
 key_tie Equal other is = is
 key_tie Greater other is = absurd (cc)

@@ -8,12 +8,11 @@ use Rattle.line_split.specs.Signs.{int_sum_by}
 use Rattle.line_split.specs.UsageLine.{UsageLine}
 use Rattle.line_split.specs.declared.TheConstants.{MOST_AMOUNT}
 use Rattle.line_split.specs.declared.usage.TheConstants.{MOST_LINES}
-use Rattle.line_split.specs.declared.usage.Right.TheVariants.{P}
 use Rattle.line_split.specs.contracts.reason.Reason.{the_type}
 use Rattle.line_split.specs.declared.reason.Reason.{Reason}
 use Rattle.line_split.specs.declared.reason.Reason.TheVariants.{Work, Land, Over, Open}
 use denote.Enum.Bare.{sameb}
-use Rattle.usage_totals.specs.SoFar.{HasRoom}
+use Rattle.usage_totals.specs.SoFar.{HasRoom, IsWithin, line_at, some_line}
 use Rattle.usage_totals.specs.Totals.{is_same, total_of_lines}
 use Rattle.usage_totals.specs.declared.total.Total.{Total}
 
@@ -25,14 +24,7 @@ pub left_more : {X : Type 0} (p : X → Bool) (xs : List X) (i : ℕ) (x : X) �
 left_more p xs i x below at fails =
     filter_more p xs i x below ∙ ap (λ y. filter p (take i xs) ++ cond (p y) (y ∷ []) []) at ∙ ap (λ b. filter p (take i xs) ++ cond b (x ∷ []) []) fails ∙ append-nil (filter p (take i xs))
 
--- some line, where one has to be named
-abbrev pub some_line : UsageLine
-some_line = record { usage = []; work = []; territory = 0; right = P; amount = pos 0 }
-
 -- a line of the list, by its place
-abbrev pub line_at : List UsageLine → ℕ → UsageLine
-line_at lines place = get_or lines place some_line
-
 pub line_stays : (lines : List UsageLine) (place : ℕ) → place < length lines → get_or lines place (line_at lines place) ≡ line_at lines place
 line_stays lines place below = get_or_default lines place (line_at lines place) some_line below
 
@@ -73,11 +65,7 @@ total_push lines line total is =
 pub amount_kept : (amount : ℤ) → unsigned_abs amount ≤ MOST_AMOUNT → to_z w64 (of_z w64 amount) ≡ amount
 amount_kept amount small = to_z-of_z w64 amount (fits_signed_from_abs w64 amount (omega (arith, small)))
 
--- a total of so many lines at most, none of which has more than the greatest amount
-pub record IsWithin (count : ℕ) (total : Total) : Type 0 where
-  pub few : total.lines ≤ count
-  pub small : unsigned_abs total.amount ≤ total.lines * MOST_AMOUNT
-
+-- a total of so many lines at most
 pub within_none : IsWithin 0 (record { lines = 0; amount = pos 0 })
 within_none = record { few = omega arith; small = omega arith }
 

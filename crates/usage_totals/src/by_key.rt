@@ -1,93 +1,206 @@
-//! What usage lines come to by what they are of, such as a work.
+//! What usage lines come to by what they are of, such as a work, and where most of the money is.
 
-ghost use Rattle.std.specs.Prelude.{◌≡◌, ◌+◌, ◌+ℤ◌, ◌≤◌, ◌++◌, ◌∷◌, [], List, IfOk, OnOk, Some, filter, length, map, nat_eq, unsigned_abs, unwrap_or};
-ghost use Rattle.std.specs.Cmp.Lexicographic.{pointwise};
-ghost use Rattle.indexmap.specs.IndexMap.{IsUnique, Updates, get};
-ghost use Rattle.line_split.specs.UsageLine.{UsageLine};
+ghost use Rattle.std.specs.Prelude.{ℕ, ℤ, ◌≡◌, ◌⊎◌, ◌+◌, ◌<◌, ◌≤◌, ◌++◌, ◌∷◌, [], All, List, IfOk, OnOk, IsPermutation, filter, length, map, option_map, slice_get, true, unsigned_abs};
+ghost use Rattle.line_split.specs.UsageLine.{UsageLine, usage_line_of};
 ghost use Rattle.line_split.specs.declared.TheConstants.{MOST_AMOUNT};
 ghost use Rattle.line_split.specs.declared.reason.Reason.{Reason};
-ghost use Rattle.line_split.specs.declared.reason.Reason.TheVariants.{Land, Work};
-ghost use Rattle.usage_totals.specs.Greatest.{AreFirst, AreTotals, by_money as in_order_of_money};
-ghost use Rattle.usage_totals.specs.Totals.{amounts_by_territory, amounts_by_work, is_same as are_same};
-ghost use Rattle.usage_totals.specs.SoFar.{HasRoom, total_so_far, total_with};
+ghost use Rattle.line_split.specs.declared.usage.TheConstants.{MOST_LINES};
+ghost use Rattle.usage_totals.specs.Greatest.{AreFirst, AreGreatest, amounts_at, by_money as in_order_of_money};
+ghost use Rattle.usage_totals.specs.Totals.{is_same as are_same};
+ghost use Rattle.usage_totals.specs.SoFar.{AreCounted, AreHashed, HasRoom, IsWithin, StandTogether, amount_at, hash_by, in_order_of_hash, line_at};
 
 use crate::name::Name;
 use crate::total::Total;
-use indexmap::IndexMap;
-use line_split::{Reason, Usage};
+use line_split::{Line, Reason, Usage};
 use std::alloc::{AllocError, Global};
 use std::cmp::Ordering;
-use std::hash::Hash;
+use std::hash::{FoldHasher, Hash, Hasher};
+use std::mem;
 
-/// What the lines without a registration come to, by work.
-pub(crate) fn by_work<'a>(
+/// What a usage line may be counted by.
+pub(crate) trait Key<'a>: Hash + Ord + Drop {
+    ghost key: { UsageLine → Self };
+
+    /// The key of a line.
+    fn of_line(line: &Line<'a>) -> Self
+        ensures { result ≡ key (usage_line_of line.now) };
+}
+
+/// The work.
+impl<'a> Key<'a> for Name<'a> {
+    ghost key = { λ line. line.work };
+
+    fn of_line(line: &Line<'a>) -> Name<'a> {
+        Name::of(line.work)
+    }
+}
+
+/// The territory.
+impl<'a> Key<'a> for u16 {
+    ghost key = { λ line. line.territory };
+
+    fn of_line(line: &Line<'a>) -> u16 {
+        line.territory
+    }
+}
+
+/// The place of a line, and a hash of its key.
+#[derive(Clone, Copy, Debug)]
+struct Hashed {
+    hash: u32,
+    place: u32,
+}
+
+/// The keys with most money of the lines that have a reason, so many at most, and what the lines of
+/// each come to. These lines are sorted, so that no more is kept of a key than its lines' places.
+pub(crate) fn greatest<'a, K: Key<'a>>(
     alloc: Global,
     usage: &'a Usage,
     reasons: &[Reason],
-) -> Result<IndexMap<Name<'a>, Total>, AllocError>
-    requires { length reasons.now ≡ length usage.now }
-    ensures { IfOk result (λ totals. (given : UsageLine → Reason) → reasons.now ≡ map given usage.now
-        → AreTotals (pointwise nat_eq) (amounts_by_work (filter (λ line. are_same Work (given line)) usage.now)) totals.entries) }
-{
-    let mut totals = IndexMap::new(alloc);
-    for place in 0..usage.len() {
-        if reasons[place] == Reason::Work {
-            let line = usage.line(place);
-            add(&mut totals, Name::of(line.work), line.amount)?;
-        }
-    }
-    Ok(totals)
-}
-
-/// What the lines whose territory is unknown come to, by territory.
-pub(crate) fn by_territory(
-    alloc: Global,
-    usage: &Usage,
-    reasons: &[Reason],
-) -> Result<IndexMap<u16, Total>, AllocError>
-    requires { length reasons.now ≡ length usage.now }
-    ensures { IfOk result (λ totals. (given : UsageLine → Reason) → reasons.now ≡ map given usage.now
-        → AreTotals nat_eq (amounts_by_territory (filter (λ line. are_same Land (given line)) usage.now)) totals.entries) }
-{
-    let mut totals = IndexMap::new(alloc);
-    for place in 0..usage.len() {
-        if reasons[place] == Reason::Land {
-            let line = usage.line(place);
-            add(&mut totals, line.territory, line.amount)?;
-        }
-    }
-    Ok(totals)
-}
-
-/// Adds an amount to what those of its key come to.
-fn add<K: Eq + Hash + Drop>(
-    totals: &mut IndexMap<K, Total>,
-    key: K,
-    amount: i64,
-) -> Result<(), AllocError>
-    requires room { HasRoom (total_so_far K.eq key totals.old.entries) }
-    requires small { unsigned_abs amount ≤ MOST_AMOUNT }
-    ensures added { OnOk result (Updates K.eq totals.old totals.new key (Some (total_with (total_so_far K.eq key totals.old.entries) amount))) }
-    ensures unique { OnOk result (IsUnique K.eq totals.new) }
-{
-    let total = totals.entry(key)?.or_insert(Total::none());
-    *total = total.with(amount);
-    Ok(())
-}
-
-/// The keys with most money, so many at most, and what the lines of each come to.
-pub(crate) fn greatest<K: Eq + Hash + Ord + Drop>(
-    alloc: Global,
-    totals: IndexMap<K, Total>,
+    reason: Reason,
     most: usize,
 ) -> Result<Vec<(K, Total)>, AllocError>
-    ensures { IfOk result (λ shown. AreFirst (in_order_of_money K.cmp) most totals.entries shown.items) }
+    requires { length reasons.now ≡ length usage.now }
+    ensures { IfOk result (λ shown. (given : UsageLine → Reason) → reasons.now ≡ map given usage.now
+        → AreGreatest K.eq K.cmp most (map (λ line. (K.key line, line.amount)) (filter (λ line. are_same reason (given line)) usage.now)) shown.items) }
+{
+    let mut places = places_for::<K>(alloc, usage, reasons, reason)?;
+    bring_together::<K>(usage, &mut places);
+    greatest_of(alloc, usage, places.as_slice(), most)
+}
+
+/// The places of the lines that have a reason.
+fn places_for<'a, K: Key<'a>>(
+    alloc: Global,
+    usage: &'a Usage,
+    reasons: &[Reason],
+    reason: Reason,
+) -> Result<Vec<Hashed>, AllocError>
+    requires { length reasons.now ≡ length usage.now }
+    ensures hashed { IfOk result (λ places. AreHashed K.eq K.key usage.now places.items) }
+    ensures few { IfOk result (λ places. length places.items ≤ MOST_LINES) }
+    ensures lines { IfOk result (λ places. (given : UsageLine → Reason) → reasons.now ≡ map given usage.now
+        → map (λ hashed. line_at usage.now hashed.place) places.items ≡ filter (λ line. are_same reason (given line)) usage.now) }
+{
+    let mut places = Vec::with_capacity(alloc, usage.len())?;
+    for place in 0..usage.len() {
+        if reasons[place] == reason {
+            let key = K::of_line(&usage.line(place));
+            places.push(Hashed {
+                hash: hash_of(&key),
+                place: place as u32,
+            })?;
+        }
+    }
+    Ok(places)
+}
+
+/// A hash of a key. Whoever writes a list can give many keys one hash: these take longer to sort.
+fn hash_of<K: Hash>(key: &K) -> u32
+    ensures { result ≡ hash_by (K.hash_input key.now) }
+{
+    let mut state = FoldHasher::default();
+    key.hash(&mut state);
+    (state.finish() >> 32) as u32
+}
+
+/// Sorts lines, so that those of one key stand together.
+fn bring_together<'a, K: Key<'a>>(usage: &'a Usage, places: &mut Vec<Hashed>)
+    requires { AreHashed K.eq K.key usage.now places.old.items }
+    ensures same { IsPermutation places.old.items places.new.items }
+    ensures len { length places.new.items ≡ length places.old.items }
+    ensures within { All (λ hashed. hashed.place < length usage.now) places.new.items }
+    ensures together { StandTogether K.eq (map (amount_at K.key usage.now) places.new.items) }
+{
+    places.sort_unstable_by(
+        |hashed, other| -> Ordering
+            ensures { result ≡ in_order_of_hash K.cmp K.key usage.entry.now hashed.now other.now }
+        { by_hash::<K>(usage, hashed, other) },
+    );
+}
+
+/// By the hash, which stands at hand, and where that is the same by the key.
+fn by_hash<'a, K: Key<'a>>(usage: &'a Usage, hashed: &Hashed, other: &Hashed) -> Ordering
+    ensures { result ≡ in_order_of_hash K.cmp K.key usage.now hashed.now other.now }
+{
+    match hashed.hash.cmp(&other.hash) {
+        Ordering::Equal => {
+            key_at::<K>(usage, hashed.place).cmp(&key_at::<K>(usage, other.place))
+        }
+        unequal => unequal,
+    }
+}
+
+/// The key of the line at a place.
+fn key_at<'a, K: Key<'a>>(usage: &'a Usage, place: u32) -> Option<K>
+    ensures { result ≡ option_map K.key (slice_get usage.now place) }
+{
+    let place = place as usize;
+    if place < usage.len() {
+        Some(K::of_line(&usage.line(place)))
+    } else {
+        None
+    }
+}
+
+/// The keys with most money, so many at most, and what the lines of each come to, which stand
+/// together.
+fn greatest_of<'a, K: Key<'a>>(
+    alloc: Global,
+    usage: &'a Usage,
+    places: &[Hashed],
+    most: usize,
+) -> Result<Vec<(K, Total)>, AllocError>
+    requires within { All (λ hashed. hashed.place < length usage.now) places.now }
+    requires few { length places.now ≤ MOST_LINES }
+    requires together { StandTogether K.eq (map (amount_at K.key usage.now) places.now) }
+    ensures { IfOk result (λ shown. AreGreatest K.eq K.cmp most (map (amount_at K.key usage.now) places.now) shown.items) }
 {
     let mut first = Vec::new(alloc);
-    for entry in totals {
-        put(&mut first, entry, most)?;
+    if places.is_empty() {
+        return Ok(first);
     }
+    let (key, amount) = amount_of::<K>(usage, &places[0]);
+    let mut at_hand = (key, Total::none().with(amount));
+    for next in 1..places.len() {
+        let amount = amount_of(usage, &places[next]);
+        count(&mut first, &mut at_hand, amount, most)?;
+    }
+    put(&mut first, at_hand, most)?;
     Ok(first)
+}
+
+/// The key of a line, and its amount.
+fn amount_of<'a, K: Key<'a>>(usage: &'a Usage, hashed: &Hashed) -> (K, i64)
+    requires { hashed.now.place < length usage.now }
+    ensures amount { result ≡ amount_at K.key usage.now hashed.now }
+    ensures small { unsigned_abs result.1 ≤ MOST_AMOUNT }
+{
+    let line = usage.line(hashed.place as usize);
+    (K::of_line(&line), line.amount)
+}
+
+/// Counts one amount more. Amounts stand together by key, so one of another key ends those at hand.
+fn count<K: Ord + Drop>(
+    first: &mut Vec<(K, Total)>,
+    at_hand: &mut (K, Total),
+    amount: (K, i64),
+    most: usize,
+) -> Result<(), AllocError>
+    requires room { HasRoom at_hand.old.1 }
+    requires small { unsigned_abs amount.1 ≤ MOST_AMOUNT }
+    ensures counted { OnOk result ((amounts : List (K × ℤ)) → AreCounted K.eq K.cmp most amounts at_hand.old first.old.items
+        → (K.eq amount.0 at_hand.old.0 ≡ true) ⊎ (amounts_at K.eq amount.0 amounts ≡ []) → AreCounted K.eq K.cmp most (amounts ++ amount ∷ []) at_hand.new first.new.items) }
+    ensures key { OnOk result (K.eq amount.0 at_hand.new.0 ≡ true) }
+    ensures within { OnOk result ((lines : ℕ) → IsWithin lines at_hand.old.1 → IsWithin (lines + 1) at_hand.new.1) }
+{
+    if amount.0 == at_hand.0 {
+        at_hand.1 = at_hand.1.with(amount.1);
+        return Ok(());
+    }
+    let next = (amount.0, Total::none().with(amount.1));
+    let before = mem::replace(at_hand, next);
+    put(first, before, most)
 }
 
 /// Puts a key and its total at their place among the first in order of money, of which so many are
@@ -97,7 +210,7 @@ fn put<K: Ord + Drop>(
     entry: (K, Total),
     most: usize,
 ) -> Result<(), AllocError>
-    ensures { OnOk result ((all : List (K × Total)) → AreFirst (in_order_of_money K.cmp) most all first.old.items → AreFirst (in_order_of_money K.cmp) most (all ++ entry ∷ []) first.new.items) }
+    ensures { OnOk result ((all : List (K × Total)) → AreFirst (in_order_of_money K.cmp) most all first.old.items → AreFirst (in_order_of_money K.cmp) most (entry ∷ all) first.new.items) }
 {
     let place = first.partition_point(|other| by_money(other, &entry).is_lt());
     if place < most {

@@ -3,7 +3,7 @@
 ghost use Rattle.std.specs.Prelude.{IfOk};
 ghost use Rattle.usage_totals.specs.Totals.{AreTotalsOf};
 
-use crate::by_key::{by_territory, by_work, greatest};
+use crate::by_key::greatest;
 use crate::name::Name;
 use crate::reasons::{knows_a_territory, reasons_of, total_for};
 use crate::total::Total;
@@ -48,16 +48,14 @@ pub fn totals_of<'a>(
 {
     let (reasons, residue) = reasons_of(alloc, tis, registry, usage)?;
     let reasons = reasons.as_slice();
-    let works = by_work(alloc, usage, reasons)?;
-    let territories = by_territory(alloc, usage, reasons)?;
     Ok(Totals {
         divided: total_for(usage, reasons, Reason::Open),
         residue,
         unregistered: total_for(usage, reasons, Reason::Work),
         unknown: total_for(usage, reasons, Reason::Land),
         claimed_over: total_for(usage, reasons, Reason::Over),
-        works: greatest(alloc, works, MOST_KEYS)?,
-        territories: greatest(alloc, territories, MOST_KEYS)?,
+        works: greatest(alloc, usage, reasons, Reason::Work, MOST_KEYS)?,
+        territories: greatest(alloc, usage, reasons, Reason::Land, MOST_KEYS)?,
         knows_a_territory: knows_a_territory(tis, usage),
     })
 }

@@ -2,7 +2,8 @@ use Rattle.std.proofs.Common.{◌∙◌, ◌<◌, ap, arith, length, sym}
 use Rattle.std.proofs.lemmas.Option.{get_or_from_slice_get}
 use Rattle.line_split.specs.UsageLine.{UsageLine, usage_line_of}
 use Rattle.usage_totals.specs.Totals.{is_same, total_of_lines}
-use Rattle.usage_totals.proofs.TotalLemmas.{amount_kept, kept_more, left_more, line_at, line_stays, reason_told, total_push, within_later, within_more}
+use Rattle.usage_totals.specs.SoFar.{line_at}
+use Rattle.usage_totals.proofs.TotalLemmas.{amount_kept, kept_more, left_more, line_stays, reason_told, total_push, within_later, within_more}
 use Rattle.usage_totals.proofs.reasons.total_for.Goals as goal
 use Rattle.usage_totals.proofs.reasons.total_for.Goals.{then-eq, else-eq}
 

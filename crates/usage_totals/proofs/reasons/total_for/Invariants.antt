@@ -2,7 +2,7 @@ use Rattle.std.proofs.Common.{◌≡◌, filter, map, take}
 use Rattle.line_split.specs.UsageLine.{UsageLine}
 use Rattle.line_split.specs.declared.reason.Reason.{Reason}
 use Rattle.usage_totals.specs.Totals.{is_same, total_of_lines}
-use Rattle.usage_totals.proofs.TotalLemmas.{IsWithin}
+use Rattle.usage_totals.specs.SoFar.{IsWithin}
 use Rattle.usage_totals.proofs.reasons.total_for.Given as goal
 
 -- the total of the lines so far
