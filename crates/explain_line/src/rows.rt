@@ -12,6 +12,7 @@ ghost use Rattle.cwr_share.specs.Registrations.{ShareLine};
 ghost use Rattle.cwr_share.specs.declared.TheConstants.{MOST_SHARES};
 ghost use Rattle.explain_line.specs.Explanation.{base_row, claim_row, division_rows, line_row, mark_text, participant_row, payee_at, registration_rows, right_text, share_row, yes_or_no};
 ghost use Rattle.line_split.specs.Claims.{participants_of};
+ghost use Rattle.line_split.specs.ReasonTexts.{reason_text};
 ghost use Rattle.line_split.specs.Signs.{with_sign_of};
 ghost use Rattle.line_split.specs.UsageLine.{usage_line_of};
 ghost use Rattle.line_split.specs.declared.TheConstants.{MOST_AMOUNT};
