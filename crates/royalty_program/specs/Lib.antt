@@ -7,3 +7,4 @@ pub mod RequiredArg
 pub mod RunCommand
 pub mod SplitCommand
 pub mod Status
+pub mod Targets

@@ -18,13 +18,13 @@ use Rattle.royalty_program.specs.CheckCommand.{check_app}
 use Rattle.royalty_program.specs.ExplainCommand.{explain_app}
 use Rattle.royalty_program.specs.Files.{HasNoRowOver, IsFaultOver}
 use Rattle.royalty_program.specs.declared.failure.Failure.{Failure}
-use Rattle.royalty_program.specs.declared.failure.Failure.TheVariants.{Words, NotText, Pairs, Input, Row, Room, File, Output}
+use Rattle.royalty_program.specs.declared.failure.Failure.TheVariants.{Words, NotText, Pairs, Input, Row, Room, File, Output, Target}
 use Rattle.run_inputs.specs.declared.fault.Fault.{Fault}
 use Rattle.run_inputs.specs.declared.fault.Fault.TheVariants as input
 use Rattle.pair_split.specs.declared.pair_fault.PairFault.{PairFault}
 use Rattle.pair_split.specs.declared.pair_fault.PairFault.TheVariants as fault
 
--- 1 for an input that is refused, 2 for words that are, 3 for lack of memory, 4 for a file that cannot be read and for an output that cannot be written
+-- 1 for an input that is refused, 2 for words that are, 3 for lack of memory, 4 for a file that cannot be read or written and for an output that cannot be written
 abbrev pub status_of : Failure → ℕ
 status_of (Words error) = 2
 status_of NotText = 2
@@ -34,6 +34,7 @@ status_of (Input fault) = 1
 status_of Room = 3
 status_of (File path) = 4
 status_of Output = 4
+status_of (Target path) = 4
 
 -- a fault of a number, and of a place where it has one, as a line of text
 abbrev pub fault_text : (what : List ℕ) → ℕ → (where_is : List ℕ) → Option ℕ → List ℕ
@@ -55,6 +56,7 @@ text_of (Row row) = Some (codes "royalty_run: the usage list has no row " ++ dec
 text_of Room = Some (codes "royalty_run: out of room\n")
 text_of (File path) = Some (codes "royalty_run: cannot read " ++ string_bytes path ++ codes "\n")
 text_of Output = Some (codes "royalty_run: cannot write\n")
+text_of (Target path) = Some (codes "royalty_run: cannot write " ++ string_bytes path ++ codes "\n")
 
 -- words and inputs are refused for what is wrong with them: lack of memory is a failure of its own, and help is none
 abbrev pub IsRefusal : Failure → Type 0
@@ -65,12 +67,18 @@ IsRefusal (Input f) = f ≢ input.Room
 IsRefusal (Row row) = ⊤
 IsRefusal Room = ⊤
 IsRefusal (File path) = ⊤
+IsRefusal (Target path) = ⊤
 IsRefusal _ = ⊥
 
 -- lack of memory is no failure of a file, which any other error leaves unread
 abbrev pub failure_of_file : io.ErrorKind → String Global → Failure
 failure_of_file io_kind.OutOfMemory path = Room
 failure_of_file _ path = File path
+
+-- nor of one that is to be written
+abbrev pub failure_of_target : io.ErrorKind → String Global → Failure
+failure_of_target io_kind.OutOfMemory path = Room
+failure_of_target _ path = Target path
 
 -- A file fails as its error has it. `refuses path kind` says that a path is refused with an error of this kind.
 abbrev pub IsOfFile : (refuses : List ℕ → io.ErrorKind → Type 0) → String Global → Failure → Type 0
@@ -107,6 +115,11 @@ IsOfPaths holds refuses tis payees cwr usage (Input fault) = IsFaultOver holds t
 IsOfPaths holds refuses tis payees cwr usage Room = ⊤
 IsOfPaths holds refuses tis payees cwr usage (File name) = IsFirstUnread holds refuses tis payees cwr usage (string_bytes name)
 IsOfPaths holds refuses tis payees cwr usage _ = ⊥
+
+-- What is written to a file fails for that, or since the file cannot be written. The option that names a file may be left out.
+abbrev pub IsOfOutput : (output : Option (String Global)) → (Failure → Type 0) → Failure → Type 0
+IsOfOutput output IsOf (Target path) = output ≡ Some path
+IsOfOutput output IsOf failure = IsOf failure
 
 -- and the words of a run fail for that, or for themselves where clap does not accept them
 abbrev pub IsOfRun : (holds : List ℕ → List ℕ → Type 0) (refuses : List ℕ → io.ErrorKind → Type 0) → List (List ℕ) → Failure → Type 0

@@ -30,6 +30,8 @@ pub enum Failure {
     File(String),
     /// The output refused a write.
     Output,
+    /// The text cannot be kept in the file of this path.
+    Target(String),
 }
 
 impl fmt::Display for Failure {
@@ -60,6 +62,7 @@ impl fmt::Display for Failure {
             }
             Failure::File(path) => write!(f, "royalty_run: cannot read {path}\n"),
             Failure::Output => f.write_str("royalty_run: cannot write\n"),
+            Failure::Target(path) => write!(f, "royalty_run: cannot write {path}\n"),
         }
     }
 }
@@ -125,7 +128,7 @@ impl Failure {
             Failure::Input(_) => 1,
             Failure::Words(_) | Failure::NotText | Failure::Pairs(_) | Failure::Row(_) => 2,
             Failure::Room => 3,
-            Failure::File(_) | Failure::Output => 4,
+            Failure::File(_) | Failure::Output | Failure::Target(_) => 4,
         }
     }
 

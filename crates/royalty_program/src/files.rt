@@ -2,18 +2,20 @@
 
 ghost use Rattle.std.specs.Io.KnownBytes.{Appends};
 ghost use Rattle.std.specs.IoError.{error_kind};
-ghost use Rattle.std.specs.Prelude.{◌≡◌, ◌<◌, ◌≤◌, ◌↔◌, ℕ, List, [], Option, IfOk, IfErr, IfSome, IsSome, IsTrue, OnOk, length, string_bytes, unwrap_or};
+ghost use Rattle.std.specs.Prelude.{◌≡◌, ◌<◌, ◌≤◌, ◌↔◌, ℕ, List, [], Option, IfOk, IfErr, IfSome, IfNone, IsSome, IsTrue, OnErr, OnOk, length, string_bytes, unwrap_or};
 ghost use Rattle.std.specs.Option.{option_map};
 ghost use Rattle.std.specs.declared.io.ErrorKind.{ErrorKind};
 ghost use Rattle.check_inputs.specs.Checked.{IsReportOn, files_of, path_if_given, paths_of};
 ghost use Rattle.royalty_program.specs.Files.{AreRead, AreStatementsOver, HaveNoFaultOver, HoldsIfGiven, IsExplanationOver, IsReportOver, for_any_error, on_disk};
 ghost use Rattle.royalty_program.specs.declared.failure.Failure.TheVariants.{Room};
-ghost use Rattle.royalty_program.specs.Status.{IsOfFile, IsOfNoInput, IsOfPaths, IsRefusal, IsUnexplained, failure_of_file};
+ghost use Rattle.royalty_program.specs.Status.{IsOfFile, IsOfNoInput, IsOfOutput, IsOfPaths, IsRefusal, IsUnexplained, failure_of_file};
+ghost use Rattle.royalty_program.specs.Targets.{IsLeftOrHas, IsPut};
 
 use crate::check_command::CheckWords;
 use crate::explain_command::ExplainWords;
 use crate::failure::Failure;
 use crate::run_command::RunWords;
+use crate::targets::{Target, finish, unkept};
 use check_inputs::{Checked, File, check};
 use explain_line::explain;
 use settle_run::settle_to;
@@ -110,6 +112,58 @@ pub fn settle_files<R: Threads + Wait + Sync, S: Source, W: Write>(
     match settle_to(rt, alloc, tis, payees, cwr, usage, plan, out) {
         Ok(printed) => Ok(printed),
         Err(fault) => Err(Failure::from(fault)),
+    }
+}
+
+/// The same into the file of a path: whole, or that is as it was.
+fn settle_kept<R: Threads + Wait + Sync, S: Source, T: Target>(
+    rt: &R,
+    alloc: Global,
+    files: &S,
+    target: &mut T,
+    asked: RunWords,
+    path: String,
+) -> Result<(), Failure>
+    ensures statements { IfOk result (λ _. (text : List ℕ) × T.keeps target.new (string_bytes path) (Some text)
+        × AreStatementsOver (S.holds files.now) (string_bytes asked.tis) (option_map string_bytes asked.payees) (string_bytes asked.cwr) (string_bytes asked.usage) text) }
+    ensures failure { IfErr result IsRefusal }
+    ensures files { IfErr result (IsOfOutput (Some path) (IsOfPaths (S.holds files.now) (S.refuses files.now) (string_bytes asked.tis) (option_map string_bytes asked.payees) (string_bytes asked.cwr) (string_bytes asked.usage))) }
+    ensures left { OnErr result (IsLeftOrHas (T.keeps target.old (string_bytes path)) (T.keeps target.new (string_bytes path))
+        (AreStatementsOver (S.holds files.now) (string_bytes asked.tis) (option_map string_bytes asked.payees) (string_bytes asked.cwr) (string_bytes asked.usage))) }
+{
+    let mut draft = match target.begin(alloc, path.as_str()) {
+        Ok(draft) => draft,
+        Err(error) => return Err(unkept(error.kind(), path)),
+    };
+    let written = settle_files(rt, alloc, files, asked, &mut draft);
+    finish(target, draft, path, written)
+}
+
+/// Prints the statements of a run, or keeps them in the file of a path, where there is one.
+pub fn settle_out<R: Threads + Wait + Sync, S: Source, T: Target, W: Write>(
+    rt: &R,
+    alloc: Global,
+    files: &S,
+    target: &mut T,
+    asked: RunWords,
+    output: Option<String>,
+    out: &mut W,
+) -> Result<io::Result<()>, Failure>
+    ensures statements { IfOk result (λ printed. OnOk printed ((text : List ℕ) × IsPut (option_map string_bytes output) (T.keeps target.new) (W.contents out.old) (W.contents out.new) text
+        × AreStatementsOver (S.holds files.now) (string_bytes asked.tis) (option_map string_bytes asked.payees) (string_bytes asked.cwr) (string_bytes asked.usage) text)) }
+    ensures failure { IfErr result IsRefusal }
+    ensures files { IfErr result (IsOfOutput output (IsOfPaths (S.holds files.now) (S.refuses files.now) (string_bytes asked.tis) (option_map string_bytes asked.payees) (string_bytes asked.cwr) (string_bytes asked.usage))) }
+    ensures silent { IfErr result (λ _. out.new ≡ out.old) }
+    ensures left { IfSome output (λ path. IsLeftOrHas (T.keeps target.old (string_bytes path)) (T.keeps target.new (string_bytes path))
+        (AreStatementsOver (S.holds files.now) (string_bytes asked.tis) (option_map string_bytes asked.payees) (string_bytes asked.cwr) (string_bytes asked.usage))) }
+    ensures unused { IfNone output (target.new ≡ target.old) }
+{
+    match output {
+        None => settle_files(rt, alloc, files, asked, out),
+        Some(path) => {
+            settle_kept(rt, alloc, files, target, asked, path)?;
+            Ok(Ok(()))
+        }
     }
 }
 

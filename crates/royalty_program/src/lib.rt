@@ -10,6 +10,7 @@ mod files;
 mod options;
 mod run_command;
 mod split_command;
+mod targets;
 
 pub use answering::{program, words_of};
 pub use failure::Failure;
