@@ -1,5 +1,5 @@
 -- What is read of a command line, and what answers it.
-use Rattle.std.specs.Prelude.{ℕ, ◌≡◌, ◌≤◌, Bool, true, List, codes, drop, map, string_bytes, ⊤}
+use Rattle.std.specs.Prelude.{ℕ, ◌≡◌, ◌≤◌, Bool, true, List, None, codes, drop, map, string_bytes, ⊤}
 use Rattle.std.specs.Option.{option_map}
 use Rattle.line_split.specs.declared.TheConstants.{MOST_AMOUNT}
 use Rattle.royalty_program.specs.RunCommand.{run_app}
@@ -48,8 +48,9 @@ pub record AreReadFrom (words : List (List ℕ)) (asked : RunWords) : Type 0 whe
     readers = number_given run_app (codes "readers") words;
     nodes = number_given run_app (codes "nodes") words;
   }
+  pub output : option_map string_bytes asked.output ≡ path_if_given run_app (codes "output") words
 
--- and in the plain form they are the values after the options
+-- and in the plain form they are the values after the options, with no path of an output
 pub record AreReadInOrder (words : List (List ℕ)) (run : AreRunWords words) (asked : RunWords) : Type 0 where
   pub tis : string_bytes asked.tis ≡ run.tis
   pub payees : option_map string_bytes asked.payees ≡ run.payees
@@ -60,6 +61,7 @@ pub record AreReadInOrder (words : List (List ℕ)) (run : AreRunWords words) (a
     readers = number_in run.readers;
     nodes = number_in run.nodes;
   }
+  pub output : asked.output ≡ None
 
 abbrev pub IsRunOf : List (List ℕ) → Asked → Type 0
 IsRunOf words (Division asked) = ⊥

@@ -107,6 +107,7 @@ pub fn settle_files<R: Threads + Wait + Sync, S: Source, W: Write>(
         cwr,
         usage,
         plan,
+        output: _,
     } = asked;
     let (tis, payees, cwr, usage) = read_all(files, alloc, tis, payees, cwr, usage)?;
     match settle_to(rt, alloc, tis, payees, cwr, usage, plan, out) {
