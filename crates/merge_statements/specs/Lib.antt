@@ -5,6 +5,7 @@ pub mod Together
 pub mod Passed
 pub mod Places
 pub mod Reading
+pub mod Refused
 pub mod Statements
 pub mod Unread
 pub mod Wrong

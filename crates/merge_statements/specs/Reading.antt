@@ -14,4 +14,4 @@ pub record Reading : Type 0 where
 abbrev pub IsFaultOf : Option (List ℕ) → ReadFault → Type 0
 IsFaultOf left (Refused error) = Unit {0}
 IsFaultOf left Unended = IfSome left (λ text. (0 < length text) × (list_any is_feed text ≡ false))
-IsFaultOf left TooLong = IfSome left (λ text. (65536 ≤ length text) × (list_any is_feed (take 65536 text) ≡ false))
+IsFaultOf left TooLong = IfSome left (λ text. (32768 ≤ length text) × (list_any is_feed (take 32768 text) ≡ false))

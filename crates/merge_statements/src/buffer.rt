@@ -9,7 +9,7 @@ use std::alloc::{AllocError, Global};
 use std::io::{self, ErrorKind, Read};
 
 /// How many bytes of a text are in memory at most: the longest line with its line feed.
-pub(crate) const BUFFER_BYTES: usize = 65_536;
+pub(crate) const BUFFER_BYTES: usize = 32_768;
 
 /// `bytes[start..end]` is the line at hand, and `bytes[at..filled]` waits.
 #[derive(Drop)]
@@ -22,8 +22,8 @@ pub(crate) struct Buffer {
     ghost line: { start ≤ end },
     ghost given: { end ≤ at },
     ghost waits: { at ≤ filled },
-    ghost fits: { filled ≤ 65536 },
-    ghost size: { vec_len bytes ≡ 65536 },
+    ghost fits: { filled ≤ 32768 },
+    ghost size: { vec_len bytes ≡ 32768 },
 }
 
 impl Buffer {
@@ -47,7 +47,7 @@ impl Buffer {
     /// The line at hand.
     pub(crate) fn line(&self) -> &[u8]
         ensures line { result.now ≡ line_of self.now }
-        ensures short { length result.now ≤ 65536 }
+        ensures short { length result.now ≤ 32768 }
     {
         let (start, end) = (self.start, self.end);
         let all = self.bytes.as_slice();
@@ -102,8 +102,8 @@ impl Buffer {
     pub(crate) fn make_room(&mut self) -> bool
         ensures kept { waiting_of self.new ≡ waiting_of self.old }
         ensures no_line { line_of self.new ≡ [] }
-        ensures room { result ≡ true → self.new.filled < 65536 }
-        ensures full { result ≡ false → length (waiting_of self.new) ≡ 65536 }
+        ensures room { result ≡ true → self.new.filled < 32768 }
+        ensures full { result ≡ false → length (waiting_of self.new) ≡ 32768 }
     {
         let (at, filled) = (self.at, self.filled);
         if at > 0 {
@@ -118,7 +118,7 @@ impl Buffer {
 
     /// Reads once, behind what waits, and answers whether the text may go on.
     pub(crate) fn fill<R: Read>(&mut self, from: &mut R) -> io::Result<bool>
-        requires { self.old.filled < 65536 }
+        requires { self.old.filled < 32768 }
         ensures kept { Keeps (prepend_known (waiting_of self.old) (R.remaining from.old)) (prepend_known (waiting_of self.new) (R.remaining from.new)) }
         ensures end { IfOk result (λ more. more ≡ false → IsAtEnd (R.remaining from.new) × (waiting_of self.new ≡ waiting_of self.old)) }
         ensures line { line_of self.new ≡ line_of self.old }

@@ -3,21 +3,19 @@
 
 pub mod amount;
 mod buffer;
+mod checking;
 pub mod laws;
 mod merging;
-mod output;
+mod page;
 mod part;
 mod read_fault;
 mod reader;
 mod refusal;
 mod row;
-#[cfg(test)]
-mod tests;
 mod walk;
 
-pub use merging::{TextRefusal, merge, merge_to};
-pub use output::Output;
-pub use part::Part;
+pub use checking::check;
+pub use merging::{TextRefusal, merge};
 pub use read_fault::ReadFault;
 pub use reader::RowReader;
 pub use refusal::{Refusal, StatementFault};

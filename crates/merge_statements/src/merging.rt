@@ -1,14 +1,14 @@
 //! Texts of statements merged into one.
 
 ghost use Rattle.std.specs.Prelude.{◌≡◌, ◌+◌, ◌+ℤ◌, [], ℕ, All, List, Option, codes, IfOk, OnOk, Some, false, map, true};
-ghost use Rattle.std.specs.Io.KnownBytes.{Appends};
+ghost use Rattle.std.specs.Io.KnownBytes.{Appends, append_known};
 ghost use Rattle.csv_table.specs.Written.{text_of_row};
 ghost use Rattle.merge_statements.specs.Together.{AreMergedSoFar, AreOpen, EndsEach, HasLeast, IsBetween, WritesAll, WritesEnding, WritesMerge, WritesOne};
 ghost use Rattle.merge_statements.specs.Statements.{total_row};
 ghost use Rattle.merge_statements.specs.Places.{IsCount};
 
 use crate::amount::MOST_COUNT;
-use crate::output::Output;
+use crate::page::Page;
 use crate::part::Part;
 use crate::refusal::Refusal;
 use crate::walk::{is_before, replace};
@@ -22,50 +22,39 @@ pub struct TextRefusal {
     pub refusal: Refusal,
 }
 
-/// Merges texts of statements, in this order, and adds the merged text to the output, which is still to pass its last page on. Each text
-/// is read once, through a small buffer. Where a text is refused, the output has the beginning of what could be merged.
-pub fn merge<R: Read + Drop, W: Write + Drop>(
+/// Merges texts of statements, in this order, and adds the merged text to an output. Each text is read once, through a small buffer.
+/// Where one is refused, the output may have a beginning already: `check` reads a text through before.
+pub fn merge<R: Read + Drop, W: Write>(
     alloc: Global,
     from: Vec<R>,
-    out: &mut Output<W>,
+    out: &mut W,
 ) -> Result<(), TextRefusal>
-    ensures { OnOk result (WritesMerge (map R.remaining from.items) out.old out.new) }
+    ensures { OnOk result (WritesMerge (map R.remaining from.items) (W.contents out.old) (W.contents out.new)) }
 {
     let mut parts = open_all(alloc, from)?;
-    merge_parts(alloc, parts.as_mut_slice(), out)?;
-    Ok(())
-}
-
-/// The same, into an output that is given back with the merged text.
-pub fn merge_to<R: Read + Drop, W: Write + Drop>(
-    alloc: Global,
-    from: Vec<R>,
-    to: W,
-) -> Result<W, TextRefusal>
-    ensures { IfOk result (λ written. WritesMerge (map R.remaining from.items) (W.contents to) (W.contents written)) }
-{
-    let mut out = Output::new(alloc, to);
-    merge(alloc, from, &mut out)?;
-    match out.finish() {
-        Ok(written) => Ok(written),
+    let mut page = Page::new(alloc);
+    merge_parts(alloc, parts.as_mut_slice(), &mut page, out)?;
+    match page.pass_on(out) {
+        Ok(()) => Ok(()),
         Err(error) => Err(refused(0, Refusal::Write(error))),
     }
 }
 
 /// The same of texts that stand before their first rows.
-fn merge_parts<R: Read + Drop, W: Write + Drop>(
+fn merge_parts<R: Read + Drop, W: Write>(
     alloc: Global,
     parts: &mut [Part<R>],
-    out: &mut Output<W>,
+    page: &mut Page,
+    out: &mut W,
 ) -> Result<(), TextRefusal>
     requires { (starts : List (Option (List ℕ))) × AreOpen starts parts.old }
-    ensures { OnOk result ((starts : List (Option (List ℕ))) → AreOpen starts parts.old → WritesMerge starts out.old out.new) }
+    ensures { OnOk result ((starts : List (Option (List ℕ))) → AreOpen starts parts.old → WritesMerge starts (append_known (W.contents out.old) page.old) (append_known (W.contents out.new) page.new)) }
 {
-    let paid = merge_payees(alloc, parts, out)?;
-    let (left, lines) = end_all(parts, out)?;
-    push_total(out, "T", b"", left)?;
+    let paid = merge_payees(alloc, parts, page, out)?;
+    let (left, lines) = end_all(parts, page, out)?;
+    push_total(page, out, "T", b"", left)?;
     let all = both(paid, left, 0)?;
-    push_run(out, lines, all)?;
+    push_run(page, out, lines, all)?;
     Ok(())
 }
 
@@ -108,17 +97,18 @@ fn least_payee<R: Read + Drop>(parts: &[Part<R>], least: &mut Vec<u8>) -> Result
 }
 
 /// Passes over the statement of a payee in a text, if it comes next there.
-fn pass_if_next<R: Read + Drop, W: Write + Drop>(
+fn pass_if_next<R: Read + Drop, W: Write>(
     part: &mut Part<R>,
     payee: &[u8],
-    out: &mut Output<W>,
+    page: &mut Page,
+    out: &mut W,
 ) -> Result<(u64, i128), Refusal>
-    ensures { IfOk result (λ sum. WritesOne payee.now part.old part.new out.old out.new sum.0 sum.1) }
+    ensures { IfOk result (λ sum. WritesOne payee.now part.old part.new (append_known (W.contents out.old) page.old) (append_known (W.contents out.new) page.new) sum.0 sum.1) }
 {
     if !is_next(part, payee) {
         return Ok((0, 0));
     }
-    let sum = part.pass_statement(out)?;
+    let sum = part.pass_statement(page, out)?;
     Ok(sum)
 }
 
@@ -134,16 +124,17 @@ fn is_next<R: Read + Drop>(part: &Part<R>, payee: &[u8]) -> bool
 }
 
 /// Passes over the statements of a payee in all texts where it comes next.
-fn pass_payee<R: Read + Drop, W: Write + Drop>(
+fn pass_payee<R: Read + Drop, W: Write>(
     parts: &mut [Part<R>],
     payee: &[u8],
-    out: &mut Output<W>,
+    page: &mut Page,
+    out: &mut W,
 ) -> Result<(u64, i128), TextRefusal>
-    ensures { IfOk result (λ sum. WritesAll payee.now parts.old parts.new out.old out.new sum.0 sum.1) }
+    ensures { IfOk result (λ sum. WritesAll payee.now parts.old parts.new (append_known (W.contents out.old) page.old) (append_known (W.contents out.new) page.new) sum.0 sum.1) }
 {
     let mut all = (0, 0);
     for place in 0..parts.len() {
-        let own = match pass_if_next(&mut parts[place], payee, out) {
+        let own = match pass_if_next(&mut parts[place], payee, page, out) {
             Ok(own) => own,
             Err(refusal) => return Err(refused(place, refusal)),
         };
@@ -154,12 +145,13 @@ fn pass_payee<R: Read + Drop, W: Write + Drop>(
 
 /// Merges the statements of all payees, in byte order, and adds them to the output. Answers how many portions there are and what they come
 /// to.
-fn merge_payees<R: Read + Drop, W: Write + Drop>(
+fn merge_payees<R: Read + Drop, W: Write>(
     alloc: Global,
     parts: &mut [Part<R>],
-    out: &mut Output<W>,
+    page: &mut Page,
+    out: &mut W,
 ) -> Result<(u64, i128), TextRefusal>
-    ensures { IfOk result (λ sum. (starts : List (Option (List ℕ))) → AreOpen starts parts.old → AreMergedSoFar starts parts.new out.old out.new sum.0 sum.1) }
+    ensures { IfOk result (λ sum. (starts : List (Option (List ℕ))) → AreOpen starts parts.old → AreMergedSoFar starts parts.new (append_known (W.contents out.old) page.old) (append_known (W.contents out.new) page.new) sum.0 sum.1) }
 {
     let mut payee = Vec::new(alloc);
     let mut all = (0, 0);
@@ -168,8 +160,8 @@ fn merge_payees<R: Read + Drop, W: Write + Drop>(
         if !found {
             return Ok(all);
         }
-        let own = pass_payee(parts, payee.as_slice(), out)?;
-        push_total(out, "S", payee.as_slice(), own)?;
+        let own = pass_payee(parts, payee.as_slice(), page, out)?;
+        push_total(page, out, "S", payee.as_slice(), own)?;
         all = both(all, own, 0)?;
     }
     Err(refused(0, Refusal::Many))
@@ -186,56 +178,60 @@ fn has_payee<R: Read + Drop>(parts: &[Part<R>], least: &mut Vec<u8>) -> Result<b
 }
 
 /// Adds a row of so many portions or usage lines, and what they come to.
-fn push_total<W: Write + Drop>(
-    out: &mut Output<W>,
+fn push_total<W: Write>(
+    page: &mut Page,
+    out: &mut W,
     kind: &str,
     whose: &[u8],
     sum: (u64, i128),
 ) -> Result<(), TextRefusal>
-    ensures { OnOk result (Appends out.old out.new (text_of_row (total_row kind.now whose.now sum.0 sum.1))) }
+    ensures { OnOk result (Appends (append_known (W.contents out.old) page.old) (append_known (W.contents out.new) page.new) (text_of_row (total_row kind.now whose.now sum.0 sum.1))) }
 {
-    match out.push_total(kind, whose, sum.0, sum.1) {
+    match page.push_total(out, kind, whose, sum.0, sum.1) {
         Ok(()) => Ok(()),
         Err(error) => Err(refused(0, Refusal::Write(error))),
     }
 }
 
 /// Adds the row of so many usage lines, and what the portions of them come to.
-fn push_run<W: Write + Drop>(
-    out: &mut Output<W>,
+fn push_run<W: Write>(
+    page: &mut Page,
+    out: &mut W,
     lines: u64,
     portions: (u64, i128),
 ) -> Result<(), TextRefusal>
-    ensures { OnOk result (Appends out.old out.new (text_of_row (total_row (codes "R") [] lines portions.1))) }
+    ensures { OnOk result (Appends (append_known (W.contents out.old) page.old) (append_known (W.contents out.new) page.new) (text_of_row (total_row (codes "R") [] lines portions.1))) }
 {
-    push_total(out, "R", b"", (lines, portions.1))
+    push_total(page, out, "R", b"", (lines, portions.1))
 }
 
 /// Passes over a text from behind its last payee to its end, and adds what nobody gets to the output without its sum. Answers how many
 /// portions that is, what they come to, and how many usage lines there were.
-fn end_text<R: Read + Drop, W: Write + Drop>(
+fn end_text<R: Read + Drop, W: Write>(
     part: &mut Part<R>,
-    out: &mut Output<W>,
+    page: &mut Page,
+    out: &mut W,
 ) -> Result<((u64, i128), u64), Refusal>
     requires { IsBetween part.old }
-    ensures { IfOk result (λ end. WritesEnding part.old part.new out.old out.new end.0.0 end.0.1 end.1) }
+    ensures { IfOk result (λ end. WritesEnding part.old part.new (append_known (W.contents out.old) page.old) (append_known (W.contents out.new) page.new) end.0.0 end.0.1 end.1) }
 {
-    let sum = part.pass_rests(out)?;
+    let sum = part.pass_rests(page, out)?;
     let lines = part.finish()?;
     Ok((sum, lines))
 }
 
 /// The same of all texts.
-fn end_all<R: Read + Drop, W: Write + Drop>(
+fn end_all<R: Read + Drop, W: Write>(
     parts: &mut [Part<R>],
-    out: &mut Output<W>,
+    page: &mut Page,
+    out: &mut W,
 ) -> Result<((u64, i128), u64), TextRefusal>
     requires { All IsBetween parts.old }
-    ensures { IfOk result (λ end. EndsEach parts.old parts.new out.old out.new end.0.0 end.0.1 end.1) }
+    ensures { IfOk result (λ end. EndsEach parts.old parts.new (append_known (W.contents out.old) page.old) (append_known (W.contents out.new) page.new) end.0.0 end.0.1 end.1) }
 {
     let mut all = ((0, 0), 0);
     for place in 0..parts.len() {
-        let own = match end_text(&mut parts[place], out) {
+        let own = match end_text(&mut parts[place], page, out) {
             Ok(own) => own,
             Err(refusal) => return Err(refused(place, refusal)),
         };

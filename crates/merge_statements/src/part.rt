@@ -1,6 +1,6 @@
 //! One of the texts that are merged, read statement by statement.
 
-ghost use Rattle.std.specs.Io.KnownBytes.{Appends, Consumes, IsAtEnd, Keeps};
+ghost use Rattle.std.specs.Io.KnownBytes.{Appends, Consumes, IsAtEnd, Keeps, append_known};
 ghost use Rattle.std.specs.Prelude.{◌≡◌, ◌<◌, ◌++◌, ◌∷◌, [], IfOk, IfSome, OnOk, slice_index, true, false};
 ghost use Rattle.std.specs.Option.{option_map};
 ghost use Rattle.csv_table.specs.Written.{text_of_row};
@@ -10,7 +10,7 @@ ghost use Rattle.merge_statements.specs.Places.{at_first};
 ghost use Rattle.merge_statements.specs.Unread.{FollowsAs, Steps};
 ghost use Rattle.merge_statements.specs.declared.walk.Place.TheVariants as Place;
 
-use crate::output::Output;
+use crate::page::Page;
 use crate::reader::RowReader;
 use crate::refusal::{Refusal, StatementFault};
 use crate::row::{Row, RowRoom};
@@ -21,7 +21,7 @@ use std::marker::Model;
 
 /// A text of statements, how far it was read, and the row at hand.
 #[derive(Drop)]
-pub struct Part<R: Read> {
+pub(crate) struct Part<R: Read> {
     rows: RowReader<R>,
     /// Memory for the fields of a row that stand between quotes.
     room: RowRoom,
@@ -61,7 +61,7 @@ impl<R: Read> Model for Part<R> {
 
 impl<R: Read + Drop> Part<R> {
     /// A text before its first row, which is read.
-    pub fn open(alloc: Global, from: R) -> Result<Part<R>, Refusal>
+    pub(crate) fn open(alloc: Global, from: R) -> Result<Part<R>, Refusal>
         ensures at { IfOk result (λ part. part.at ≡ at_first) }
         ensures left { IfOk result (λ part. Keeps (R.remaining from) part.left) }
     {
@@ -83,7 +83,7 @@ impl<R: Read + Drop> Part<R> {
     }
 
     /// The payee that comes next, where one does.
-    pub fn payee(&self) -> Option<&[u8]>
+    pub(crate) fn payee(&self) -> Option<&[u8]>
         ensures same { option_map (λ payee. payee.now) result ≡ self.now.payee }
         ensures next { IfSome result (λ payee. IsNext self.now.at self.now.line payee.now) }
     {
@@ -128,12 +128,12 @@ impl<R: Read + Drop> Part<R> {
     }
 
     /// The same, and adds it to the output as it stands.
-    fn pass_row<W: Write + Drop>(&mut self, out: &mut Output<W>) -> Result<(), Refusal>
+    fn pass_row<W: Write>(&mut self, page: &mut Page, out: &mut W) -> Result<(), Refusal>
         ensures steps { OnOk result (Steps self.old self.new) }
-        ensures passed { OnOk result (Appends out.old out.new self.old.line) }
+        ensures passed { OnOk result (Appends (append_known (W.contents out.old) page.old) (append_known (W.contents out.new) page.new) self.old.line) }
     {
         if self.has_row {
-            push_line(out, self.rows.line())?;
+            push_line(page, out, self.rows.line())?;
         }
         self.step()
     }
@@ -153,23 +153,23 @@ impl<R: Read + Drop> Part<R> {
     }
 
     /// Passes over a payee's portion, and adds it to the output.
-    fn pass_portion<W: Write + Drop>(&mut self, out: &mut Output<W>) -> Result<(), Refusal>
+    fn pass_portion<W: Write>(&mut self, page: &mut Page, out: &mut W) -> Result<(), Refusal>
         requires { slice_index self.old.line 0 ≡ 76 }
         ensures portion { OnOk result (PassesPortion self.old self.new) }
-        ensures passed { OnOk result (Appends out.old out.new self.old.line) }
+        ensures passed { OnOk result (Appends (append_known (W.contents out.old) page.old) (append_known (W.contents out.new) page.new) self.old.line) }
     {
-        self.pass_row(out)?;
+        self.pass_row(page, out)?;
         Ok(())
     }
 
     /// Passes over the first portion of the payee that comes next, and adds it to the output.
-    fn pass_first<W: Write + Drop>(&mut self, out: &mut Output<W>) -> Result<(), Refusal>
-        ensures { OnOk result (IsWithin self.old self.new out.old out.new) }
+    fn pass_first<W: Write>(&mut self, page: &mut Page, out: &mut W) -> Result<(), Refusal>
+        ensures { OnOk result (IsWithin self.old self.new (append_known (W.contents out.old) page.old) (append_known (W.contents out.new) page.new)) }
     {
         let Some(_) = self.payee() else {
             return Err(Refusal::Fault(StatementFault::Kind(self.number)));
         };
-        self.pass_portion(out)?;
+        self.pass_portion(page, out)?;
         Ok(())
     }
 
@@ -186,30 +186,31 @@ impl<R: Read + Drop> Part<R> {
 
     /// Passes over the statement of the payee that comes next, and adds its portions to the output. Answers how many there are and what
     /// they come to.
-    pub fn pass_statement<W: Write + Drop>(
+    pub(crate) fn pass_statement<W: Write>(
         &mut self,
-        out: &mut Output<W>,
+        page: &mut Page,
+        out: &mut W,
     ) -> Result<(u64, i128), Refusal>
-        ensures { IfOk result (λ sum. WritesStatement self.old self.new out.old out.new sum.0 sum.1) }
+        ensures { IfOk result (λ sum. WritesStatement self.old self.new (append_known (W.contents out.old) page.old) (append_known (W.contents out.new) page.new) sum.0 sum.1) }
     {
-        self.pass_first(out)?;
+        self.pass_first(page, out)?;
         for _ in 0..u64::MAX {
             if !self.begins_with(b'L') {
                 let sum = self.end_statement()?;
                 return Ok(sum);
             }
-            self.pass_portion(out)?;
+            self.pass_portion(page, out)?;
         }
         Err(Refusal::Fault(StatementFault::Fourth(self.number)))
     }
 
     /// Passes over a portion that nobody gets, and adds it to the output.
-    fn pass_rest<W: Write + Drop>(&mut self, out: &mut Output<W>) -> Result<(), Refusal>
+    fn pass_rest<W: Write>(&mut self, page: &mut Page, out: &mut W) -> Result<(), Refusal>
         requires { slice_index self.old.line 0 ≡ 77 }
         ensures rest { OnOk result (PassesRest self.old self.new) }
-        ensures passed { OnOk result (Appends out.old out.new self.old.line) }
+        ensures passed { OnOk result (Appends (append_known (W.contents out.old) page.old) (append_known (W.contents out.new) page.new) self.old.line) }
     {
-        self.pass_row(out)?;
+        self.pass_row(page, out)?;
         Ok(())
     }
 
@@ -238,25 +239,26 @@ impl<R: Read + Drop> Part<R> {
 
     /// Passes over all that nobody gets, behind the last payee, and adds it to the output without its sum. Answers how many portions there
     /// are and what they come to.
-    pub fn pass_rests<W: Write + Drop>(
+    pub(crate) fn pass_rests<W: Write>(
         &mut self,
-        out: &mut Output<W>,
+        page: &mut Page,
+        out: &mut W,
     ) -> Result<(u64, i128), Refusal>
         requires { self.old.at.place ≡ Place.Between }
-        ensures { IfOk result (λ sum. WritesRests self.old self.new out.old out.new sum.0 sum.1) }
+        ensures { IfOk result (λ sum. WritesRests self.old self.new (append_known (W.contents out.old) page.old) (append_known (W.contents out.new) page.new) sum.0 sum.1) }
     {
         for _ in 0..u64::MAX {
             if !self.begins_with(b'M') {
                 let sum = self.end_rests()?;
                 return Ok(sum);
             }
-            self.pass_rest(out)?;
+            self.pass_rest(page, out)?;
         }
         Err(Refusal::Fault(StatementFault::Fourth(self.number)))
     }
 
     /// Passes over the usage lines, behind which the text ends. Answers how many there were.
-    pub fn finish(&mut self) -> Result<u64, Refusal>
+    pub(crate) fn finish(&mut self) -> Result<u64, Refusal>
         requires { self.old.at.place ≡ Place.Summed }
         ensures { IfOk result (λ lines. EndsText self.old self.new lines) }
     {
@@ -269,14 +271,14 @@ impl<R: Read + Drop> Part<R> {
 }
 
 /// Adds a line with its line feed.
-fn push_line<W: Write + Drop>(out: &mut Output<W>, line: &[u8]) -> Result<(), Refusal>
-    ensures { OnOk result (Appends out.old out.new (line.now ++ 10 ∷ [])) }
+fn push_line<W: Write>(page: &mut Page, out: &mut W, line: &[u8]) -> Result<(), Refusal>
+    ensures { OnOk result (Appends (append_known (W.contents out.old) page.old) (append_known (W.contents out.new) page.new) (line.now ++ 10 ∷ [])) }
 {
-    match out.push(line) {
+    match page.push(out, line) {
         Ok(()) => {}
         Err(error) => return Err(Refusal::Write(error)),
     }
-    match out.push(b"\n") {
+    match page.push(out, b"\n") {
         Ok(()) => Ok(()),
         Err(error) => Err(Refusal::Write(error)),
     }

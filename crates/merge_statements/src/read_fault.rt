@@ -12,7 +12,7 @@ pub enum ReadFault {
     /// No line feed ends the last line.
     #[error("the last line has no line feed at its end")]
     Unended,
-    /// No line feed stands in the next 65,536 bytes.
-    #[error("a line has more than 65535 bytes")]
+    /// No line feed stands in the next 32,768 bytes.
+    #[error("a line has more than 32767 bytes")]
     TooLong,
 }

@@ -34,7 +34,7 @@ impl<R: Read> Model for RowReader<R> {
 }
 
 impl<R: Read> RowReader<R> {
-    /// What a reader gives, before the first line. 65,536 bytes are in memory at a time.
+    /// What a reader gives, before the first line. 32,768 bytes are in memory at a time.
     pub fn new(alloc: Global, from: R) -> Result<RowReader<R>, AllocError>
     where
         R: Drop,
@@ -49,7 +49,7 @@ impl<R: Read> RowReader<R> {
     /// fault there is none, and this is empty.
     pub fn line(&self) -> &[u8]
         ensures line { result.now ≡ self.now.line }
-        ensures short { length result.now ≤ 65536 }
+        ensures short { length result.now ≤ 32768 }
     {
         self.buffer.line()
     }

@@ -1,5 +1,8 @@
 //! Why a text is refused, or cannot be merged.
 
+ghost use Rattle.std.specs.Prelude.{◌≡◌};
+ghost use Rattle.merge_statements.specs.Refused.{number_of_fault, refusal_of_field, refusal_of_line, row_of_fault};
+
 use crate::read_fault::ReadFault;
 use crate::walk::Wrong;
 use std::alloc::AllocError;
@@ -29,6 +32,36 @@ pub enum StatementFault {
     End(u64),
 }
 
+impl StatementFault {
+    /// Its number, by which messages tell it: 1 for the first of the list above, and so on.
+    pub fn number(&self) -> u8
+        ensures { result ≡ number_of_fault self.now }
+    {
+        match self {
+            StatementFault::Row(_) => 1,
+            StatementFault::Kind(_) => 2,
+            StatementFault::Whose(_) => 3,
+            StatementFault::Third(_) => 4,
+            StatementFault::Fourth(_) => 5,
+            StatementFault::End(_) => 6,
+        }
+    }
+
+    /// The row that it is in, counted from 1.
+    pub fn row(&self) -> u64
+        ensures { result ≡ row_of_fault self.now }
+    {
+        match self {
+            StatementFault::Row(row)
+            | StatementFault::Kind(row)
+            | StatementFault::Whose(row)
+            | StatementFault::Third(row)
+            | StatementFault::Fourth(row)
+            | StatementFault::End(row) => *row,
+        }
+    }
+}
+
 /// Why texts cannot be merged.
 #[derive(Debug, Drop, Error)]
 pub enum Refusal {
@@ -51,7 +84,9 @@ pub enum Refusal {
 
 impl Refusal {
     /// What a wrong field of a row is refused for.
-    pub(crate) fn of_field(wrong: Wrong, row: u64) -> Refusal {
+    pub(crate) fn of_field(wrong: Wrong, row: u64) -> Refusal
+        ensures { result ≡ refusal_of_field wrong row }
+    {
         match wrong {
             Wrong::Kind => Refusal::Fault(StatementFault::Kind(row)),
             Wrong::Whose => Refusal::Fault(StatementFault::Whose(row)),
@@ -62,7 +97,9 @@ impl Refusal {
     }
 
     /// Why there is no next line.
-    pub(crate) fn of_line(fault: ReadFault, row: u64) -> Refusal {
+    pub(crate) fn of_line(fault: ReadFault, row: u64) -> Refusal
+        ensures { result ≡ refusal_of_line fault row }
+    {
         match fault {
             ReadFault::Refused(error) => Refusal::Read(error),
             ReadFault::Unended | ReadFault::TooLong => Refusal::Fault(StatementFault::Row(row)),

@@ -39,7 +39,7 @@ struct Field<'a> {
 #[derive(Drop)]
 pub struct RowRoom {
     bytes: Vec<u8>,
-    ghost size: { vec_len bytes ≡ 65536 },
+    ghost size: { vec_len bytes ≡ 32768 },
 }
 
 impl RowRoom {
@@ -51,10 +51,10 @@ impl RowRoom {
 }
 
 impl<'a> Row<'a> {
-    /// The row that a line of at most 65,536 bytes holds, given without its line feed. Only where
+    /// The row that a line of at most 32,768 bytes holds, given without its line feed. Only where
     /// a quote stands in the line is the room used.
     pub fn of(line: &'a [u8], room: &'a mut RowRoom) -> Option<Row<'a>>
-        requires { length line.now ≤ 65536 }
+        requires { length line.now ≤ 32768 }
         ensures row { IfSome result (λ row. text_of_row (fields_of row) ≡ line.now ++ 10 ∷ []) }
         ensures none { IfNone result ((fields : List (List ℕ)) → length fields ≡ 4 → ¬ (text_of_row fields ≡ line.now ++ 10 ∷ [])) }
     {

@@ -1,7 +1,7 @@
 //! The rows of a statement text one after another, of which each has to be one that can stand there.
 
 ghost use Rattle.std.specs.Fmt.{signed_decimal};
-ghost use Rattle.std.specs.Prelude.{◌≡◌, ◌⊎◌, ◌+◌, ◌+ℤ◌, ◌^◌, ◌≤◌, ◌↔◌, ℕ, ℤ, true, unsigned_abs, IfErr, IfOk, IsTrue, OnOk, codes, decimal};
+ghost use Rattle.std.specs.Prelude.{◌≡◌, ◌⊎◌, ◌+◌, ◌+ℤ◌, ◌^◌, ◌≤◌, ◌↔◌, ℕ, ℤ, true, unsigned_abs, IfErr, IfNone, IfOk, IfSome, IsTrue, OnOk, codes, decimal};
 ghost use Rattle.std.specs.Cmp.Lexicographic.{slice_cmp};
 ghost use Rattle.std.specs.Ordering.{nat_cmp};
 ghost use Rattle.std.specs.declared.cmp.Ordering.TheVariants.{Less};
@@ -15,6 +15,7 @@ use crate::amount::{MOST_COUNT, amount_of, count_of};
 use crate::row::Row;
 use csv_table::forms::is_printable;
 use itoa::Buffer;
+use line_split::Reason;
 use std::alloc::{AllocError, Global};
 use std::cmp::Ordering;
 use std::marker::Model;
@@ -235,6 +236,17 @@ impl Progress {
         self.place.so_far()
     }
 
+    /// How many usage lines there were, where the last row was read.
+    pub(crate) fn ended(&self) -> Option<u64>
+        ensures some { IfSome result (λ lines. self.now.place ≡ Place.Ended lines) }
+        ensures none { IfNone result ((lines : ℕ) → ¬ (self.now.place ≡ Place.Ended lines)) }
+    {
+        match self.place {
+            Place::Ended(lines) => Some(lines),
+            Place::Between | Place::Within(_, _) | Place::Resting(_, _) | Place::Summed => None,
+        }
+    }
+
     /// How many usage lines there were, behind the last row.
     pub(crate) fn lines(&self) -> u64
         ensures { (lines : ℕ) → self.now.place ≡ Place.Ended lines → result ≡ lines }
@@ -349,8 +361,8 @@ fn is_name(field: &[u8]) -> bool
 fn is_reason(field: &[u8]) -> bool
     ensures { IsTrue result ↔ IsReason field.now }
 {
-    field == b"WORK".as_slice()
-        || field == b"LAND".as_slice()
-        || field == b"OVER".as_slice()
-        || field == b"OPEN".as_slice()
+    field == Reason::Work.word().as_bytes()
+        || field == Reason::Land.word().as_bytes()
+        || field == Reason::Over.word().as_bytes()
+        || field == Reason::Open.word().as_bytes()
 }

@@ -12,6 +12,8 @@ mod explain_tests;
 #[cfg(test)]
 mod line_split_tests;
 #[cfg(test)]
+mod merge_tests;
+#[cfg(test)]
 mod paid_tests;
 #[cfg(test)]
 mod pair_split_tests;

@@ -1,3 +1,4 @@
+use Rattle.std.specs.Io.KnownBytes.{append_known}
 use Rattle.std.proofs.Common.{ap}
 use Rattle.merge_statements.specs.Places.{At}
 use Rattle.merge_statements.proofs.Endings.{ending_written}
@@ -8,4 +9,4 @@ finish-requires g c = ap (λ (at : At). at.place) c.in_ok-sum.ensures.at
 
 pub returns : goal.returns
 returns g c =
-    ending_written c.args.part.now c.pass_rests.new.self c.finish.new.self c.args.out.now c.pass_rests.new.out c.in_ok-sum.sum.0 c.in_ok-sum.sum.1 c.in_ok-lines.lines c.in_ok-sum.ensures c.in_ok-lines.ensures
+    ending_written c.args.part.now c.pass_rests.new.self c.finish.new.self (append_known (g.W.Write.contents c.args.out.now) c.args.page.now) (append_known (g.W.Write.contents c.pass_rests.new.out) c.pass_rests.new.page) c.in_ok-sum.sum.0 c.in_ok-sum.sum.1 c.in_ok-lines.lines c.in_ok-sum.ensures c.in_ok-lines.ensures

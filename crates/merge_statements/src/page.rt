@@ -15,80 +15,68 @@ use std::marker::Model;
 /// How long a page becomes, in bytes, before it goes on.
 const PAGE_BYTES: usize = 131_072;
 
-/// A text that goes on by the page.
+/// What is written and has not gone on to the output yet.
 #[derive(Drop)]
-pub struct Output<W: Write> {
+pub(crate) struct Page {
     alloc: Global,
-    to: W,
-    page: Vec<u8>,
+    text: Vec<u8>,
 }
 
-impl<W: Write> Model for Output<W> {
-    ghost use Rattle.std.specs.Prelude.{ℕ, List, Option};
-    ghost use Rattle.std.specs.Io.KnownBytes.{append_known};
+impl Model for Page {
+    ghost use Rattle.std.specs.Prelude.{ℕ, List};
 
-    ghost Value = { Option (List ℕ) };
+    ghost Value = { List ℕ };
 
-    ghost view = { λ output. append_known (W.contents output.to) output.page.items };
+    ghost view = { λ page. page.text.items };
 }
 
-impl<W: Write + Drop> Output<W> {
+impl Page {
     /// Nothing yet.
-    pub fn new(alloc: Global, to: W) -> Output<W>
-        ensures { result ≡ append_known (W.contents to) [] }
+    pub(crate) fn new(alloc: Global) -> Page
+        ensures { result ≡ [] }
     {
-        Output {
+        Page {
             alloc,
-            to,
-            page: Vec::new(alloc),
+            text: Vec::new(alloc),
         }
     }
 
     /// Adds a text.
-    pub fn push(&mut self, text: &[u8]) -> io::Result<()>
-        ensures { OnOk result (Appends self.old self.new text.now) }
+    pub(crate) fn push<W: Write>(&mut self, out: &mut W, text: &[u8]) -> io::Result<()>
+        ensures { OnOk result (Appends (append_known (W.contents out.old) self.old) (append_known (W.contents out.new) self.new) text.now) }
     {
-        if self.page.len() >= PAGE_BYTES {
-            self.pass_on()?;
+        if self.text.len() >= PAGE_BYTES {
+            self.pass_on(out)?;
         }
-        self.page.extend_from_slice(text)?;
+        self.text.extend_from_slice(text)?;
         Ok(())
     }
 
-    /// Passes the page on.
-    pub fn pass_on(&mut self) -> io::Result<()>
-        ensures { OnOk result (Appends self.old self.new []) }
+    /// Passes on what there is.
+    pub(crate) fn pass_on<W: Write>(&mut self, out: &mut W) -> io::Result<()>
+        ensures empty { OnOk result (self.new ≡ []) }
+        ensures passed { OnOk result (Appends (append_known (W.contents out.old) self.old) (W.contents out.new) []) }
     {
-        self.to.write_all(self.page.as_slice())?;
-        self.page.clear();
+        out.write_all(self.text.as_slice())?;
+        self.text.clear();
         Ok(())
-    }
-
-    /// Passes the last page on, and gives the output back.
-    pub fn finish(self) -> io::Result<W>
-        ensures { IfOk result (λ to. Appends self (W.contents to) []) }
-    {
-        let Output { mut to, page, .. } = self;
-        to.write_all(page.as_slice())?;
-        to.flush()?;
-        Ok(to)
     }
 
     /// Adds a row of so many portions or lines, and what they come to.
-    pub fn push_total(
+    pub(crate) fn push_total<W: Write>(
         &mut self,
+        out: &mut W,
         kind: &str,
         whose: &[u8],
         count: u64,
         total: i128,
     ) -> io::Result<()>
-        ensures { OnOk result (Appends self.old self.new (text_of_row (total_row kind.now whose.now count total))) }
+        ensures { OnOk result (Appends (append_known (W.contents out.old) self.old) (append_known (W.contents out.new) self.new) (text_of_row (total_row kind.now whose.now count total))) }
     {
         let text = total_text(self.alloc, kind, whose, count, total)?;
-        self.push(text.as_slice())
+        self.push(out, text.as_slice())
     }
 }
-
 /// The text of a row of so many portions or lines, and what they come to.
 fn total_text(
     alloc: Global,

@@ -1,7 +1,7 @@
 //! Rows, numbers, lines and merged texts, as tables of texts and of what they are read as.
 
-use crate::amount::{amount_of, count_of};
-use crate::{ReadFault, Row, RowReader, RowRoom, TextRefusal, merge_to};
+use merge_statements::amount::{amount_of, count_of};
+use merge_statements::{ReadFault, Row, RowReader, RowRoom, TextRefusal, check, merge};
 use std::alloc::Global;
 use std::io::{self, ErrorKind, Read};
 use std::test::Fail;
@@ -205,11 +205,11 @@ fn told_sizes(alloc: Global, size: usize) -> Result<String, Fail> {
 #[test]
 fn lines_cross_the_border_of_the_buffer(rt: HostRuntime) -> Result<(), Fail> {
     let alloc = rt.alloc();
-    assert_eq!(rt; told_sizes(alloc, 65535)?.as_str(), "65535 6 end ");
-    assert_eq!(rt; told_sizes(alloc, 65532)?.as_str(), "65532 6 end ");
-    let fault = "a line has more than 65535 bytes";
+    assert_eq!(rt; told_sizes(alloc, 32767)?.as_str(), "32767 6 end ");
+    assert_eq!(rt; told_sizes(alloc, 32764)?.as_str(), "32764 6 end ");
+    let fault = "a line has more than 32767 bytes";
     let three = format!(in alloc; "{fault}{fault}{fault}")?;
-    assert_eq!(rt; told_sizes(alloc, 65536)?.as_str(), three.as_str());
+    assert_eq!(rt; told_sizes(alloc, 32768)?.as_str(), three.as_str());
     Ok(())
 }
 
@@ -219,8 +219,9 @@ fn told_merge(alloc: Global, texts: &[&str]) -> Result<String, Fail> {
     for text in texts {
         from.push(text.as_bytes())?;
     }
-    let told = match merge_to(alloc, from, Vec::new(alloc)) {
-        Ok(merged) => String::from_str(alloc, text_of(merged.as_slice()))?,
+    let mut merged = Vec::new(alloc);
+    let told = match merge(alloc, from, &mut merged) {
+        Ok(()) => String::from_str(alloc, text_of(merged.as_slice()))?,
         Err(TextRefusal { place, refusal }) => format!(in alloc; "text {place}: {refusal}")?,
     };
     Ok(told)

@@ -1,0 +1,178 @@
+-- A text is read through: its rows so far, and what is wrong with the rest.
+use Rattle.std.proofs.Common.{◌≡◌, ◌∙◌, ◌<◌, ◌+◌, ◌++◌, ◌∷◌, ◌||◌, [], ℕ, zero, suc, List, Option, Some, None, Bool, true, false, true≢false, length, get_or, take, ap, sym, refl, subst, append_assoc, arith}
+use Rattle.std.specs.Prelude.{IfSome, drop}
+use Rattle.std.specs.Io.KnownBytes.{Consumes, IsAtEnd}
+use Rattle.std.specs.List.{list_any}
+use Rattle.std.proofs.lemmas.List.{append-nil, length-append}
+use Rattle.std.proofs.lemmas.Bool.{or-right}
+use Rattle.std.proofs.lemmas.Grind.{flat_map-append}
+use Rattle.csv_table.specs.Written.{text_of, text_of_row}
+use Rattle.merge_statements.specs.Buffered.{is_feed}
+use Rattle.merge_statements.specs.Places.{At, Follows, at_first, row_of}
+use Rattle.merge_statements.specs.Reading.{IsFaultOf}
+use Rattle.merge_statements.specs.Refused.{AreRows, BeginsWithWrong, IsFaultFrom, IsRefusedFor, IsRefusedFrom, IsStatementText, refusal_of_field, refusal_of_line}
+use Rattle.merge_statements.specs.Refused.AreRows.{none as no_rows, more as more_rows}
+use Rattle.merge_statements.specs.Unread.{FollowsAs}
+use Rattle.merge_statements.specs.Wrong.{IsWrongAt}
+use Rattle.merge_statements.specs.declared.read_fault.ReadFault.{ReadFault}
+use Rattle.merge_statements.specs.declared.read_fault.ReadFault.TheVariants.{Refused, TooLong, Unended}
+use Rattle.merge_statements.specs.declared.refusal.Refusal.{Refusal}
+use Rattle.merge_statements.specs.declared.refusal.Refusal.TheVariants as refusal
+use Rattle.merge_statements.specs.declared.refusal.StatementFault.TheVariants.{Row, End}
+use Rattle.merge_statements.specs.declared.walk.Place.TheVariants.{Ended}
+use Rattle.merge_statements.specs.declared.walk.Wrong.{Wrong}
+use Rattle.merge_statements.specs.declared.walk.Wrong.TheVariants as wrong
+use Rattle.merge_statements.proofs.Passing.{consumes_more}
+
+-- ---- line feeds
+
+or_true : (b : Bool) → (b || true) ≡ true
+or_true true = refl
+or_true false = refl
+
+pub feed_found : (line rest : List ℕ) → list_any is_feed (line ++ 10 ∷ rest) ≡ true
+feed_found [] rest = refl
+feed_found (byte ∷ line) rest = ap (λ b. is_feed byte || b) (feed_found line rest) ∙ or_true (is_feed byte)
+
+feed_in : (n : ℕ) (line rest : List ℕ) → length line < n → list_any is_feed (take n (line ++ 10 ∷ rest)) ≡ true
+feed_in zero line rest short = absurd (omega (arith, short))
+feed_in (suc n) [] rest short = refl
+feed_in (suc n) (byte ∷ line) rest short = ap (λ b. is_feed byte || b) (feed_in n line rest (omega (arith, short))) ∙ or_true (is_feed byte)
+
+-- the first line feed ends the first line
+pub one_line : (line other rest behind : List ℕ) → list_any is_feed line ≡ false → list_any is_feed other ≡ false → line ++ 10 ∷ rest ≡ other ++ 10 ∷ behind → line ≡ other
+one_line [] [] rest behind none no same = refl
+one_line [] (byte ∷ other) rest behind none no same =
+    absurd (true≢false (subst (λ (b : ℕ). list_any is_feed (b ∷ other) ≡ false) (sym (ap (λ (l : List ℕ). get_or l 0 0) same)) no))
+one_line (byte ∷ line) [] rest behind none no same =
+    absurd (true≢false (subst (λ (b : ℕ). list_any is_feed (b ∷ line) ≡ false) (ap (λ (l : List ℕ). get_or l 0 0) same) none))
+one_line (byte ∷ line) (b ∷ other) rest behind none no same =
+    let heads : byte ≡ b = ap (λ (l : List ℕ). get_or l 0 0) same in
+    let tails = one_line line other rest behind (or-right (is_feed byte) _ none) (or-right (is_feed b) _ no) (ap (λ (l : List ℕ). drop 1 l) same) in
+    (λ i. heads i ∷ tails i)
+
+-- ---- what is refused
+
+pub line_refused : (at : At) (number : ℕ) (left : Option (List ℕ)) (fault : ReadFault) → IsFaultOf left fault → IsRefusedFrom at number left (refusal_of_line fault number)
+line_refused at number left (Refused error) is = tt
+line_refused at number None Unended is = tt
+line_refused at number (Some text) Unended is =
+    (refl, is.0, λ line rest row on four same. true≢false (sym (feed_found line rest) ∙ (ap (list_any is_feed) (sym on.bytes) ∙ is.1)))
+line_refused at number None TooLong is = tt
+line_refused at number (Some text) TooLong is =
+    (refl, omega (arith, is.0), λ line rest row on four same.
+        true≢false (sym (feed_in 32768 line rest on.short) ∙ (ap (λ (t : List ℕ). list_any is_feed (take 32768 t)) (sym on.bytes) ∙ is.1)))
+
+pub no_row_refused : (at : At) (number : ℕ) (left new : Option (List ℕ)) (line : List ℕ) → Consumes left new (line ++ 10 ∷ []) → list_any is_feed line ≡ false
+    → ((fields : List (List ℕ)) → length fields ≡ 4 → ¬ (text_of_row fields ≡ line ++ 10 ∷ [])) → IsRefusedFrom at number left (refusal.Fault (Row number))
+no_row_refused at number None new line takes one none = tt
+no_row_refused at number (Some text) None line takes one none = absurd takes
+no_row_refused at number (Some text) (Some behind) line takes one none =
+    (refl, omega (arith, ap length takes, length-append (line ++ 10 ∷ []) behind, length-append line (10 ∷ [])), λ begun rest row on four same.
+        none row four (same ∙ ap (λ (l : List ℕ). l ++ 10 ∷ []) (one_line begun line rest behind on.one one (sym on.bytes ∙ (takes ∙ append_assoc line (10 ∷ []) behind)))))
+
+begun_wrong : (at : At) (number : ℕ) (left new : Option (List ℕ)) (line kind whose third fourth : List ℕ) (field : Wrong) → Consumes left new (line ++ 10 ∷ [])
+    → text_of_row (row_of kind whose third fourth) ≡ line ++ 10 ∷ [] → IsWrongAt at kind whose third fourth field
+    → IfSome left (λ text. (number ≡ number) × BeginsWithWrong at text field)
+begun_wrong at number None new line kind whose third fourth field takes is wrong_at = tt
+begun_wrong at number (Some text) None line kind whose third fourth field takes is wrong_at = absurd takes
+begun_wrong at number (Some text) (Some behind) line kind whose third fourth field takes is wrong_at =
+    (refl, record {
+      kind = kind;
+      whose = whose;
+      third = third;
+      fourth = fourth;
+      rest = behind;
+      bytes = takes ∙ ap (λ (l : List ℕ). l ++ behind) (sym is);
+      wrong_at = wrong_at;
+    })
+
+pub field_refused : (at : At) (number : ℕ) (left new : Option (List ℕ)) (line kind whose third fourth : List ℕ) (field : Wrong) → Consumes left new (line ++ 10 ∷ [])
+    → text_of_row (row_of kind whose third fourth) ≡ line ++ 10 ∷ [] → IsWrongAt at kind whose third fourth field
+    → IsRefusedFrom at number left (refusal_of_field field number)
+field_refused at number left new line kind whose third fourth wrong.Kind takes is wrong_at = begun_wrong at number left new line kind whose third fourth wrong.Kind takes is wrong_at
+field_refused at number left new line kind whose third fourth wrong.Whose takes is wrong_at = begun_wrong at number left new line kind whose third fourth wrong.Whose takes is wrong_at
+field_refused at number left new line kind whose third fourth wrong.Third takes is wrong_at = begun_wrong at number left new line kind whose third fourth wrong.Third takes is wrong_at
+field_refused at number left new line kind whose third fourth wrong.Fourth takes is wrong_at = begun_wrong at number left new line kind whose third fourth wrong.Fourth takes is wrong_at
+field_refused at number left new line kind whose third fourth wrong.Memory takes is wrong_at = tt
+
+-- ---- row by row
+
+-- rows were read from the start of a text on, and the next has this number
+pub record IsReadTo (start : Option (List ℕ)) (at : At) (left : Option (List ℕ)) (number : ℕ) : Type 0 where
+  pub rows : List (List (List ℕ))
+  pub are : AreRows at_first rows at
+  pub consumed : Consumes start left (text_of rows)
+  pub counted : number ≡ length rows + 1
+
+none_consumed : (start : Option (List ℕ)) → Consumes start start []
+none_consumed None = tt
+none_consumed (Some text) = refl
+
+pub none_read : (start : Option (List ℕ)) → IsReadTo start at_first start 1
+none_read start = record { rows = []; are = no_rows at_first; consumed = none_consumed start; counted = refl }
+
+pub rows_push : (at middle last : At) (rows : List (List (List ℕ))) (row : List (List ℕ)) → AreRows at rows middle → Follows middle row last → AreRows at (rows ++ row ∷ []) last
+rows_push _ _ last _ row (no_rows at) follows = more_rows at last last row [] follows (no_rows last)
+rows_push _ _ last _ row (more_rows at next middle first rows goes are) follows =
+    more_rows at next last first (rows ++ row ∷ []) goes (rows_push next middle last rows row are follows)
+
+pub more_read : (start : Option (List ℕ)) (at next : At) (left new : Option (List ℕ)) (number : ℕ) (text : List ℕ) → IsReadTo start at left number → FollowsAs at text next
+    → Consumes left new text → IsReadTo start next new (number + 1)
+more_read start at next left new number text was goes takes = record {
+  rows = was.rows ++ goes.row ∷ [];
+  are = rows_push at_first at next was.rows goes.row was.are goes.follows;
+  consumed = subst (λ (t : List ℕ). Consumes start new t) joined (consumes_more start left new (text_of was.rows) text was.consumed takes);
+  counted = omega (arith, was.counted, length-append was.rows (goes.row ∷ []));
+}
+  where
+    joined : text_of was.rows ++ text ≡ text_of (was.rows ++ goes.row ∷ [])
+    joined =
+        ap (λ (l : List ℕ). text_of was.rows ++ l) (sym goes.same ∙ sym (append-nil (text_of_row goes.row)))
+        ∙ sym (flat_map-append text_of_row was.rows (goes.row ∷ []))
+
+pub all_read : (start left : Option (List ℕ)) (at : At) (number lines : ℕ) → IsReadTo start at left number → IsAtEnd left → at.place ≡ Ended lines
+    → IfSome start (λ text. IsStatementText text lines)
+all_read None left at number lines was ends ended = tt
+all_read (Some text) None at number lines was ends ended = absurd was.consumed
+all_read (Some text) (Some rest) at number lines was ends ended = record {
+  rows = was.rows;
+  last = at;
+  are = was.are;
+  ended = ended;
+  bytes = was.consumed ∙ (ap (λ (l : List ℕ). text_of was.rows ++ l) ends ∙ append-nil (text_of was.rows));
+}
+
+pub end_refused : (start left : Option (List ℕ)) (at : At) (number : ℕ) → IsReadTo start at left number → IsAtEnd left → ((lines : ℕ) → ¬ (at.place ≡ Ended lines))
+    → IfSome start (λ text. IsRefusedFor text (refusal.Fault (End number)))
+end_refused None left at number was ends none = tt
+end_refused (Some text) None at number was ends none = absurd was.consumed
+end_refused (Some text) (Some rest) at number was ends none = record {
+  rows = was.rows;
+  at = at;
+  rest = rest;
+  are = was.are;
+  bytes = was.consumed;
+  fault_from = (was.counted, ends, none);
+}
+
+nothing_claimed : (start : Option (List ℕ)) → IfSome start (λ text. ⊤)
+nothing_claimed None = tt
+nothing_claimed (Some text) = tt
+
+pub rest_refused : (start left : Option (List ℕ)) (at : At) (number : ℕ) (why : Refusal) → IsReadTo start at left number → IsRefusedFrom at number left why
+    → IfSome start (λ text. IsRefusedFor text why)
+rest_refused None left at number (refusal.Fault fault) was from = tt
+rest_refused (Some text) None at number (refusal.Fault fault) was from = absurd was.consumed
+rest_refused (Some text) (Some rest) at number (refusal.Fault fault) was from = record {
+  rows = was.rows;
+  at = at;
+  rest = rest;
+  are = was.are;
+  bytes = was.consumed;
+  fault_from = subst (λ (k : ℕ). IsFaultFrom at k rest fault) was.counted from;
+}
+rest_refused start left at number refusal.Memory was from = nothing_claimed start
+rest_refused start left at number refusal.Many was from = nothing_claimed start
+rest_refused start left at number (refusal.Read error) was from = nothing_claimed start
+rest_refused start left at number (refusal.Write error) was from = nothing_claimed start

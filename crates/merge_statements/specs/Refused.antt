@@ -1,0 +1,108 @@
+-- Why a text is no text of statements: the first row that cannot stand where it does.
+use Rattle.std.specs.Prelude.{ℕ, ◌≡◌, ◌<◌, ◌+◌, ◌++◌, ◌∷◌, [], List, Option, IfSome, false, length, ⊤}
+use Rattle.std.specs.List.{list_any}
+use Rattle.csv_table.specs.Written.{text_of, text_of_row}
+use Rattle.merge_statements.specs.Buffered.{is_feed}
+use Rattle.merge_statements.specs.Places.{At, Follows, at_first, row_of}
+use Rattle.merge_statements.specs.Wrong.{IsWrongAt}
+use Rattle.merge_statements.specs.declared.read_fault.ReadFault.{ReadFault}
+use Rattle.merge_statements.specs.declared.read_fault.ReadFault.TheVariants.{Refused, TooLong, Unended}
+use Rattle.merge_statements.specs.declared.refusal.Refusal.{Refusal}
+use Rattle.merge_statements.specs.declared.refusal.Refusal.TheVariants as refusal
+use Rattle.merge_statements.specs.declared.refusal.StatementFault.{StatementFault}
+use Rattle.merge_statements.specs.declared.refusal.StatementFault.TheVariants.{Row, Kind, Whose, Third, Fourth, End}
+use Rattle.merge_statements.specs.declared.walk.Place.TheVariants.{Ended}
+use Rattle.merge_statements.specs.declared.walk.Wrong.{Wrong}
+use Rattle.merge_statements.specs.declared.walk.Wrong.TheVariants as wrong
+
+-- rows that can stand one after another, from a place on, and where they lead
+pub data AreRows : At → List (List (List ℕ)) → At → Type 0 where
+  none : (at : At) → AreRows at [] at
+  more : (at next last : At) (row : List (List ℕ)) (rows : List (List (List ℕ))) → Follows at row next → AreRows next rows last → AreRows at (row ∷ rows) last
+
+-- The text is that of statements, of so many usage lines: its rows can stand one after another, from the first to the last.
+pub record IsStatementText (text : List ℕ) (lines : ℕ) : Type 0 where
+  pub rows : List (List (List ℕ))
+  pub last : At
+  pub are : AreRows at_first rows last
+  pub ended : last.place ≡ Ended lines
+  pub bytes : text ≡ text_of rows
+
+-- a line that ends within the next 32,768 bytes
+pub record IsLine (text line rest : List ℕ) : Type 0 where
+  pub bytes : text ≡ line ++ 10 ∷ rest
+  pub one : list_any is_feed line ≡ false
+  pub short : length line < 32768
+
+-- the text begins with no line that is a row of four fields
+abbrev pub BeginsWithNoRow : List ℕ → Type 0
+BeginsWithNoRow text = (line rest : List ℕ) (row : List (List ℕ)) → IsLine text line rest → length row ≡ 4 → ¬ (text_of_row row ≡ line ++ 10 ∷ [])
+
+-- the text begins with a row of four fields, of which this is the first that cannot stand at a place
+pub record BeginsWithWrong (at : At) (text : List ℕ) (field : Wrong) : Type 0 where
+  pub kind : List ℕ
+  pub whose : List ℕ
+  pub third : List ℕ
+  pub fourth : List ℕ
+  pub rest : List ℕ
+  pub bytes : text ≡ text_of_row (row_of kind whose third fourth) ++ rest
+  pub wrong_at : IsWrongAt at kind whose third fourth field
+
+-- what is wrong with the rest of a text, from the row of a number on
+abbrev pub IsFaultFrom : At → ℕ → List ℕ → StatementFault → Type 0
+IsFaultFrom at number text (Row row) = (row ≡ number) × (0 < length text) × BeginsWithNoRow text
+IsFaultFrom at number text (Kind row) = (row ≡ number) × BeginsWithWrong at text wrong.Kind
+IsFaultFrom at number text (Whose row) = (row ≡ number) × BeginsWithWrong at text wrong.Whose
+IsFaultFrom at number text (Third row) = (row ≡ number) × BeginsWithWrong at text wrong.Third
+IsFaultFrom at number text (Fourth row) = (row ≡ number) × BeginsWithWrong at text wrong.Fourth
+IsFaultFrom at number text (End row) = (row ≡ number) × (text ≡ []) × ((lines : ℕ) → ¬ (at.place ≡ Ended lines))
+
+-- the first fault of a text: the rows before it can stand one after another
+pub record IsFaultIn (text : List ℕ) (fault : StatementFault) : Type 0 where
+  pub rows : List (List (List ℕ))
+  pub at : At
+  pub rest : List ℕ
+  pub are : AreRows at_first rows at
+  pub bytes : text ≡ text_of rows ++ rest
+  pub fault_from : IsFaultFrom at (length rows + 1) rest fault
+
+-- A text is refused for its first fault. Nothing is claimed of lack of memory, of a read or a write that was refused, nor of more rows than are counted.
+abbrev pub IsRefusedFor : List ℕ → Refusal → Type 0
+IsRefusedFor text (refusal.Fault fault) = IsFaultIn text fault
+IsRefusedFor text _ = ⊤
+
+-- the same of the rest of a text, where its bytes are known
+abbrev pub IsRefusedFrom : At → ℕ → Option (List ℕ) → Refusal → Type 0
+IsRefusedFrom at number left (refusal.Fault fault) = IfSome left (λ text. IsFaultFrom at number text fault)
+IsRefusedFrom at number left _ = ⊤
+
+-- which refusal a wrong field is
+abbrev pub refusal_of_field : Wrong → ℕ → Refusal
+refusal_of_field wrong.Kind row = refusal.Fault (Kind row)
+refusal_of_field wrong.Whose row = refusal.Fault (Whose row)
+refusal_of_field wrong.Third row = refusal.Fault (Third row)
+refusal_of_field wrong.Fourth row = refusal.Fault (Fourth row)
+refusal_of_field wrong.Memory row = refusal.Memory
+
+-- and a line that is none
+abbrev pub refusal_of_line : ReadFault → ℕ → Refusal
+refusal_of_line (Refused error) row = refusal.Read error
+refusal_of_line Unended row = refusal.Fault (Row row)
+refusal_of_line TooLong row = refusal.Fault (Row row)
+
+-- faults by number
+abbrev pub number_of_fault : StatementFault → ℕ
+number_of_fault (Row row) = 1
+number_of_fault (Kind row) = 2
+number_of_fault (Whose row) = 3
+number_of_fault (Third row) = 4
+number_of_fault (Fourth row) = 5
+number_of_fault (End row) = 6
+
+abbrev pub row_of_fault : StatementFault → ℕ
+row_of_fault (Row row) = row
+row_of_fault (Kind row) = row
+row_of_fault (Whose row) = row
+row_of_fault (Third row) = row
+row_of_fault (Fourth row) = row
+row_of_fault (End row) = row
