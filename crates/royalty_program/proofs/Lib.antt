@@ -11,3 +11,4 @@ pub mod RunWalked
 pub mod EndLemmas
 pub mod OverLemmas
 pub mod FileLemmas
+pub mod MergeFileLemmas

@@ -9,6 +9,7 @@ ghost use Rattle.check_inputs.specs.Checked.{IsReportOn, files_of, path_if_given
 ghost use Rattle.royalty_program.specs.Files.{AreRead, AreStatementsOver, HaveNoFaultOver, HoldsIfGiven, IsExplanationOver, IsReportOver, for_any_error, on_disk};
 ghost use Rattle.royalty_program.specs.declared.failure.Failure.TheVariants.{Room};
 ghost use Rattle.royalty_program.specs.Status.{IsOfFile, IsOfNoInput, IsOfOutput, IsOfPaths, IsRefusal, IsUnexplained, failure_of_file};
+ghost use Rattle.royalty_program.specs.MergeFiles.{Gives, any_text};
 ghost use Rattle.royalty_program.specs.Targets.{IsLeftOrHas, IsPut};
 
 use crate::check_command::CheckWords;
@@ -31,16 +32,25 @@ pub const MOST_BYTES: u64 = 268_435_456;
 
 /// Where the files of a run are read from.
 pub trait Source {
+    /// What a text is read through.
+    type Reader: Read + Drop;
+
     // The file of a path has these bytes.
     ghost holds: { Self → List ℕ → List ℕ → Type 0 };
     // It refuses a path with an error of this kind.
     ghost refuses: { Self → List ℕ → ErrorKind → Type 0 };
+    // The file of a path gives this text, whatever its size.
+    ghost gives: { Self → List ℕ → List ℕ → Type 0 };
 
     /// The bytes of the file of a path. A file of more than the most bytes cannot be read.
     fn read(&self, alloc: Global, path: &str) -> io::Result<Vec<u8>>
         ensures bytes { IfOk result (λ bytes. holds self.now path.now bytes.items) }
         ensures few { IfOk result (λ bytes. length bytes.items ≤ 268435456) }
         ensures error { IfErr result (λ error. refuses self.now path.now (error_kind error)) };
+
+    /// A reader of the text of the file of a path.
+    fn open(&self, path: &str) -> io::Result<Self::Reader>
+        ensures text { IfOk result (λ reader. Gives (gives self.now path.now) (Self.Reader.remaining reader)) };
 }
 
 /// The files of the system.
@@ -50,9 +60,13 @@ pub struct Disk<'a, R> {
 }
 
 impl<'a, R: Files> Source for Disk<'a, R> {
+    type Reader = R::File;
+
     ghost holds = { λ _. on_disk };
 
     ghost refuses = { λ _. for_any_error };
+
+    ghost gives = { λ _. any_text };
 
     fn read(&self, alloc: Global, path: &str) -> io::Result<Vec<u8>> {
         let file = fs::open(self.rt, path)?;
@@ -61,6 +75,10 @@ impl<'a, R: Files> Source for Disk<'a, R> {
             return Err(io::Error::from(ErrorKind::FileTooLarge));
         }
         read_whole(alloc, file, size as usize + 1)
+    }
+
+    fn open(&self, path: &str) -> io::Result<R::File> {
+        fs::open(self.rt, path)
     }
 }
 
@@ -328,7 +346,7 @@ fn read_file<S: Source>(files: &S, alloc: Global, path: String) -> Result<Vec<u8
 }
 
 /// Why there is no file of a path, by the kind of the error.
-fn unread(kind: ErrorKind, path: String) -> Failure
+pub fn unread(kind: ErrorKind, path: String) -> Failure
     ensures { result ≡ failure_of_file kind path }
 {
     match kind {
