@@ -1,19 +1,21 @@
 -- What is read of a command line, and what answers it.
-use Rattle.std.specs.Prelude.{ℕ, ◌≡◌, ◌≤◌, Bool, true, List, None, codes, drop, map, string_bytes, ⊤}
+use Rattle.std.specs.Prelude.{ℕ, ◌≡◌, ◌<◌, ◌≤◌, Bool, true, List, None, codes, drop, length, map, string_bytes, ⊤}
 use Rattle.std.specs.Option.{option_map}
 use Rattle.line_split.specs.declared.TheConstants.{MOST_AMOUNT}
 use Rattle.royalty_program.specs.RunCommand.{run_app}
-use Rattle.royalty_program.specs.Asked.{AreRunWords, AskForCheck, AskForExplanation, AskForRun, IsDivision, IsRun, amount_of, number_given, number_in, pairs_of, path_given, path_if_given}
+use Rattle.royalty_program.specs.Asked.{AreRunWords, AreAccepted, AskForCheck, AskForExplanation, AskForRun, IsDivision, IsRun, amount_of, number_given, number_in, pairs_of, path_given, path_if_given, paths_given}
 use Rattle.pair_split.specs.PairFault.{AreSound}
 use Rattle.pair_split.specs.Pair.{word_at}
 use Rattle.pair_split.specs.Rows.{split_text}
 use Rattle.royalty_program.specs.CheckCommand.{check_app}
 use Rattle.royalty_program.specs.ExplainCommand.{explain_app}
+use Rattle.royalty_program.specs.MergeCommand.{AreFewAndDifferent, merge_app}
 use Rattle.royalty_program.specs.Files.{AreStatementsOver, IsExplanationOver, IsReportOver}
 use Rattle.royalty_program.specs.declared.check_command.CheckWords.{CheckWords}
 use Rattle.royalty_program.specs.declared.commands.Asked.{Asked}
-use Rattle.royalty_program.specs.declared.commands.Asked.TheVariants.{Check, Division, Explanation, Run}
+use Rattle.royalty_program.specs.declared.commands.Asked.TheVariants.{Check, Division, Explanation, Merge, Run}
 use Rattle.royalty_program.specs.declared.explain_command.ExplainWords.{ExplainWords}
+use Rattle.royalty_program.specs.declared.merge_command.MergeWords.{MergeWords}
 use Rattle.royalty_program.specs.declared.run_command.RunWords.{RunWords}
 
 -- the command is the one that the word names
@@ -22,6 +24,7 @@ IsNamedBy word (Division asked) = word ≡ codes "split"
 IsNamedBy word (Run asked) = word ≡ codes "run"
 IsNamedBy word (Explanation asked) = word ≡ codes "explain"
 IsNamedBy word (Check asked) = word ≡ codes "check"
+IsNamedBy word (Merge asked) = word ≡ codes "merge"
 
 -- an amount that is divided is in range
 abbrev pub IsInRange : Asked → Type 0
@@ -29,6 +32,7 @@ IsInRange (Division asked) = asked.amount ≤ MOST_AMOUNT
 IsInRange (Run asked) = ⊤
 IsInRange (Explanation asked) = ⊤
 IsInRange (Check asked) = ⊤
+IsInRange (Merge asked) = ⊤
 
 -- the amount and the pairs are those of the words
 abbrev pub IsDivisionOf : List (List ℕ) → Asked → Type 0
@@ -36,6 +40,7 @@ IsDivisionOf words (Division asked) = (asked.amount ≡ amount_of words) × (map
 IsDivisionOf words (Run asked) = ⊥
 IsDivisionOf words (Explanation asked) = ⊥
 IsDivisionOf words (Check asked) = ⊥
+IsDivisionOf words (Merge asked) = ⊥
 
 -- the paths and the numbers are those that the options of a run are given
 pub record AreReadFrom (words : List (List ℕ)) (asked : RunWords) : Type 0 where
@@ -68,12 +73,14 @@ IsRunOf words (Division asked) = ⊥
 IsRunOf words (Run asked) = AreReadFrom (drop 1 words) asked
 IsRunOf words (Explanation asked) = ⊥
 IsRunOf words (Check asked) = ⊥
+IsRunOf words (Merge asked) = ⊥
 
 abbrev pub IsRunInOrder : (words : List (List ℕ)) → AreRunWords (drop 1 words) → Asked → Type 0
 IsRunInOrder words run (Division asked) = ⊥
 IsRunInOrder words run (Run asked) = AreReadInOrder (drop 1 words) run asked
 IsRunInOrder words run (Explanation asked) = ⊥
 IsRunInOrder words run (Check asked) = ⊥
+IsRunInOrder words run (Merge asked) = ⊥
 
 -- the paths and the row are those that the options of an explanation are given
 pub record AreExplainedFrom (words : List (List ℕ)) (asked : ExplainWords) : Type 0 where
@@ -97,6 +104,18 @@ pub record AreCheckedFrom (words : List (List ℕ)) (asked : CheckWords) : Type 
 abbrev pub IsCheckAsked : List (List ℕ) → Asked → Type 0
 IsCheckAsked words (Check asked) = AreCheckedFrom (drop 1 words) asked
 IsCheckAsked words _ = ⊥
+
+-- The paths are those that a merge is given, all of them in their order: they are one or more, no more than are merged at once, and each stands once.
+pub record AreMergeFrom (words : List (List ℕ)) (asked : MergeWords) : Type 0 where
+  pub accepted : AreAccepted merge_app words
+  pub output : option_map string_bytes asked.output ≡ path_if_given merge_app (codes "output") words
+  pub statements : map string_bytes asked.statements.items ≡ paths_given merge_app (codes "statements") words
+  pub some : 0 < length asked.statements.items
+  pub different : AreFewAndDifferent (map string_bytes asked.statements.items)
+
+abbrev pub IsMergeAsked : List (List ℕ) → Asked → Type 0
+IsMergeAsked words (Merge asked) = AreMergeFrom (drop 1 words) asked
+IsMergeAsked words _ = ⊥
 
 -- the text answers the division that the words ask for, and nothing is wrong with them
 pub record IsAnswerTo (words : List (List ℕ)) (text : List ℕ) : Type 0 where

@@ -126,6 +126,7 @@ fn answer<R: Threads + Wait + Sync, S: Source, W: Write>(
             let checked = check_files(alloc, files, asked)?;
             Ok((out.write_all(checked.text.as_slice()), checked.is_sound))
         }
+        Ok(Asked::Merge(_)) => Err(Failure::Room),
         Err(error) if error.kind() == ErrorKind::OutOfMemory => Err(Failure::Room),
         Err(error) if error.use_stderr() => Err(Failure::Words(error)),
         Err(help) => match format!(in alloc; "{help}") {
