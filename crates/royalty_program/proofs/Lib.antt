@@ -7,6 +7,7 @@ pub mod OptionLemmas
 pub mod RunLemmas
 pub mod CheckLemmas
 pub mod ExplainLemmas
+pub mod MergeLemmas
 pub mod RunWalked
 pub mod EndLemmas
 pub mod OverLemmas

@@ -3,6 +3,7 @@ pub mod Asked
 pub mod CheckCommand
 pub mod ExplainCommand
 pub mod Files
+pub mod MergeCommand
 pub mod MergeFiles
 pub mod RequiredArg
 pub mod RunCommand

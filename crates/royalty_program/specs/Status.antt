@@ -7,7 +7,7 @@ use Rattle.std.specs.declared.io.ErrorKind as io
 use Rattle.std.specs.declared.io.ErrorKind.TheVariants as io_kind
 use Rattle.pair_split.specs.Pair.{word_at}
 use Rattle.royalty_program.specs.RunCommand.{run_app}
-use Rattle.royalty_program.specs.Asked.{AreAccepted, IsDivision, number_given, pairs_of, path_given, path_if_given}
+use Rattle.royalty_program.specs.Asked.{AreAccepted, IsDivision, NameWrongPaths, number_given, pairs_of, path_given, path_if_given, paths_given}
 use Rattle.pair_split.specs.PairFault.{IsFaultOf}
 use Rattle.pair_split.specs.PairFault as pair
 use Rattle.tis_tree.specs.TisRows as tis
@@ -21,6 +21,7 @@ use Rattle.merge_statements.specs.declared.refusal.Refusal.TheVariants as refusa
 use Rattle.royalty_program.specs.CheckCommand.{check_app}
 use Rattle.royalty_program.specs.ExplainCommand.{explain_app}
 use Rattle.royalty_program.specs.Files.{HasNoRowOver, IsFaultOver}
+use Rattle.royalty_program.specs.MergeCommand.{merge_app}
 use Rattle.royalty_program.specs.MergeFiles.{AreTooMany, HoldsOf, IsFaultAt, IsFirstRefused, IsOneOfSound}
 use Rattle.royalty_program.specs.declared.failure.Failure.{Failure}
 use Rattle.royalty_program.specs.declared.failure.Failure.TheVariants.{Words, NotText, Pairs, Input, Row, Room, File, Output, Target, Statement, Many, Changed}
@@ -136,9 +137,10 @@ abbrev pub IsOfOutput : (output : Option (String Global)) → (Failure → Type 
 IsOfOutput output IsOf (Target path) = output ≡ Some path
 IsOfOutput output IsOf failure = IsOf failure
 
--- and the words of a run fail for that, or for themselves where clap does not accept them
+-- and the words of a run fail for that, for the file of their output, or for themselves where clap does not accept them
 abbrev pub IsOfRun : (holds : List ℕ → List ℕ → Type 0) (refuses : List ℕ → io.ErrorKind → Type 0) → List (List ℕ) → Failure → Type 0
 IsOfRun holds refuses words (Words error) = ¬ AreAccepted run_app words
+IsOfRun holds refuses words (Target path) = path_if_given run_app (codes "output") words ≡ Some (string_bytes path)
 IsOfRun holds refuses words failure =
     IsOfPaths holds refuses (path_given run_app (codes "tis") words) (path_if_given run_app (codes "payees") words) (path_given run_app (codes "cwr") words) (path_given run_app (codes "usage") words) failure
 
@@ -190,6 +192,12 @@ IsOfOne paths (File name) = Contains paths (string_bytes name)
 IsOfOne paths (Changed name) = Contains paths (string_bytes name)
 IsOfOne paths _ = ⊥
 
+-- and its words for that, for the file of their output, for the paths that they name, or for themselves where clap does not accept them
+abbrev pub IsOfMerge : (gives : List ℕ → List ℕ → Type 0) → List (List ℕ) → Failure → Type 0
+IsOfMerge gives words (Words error) = NameWrongPaths words error ⊎ (¬ AreAccepted merge_app words)
+IsOfMerge gives words (Target path) = path_if_given merge_app (codes "output") words ≡ Some (string_bytes path)
+IsOfMerge gives words failure = IsOfTexts gives (paths_given merge_app (codes "statements") words) failure
+
 -- no input is refused: a check tells of what is wrong with it
 abbrev pub IsOfNoInput : Failure → Type 0
 IsOfNoInput (Input fault) = ⊥
@@ -210,12 +218,13 @@ IsOfDivision words Room = ⊤
 IsOfDivision words _ = ⊥
 
 -- the words of a command line fail for this
-pub record FailFor (holds : List ℕ → List ℕ → Type 0) (refuses : List ℕ → io.ErrorKind → Type 0) (words : List (List ℕ)) (failure : Failure) : Type 0 where
+pub record FailFor (holds gives : List ℕ → List ℕ → Type 0) (refuses : List ℕ → io.ErrorKind → Type 0) (words : List (List ℕ)) (failure : Failure) : Type 0 where
   pub refusal : IsRefusal failure
   pub division : IsDivision words → IsOfDivision words failure
   pub run : word_at words 1 ≡ codes "run" → IsOfRun holds refuses (drop 1 words) failure
   pub explanation : word_at words 1 ≡ codes "explain" → IsOfExplanation holds refuses (drop 1 words) failure
   pub checked : word_at words 1 ≡ codes "check" → IsOfCheck holds refuses (drop 1 words) failure
+  pub merge : word_at words 1 ≡ codes "merge" → IsOfMerge gives (drop 1 words) failure
 
 -- lack of memory is no fault of the pairs
 abbrev pub failure_of_fault : PairFault → Failure

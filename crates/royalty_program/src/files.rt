@@ -164,20 +164,19 @@ pub fn settle_out<R: Threads + Wait + Sync, S: Source, T: Target, W: Write>(
     alloc: Global,
     files: &S,
     target: &mut T,
-    asked: RunWords,
-    output: Option<String>,
+    mut asked: RunWords,
     out: &mut W,
 ) -> Result<io::Result<()>, Failure>
-    ensures statements { IfOk result (λ printed. OnOk printed ((text : List ℕ) × IsPut (option_map string_bytes output) (T.keeps target.new) (W.contents out.old) (W.contents out.new) text
+    ensures statements { IfOk result (λ printed. OnOk printed ((text : List ℕ) × IsPut (option_map string_bytes asked.output) (T.keeps target.new) (W.contents out.old) (W.contents out.new) text
         × AreStatementsOver (S.holds files.now) (string_bytes asked.tis) (option_map string_bytes asked.payees) (string_bytes asked.cwr) (string_bytes asked.usage) text)) }
     ensures failure { IfErr result IsRefusal }
-    ensures files { IfErr result (IsOfOutput output (IsOfPaths (S.holds files.now) (S.refuses files.now) (string_bytes asked.tis) (option_map string_bytes asked.payees) (string_bytes asked.cwr) (string_bytes asked.usage))) }
+    ensures files { IfErr result (IsOfOutput asked.output (IsOfPaths (S.holds files.now) (S.refuses files.now) (string_bytes asked.tis) (option_map string_bytes asked.payees) (string_bytes asked.cwr) (string_bytes asked.usage))) }
     ensures silent { IfErr result (λ _. out.new ≡ out.old) }
-    ensures left { IfSome output (λ path. IsLeftOrHas (T.keeps target.old (string_bytes path)) (T.keeps target.new (string_bytes path))
+    ensures left { IfSome asked.output (λ path. IsLeftOrHas (T.keeps target.old (string_bytes path)) (T.keeps target.new (string_bytes path))
         (AreStatementsOver (S.holds files.now) (string_bytes asked.tis) (option_map string_bytes asked.payees) (string_bytes asked.cwr) (string_bytes asked.usage))) }
-    ensures unused { IfNone output (target.new ≡ target.old) }
+    ensures unused { IfNone asked.output (target.new ≡ target.old) }
 {
-    match output {
+    match asked.output.take() {
         None => settle_files(rt, alloc, files, asked, out),
         Some(path) => {
             settle_kept(rt, alloc, files, target, asked, path)?;

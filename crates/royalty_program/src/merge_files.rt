@@ -1,13 +1,17 @@
 //! A merge over files.
 
 ghost use Rattle.std.specs.Io.KnownBytes.{Appends};
-ghost use Rattle.std.specs.Prelude.{◌≡◌, ◌<◌, ◌≤◌, ◌+◌, ◌^◌, ℕ, List, IfErr, IfOk, OnOk, map, string_bytes};
+ghost use Rattle.std.specs.Prelude.{◌≡◌, ◌<◌, ◌≤◌, ◌+◌, ◌^◌, ℕ, List, Some, IfErr, IfNone, IfOk, IfSome, OnErr, OnOk, map, string_bytes};
+ghost use Rattle.std.specs.Option.{option_map};
 ghost use Rattle.royalty_program.specs.MergeFiles.{AreOpened, AreSoundTexts, IsMergeOver, IsSoundText};
-ghost use Rattle.royalty_program.specs.Status.{IsOfOne, IsOfRefusal, IsOfText, IsOfTexts, IsRefusal, IsUnopened, status_of};
+ghost use Rattle.royalty_program.specs.Status.{IsOfOne, IsOfOutput, IsOfRefusal, IsOfText, IsOfTexts, IsRefusal, IsUnopened, status_of};
+ghost use Rattle.royalty_program.specs.Targets.{IsLeftOrHas, IsPut};
 ghost use Rattle.royalty_program.specs.declared.failure.Failure.TheVariants.{Many};
 
 use crate::failure::Failure;
 use crate::files::{Source, unread};
+use crate::merge_command::MergeWords;
+use crate::targets::{Target, finish, unkept};
 use merge_statements::{Refusal, TextRefusal, check, merge};
 use std::alloc::Global;
 use std::io::{self, ErrorKind, Write};
@@ -36,6 +40,56 @@ pub fn merge_files<S: Source, W: Write>(
             Refusal::Write(error) => Ok(Err(error)),
             _ => Err(changed(alloc, paths, place, refusal)),
         },
+    }
+}
+
+/// The same into the file of a path: whole, or that is as it was.
+fn merge_kept<S: Source, T: Target>(
+    alloc: Global,
+    files: &S,
+    target: &mut T,
+    paths: &[String],
+    path: String,
+) -> Result<(), Failure>
+    ensures merged { IfOk result (λ _. (text : List ℕ) × T.keeps target.new (string_bytes path) (Some text)
+        × IsMergeOver (S.gives files.now) (map string_bytes paths.now) text) }
+    ensures failure { IfErr result IsRefusal }
+    ensures files { IfErr result (IsOfOutput (Some path) (IsOfTexts (S.gives files.now) (map string_bytes paths.now))) }
+    ensures left { OnErr result (IsLeftOrHas (T.keeps target.old (string_bytes path)) (T.keeps target.new (string_bytes path))
+        (IsMergeOver (S.gives files.now) (map string_bytes paths.now))) }
+{
+    let mut draft = match target.begin(alloc, path.as_str()) {
+        Ok(draft) => draft,
+        Err(error) => return Err(unkept(error.kind(), path)),
+    };
+    let written = merge_files(alloc, files, paths, &mut draft);
+    finish(target, draft, path, written)
+}
+
+/// Prints the merged text, or keeps it in the file of a path, where there is one.
+pub fn merge_out<S: Source, T: Target, W: Write>(
+    alloc: Global,
+    files: &S,
+    target: &mut T,
+    asked: MergeWords,
+    out: &mut W,
+) -> Result<io::Result<()>, Failure>
+    ensures merged { IfOk result (λ printed. OnOk printed ((text : List ℕ) × IsPut (option_map string_bytes asked.output) (T.keeps target.new) (W.contents out.old) (W.contents out.new) text
+        × IsMergeOver (S.gives files.now) (map string_bytes asked.statements.items) text)) }
+    ensures failure { IfErr result IsRefusal }
+    ensures files { IfErr result (IsOfOutput asked.output (IsOfTexts (S.gives files.now) (map string_bytes asked.statements.items))) }
+    ensures silent { IfErr result (λ failure. status_of failure ≤ 2 → out.new ≡ out.old) }
+    ensures left { IfSome asked.output (λ path. IsLeftOrHas (T.keeps target.old (string_bytes path)) (T.keeps target.new (string_bytes path))
+        (IsMergeOver (S.gives files.now) (map string_bytes asked.statements.items))) }
+    ensures unused { IfNone asked.output (target.new ≡ target.old) }
+{
+    let MergeWords { output, statements } = asked;
+    match output {
+        None => merge_files(alloc, files, statements.as_slice(), out),
+        Some(path) => {
+            merge_kept(alloc, files, target, statements.as_slice(), path)?;
+            Ok(Ok(()))
+        }
     }
 }
 
