@@ -13,3 +13,4 @@ pub mod EndLemmas
 pub mod OverLemmas
 pub mod FileLemmas
 pub mod MergeFileLemmas
+pub mod OutputLemmas
