@@ -47,7 +47,7 @@ edits:
 
 compare:
 	python3 bench/compare.py --program $(PROGRAM) --cases 2000
-	python3 bench/merges.py --program $(PROGRAM) --cases 300
+	python3 bench/merges.py --program $(PROGRAM) --cases 2000
 
 fuzz:
 	python3 bench/fuzz.py --program $(PROGRAM) --cases 100000 --jobs 4

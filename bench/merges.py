@@ -1,7 +1,7 @@
 #!/usr/bin/env python3
-"""Cuts made-up lists of usage lines in parts, runs the program over each part, merges the statement texts with the plain
-program, and compares that with the program's statements of the whole list; then in two groups; and a third of all with one of the
-texts damaged, which has to be refused, or else be merged as it stands.
+"""Cuts made-up lists of usage lines in parts, runs the program over each part, and merges the statement texts: at once, in two
+groups, and into a file. Each time it has to be the program's text of the whole list. A third of all is merged with one of the texts
+damaged too: the plain program and the program have to say the same, and where it is refused nothing is printed.
 
     python3 merges.py --program PATH [--cases 300] [--seed 1]
 """
@@ -46,10 +46,23 @@ def unlike(rng, text):
     return b"\n".join(rows)
 
 
-def merged(merger, folder, texts):
+def merged(program, folder, texts):
     """What merging texts comes to."""
     paths = written(folder, {f"{n}.csv": text for n, text in enumerate(texts)})
-    return run([*merger, *paths])
+    return run([program, "merge", *paths])
+
+
+def merged_into(program, folder, texts):
+    """What merging texts into a file comes to: the same, and that nothing is printed."""
+    paths = written(folder, {f"{n}.csv": text for n, text in enumerate(texts)})
+    target = os.path.join(folder, "merged")
+    status, printed, told = run([program, "merge", "--output", target, *paths])
+    if status:
+        return status, b"a file" if os.path.exists(target) else printed, told
+    with open(target, "rb") as file:
+        text = file.read()
+    os.remove(target)
+    return status, printed + text, told
 
 
 def texts_of(rng, program, folder):
@@ -71,7 +84,7 @@ def main():
     parser.add_argument("--cases", type=int, default=300)
     parser.add_argument("--seed", type=int, default=1)
     a = parser.parse_args()
-    program, merger = os.path.abspath(a.program), [build_plain(), "merge"]
+    program, plain = os.path.abspath(a.program), build_plain()
     sets, refused, differing = 0, 0, 0
     with tempfile.TemporaryDirectory() as folder:
         for n in range(a.cases):
@@ -82,17 +95,19 @@ def main():
             texts, whole = made
             sets += 1
             cut = rng.randint(0, len(texts))
-            groups = [merged(merger, folder, group)[1] for group in (texts[:cut], texts[cut:])]
-            if merged(merger, folder, texts)[1] != whole or merged(merger, folder, groups)[1] != whole:
+            groups = [merged(program, folder, group)[1] for group in (texts[:cut], texts[cut:]) if group]
+            answers = [merge(program, folder, some) for merge in (merged, merged_into) for some in (texts, groups)]
+            if any(answer != (0, whole, b"") for answer in answers) or merged(plain, folder, texts) != (0, whole, b""):
                 differing += 1
                 print(f"case {n} of seed {a.seed}: the parts do not merge to the whole")
             if rng.random() < 1 / 3:
-                spoilt = unlike(rng, rng.choice(texts))
-                outcome = merged(merger, folder, [spoilt])
+                place = rng.randrange(len(texts))
+                spoilt = [*texts[:place], unlike(rng, texts[place]), *texts[place + 1:]]
+                outcome, wanted = merged(program, folder, spoilt), merged(plain, folder, spoilt)
                 refused += outcome[0] == 1
-                if outcome[0] != 1 and outcome != (0, spoilt, b""):
+                if outcome != wanted or merged_into(program, folder, spoilt) != wanted or outcome[0] and outcome[1]:
                     differing += 1
-                    print(f"case {n} of seed {a.seed}: a damaged text becomes another one")
+                    print(f"case {n} of seed {a.seed}: a damaged text: {outcome} where the plain program says {wanted}")
     print(f"{sets} sets of statement texts, {refused} damaged ones refused: {differing} wrong")
     return 1 if differing or not sets else 0
 

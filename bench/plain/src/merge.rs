@@ -6,6 +6,8 @@ use std::io::Write;
 
 const MOST_AMOUNT: u64 = 1_000_000_000_000;
 
+const MOST_LINES: u64 = 1_000_000_000_000_000_000;
+
 /// The faults of a text, by what cannot stand in a row.
 const ROW: u8 = 1;
 const KIND: u8 = 2;
@@ -110,7 +112,7 @@ impl Statements {
             (Next::Run, b"R") => {
                 check(whose.is_empty(), WHOSE)?;
                 let lines = std::str::from_utf8(&third).ok().and_then(|text| text.parse().ok());
-                self.lines = lines.filter(|n: &u64| third == n.to_string().as_bytes()).ok_or(THIRD)?;
+                self.lines = lines.filter(|n: &u64| third == n.to_string().as_bytes() && *n <= MOST_LINES).ok_or(THIRD)?;
                 check(fourth == self.total.to_string().as_bytes(), FOURTH)?;
                 Ok(Next::Nothing)
             }
@@ -165,7 +167,7 @@ fn is_name(field: &[u8]) -> bool {
 fn fields(line: &[u8]) -> Option<[Vec<u8>; 4]> {
     let mut all = vec![Vec::new()];
     let mut quote = false;
-    let text = line.strip_suffix(b"\n").filter(|text| text.len() < 65_536)?;
+    let text = line.strip_suffix(b"\n").filter(|text| text.len() < 32_768)?;
     for (place, &byte) in text.iter().enumerate() {
         match byte {
             // the second of two quotes stands for one

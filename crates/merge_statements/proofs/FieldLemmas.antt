@@ -13,11 +13,11 @@ use Rattle.csv_table.specs.Written.{text_of_row}
 use Rattle.memchr.specs.Find.{IsFirstByte, Nowhere, Passes}
 use Rattle.merge_statements.specs.Fields.{IsBehindField, IsBehindQuote, IsFieldAt, is_comma, is_mark}
 
-or-left : (a b : Bool) → (a || b) ≡ false → a ≡ false
+pub or-left : (a b : Bool) → (a || b) ≡ false → a ≡ false
 or-left false b e = refl
 or-left true b e = cc e
 
-or-right : (a b : Bool) → (a || b) ≡ false → b ≡ false
+pub or-right : (a b : Bool) → (a || b) ≡ false → b ≡ false
 or-right false b e = e
 or-right true b e = cc e
 

@@ -13,4 +13,4 @@ pub mod Taking
 pub mod SoFar
 pub mod Endings
 pub mod Whole
-pub mod Checking
+pub mod ReadThrough

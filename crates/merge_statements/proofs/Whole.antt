@@ -1,7 +1,7 @@
 -- Texts that were passed over to their ends are merged.
 use Rattle.std.proofs.Common.{◌≡◌, ◌∙◌, ◌≤◌, ◌+◌, ◌*◌, ◌^◌, ◌+ℤ◌, ◌++◌, ◌∷◌, ℕ, ℤ, unsigned_abs, List, [], Option, Some, None, All, length, map, ap, sym, refl, subst, append_assoc, arith, codes}
 use Rattle.std.specs.Prelude.{IfSome, flat_map, sum_by}
-use Rattle.std.specs.Io.KnownBytes.{Appends, Consumes, IsAtEnd, Keeps}
+use Rattle.std.specs.Io.KnownBytes.{Appends, Consumes, IsAtEnd, Keeps, append_known}
 use Rattle.std.specs.List.Sorted.{IsStrictlySortedBy}
 use Rattle.std.proofs.lemmas.Int.{ints}
 use Rattle.std.proofs.lemmas.List.{append-nil}
@@ -222,3 +222,21 @@ one_open start part at left = more_open start part [] [] at left no_open
 pub all_between : (starts : List (Option (List ℕ))) (parts : List Unread) (dones : List (List Statement)) → HavePassed starts parts dones → All IsBetween parts
 all_between _ _ _ no_passed = All-nil IsBetween
 all_between _ _ _ (more_passed start part done starts parts dones has have) = All-cons IsBetween part parts (ap (λ (at : At). at.place) has.at) (all_between starts parts dones have)
+
+-- ---- the last page
+
+nothing_added : (known : Option (List ℕ)) → append_known known [] ≡ known
+nothing_added None = refl
+nothing_added (Some bytes) = ap Some (append-nil bytes)
+
+-- what was written by the page begins with an empty one, and the last goes on
+pub merge_passed : (starts : List (Option (List ℕ))) (before after last : Option (List ℕ)) (page : List ℕ) → page ≡ [] → WritesMerge starts (append_known before page) after
+    → Appends after last [] → WritesMerge starts before last
+merge_passed starts before after last page none was passed = record {
+  texts = was.texts;
+  are = was.are;
+  merged = was.merged;
+  merge = was.merge;
+  written = subst (λ (t : List ℕ). Appends before last t) (append-nil was.merged)
+      (appends_more before after last was.merged [] (subst (λ (known : Option (List ℕ)). Appends known after was.merged) (ap (append_known before) none ∙ nothing_added before) was.written) passed);
+}

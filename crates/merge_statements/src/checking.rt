@@ -1,9 +1,12 @@
 //! One text of statements, read through: whether it is one, and if not, what is wrong with it first.
 
 ghost use Rattle.std.specs.Io.KnownBytes.{Consumes, IsAtEnd};
-ghost use Rattle.std.specs.Prelude.{◌≡◌, ◌++◌, ◌∷◌, [], IfErr, IfOk, IfSome, false, true};
+ghost use Rattle.std.specs.Prelude.{◌≡◌, ◌++◌, ◌∷◌, [], ℕ, IfErr, IfOk, IfSome, false, true};
 ghost use Rattle.merge_statements.specs.Refused.{IsRefusedFor, IsRefusedFrom, IsStatementText};
 ghost use Rattle.merge_statements.specs.Unread.{FollowsAs};
+ghost use Rattle.merge_statements.specs.declared.refusal.Refusal.TheVariants as Refusal;
+ghost use Rattle.merge_statements.specs.declared.refusal.StatementFault.TheVariants as StatementFault;
+ghost use Rattle.merge_statements.specs.declared.walk.Place.TheVariants as Place;
 
 use crate::reader::RowReader;
 use crate::refusal::{Refusal, StatementFault};
@@ -18,19 +21,32 @@ pub fn check<R: Read + Drop>(alloc: Global, from: R) -> Result<u64, Refusal>
     ensures sound { IfOk result (λ lines. IfSome (R.remaining from) (λ text. IsStatementText text lines)) }
     ensures refused { IfErr result (λ refusal. IfSome (R.remaining from) (λ text. IsRefusedFor text refusal)) }
 {
-    let mut rows = RowReader::new(alloc, from)?;
-    let mut room = RowRoom::new(alloc)?;
+    let Ok(mut rows) = RowReader::new(alloc, from) else {
+        return Err(Refusal::Memory);
+    };
+    let Ok(mut room) = RowRoom::new(alloc) else {
+        return Err(Refusal::Memory);
+    };
     let mut progress = Progress::new(alloc);
     for number in 1..u64::MAX {
-        let found = pass_next(&mut progress, &mut rows, &mut room, number)?;
-        if !found {
-            return match progress.ended() {
-                Some(lines) => Ok(lines),
-                None => Err(Refusal::Fault(StatementFault::End(number))),
-            };
+        match pass_next(&mut progress, &mut rows, &mut room, number) {
+            Ok(true) => {}
+            Ok(false) => return end(&progress, number),
+            Err(refusal) => return Err(refusal),
         }
     }
     Err(Refusal::Many)
+}
+
+/// What is answered where a text ends before the row of a number.
+fn end(progress: &Progress, number: u64) -> Result<u64, Refusal>
+    ensures sound { IfOk result (λ lines. progress.now.place ≡ Place.Ended lines) }
+    ensures refused { IfErr result (λ refusal. (refusal ≡ Refusal.Fault (StatementFault.End number)) × ((lines : ℕ) → ¬ (progress.now.place ≡ Place.Ended lines))) }
+{
+    match progress.ended() {
+        Some(lines) => Ok(lines),
+        None => Err(Refusal::Fault(StatementFault::End(number))),
+    }
 }
 
 /// Passes over the row that comes next, if one does, and answers whether it does. It has to be one that can stand there.

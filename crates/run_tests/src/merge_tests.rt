@@ -1,7 +1,7 @@
 //! Rows, numbers, lines and merged texts, as tables of texts and of what they are read as.
 
 use merge_statements::amount::{amount_of, count_of};
-use merge_statements::{ReadFault, Row, RowReader, RowRoom, TextRefusal, check, merge};
+use merge_statements::{ReadFault, Refusal, Row, RowReader, RowRoom, TextRefusal, check, merge};
 use std::alloc::Global;
 use std::io::{self, ErrorKind, Read};
 use std::test::Fail;
@@ -227,6 +227,18 @@ fn told_merge(alloc: Global, texts: &[&str]) -> Result<String, Fail> {
     Ok(told)
 }
 
+/// How many usage lines a text is of, or the number and the row of its fault, and why.
+fn told_check(alloc: Global, text: &str) -> Result<String, Fail> {
+    let told = match check(alloc, text.as_bytes()) {
+        Ok(lines) => format!(in alloc; "{lines} lines")?,
+        Err(Refusal::Fault(fault)) => {
+            format!(in alloc; "fault {} at row {}: {fault}", fault.number(), fault.row())?
+        }
+        Err(refusal) => format!(in alloc; "{refusal}")?,
+    };
+    Ok(told)
+}
+
 const FIRST: &str = "L,A,u1,60\nS,A,1,60\nL,B,u1,40\nS,B,1,40\nT,,0,0\nR,,1,100\n";
 
 const SECOND: &str =
@@ -250,65 +262,100 @@ fn texts_are_merged_payee_by_payee(rt: HostRuntime) -> Result<(), Fail> {
 #[test]
 fn a_text_that_is_no_statement_text_is_refused(rt: HostRuntime) -> Result<(), Fail> {
     let texts = [
-        ("", "text 1: row 1 is missing"),
-        ("T,,0,0\n", "text 1: row 2 is missing"),
-        ("L,A,u1,60\nS,A,1,60\n", "text 1: row 3 is missing"),
-        ("T,,0,0\nR,,0,0", "text 1: row 2 is no row of four fields"),
+        ("", "fault 6 at row 1: row 1 is missing"),
+        ("T,,0,0\n", "fault 6 at row 2: row 2 is missing"),
+        (
+            "L,A,u1,60\nS,A,1,60\n",
+            "fault 6 at row 3: row 3 is missing",
+        ),
+        (
+            "T,,0,0\nR,,0,0",
+            "fault 1 at row 2: row 2 is no row of four fields",
+        ),
         (
             "T,,0,0\r\nR,,0,0\r\n",
-            "text 1: row 1 is no row of four fields",
+            "fault 1 at row 1: row 1 is no row of four fields",
         ),
         (
             "T,,0,0\nR,,0,0\nR,,0,0\n",
-            "text 1: row 3 is of a kind that cannot stand there",
+            "fault 2 at row 3: row 3 is of a kind that cannot stand there",
         ),
         (
             "T,,0,0\nR,,0,0\nR,,0\n",
-            "text 1: row 3 is no row of four fields",
+            "fault 1 at row 3: row 3 is no row of four fields",
         ),
         (
             "L,A,u1,60\nS,A,1,60\n\nT,,0,0\nR,,1,60\n",
-            "text 1: row 3 is no row of four fields",
+            "fault 1 at row 3: row 3 is no row of four fields",
         ),
         (
             "L,A,u1,60\nT,,0,0\nR,,1,60\n",
-            "text 1: row 2 is of a kind that cannot stand there",
+            "fault 2 at row 2: row 2 is of a kind that cannot stand there",
         ),
         (
             "L,B,u1,6\nS,B,1,6\nL,A,u1,6\nS,A,1,6\nT,,0,0\nR,,1,12\n",
-            "text 1: row 3 is not of this payee, or has no reason",
+            "fault 3 at row 3: row 3 is not of this payee, or has no reason",
         ),
         (
             "L,A,u1,6\nS,A,1,6\nL,A,u1,6\nS,A,1,6\nT,,0,0\nR,,1,12\n",
-            "text 1: row 3 is not of this payee, or has no reason",
+            "fault 3 at row 3: row 3 is not of this payee, or has no reason",
         ),
         (
             "L,A,u1,6\nS,A,2,6\nT,,0,0\nR,,1,6\n",
-            "text 1: row 2 has no use, or another count than its rows",
+            "fault 4 at row 2: row 2 has no use, or another count than its rows",
         ),
         (
             "L,A,u1,6\nS,A,1,7\nT,,0,0\nR,,1,7\n",
-            "text 1: row 2 has no amount in range, or another total than its rows",
+            "fault 5 at row 2: row 2 has no amount in range, or another total than its rows",
         ),
         (
             "L,A,u1,6\nS,A,1,6\nT,,0,0\nR,,1,7\n",
-            "text 1: row 4 has no amount in range, or another total than its rows",
+            "fault 5 at row 4: row 4 has no amount in range, or another total than its rows",
         ),
         (
             "M,OPENED,u1,6\nT,,1,6\nR,,1,6\n",
-            "text 1: row 1 is not of this payee, or has no reason",
+            "fault 3 at row 1: row 1 is not of this payee, or has no reason",
         ),
         (
             "M,OPEN,u1,0\nT,,1,0\nR,,1,0\n",
-            "text 1: row 1 has no amount in range, or another total than its rows",
+            "fault 5 at row 1: row 1 has no amount in range, or another total than its rows",
         ),
     ];
     for (text, want) in texts {
+        assert_eq!(rt; told_check(rt.alloc(), text)?.as_str(), want, "at {text}");
+        let told = told_merge(rt.alloc(), &[FIRST, text])?;
+        let (_, why) = want.split_once(": ").unwrap_or(("", ""));
         assert_eq!(rt;
-            told_merge(rt.alloc(), &[FIRST, text])?.as_str(),
-            want,
+            told.as_str().split_once("text 1: "),
+            Some(("", why)),
             "at {text}"
         );
+    }
+    Ok(())
+}
+
+#[test]
+fn a_statement_text_is_read_through(rt: HostRuntime) -> Result<(), Fail> {
+    for (text, want) in [
+        (FIRST, "1 lines"),
+        (SECOND, "2 lines"),
+        ("T,,0,0\nR,,0,0\n", "0 lines"),
+    ] {
+        assert_eq!(rt; told_check(rt.alloc(), text)?.as_str(), want);
+    }
+    Ok(())
+}
+
+#[test]
+fn a_text_that_is_cut_off_is_refused(rt: HostRuntime) -> Result<(), Fail> {
+    for text in [FIRST, SECOND] {
+        for size in 0..text.len() {
+            let part = &text.as_bytes()[..size];
+            assert!(rt;
+                check(rt.alloc(), part).is_err(),
+                "at {size} bytes of {text}"
+            );
+        }
     }
     Ok(())
 }

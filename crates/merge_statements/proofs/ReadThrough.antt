@@ -1,10 +1,9 @@
 -- A text is read through: its rows so far, and what is wrong with the rest.
-use Rattle.std.proofs.Common.{◌≡◌, ◌∙◌, ◌<◌, ◌+◌, ◌++◌, ◌∷◌, ◌||◌, [], ℕ, zero, suc, List, Option, Some, None, Bool, true, false, true≢false, length, get_or, take, ap, sym, refl, subst, append_assoc, arith}
-use Rattle.std.specs.Prelude.{IfSome, drop}
+use Rattle.std.proofs.Common.{◌≡◌, ◌∙◌, ◌<◌, ◌+◌, ◌++◌, ◌∷◌, ◌||◌, [], ℕ, zero, suc, List, Option, Some, None, Result, Ok, Err, Bool, true, false, true≢false, length, get_or, take, ap, sym, refl, subst, append_assoc, arith}
+use Rattle.std.specs.Prelude.{IfErr, IfOk, IfSome, drop, ⊤}
 use Rattle.std.specs.Io.KnownBytes.{Consumes, IsAtEnd}
 use Rattle.std.specs.List.{list_any}
 use Rattle.std.proofs.lemmas.List.{append-nil, length-append}
-use Rattle.std.proofs.lemmas.Bool.{or-right}
 use Rattle.std.proofs.lemmas.Grind.{flat_map-append}
 use Rattle.csv_table.specs.Written.{text_of, text_of_row}
 use Rattle.merge_statements.specs.Buffered.{is_feed}
@@ -22,6 +21,7 @@ use Rattle.merge_statements.specs.declared.refusal.StatementFault.TheVariants.{R
 use Rattle.merge_statements.specs.declared.walk.Place.TheVariants.{Ended}
 use Rattle.merge_statements.specs.declared.walk.Wrong.{Wrong}
 use Rattle.merge_statements.specs.declared.walk.Wrong.TheVariants as wrong
+use Rattle.merge_statements.proofs.FieldLemmas.{or-right}
 use Rattle.merge_statements.proofs.Passing.{consumes_more}
 
 -- ---- line feeds
@@ -41,14 +41,14 @@ feed_in (suc n) (byte ∷ line) rest short = ap (λ b. is_feed byte || b) (feed_
 
 -- the first line feed ends the first line
 pub one_line : (line other rest behind : List ℕ) → list_any is_feed line ≡ false → list_any is_feed other ≡ false → line ++ 10 ∷ rest ≡ other ++ 10 ∷ behind → line ≡ other
-one_line [] [] rest behind none no same = refl
-one_line [] (byte ∷ other) rest behind none no same =
-    absurd (true≢false (subst (λ (b : ℕ). list_any is_feed (b ∷ other) ≡ false) (sym (ap (λ (l : List ℕ). get_or l 0 0) same)) no))
-one_line (byte ∷ line) [] rest behind none no same =
+one_line [] [] rest behind none still same = refl
+one_line [] (byte ∷ other) rest behind none still same =
+    absurd (true≢false (subst (λ (b : ℕ). list_any is_feed (b ∷ other) ≡ false) (sym (ap (λ (l : List ℕ). get_or l 0 0) same)) still))
+one_line (byte ∷ line) [] rest behind none still same =
     absurd (true≢false (subst (λ (b : ℕ). list_any is_feed (b ∷ line) ≡ false) (ap (λ (l : List ℕ). get_or l 0 0) same) none))
-one_line (byte ∷ line) (b ∷ other) rest behind none no same =
+one_line (byte ∷ line) (b ∷ other) rest behind none still same =
     let heads : byte ≡ b = ap (λ (l : List ℕ). get_or l 0 0) same in
-    let tails = one_line line other rest behind (or-right (is_feed byte) _ none) (or-right (is_feed b) _ no) (ap (λ (l : List ℕ). drop 1 l) same) in
+    let tails = one_line line other rest behind (or-right (is_feed byte) _ none) (or-right (is_feed b) _ still) (ap (λ (l : List ℕ). drop 1 l) same) in
     (λ i. heads i ∷ tails i)
 
 -- ---- what is refused
@@ -59,33 +59,41 @@ line_refused at number None Unended is = tt
 line_refused at number (Some text) Unended is =
     (refl, is.0, λ line rest row on four same. true≢false (sym (feed_found line rest) ∙ (ap (list_any is_feed) (sym on.bytes) ∙ is.1)))
 line_refused at number None TooLong is = tt
-line_refused at number (Some text) TooLong is =
-    (refl, omega (arith, is.0), λ line rest row on four same.
-        true≢false (sym (feed_in 32768 line rest on.short) ∙ (ap (λ (t : List ℕ). list_any is_feed (take 32768 t)) (sym on.bytes) ∙ is.1)))
+line_refused at number (Some text) TooLong is = (
+  refl,
+  omega (arith, is.0),
+  λ line rest row on four same.
+      true≢false (sym (feed_in 32768 line rest on.short) ∙ (ap (λ (t : List ℕ). list_any is_feed (take 32768 t)) (sym on.bytes) ∙ is.1)),
+)
 
 pub no_row_refused : (at : At) (number : ℕ) (left new : Option (List ℕ)) (line : List ℕ) → Consumes left new (line ++ 10 ∷ []) → list_any is_feed line ≡ false
     → ((fields : List (List ℕ)) → length fields ≡ 4 → ¬ (text_of_row fields ≡ line ++ 10 ∷ [])) → IsRefusedFrom at number left (refusal.Fault (Row number))
 no_row_refused at number None new line takes one none = tt
 no_row_refused at number (Some text) None line takes one none = absurd takes
-no_row_refused at number (Some text) (Some behind) line takes one none =
-    (refl, omega (arith, ap length takes, length-append (line ++ 10 ∷ []) behind, length-append line (10 ∷ [])), λ begun rest row on four same.
-        none row four (same ∙ ap (λ (l : List ℕ). l ++ 10 ∷ []) (one_line begun line rest behind on.one one (sym on.bytes ∙ (takes ∙ append_assoc line (10 ∷ []) behind)))))
+no_row_refused at number (Some text) (Some behind) line takes one none = (
+  refl,
+  omega (arith, ap length takes, length-append (line ++ 10 ∷ []) behind, length-append line (10 ∷ [])),
+  λ begun rest row on four same.
+      none row four (same ∙ ap (λ (l : List ℕ). l ++ 10 ∷ []) (one_line begun line rest behind on.one one (sym on.bytes ∙ (takes ∙ append_assoc line (10 ∷ []) behind)))),
+)
 
 begun_wrong : (at : At) (number : ℕ) (left new : Option (List ℕ)) (line kind whose third fourth : List ℕ) (field : Wrong) → Consumes left new (line ++ 10 ∷ [])
     → text_of_row (row_of kind whose third fourth) ≡ line ++ 10 ∷ [] → IsWrongAt at kind whose third fourth field
     → IfSome left (λ text. (number ≡ number) × BeginsWithWrong at text field)
 begun_wrong at number None new line kind whose third fourth field takes is wrong_at = tt
 begun_wrong at number (Some text) None line kind whose third fourth field takes is wrong_at = absurd takes
-begun_wrong at number (Some text) (Some behind) line kind whose third fourth field takes is wrong_at =
-    (refl, record {
-      kind = kind;
-      whose = whose;
-      third = third;
-      fourth = fourth;
-      rest = behind;
-      bytes = takes ∙ ap (λ (l : List ℕ). l ++ behind) (sym is);
-      wrong_at = wrong_at;
-    })
+begun_wrong at number (Some text) (Some behind) line kind whose third fourth field takes is wrong_at = (
+  refl,
+  record {
+    kind = kind;
+    whose = whose;
+    third = third;
+    fourth = fourth;
+    rest = behind;
+    bytes = takes ∙ ap (λ (l : List ℕ). l ++ behind) (sym is);
+    wrong_at = wrong_at;
+  },
+)
 
 pub field_refused : (at : At) (number : ℕ) (left new : Option (List ℕ)) (line kind whose third fourth : List ℕ) (field : Wrong) → Consumes left new (line ++ 10 ∷ [])
     → text_of_row (row_of kind whose third fourth) ≡ line ++ 10 ∷ [] → IsWrongAt at kind whose third fourth field
@@ -156,7 +164,7 @@ end_refused (Some text) (Some rest) at number was ends none = record {
   fault_from = (was.counted, ends, none);
 }
 
-nothing_claimed : (start : Option (List ℕ)) → IfSome start (λ text. ⊤)
+pub nothing_claimed : (start : Option (List ℕ)) → IfSome start (λ text. ⊤)
 nothing_claimed None = tt
 nothing_claimed (Some text) = tt
 
@@ -176,3 +184,13 @@ rest_refused start left at number refusal.Memory was from = nothing_claimed star
 rest_refused start left at number refusal.Many was from = nothing_claimed start
 rest_refused start left at number (refusal.Read error) was from = nothing_claimed start
 rest_refused start left at number (refusal.Write error) was from = nothing_claimed start
+
+-- ---- answers
+
+pub ok_so : {X E : Type 0} (result : Result X E) (P Q : X → Type 0) → ((x : X) → P x → Q x) → IfOk result P → IfOk result Q
+ok_so (Ok x) P Q so holds = so x holds
+ok_so (Err e) P Q so holds = tt
+
+pub err_so : {X E : Type 0} (result : Result X E) (P Q : E → Type 0) → ((e : E) → P e → Q e) → IfErr result P → IfErr result Q
+err_so (Ok x) P Q so holds = tt
+err_so (Err e) P Q so holds = so e holds

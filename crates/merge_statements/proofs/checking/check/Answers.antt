@@ -1,0 +1,46 @@
+use Rattle.std.proofs.Common.{◌≡◌, ◌∙◌, ◌++◌, ◌∷◌, [], ℕ, List, Option, ap, subst, sym}
+use Rattle.std.specs.Prelude.{IfSome}
+use Rattle.merge_statements.specs.Places.{At, at_first}
+use Rattle.merge_statements.specs.Refused.{IsRefusedFor, IsStatementText}
+use Rattle.merge_statements.specs.declared.refusal.Refusal.{Refusal}
+use Rattle.merge_statements.specs.declared.refusal.Refusal.TheVariants as refusal
+use Rattle.merge_statements.specs.declared.refusal.StatementFault.TheVariants.{End}
+use Rattle.merge_statements.specs.declared.walk.Place.TheVariants.{Ended}
+use Rattle.merge_statements.proofs.ReadThrough.{IsReadTo, all_read, end_refused, err_so, more_read, none_read, nothing_claimed, ok_so, rest_refused}
+use Rattle.merge_statements.proofs.checking.check.Goals as goal
+
+pub loop-number-init : goal.loop-number-init
+loop-number-init g c =
+    let start = g.R.Read.remaining c.args.from in
+    subst (λ (at : At). IsReadTo start at c.in-Ok.rows.left 1) (sym c.new-progress.ensures)
+    (subst (λ (left : Option (List ℕ)). IsReadTo start at_first left 1) (sym c.in-Ok.ensures.left) (none_read start))
+
+pub returns-in-Ok-false-clause-sound : goal.returns-in-Ok-false-clause-sound
+returns-in-Ok-false-clause-sound g c =
+    let start = g.R.Read.remaining c.args.from in
+    let l = c.loop-number in
+    let end = c.in-Ok-false.ensures.end c.in-Ok-false.field-0-test in
+    ok_so c.end.result (λ (lines : ℕ). c.pass_next.new.progress.place ≡ Ended lines) (λ (lines : ℕ). IfSome start (λ text. IsStatementText text lines))
+    (λ lines ended. all_read start l.rows.left l.progress l.number lines l.invariant end.0 (ap (λ (at : At). at.place) (sym end.1) ∙ ended)) c.end.ensures.sound
+
+pub returns-in-Ok-false-clause-refused : goal.returns-in-Ok-false-clause-refused
+returns-in-Ok-false-clause-refused g c =
+    let start = g.R.Read.remaining c.args.from in
+    let l = c.loop-number in
+    let end = c.in-Ok-false.ensures.end c.in-Ok-false.field-0-test in
+    err_so c.end.result (λ (why : Refusal). (why ≡ refusal.Fault (End l.number)) × ((lines : ℕ) → ¬ (c.pass_next.new.progress.place ≡ Ended lines)))
+    (λ (why : Refusal). IfSome start (λ text. IsRefusedFor text why))
+    (λ why is. subst (λ (w : Refusal). IfSome start (λ text. IsRefusedFor text w)) (sym is.0)
+    (end_refused start l.rows.left l.progress l.number l.invariant end.0 (λ lines ended. is.1 lines (ap (λ (at : At). at.place) end.1 ∙ ended))))
+    c.end.ensures.refused
+
+pub returns-in-Err-clause-refused : goal.returns-in-Err-clause-refused
+returns-in-Err-clause-refused g c =
+    let l = c.loop-number in
+    rest_refused (g.R.Read.remaining c.args.from) l.rows.left l.progress l.number c.in-Err.refusal l.invariant c.in-Err.ensures.refused
+
+pub loop-number-preserved : goal.loop-number-preserved
+loop-number-preserved g c =
+    let l = c.loop-number in
+    more_read (g.R.Read.remaining c.args.from) l.progress c.pass_next.new.progress l.rows.left c.pass_next.new.rows.left l.number (c.pass_next.new.rows.line ++ 10 ∷ []) l.invariant
+    (c.in-Ok-true.ensures.row c.in-Ok-true.field-0-test) (c.in-Ok-true.ensures.passed c.in-Ok-true.field-0-test)
