@@ -9,6 +9,7 @@ pub mod CheckLemmas
 pub mod ExplainLemmas
 pub mod MergeLemmas
 pub mod RunWalked
+pub mod CommandNames
 pub mod EndLemmas
 pub mod OverLemmas
 pub mod FileLemmas

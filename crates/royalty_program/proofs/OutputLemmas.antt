@@ -1,6 +1,9 @@
 -- Where a text went: to standard output, or into the file that the words name.
 use Rattle.std.proofs.Common.{◌≡◌, ◌≢◌, ◌∙◌, ◌⊎◌, ℕ, List, Option, None, Some, codes, drop, inl, inr, subst, sym}
 use Rattle.std.specs.Io.KnownBytes.{Appends, Keeps}
+use Rattle.std.specs.Option.{IfNone, IfSome, option_map}
+use Rattle.std.specs.Prelude.{String, string_bytes}
+use Rattle.std.specs.declared.alloc.Global.{Global}
 use Rattle.clap.specs.Words.{kind_of}
 use Rattle.clap.specs.declared.error.Error.{Error}
 use Rattle.clap.specs.declared.error.kind.ErrorKind.TheVariants as kinds
@@ -10,8 +13,9 @@ use Rattle.royalty_program.specs.Asked.{AskForHelp, AskForMerge, AskForRun, IsMe
 use Rattle.royalty_program.specs.MergeCommand.{merge_app}
 use Rattle.royalty_program.specs.RunCommand.{run_app}
 use Rattle.royalty_program.specs.Status.{IsOfMerge}
-use Rattle.royalty_program.specs.Targets.{IsPut}
+use Rattle.royalty_program.specs.Targets.{IsLeftOrHas, IsPut}
 use Rattle.royalty_program.specs.declared.failure.Failure.TheVariants.{Words}
+use Rattle.royalty_program.proofs.CommandNames.{run_not_merge, check_not_run, check_not_merge, merge_not_run}
 use Rattle.royalty_program.proofs.EndLemmas.{sent_on}
 use Rattle.royalty_program.proofs.OptionLemmas.{accepted_is_memory, no_help_given}
 
@@ -66,13 +70,13 @@ module _ (keeps : List ℕ → Option (List ℕ) → Type 0) (words : List (List
   pub delivered_run : (output : Option (List ℕ)) (old new : Option (List ℕ)) (text : List ℕ) → word_at words 1 ≡ codes "run" → output ≡ path_if_given run_app (codes "output") (drop 1 words)
       → IsPut output keeps old new text → IsDelivered keeps words old new text
   delivered_run None old new text command is put = delivered_out old new text
-      (λ path asks. elim asks [ inl (run, named) ↦ cc | inr (merge, named) ↦ let bad : codes "run" ≡ codes "merge" = sym command ∙ merge.command in cc ])
+      (λ path asks. elim asks [ inl (run, named) ↦ cc | inr (merge, named) ↦ absurd (run_not_merge (sym command ∙ merge.command)) ])
       put
   delivered_run (Some output) old new text command is put = record {
     either = inr (output, inl (command, sym is), put.0, put.1);
     kept = λ path asks. elim asks [
       | inl (run, named) ↦ let same : output ≡ path = cc in (subst (λ (p : List ℕ). keeps p (Some text)) same put.0, put.1)
-      | inr (merge, named) ↦ let bad : codes "run" ≡ codes "merge" = sym command ∙ merge.command in cc
+      | inr (merge, named) ↦ absurd (run_not_merge (sym command ∙ merge.command))
     ];
   }
 
@@ -80,12 +84,12 @@ module _ (keeps : List ℕ → Option (List ℕ) → Type 0) (words : List (List
   pub delivered_merge : (output : Option (List ℕ)) (old new : Option (List ℕ)) (text : List ℕ) → word_at words 1 ≡ codes "merge" → output ≡ path_if_given merge_app (codes "output") (drop 1 words)
       → IsPut output keeps old new text → IsDelivered keeps words old new text
   delivered_merge None old new text command is put = delivered_out old new text
-      (λ path asks. elim asks [ inl (run, named) ↦ let bad : codes "merge" ≡ codes "run" = sym command ∙ run.command in cc | inr (merge, named) ↦ cc ])
+      (λ path asks. elim asks [ inl (run, named) ↦ absurd (merge_not_run (sym command ∙ run.command)) | inr (merge, named) ↦ cc ])
       put
   delivered_merge (Some output) old new text command is put = record {
     either = inr (output, inr (command, sym is), put.0, put.1);
     kept = λ path asks. elim asks [
-      | inl (run, named) ↦ let bad : codes "merge" ≡ codes "run" = sym command ∙ run.command in cc
+      | inl (run, named) ↦ absurd (merge_not_run (sym command ∙ run.command))
       | inr (merge, named) ↦ let same : output ≡ path = cc in (subst (λ (p : List ℕ). keeps p (Some text)) same put.0, put.1)
     ];
   }
@@ -96,7 +100,47 @@ module _ (keeps : List ℕ → Option (List ℕ) → Type 0) (words : List (List
   printed_check old new Answers command (text, went, answers) = elim went.either [
     | inl added ↦ (text, added, answers)
     | inr (path, named, has, same) ↦ elim named [
-      | inl (run, is) ↦ let bad : codes "check" ≡ codes "run" = sym command ∙ run in cc
-      | inr (merge, is) ↦ let bad : codes "check" ≡ codes "merge" = sym command ∙ merge in cc
+      | inl (run, is) ↦ absurd (check_not_run (sym command ∙ run))
+      | inr (merge, is) ↦ absurd (check_not_merge (sym command ∙ merge))
     ]
   ]
+
+-- what the path of an option has is what the path of its value has
+left_named : (old new : List ℕ → Option (List ℕ) → Type 0) (output : Option (String Global)) (named : Option (List ℕ)) (path : List ℕ) (P Q : List ℕ → Type 0) → option_map string_bytes output ≡ named → named ≡ Some path
+    → ((text : List ℕ) → P text → Q text) → IfSome output (λ value. IsLeftOrHas (old (string_bytes value)) (new (string_bytes value)) P) → IsLeftOrHas (old path) (new path) Q
+left_named old new None named path P Q is there weaker left = let bad : None ≡ Some path = is ∙ there in cc
+left_named old new (Some value) named path P Q is there weaker left =
+    let both : Some (string_bytes value) ≡ Some path = is ∙ there in
+    let same : string_bytes value ≡ path = cc both in
+    subst (λ (p : List ℕ). IsLeftOrHas (old p) (new p) Q) same (elim left [
+      | inl as_before ↦ inl as_before
+      | inr (text, has, is_text) ↦ inr (text, has, weaker text is_text)
+    ])
+
+module _ (old new : List ℕ → Option (List ℕ) → Type 0) (words : List (List ℕ)) (output : Option (String Global)) (P Q : List ℕ → Type 0) where
+  -- the path that a run names has what it had, or the whole text
+  pub left_run : word_at words 1 ≡ codes "run" → option_map string_bytes output ≡ path_if_given run_app (codes "output") (drop 1 words) → ((text : List ℕ) → P text → Q text)
+      → IfSome output (λ value. IsLeftOrHas (old (string_bytes value)) (new (string_bytes value)) P) → (path : List ℕ) → NameOutput words path → IsLeftOrHas (old path) (new path) Q
+  left_run command is weaker left path named = elim named [
+    | inl (run, there) ↦ left_named old new output (path_if_given run_app (codes "output") (drop 1 words)) path P Q is there weaker left
+    | inr (merge, there) ↦ absurd (run_not_merge (sym command ∙ merge))
+  ]
+
+  -- and so has that of a merge
+  pub left_merge : word_at words 1 ≡ codes "merge" → option_map string_bytes output ≡ path_if_given merge_app (codes "output") (drop 1 words) → ((text : List ℕ) → P text → Q text)
+      → IfSome output (λ value. IsLeftOrHas (old (string_bytes value)) (new (string_bytes value)) P) → (path : List ℕ) → NameOutput words path → IsLeftOrHas (old path) (new path) Q
+  left_merge command is weaker left path named = elim named [
+    | inl (run, there) ↦ absurd (merge_not_run (sym command ∙ run))
+    | inr (merge, there) ↦ left_named old new output (path_if_given merge_app (codes "output") (drop 1 words)) path P Q is there weaker left
+  ]
+
+-- where a run names no path, nothing is kept
+pub unused_run : (words : List (List ℕ)) (output : Option (String Global)) (Same : Type 0) → word_at words 1 ≡ codes "run" → option_map string_bytes output ≡ path_if_given run_app (codes "output") (drop 1 words)
+    → IfNone output Same → ((path : List ℕ) → ¬ NameOutput words path) → Same
+unused_run words None Same command is same none = same
+unused_run words (Some value) Same command is same none = absurd (none (string_bytes value) (inl (command, sym is)))
+
+pub unused_merge : (words : List (List ℕ)) (output : Option (String Global)) (Same : Type 0) → word_at words 1 ≡ codes "merge" → option_map string_bytes output ≡ path_if_given merge_app (codes "output") (drop 1 words)
+    → IfNone output Same → ((path : List ℕ) → ¬ NameOutput words path) → Same
+unused_merge words None Same command is same none = same
+unused_merge words (Some value) Same command is same none = absurd (none (string_bytes value) (inr (command, sym is)))

@@ -21,7 +21,8 @@ use Rattle.royalty_program.specs.declared.check_command.CheckWords.{CheckWords}
 use Rattle.royalty_program.specs.declared.explain_command.ExplainWords.{ExplainWords}
 use Rattle.royalty_program.specs.declared.merge_command.MergeWords.{MergeWords}
 use Rattle.royalty_program.specs.declared.run_command.RunWords.{RunWords}
-use Rattle.royalty_program.proofs.OutputLemmas.{delivered_merge, delivered_out, delivered_run, no_merge_help_given, no_output, unmerged_words}
+use Rattle.royalty_program.proofs.CommandNames.{split_not_run, split_not_explain, split_not_check, split_not_merge, run_not_split, run_not_explain, run_not_check, run_not_merge, explain_not_split, explain_not_run, explain_not_check, explain_not_merge, check_not_split, check_not_run, check_not_explain, check_not_merge, merge_not_split, merge_not_run, merge_not_explain, merge_not_check}
+use Rattle.royalty_program.proofs.OutputLemmas.{delivered_merge, delivered_out, delivered_run, left_merge, left_run, no_merge_help_given, no_output, unmerged_words, unused_merge, unused_run}
 use Rattle.royalty_program.proofs.OverLemmas.{explained_given, merged_given, over_given, over_in_order, reported_given}
 use Rattle.royalty_program.proofs.OptionLemmas.{accepted_is_memory, no_help_given}
 use Rattle.royalty_program.proofs.RunWalked.{no_help}
@@ -59,11 +60,11 @@ no_other words text no_run no_explanation no_check no_merge division = record {
 answers_run : (holds gives : List ℕ → List ℕ → Type 0) (words : List (List ℕ)) (asked : RunWords) (text : List ℕ) → word_at words 1 ≡ codes "run" → AreReadFrom (drop 1 words) asked
     → AreStatementsOver holds (string_bytes asked.tis) (option_map string_bytes asked.payees) (string_bytes asked.cwr) (string_bytes asked.usage) text → IsAnswered holds gives words true text
 answers_run holds gives words asked text command read over = record {
-  division = λ division. let bad : codes "run" ≡ codes "split" = sym command ∙ division.command in cc;
+  division = λ division. absurd (run_not_split (sym command ∙ division.command));
   run = λ run. over_given holds (drop 1 words) asked text read over;
-  explained = λ explain. let bad : codes "run" ≡ codes "explain" = sym command ∙ explain.command in cc;
-  checked = λ check. let bad : codes "run" ≡ codes "check" = sym command ∙ check.command in cc;
-  merged = λ merge. let bad : codes "run" ≡ codes "merge" = sym command ∙ merge.command in cc;
+  explained = λ explain. absurd (run_not_explain (sym command ∙ explain.command));
+  checked = λ check. absurd (run_not_check (sym command ∙ check.command));
+  merged = λ merge. absurd (run_not_merge (sym command ∙ merge.command));
   others = λ other. refl;
   in_order = λ run. over_in_order holds (drop 1 words) asked text run.options read over;
 }
@@ -72,39 +73,39 @@ answers_run holds gives words asked text command read over = record {
 answers_merge : (holds gives : List ℕ → List ℕ → Type 0) (words : List (List ℕ)) (asked : MergeWords) (text : List ℕ) → word_at words 1 ≡ codes "merge" → AreMergeFrom (drop 1 words) asked
     → IsMergeOver gives (map string_bytes asked.statements.items) text → IsAnswered holds gives words true text
 answers_merge holds gives words asked text command read over = record {
-  division = λ division. let bad : codes "merge" ≡ codes "split" = sym command ∙ division.command in cc;
-  run = λ run. let bad : codes "merge" ≡ codes "run" = sym command ∙ run.command in cc;
-  explained = λ explain. let bad : codes "merge" ≡ codes "explain" = sym command ∙ explain.command in cc;
-  checked = λ check. let bad : codes "merge" ≡ codes "check" = sym command ∙ check.command in cc;
+  division = λ division. absurd (merge_not_split (sym command ∙ division.command));
+  run = λ run. absurd (merge_not_run (sym command ∙ run.command));
+  explained = λ explain. absurd (merge_not_explain (sym command ∙ explain.command));
+  checked = λ check. absurd (merge_not_check (sym command ∙ check.command));
   merged = λ merge. merged_given gives (drop 1 words) asked text read over;
   others = λ other. refl;
-  in_order = λ run. let bad : codes "merge" ≡ codes "run" = sym command ∙ run.command in cc;
+  in_order = λ run. absurd (merge_not_run (sym command ∙ run.command));
 }
 
 -- and those that ask for an explanation by it
 answers_explanation : (holds gives : List ℕ → List ℕ → Type 0) (words : List (List ℕ)) (asked : ExplainWords) (text : List ℕ) → word_at words 1 ≡ codes "explain" → AreExplainedFrom (drop 1 words) asked
     → IsExplanationOver holds (string_bytes asked.tis) (option_map string_bytes asked.payees) (string_bytes asked.cwr) (string_bytes asked.usage) asked.row text → IsAnswered holds gives words true text
 answers_explanation holds gives words asked text command read over = record {
-  division = λ division. let bad : codes "explain" ≡ codes "split" = sym command ∙ division.command in cc;
-  run = λ run. let bad : codes "explain" ≡ codes "run" = sym command ∙ run.command in cc;
+  division = λ division. absurd (explain_not_split (sym command ∙ division.command));
+  run = λ run. absurd (explain_not_run (sym command ∙ run.command));
   explained = λ explain. explained_given holds (drop 1 words) asked text read over;
-  checked = λ check. let bad : codes "explain" ≡ codes "check" = sym command ∙ check.command in cc;
-  merged = λ merge. let bad : codes "explain" ≡ codes "merge" = sym command ∙ merge.command in cc;
+  checked = λ check. absurd (explain_not_check (sym command ∙ check.command));
+  merged = λ merge. absurd (explain_not_merge (sym command ∙ merge.command));
   others = λ other. refl;
-  in_order = λ run. let bad : codes "explain" ≡ codes "run" = sym command ∙ run.command in cc;
+  in_order = λ run. absurd (explain_not_run (sym command ∙ run.command));
 }
 
 -- and those that ask for a check by its report
 answers_check : (holds gives : List ℕ → List ℕ → Type 0) (words : List (List ℕ)) (asked : CheckWords) (sound : Bool) (text : List ℕ) → word_at words 1 ≡ codes "check" → AreCheckedFrom (drop 1 words) asked
     → IsReportOver holds (string_bytes asked.tis) (option_map string_bytes asked.payees) (string_bytes asked.cwr) (string_bytes asked.usage) sound text → IsAnswered holds gives words sound text
 answers_check holds gives words asked sound text command read over = record {
-  division = λ division. let bad : codes "check" ≡ codes "split" = sym command ∙ division.command in cc;
-  run = λ run. let bad : codes "check" ≡ codes "run" = sym command ∙ run.command in cc;
-  explained = λ explain. let bad : codes "check" ≡ codes "explain" = sym command ∙ explain.command in cc;
+  division = λ division. absurd (check_not_split (sym command ∙ division.command));
+  run = λ run. absurd (check_not_run (sym command ∙ run.command));
+  explained = λ explain. absurd (check_not_explain (sym command ∙ explain.command));
   checked = λ check. reported_given holds (drop 1 words) asked sound text read over;
-  merged = λ merge. let bad : codes "check" ≡ codes "merge" = sym command ∙ merge.command in cc;
+  merged = λ merge. absurd (check_not_merge (sym command ∙ merge.command));
   others = λ other. absurd (other command);
-  in_order = λ run. let bad : codes "check" ≡ codes "run" = sym command ∙ run.command in cc;
+  in_order = λ run. absurd (check_not_run (sym command ∙ run.command));
 }
 
 -- two words that differ are not both the command
@@ -116,11 +117,11 @@ returns-in-Ok-clause-answered g c =
     let words = map string_bytes c.args.words.now in
     let text = c.as_slice-in-Ok.result.now in
     let command : word_at words 1 ≡ codes "split" = rw (c.in-Ok-Division.is, c.in-Ok-Division.field-0-is) at c.read_words.ensures.named in
-    let no_run : ¬ (word_at words 1 ≡ codes "run") = other_command words (codes "split") (codes "run") command (λ bad. cc) in
-    let no_merge : ¬ (word_at words 1 ≡ codes "merge") = other_command words (codes "split") (codes "merge") command (λ bad. cc) in
+    let no_run : ¬ (word_at words 1 ≡ codes "run") = other_command words (codes "split") (codes "run") command split_not_run in
+    let no_merge : ¬ (word_at words 1 ≡ codes "merge") = other_command words (codes "split") (codes "merge") command split_not_merge in
     let rows : IsDivision words → IsAnswerTo words text = search rules in
     let answered : IsAnswered (g.S.Source.holds c.args.files.now) (g.S.Source.gives c.args.files.now) words true text =
-    no_other words text no_run (other_command words (codes "split") (codes "explain") command (λ bad. cc)) (other_command words (codes "split") (codes "check") command (λ bad. cc)) no_merge rows in
+    no_other words text no_run (other_command words (codes "split") (codes "explain") command split_not_explain) (other_command words (codes "split") (codes "check") command split_not_check) no_merge rows in
     on_ok_weaker c.write_all.result (λ wrote. (text, delivered_out _ words _ _ text (no_output (g.T.Target.keeps c.args.target.now) words no_run no_merge) wrote, answered)) c.write_all.ensures.bytes
 
 pub returns-in-Ok-Run-clause-answered : goal.returns-in-Ok-Run-clause-answered
@@ -196,8 +197,8 @@ returns-in-Err-2-clause-checked g c command accepted =
 pub returns-in-Err-2-clause-merge : goal.returns-in-Err-2-clause-merge
 returns-in-Err-2-clause-merge g c command =
     let words = map string_bytes c.args.words.now in
-    let not_memory : kind_of c.in-Err-2.error ≢ kinds.OutOfMemory = search rules in
-    unmerged_words (g.S.Source.gives c.args.files.now) (drop 1 words) c.in-Err-2.error not_memory (c.in-Err-2.ensures.unmerged command)
+    let not_memory : kind_of c.in-Err.error ≢ kinds.OutOfMemory = search rules in
+    unmerged_words (g.S.Source.gives c.args.files.now) (drop 1 words) c.in-Err.error not_memory (c.in-Err.ensures.unmerged command)
 
 pub returns-in-Ok-Run-clause-pairs : goal.returns-in-Ok-Run-clause-pairs
 returns-in-Ok-Run-clause-pairs g c division =
@@ -213,7 +214,7 @@ returns-in-Ok-Explanation-clause-answered g c =
     let text = c.in_ok-text-in-Ok-Explanation.text.items in
     let command : word_at words 1 ≡ codes "explain" = rw (c.in-Ok-Explanation.is, c.in-Ok-Explanation.field-0-is) at c.read_words.ensures.named in
     let read : AreExplainedFrom (drop 1 words) asked = rw (c.in-Ok-Explanation.is, c.in-Ok-Explanation.field-0-is) at (c.read_words.ensures.explanation command) in
-    let no_file = no_output (g.T.Target.keeps c.args.target.now) words (other_command words (codes "explain") (codes "run") command (λ bad. cc)) (other_command words (codes "explain") (codes "merge") command (λ bad. cc)) in
+    let no_file = no_output (g.T.Target.keeps c.args.target.now) words (other_command words (codes "explain") (codes "run") command explain_not_run) (other_command words (codes "explain") (codes "merge") command explain_not_merge) in
     let answered : IsAnswered holds gives words true text = answers_explanation holds gives words asked text command read c.in_ok-text-in-Ok-Explanation.ensures.explanation in
     on_ok_weaker c.write_all-in-Ok-Explanation.result (λ wrote. (text, delivered_out (g.T.Target.keeps c.args.target.now) words _ _ text no_file wrote, answered)) (rw c.as_slice-in-Ok-Explanation.ensures.value at c.write_all-in-Ok-Explanation.ensures.bytes)
 
@@ -226,6 +227,70 @@ returns-in-Ok-Check-clause-answered g c =
     let checked = c.in_ok-checked-in-Ok-Check.checked in
     let command : word_at words 1 ≡ codes "check" = rw (c.in-Ok-Check.is, c.in-Ok-Check.field-0-is) at c.read_words.ensures.named in
     let read : AreCheckedFrom (drop 1 words) asked = rw (c.in-Ok-Check.is, c.in-Ok-Check.field-0-is) at (c.read_words.ensures.checked command) in
-    let no_file = no_output (g.T.Target.keeps c.args.target.now) words (other_command words (codes "check") (codes "run") command (λ bad. cc)) (other_command words (codes "check") (codes "merge") command (λ bad. cc)) in
+    let no_file = no_output (g.T.Target.keeps c.args.target.now) words (other_command words (codes "check") (codes "run") command check_not_run) (other_command words (codes "check") (codes "merge") command check_not_merge) in
     let answered : IsAnswered holds gives words checked.is_sound checked.text.items = answers_check holds gives words asked checked.is_sound checked.text.items command read c.in_ok-checked-in-Ok-Check.ensures.report in
     on_ok_weaker c.write_all-in-Ok-Check.result (λ wrote. (checked.text.items, delivered_out (g.T.Target.keeps c.args.target.now) words _ _ checked.text.items no_file wrote, answered)) (rw c.as_slice-in-Ok-Check.ensures.value at c.write_all-in-Ok-Check.ensures.bytes)
+
+pub returns-in_err-settle_out-in-Ok-Run-clause-left : goal.returns-in_err-settle_out-in-Ok-Run-clause-left
+returns-in_err-settle_out-in-Ok-Run-clause-left g c path named =
+    let words = map string_bytes c.args.words.now in
+    let asked = c.in-Ok-Run.asked in
+    let command : word_at words 1 ≡ codes "run" = rw (c.in-Ok-Run.is, c.in-Ok-Run.field-0-is) at c.read_words.ensures.named in
+    let read : AreReadFrom (drop 1 words) asked = rw (c.in-Ok-Run.is, c.in-Ok-Run.field-0-is) at (c.read_words.ensures.run command) in
+    left_run (g.T.Target.keeps c.args.target.now) (g.T.Target.keeps c.settle_out.new.target) words asked.output _ _ command read.output
+    (λ text over. answers_run (g.S.Source.holds c.args.files.now) (g.S.Source.gives c.args.files.now) words asked text command read over) c.settle_out.ensures.left path named
+
+pub returns-in-Ok-Run-clause-left : goal.returns-in-Ok-Run-clause-left
+returns-in-Ok-Run-clause-left g c path named =
+    let words = map string_bytes c.args.words.now in
+    let asked = c.in-Ok-Run.asked in
+    let command : word_at words 1 ≡ codes "run" = rw (c.in-Ok-Run.is, c.in-Ok-Run.field-0-is) at c.read_words.ensures.named in
+    let read : AreReadFrom (drop 1 words) asked = rw (c.in-Ok-Run.is, c.in-Ok-Run.field-0-is) at (c.read_words.ensures.run command) in
+    left_run (g.T.Target.keeps c.args.target.now) (g.T.Target.keeps c.settle_out.new.target) words asked.output _ _ command read.output
+    (λ text over. answers_run (g.S.Source.holds c.args.files.now) (g.S.Source.gives c.args.files.now) words asked text command read over) c.settle_out.ensures.left path named
+
+pub returns-in_err-merge_out-in-Ok-Merge-clause-left : goal.returns-in_err-merge_out-in-Ok-Merge-clause-left
+returns-in_err-merge_out-in-Ok-Merge-clause-left g c path named =
+    let words = map string_bytes c.args.words.now in
+    let asked = c.in-Ok-Merge.asked in
+    let command : word_at words 1 ≡ codes "merge" = rw (c.in-Ok-Merge.is, c.in-Ok-Merge.field-0-is) at c.read_words.ensures.named in
+    let read : AreMergeFrom (drop 1 words) asked = rw (c.in-Ok-Merge.is, c.in-Ok-Merge.field-0-is) at (c.read_words.ensures.merged command) in
+    left_merge (g.T.Target.keeps c.args.target.now) (g.T.Target.keeps c.merge_out.new.target) words asked.output _ _ command read.output
+    (λ text over. answers_merge (g.S.Source.holds c.args.files.now) (g.S.Source.gives c.args.files.now) words asked text command read over) c.merge_out.ensures.left path named
+
+pub returns-in-Ok-Merge-clause-left : goal.returns-in-Ok-Merge-clause-left
+returns-in-Ok-Merge-clause-left g c path named =
+    let words = map string_bytes c.args.words.now in
+    let asked = c.in-Ok-Merge.asked in
+    let command : word_at words 1 ≡ codes "merge" = rw (c.in-Ok-Merge.is, c.in-Ok-Merge.field-0-is) at c.read_words.ensures.named in
+    let read : AreMergeFrom (drop 1 words) asked = rw (c.in-Ok-Merge.is, c.in-Ok-Merge.field-0-is) at (c.read_words.ensures.merged command) in
+    left_merge (g.T.Target.keeps c.args.target.now) (g.T.Target.keeps c.merge_out.new.target) words asked.output _ _ command read.output
+    (λ text over. answers_merge (g.S.Source.holds c.args.files.now) (g.S.Source.gives c.args.files.now) words asked text command read over) c.merge_out.ensures.left path named
+
+pub returns-in_err-settle_out-in-Ok-Run-clause-unused : goal.returns-in_err-settle_out-in-Ok-Run-clause-unused
+returns-in_err-settle_out-in-Ok-Run-clause-unused g c none =
+    let words = map string_bytes c.args.words.now in
+    let command : word_at words 1 ≡ codes "run" = rw (c.in-Ok-Run.is, c.in-Ok-Run.field-0-is) at c.read_words.ensures.named in
+    let read : AreReadFrom (drop 1 words) c.in-Ok-Run.asked = rw (c.in-Ok-Run.is, c.in-Ok-Run.field-0-is) at (c.read_words.ensures.run command) in
+    unused_run words c.in-Ok-Run.asked.output _ command read.output c.settle_out.ensures.unused none
+
+pub returns-in-Ok-Run-clause-unused : goal.returns-in-Ok-Run-clause-unused
+returns-in-Ok-Run-clause-unused g c none =
+    let words = map string_bytes c.args.words.now in
+    let command : word_at words 1 ≡ codes "run" = rw (c.in-Ok-Run.is, c.in-Ok-Run.field-0-is) at c.read_words.ensures.named in
+    let read : AreReadFrom (drop 1 words) c.in-Ok-Run.asked = rw (c.in-Ok-Run.is, c.in-Ok-Run.field-0-is) at (c.read_words.ensures.run command) in
+    unused_run words c.in-Ok-Run.asked.output _ command read.output c.settle_out.ensures.unused none
+
+pub returns-in_err-merge_out-in-Ok-Merge-clause-unused : goal.returns-in_err-merge_out-in-Ok-Merge-clause-unused
+returns-in_err-merge_out-in-Ok-Merge-clause-unused g c none =
+    let words = map string_bytes c.args.words.now in
+    let command : word_at words 1 ≡ codes "merge" = rw (c.in-Ok-Merge.is, c.in-Ok-Merge.field-0-is) at c.read_words.ensures.named in
+    let read : AreMergeFrom (drop 1 words) c.in-Ok-Merge.asked = rw (c.in-Ok-Merge.is, c.in-Ok-Merge.field-0-is) at (c.read_words.ensures.merged command) in
+    unused_merge words c.in-Ok-Merge.asked.output _ command read.output c.merge_out.ensures.unused none
+
+pub returns-in-Ok-Merge-clause-unused : goal.returns-in-Ok-Merge-clause-unused
+returns-in-Ok-Merge-clause-unused g c none =
+    let words = map string_bytes c.args.words.now in
+    let command : word_at words 1 ≡ codes "merge" = rw (c.in-Ok-Merge.is, c.in-Ok-Merge.field-0-is) at c.read_words.ensures.named in
+    let read : AreMergeFrom (drop 1 words) c.in-Ok-Merge.asked = rw (c.in-Ok-Merge.is, c.in-Ok-Merge.field-0-is) at (c.read_words.ensures.merged command) in
+    unused_merge words c.in-Ok-Merge.asked.output _ command read.output c.merge_out.ensures.unused none
