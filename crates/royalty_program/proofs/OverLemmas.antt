@@ -57,6 +57,7 @@ fails_given holds refuses words asked read failure is = as_run failure is
         (subst (λ (c : List ℕ). IsOfPaths holds refuses (path_given run_app (codes "tis") words) (path_if_given run_app (codes "payees") words) c (string_bytes asked.usage) failure) read.cwr
         (subst (λ (p : Option (List ℕ)). IsOfPaths holds refuses (path_given run_app (codes "tis") words) p (string_bytes asked.cwr) (string_bytes asked.usage) failure) read.payees
         (subst (λ (t : List ℕ). IsOfPaths holds refuses t (option_map string_bytes asked.payees) (string_bytes asked.cwr) (string_bytes asked.usage) failure) read.tis is)))
+
     as_run : (failure : Failure) → IsOfOutput asked.output (IsOfPaths holds refuses (string_bytes asked.tis) (option_map string_bytes asked.payees) (string_bytes asked.cwr) (string_bytes asked.usage)) failure
         → IsOfRun holds refuses words failure
     as_run (Words error) none = absurd none
@@ -79,6 +80,7 @@ unmerged_given gives words asked read failure is = as_merge failure is
   where
     given : (failure : Failure) → IsOfTexts gives (map string_bytes asked.statements.items) failure → IsOfTexts gives (paths_given merge_app (codes "statements") words) failure
     given failure is = subst (λ (paths : List (List ℕ)). IsOfTexts gives paths failure) read.statements is
+
     as_merge : (failure : Failure) → IsOfOutput asked.output (IsOfTexts gives (map string_bytes asked.statements.items)) failure → IsOfMerge gives words failure
     as_merge (Words error) none = absurd none
     as_merge NotText none = none

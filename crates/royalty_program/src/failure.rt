@@ -108,7 +108,10 @@ fn write_statement_fault<W: fmt::Write>(
 ) -> fmt::Result
     ensures { WritesOnOk W.write_str_gives f.old result (codes "royalty_run: statement fault " ++ decimal number ++ codes " at row " ++ decimal row ++ codes " of " ++ path.now ++ codes "\n") f.new }
 {
-    write!(f, "royalty_run: statement fault {number} at row {row} of {path}\n")
+    write!(
+        f,
+        "royalty_run: statement fault {number} at row {row} of {path}\n"
+    )
 }
 
 impl From<PairFault> for Failure {
