@@ -8,7 +8,7 @@ help:
 	@echo 'make compare  run the program and a plain Rust one on made-up inputs, good and bad, and compare'
 	@echo 'make fuzz     the same on 100000 damaged inputs; some ten minutes on four cores'
 	@echo 'make sizes    run both at each limit and one beyond it, print times and peak memory; a minute, 2 GB of memory'
-	@echo 'make refuse   run the program with each allocation, thread, read and write refused in turn, and each call as make test does; a minute once both are built'
+	@echo 'make refuse   run the program with each allocation, thread, read, write and file refused in turn, kill it as it writes a file, and refuse each call as make test does; two minutes once both are built'
 	@echo 'make bench    run both on a million usage lines, print times and peak memory; and a mailbox alone and pools'
 	@echo 'make explore  go through every state of a small mailbox and of a small pool, with the model in Python, and find each wrong one out; a minute'
 	@echo 'make months   run small months in parts, with stand-ins for Slurm; kill parts, change files, and compare with the plain program; a minute'
@@ -59,6 +59,7 @@ sizes:
 
 refuse:
 	tests/refuse.sh $(PROGRAM)
+	tests/kill.sh $(PROGRAM)
 	cd crates/refusal_runs && rt run < stdin > /dev/null
 	tests/refuse_calls.sh crates/refusal_runs/out/refusal_runs
 

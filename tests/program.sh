@@ -1,5 +1,5 @@
 #!/usr/bin/env bash
-# The program as it is started by a shell: its statuses, its two streams, and what a test in the language cannot
+# The program as it is started by a shell: its statuses, its two streams, the files that it writes, and what a test in the language cannot
 # make: a pipe over the limit, an argument that is not UTF-8, and a machine with little memory.
 #
 #   tests/program.sh PROGRAM
@@ -112,6 +112,81 @@ printf 'code\n' >'territories.csv '
 check 'a path that ends in a blank' 1 '' 'royalty_run: tis fault 1 at row 0\n' "$program" run --tis 'territories.csv ' --cwr works.cwr --usage usage.csv "${plan[@]}"
 check 'a standard error that is full' 1 '' '' bash -c '"$0" "$@" 2>/dev/full' "$program" run --tis usage.csv --cwr works.cwr --usage usage.csv "${plan[@]}"
 check 'an output that is full' 4 '' 'royalty_run: cannot write\n' bash -c '"$0" split 3 A=5000 >/dev/full' "$program"
+
+# An output file is whole under its name, or it is as it was and nothing is left beside it.
+# is_alone DIRECTORY NAME..: a directory has files of these names and no others
+is_alone() { local directory=$1; shift; [ "$(ls -A "$directory")" = "$(printf '%s\n' "$@" | sort)" ]; }
+# holds NAME FILE TEXT..: a file has the bytes of another
+holds() {
+    cmp -s "$2" "$3" || { echo "program.sh: $1: $2 is not $3"; failed=$((failed + 1)); }
+}
+# lies NAME DIRECTORY NAME..: a directory has these files alone
+lies() {
+    local name=$1
+    shift
+    is_alone "$@" || { echo "program.sh: $name: $1 has $(ls -A "$1" | tr '\n' ' ')"; failed=$((failed + 1)); }
+}
+mkdir kept
+check 'a run into a file' 0 '' '' "$program" run "${files[@]}" "${plan[@]}" --output kept/all.csv
+holds 'a run into a file' kept/all.csv "$examples/statements.csv"
+printf 'before\n' >kept/all.csv
+chmod 640 kept/all.csv
+check 'a run that is refused' 1 '' 'royalty_run: tis fault 1 at row 0\n' "$program" run --output=kept/all.csv --tis usage.csv --cwr works.cwr --usage usage.csv "${plan[@]}"
+check 'a run over a file that is not there' 4 '' 'royalty_run: cannot read absent\n' "$program" run --tis absent --cwr works.cwr --usage usage.csv "${plan[@]}" --output kept/all.csv
+holds 'a run that is refused' kept/all.csv <(printf 'before\n')
+lies 'a run that is refused' kept all.csv
+printf 'mine\n' >kept/all.csv.new
+check 'a run in place of a file' 0 '' '' "$program" run --output kept/all.csv "${files[@]}" "${plan[@]}"
+holds 'a run in place of a file' kept/all.csv "$examples/statements.csv"
+holds 'a file of another name' kept/all.csv.new <(printf 'mine\n')
+lies 'a run in place of a file' kept all.csv all.csv.new
+[ "$(stat -c %a kept/all.csv)" = 640 ] || { echo 'program.sh: a replaced file has other permissions'; failed=$((failed + 1)); }
+rm kept/all.csv.new
+check 'an output in no directory' 4 '' 'royalty_run: cannot write absent/all.csv\n' "$program" run "${files[@]}" "${plan[@]}" --output absent/all.csv
+check 'an output that is a directory' 4 '' 'royalty_run: cannot write kept\n' "$program" run "${files[@]}" "${plan[@]}" --output kept
+ln -s all.csv kept/link.csv
+check 'an output that is a link' 4 '' 'royalty_run: cannot write kept/link.csv\n' "$program" run "${files[@]}" "${plan[@]}" --output kept/link.csv
+check 'an output that is a device' 4 '' 'royalty_run: cannot write /dev/null\n' "$program" run "${files[@]}" "${plan[@]}" --output /dev/null
+check 'two outputs' 2 '' '*' "$program" run "${files[@]}" "${plan[@]}" --output kept/one.csv --output kept/two.csv
+lies 'outputs that are refused' kept all.csv link.csv
+check 'help with an output' 0 '*' '' "$program" run --output kept/help.csv --help
+lies 'help with an output' kept all.csv link.csv
+check 'a full standard output that is not asked' 0 '' '' bash -c '"$0" "$@" >/dev/full' "$program" run "${files[@]}" "${plan[@]}" --output kept/all.csv
+holds 'a full standard output that is not asked' kept/all.csv "$examples/statements.csv"
+
+# The statements of a list's parts merge to those of the list.
+{ head -n 1 usage.csv; sed -n '2,5p' usage.csv; } >first.csv
+{ head -n 1 usage.csv; sed -n '6,$p' usage.csv; } >second.csv
+mkdir parts
+for part in first second; do
+    check "statements of the $part part" 0 '' '' "$program" run --tis territories.csv --cwr works.cwr --usage "$part.csv" "${plan[@]}" --output "parts/$part"
+done
+statements=$(sed 's/\\/\\\\/g' "$examples/statements.csv")
+check 'a merge' 0 "$statements\n" '' "$program" merge parts/first parts/second
+check 'a merge of one' 0 "$statements\n" '' "$program" merge kept/all.csv
+check 'a merge into a file' 0 '' '' "$program" merge --output parts/all parts/first parts/second
+holds 'a merge into a file' parts/all "$examples/statements.csv"
+check 'a merge into one of its files' 0 '' '' "$program" merge --output parts/second parts/first parts/second
+holds 'a merge into one of its files' parts/second "$examples/statements.csv"
+# Lines without any residue or payee merge too: the text of a list that has none changes nothing but the number of texts.
+head -n 1 usage.csv >empty.csv
+check 'statements of no lines' 0 'T,,0,0\nR,,0,0\n' '' "$program" run --tis territories.csv --cwr works.cwr --usage empty.csv "${plan[@]}"
+printf 'T,,0,0\nR,,0,0\n' >parts/none
+check 'a merge of merged statements' 0 "$statements\n" '' "$program" merge parts/none parts/all
+sed '3s/,[^,]*$/,1/' parts/all >parts/damaged
+check 'a damaged text' 1 '' '*' "$program" merge parts/first parts/damaged
+grep -q '^royalty_run: statement fault [1-6] at row [0-9]* of parts/damaged$' err || { echo 'program.sh: a damaged text has no such message'; failed=$((failed + 1)); }
+check 'a text that is cut off' 1 '' "royalty_run: statement fault 6 at row 2 of parts/cut\n" bash -c 'head -n 1 parts/first >parts/cut; "$0" merge parts/cut' "$program"
+printf 'before\n' >parts/kept
+check 'a damaged text into a file' 1 '' '*' "$program" merge --output parts/kept parts/first parts/damaged
+holds 'a damaged text into a file' parts/kept <(printf 'before\n')
+lies 'a damaged text into a file' parts all cut damaged first kept none second
+check 'a path that comes twice' 2 '' '*' "$program" merge parts/first parts/first
+check 'a text that is not there' 4 '' 'royalty_run: cannot read absent\n' "$program" merge parts/first absent
+check 'merged statements to an output that is full' 4 '' 'royalty_run: cannot write\n' bash -c '"$0" merge parts/first >/dev/full' "$program"
+# Each text may be right, and all of them too much.
+printf 'T,,0,0\nR,,600000000000000000,0\n' | tee parts/many1 >parts/many2
+check 'too many usage lines' 1 '' 'royalty_run: the statements are of more than 1000000000000000000 usage lines\n' "$program" merge parts/many1 parts/many2
 
 # Each command that the page of rules shows prints what stands below it there. They are run in turn.
 mkdir bin shown

@@ -3,18 +3,22 @@
 //   REFUSE_FROM=N     all allocations from this number on
 //   REFUSE_THREAD=N   the thread with this number
 //   REFUSE_IO=N       the read or write with this number: an error of the device
+//   REFUSE_FILE=N     the file that is opened, given permissions, brought to the disk or renamed with this number: the same
 //   INTERRUPT_IO=N    each read or write whose number is a multiple of this: it has to be made again
 //   SHORT_IO=N        nothing, but a read or a write takes so many bytes at most
 #define _GNU_SOURCE
 #include <dlfcn.h>
 #include <errno.h>
+#include <fcntl.h>
 #include <pthread.h>
+#include <stdarg.h>
 #include <stdatomic.h>
 #include <stdlib.h>
+#include <sys/stat.h>
 #include <sys/types.h>
 
-static atomic_long allocations, threads, transfers;
-static long refused, refused_from, refused_thread, refused_io, interrupted_io, short_io;
+static atomic_long allocations, threads, transfers, files;
+static long refused, refused_from, refused_thread, refused_io, refused_file, interrupted_io, short_io;
 
 static long number_in(const char *name) {
     const char *number = getenv(name);
@@ -26,6 +30,7 @@ __attribute__((constructor)) static void begin(void) {
     refused_from = number_in("REFUSE_FROM");
     refused_thread = number_in("REFUSE_THREAD");
     refused_io = number_in("REFUSE_IO");
+    refused_file = number_in("REFUSE_FILE");
     interrupted_io = number_in("INTERRUPT_IO");
     short_io = number_in("SHORT_IO");
 }
@@ -94,3 +99,37 @@ ssize_t write(int file, const void *bytes, size_t count) {
 }
 
 ssize_t __write(int file, const void *bytes, size_t count) { return write(file, bytes, count); }
+
+static int is_file_refused(void) {
+    if (atomic_fetch_add(&files, 1) + 1 != refused_file) return 0;
+    errno = EIO;
+    return 1;
+}
+
+int open(const char *path, int flags, ...) {
+    static int (*next)(const char *, int, ...);
+    va_list rest;
+    va_start(rest, flags);
+    mode_t mode = flags & O_CREAT ? va_arg(rest, mode_t) : 0;
+    va_end(rest);
+    if (!next) next = dlsym(RTLD_NEXT, "open");
+    return is_file_refused() ? -1 : next(path, flags, mode);
+}
+
+int fchmod(int file, mode_t mode) {
+    static int (*next)(int, mode_t);
+    if (!next) next = dlsym(RTLD_NEXT, "fchmod");
+    return is_file_refused() ? -1 : next(file, mode);
+}
+
+int fsync(int file) {
+    static int (*next)(int);
+    if (!next) next = dlsym(RTLD_NEXT, "fsync");
+    return is_file_refused() ? -1 : next(file);
+}
+
+int rename(const char *from, const char *to) {
+    static int (*next)(const char *, const char *);
+    if (!next) next = dlsym(RTLD_NEXT, "rename");
+    return is_file_refused() ? -1 : next(from, to);
+}

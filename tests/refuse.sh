@@ -1,8 +1,10 @@
 #!/usr/bin/env bash
-# Runs a program with what it asks of the system refused: each allocation, each thread, and each read and write in turn; and with reads and
-# writes that are cut short or interrupted. It divides one amount, checks the examples, explains a line of them, and runs on them with several plans and on
+# Runs a program with what it asks of the system refused: each allocation, each thread, each read and write, and each file that is opened, given permissions, brought to
+# the disk or renamed, in turn; and with reads and writes that are cut short or interrupted. It divides one amount, checks the examples, explains a line of them, runs on
+# them with several plans, with an output file too, merges statements, to standard output and into a file, and runs on
 # 2,000 usage lines, whose rows are written by four threads. Each run has to end within a minute: with the whole answer; where memory or a thread was refused, with status 3 and nothing
-# printed; where a read or a write was, with status 4, what the output took, and a message that says which. It takes a C compiler, and half a
+# printed, but that a merge may have begun; where a read, a write or a file was, with status 4, what the output took, and a message that says which. An output file is then as it was, or
+# at the very end whole, and no new file is left beside it. It takes a C compiler, and half a
 # minute; `quick`, all but the other plans and the many lines, some seconds. Usage: tests/refuse.sh PROGRAM [quick]
 set -euo pipefail
 program=$(realpath "$1")
@@ -16,8 +18,9 @@ trap 'rm -rf "$room"' EXIT
 # A run is over where this many numbers in a row are past its last allocation; how many there are depends on the threads.
 past=40
 
-# The words of the runs that follow, what they are called, and the file that has their whole answer.
-words=() name='' whole=''
+# The words of the runs that follow, what they are called, the file that has their whole answer, and the file that they write, if they do. A merge may have begun to print where memory or
+# a read is refused.
+words=() name='' whole='' kept='' may_begin=''
 
 fail() {
     echo "refuse.sh: $name, $1: status $status: $(cat "$room/err")"
@@ -27,22 +30,46 @@ fail() {
 # answer VARIABLE=NUMBER..: runs the words with this in the environment
 answer() {
     status=0
+    if [[ -n $kept ]]; then
+        rm -f "$kept".new*
+        echo before > "$kept"
+    fi
     env "$@" LD_PRELOAD="$room/refuse.so" timeout 60 "$program" "${words[@]}" > "$room/out" 2> "$room/err" || status=$?
 }
 
+# whether no new file is left beside the one that is written
+is_alone() {
+    [[ -z $kept || ! -e $kept.new ]]
+}
+
+is_as_before() {
+    is_alone && [[ -z $kept || $(< "$kept") == before ]]
+}
+
 is_whole() {
-    [[ $status == 0 && ! -s $room/err ]] && cmp -s "$room/out" "$whole"
+    [[ $status == 0 && ! -s $room/err ]] && is_alone || return 1
+    if [[ -n $kept ]]; then
+        [[ ! -s $room/out ]] && cmp -s "$kept" "$whole"
+    else
+        cmp -s "$room/out" "$whole"
+    fi
+}
+
+# whether what was printed is where the answer begins
+is_beginning() {
+    [[ -z $kept || ! -s $room/out ]] && cmp -s -n "$(stat -c %s "$room/out")" "$room/out" "$whole"
 }
 
 is_out_of_room() {
-    [[ $status == 3 && ! -s $room/out && $(< "$room/err") == 'royalty_run: out of room' ]]
+    [[ $status == 3 && $(< "$room/err") == 'royalty_run: out of room' ]] && is_beginning && is_as_before && [[ -n $may_begin || ! -s $room/out ]]
 }
 
 is_cut_off() {
-    cmp -s -n "$(stat -c %s "$room/out")" "$room/out" "$whole" || return 1
+    is_beginning || return 1
     case $status:$(< "$room/err") in
-        '4:royalty_run: cannot write') ;;
-        '4:royalty_run: cannot read '*) [[ ! -s $room/out ]] ;;
+        '4:royalty_run: cannot write') [[ -z $kept ]] ;;
+        "4:royalty_run: cannot write $kept") is_as_before || { is_alone && cmp -s "$kept" "$whole"; } ;;
+        '4:royalty_run: cannot read '*) is_as_before && [[ -n $may_begin || ! -s $room/out ]] ;;
         *) return 1 ;;
     esac
 }
@@ -67,13 +94,17 @@ sweep() {
 
 # sweep_all: all of it over the words, whose run starts so many threads that it cannot do without
 sweep_all() {
-    local threads=$1 allocations transfers
+    local threads=$1 allocations transfers files=0
     answer REFUSE=0
     is_whole || fail 'nothing refused'
     sweep REFUSE is_out_of_room
     allocations=$refusals
     sweep REFUSE_IO is_cut_off
     transfers=$refusals
+    if [[ ${words[0]} != split ]]; then
+        sweep REFUSE_FILE is_cut_off
+        files=$refusals
+    fi
     if ((threads > 0)); then
         sweep REFUSE_THREAD is_out_of_room
         ((refusals == threads)) || fail "$refusals threads refused, not $threads"
@@ -83,7 +114,7 @@ sweep_all() {
         answer $few
         is_whole || fail "$few"
     done
-    echo "$name: $allocations allocations, $threads threads, $transfers reads and writes refused in turn"
+    echo "$name: $allocations allocations, $threads threads, $transfers reads and writes, $files files refused in turn"
 }
 
 # set_run USAGE WORKERS READERS NODES
@@ -111,6 +142,20 @@ for plan in "${plans[@]}"; do
     set_run "$examples/usage.csv" "$workers" "$readers" "$nodes"
     sweep_all "$((workers + readers))"
 done
+
+# The same into a file that is there, and statements merged.
+kept=$room/kept
+set_run "$examples/usage.csv" 2 1 16
+words+=(--output "$kept") name="$name, into a file"
+sweep_all 3
+cp "$whole" "$room/all"
+printf 'T,,0,0\nR,,0,0\n' > "$room/none"
+words=(merge --output "$kept" "$room/all" "$room/none") name='a merge into a file'
+sweep_all 0
+kept='' may_begin=1
+words=(merge "$room/none" "$room/all") name='a merge'
+sweep_all 0
+may_begin=''
 
 [[ ${2-} != quick ]] || exit 0
 

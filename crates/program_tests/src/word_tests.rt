@@ -95,6 +95,9 @@ r run --tis a --cwr b --usage c --workers 1 --readers 1 --nodes 65 ['65'] -> 2 e
 r run --tis a --cwr b --usage c --workers 1 --readers 1 --nods 6 ['--nods'] -> 2 err
 r explain --tis a --cwr b --usage c --row 0 ['0'] -> 2 err
 r explain --tis a --cwr b --usage c --workers 1 ['--workers'] -> 2 err
+r merge --output o [<STATEMENTS>...] -> 2 err
+r merge a b --output o c [<STATEMENTS>...] -> 2 err
+r merge a b c b a [the file 'b' is named twice] -> 2 err
 ",
     )
 }
@@ -137,6 +140,12 @@ r run --help [usage,work,territory,right,amount: a name] -> 0 out
 r run --help [CWR 2.2] -> 0 out
 r run --help [Records of other types are skipped] -> 0 out
 r run --help [A row M,WORK is a usage line] -> 0 out
+r run --help [--output <F>   A file for the statements, in place of standard output|] -> 0 out
+r help merge [Usage: royalty_run merge [OPTIONS] <STATEMENTS>...|] -> 0 out
+r merge --help [--output <F>  A file for the merged statements, in place of standard output|] -> 0 out
+r merge --help [in their order, at most 1024 of them|] -> 0 out
+r merge --help [Each file is read twice] -> 0 out
+r merge --help [merge --output year.csv january.csv february.csv march.csv] -> 0 out
 r run --help [table of faults in docs/FORMATS.md] -> 0 out
 r run --help [P (performing), M (mechanical) or S (synchronisation)] -> 0 out
 r run --help [with a - before them where money is taken back] -> 0 out
@@ -267,6 +276,34 @@ fn divides_among_the_most_parties(rt: HostRuntime) -> Result<(), Fail> {
     assert_eq!(rt;
         answer_to_many(&rt, alloc, 257)?.as_str(),
         "2 [] [royalty_run: pair fault 4|]"
+    );
+    Ok(())
+}
+
+/// The words of a merge of so many files.
+fn words_of_files(alloc: Global, files: u32) -> Result<Vec<String>, Fail> {
+    let mut words = words(alloc, "r merge", ' ')?;
+    for n in 1..=files {
+        words.push(format!(in alloc; "{n}")?)?;
+    }
+    Ok(words)
+}
+
+/// The answer to them.
+fn answer_to_files<R: Files + Threads + Wait + Sync>(
+    rt: &R,
+    alloc: Global,
+    files: u32,
+) -> Result<String, Fail> {
+    let words = words_of_files(alloc, files)?;
+    Answer::to(rt, alloc, words.as_slice()).told(alloc)
+}
+
+#[test]
+fn refuses_too_many_files(rt: HostRuntime) -> Result<(), Fail> {
+    assert_eq!(rt;
+        answer_to_files(&rt, rt.alloc(), 1025)?.as_str(),
+        "2 [] [error: at most 1024 files of statements are merged at once||Usage: royalty_run merge [OPTIONS] <STATEMENTS>...||For more information, try '--help'.|]"
     );
     Ok(())
 }

@@ -7,7 +7,11 @@ pub mod OptionLemmas
 pub mod RunLemmas
 pub mod CheckLemmas
 pub mod ExplainLemmas
+pub mod MergeLemmas
 pub mod RunWalked
+pub mod CommandNames
 pub mod EndLemmas
 pub mod OverLemmas
 pub mod FileLemmas
+pub mod MergeFileLemmas
+pub mod OutputLemmas

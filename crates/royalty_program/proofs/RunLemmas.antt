@@ -1,6 +1,6 @@
 -- What a parse of the words of a run gives.
 use Rattle.std.proofs.Common.{◌≡◌, ◌∙◌, ap, ℕ, List, [], ◌∷◌, Option, Some, None, true, refl, arith, codes, is_some}
-use Rattle.std.specs.Option.{unwrap_or}
+use Rattle.std.specs.Option.{option_map, unwrap_or}
 use Rattle.clap.specs.Words.{AddsArg, IsParsedFrom, Row, Text, first_of, first_value, found_of, matches_of, new_app, one_of, rows_of, rule_of}
 use Rattle.clap.specs.declared.builder.arg.Arg.{Arg}
 use Rattle.clap.specs.declared.builder.command.Command.{Command}
@@ -17,25 +17,26 @@ use Rattle.royalty_program.proofs.OptionLemmas.{HasArgs, HasOptions, IsNumberOf,
 use Rattle.royalty_program.proofs.RunWalked.{rows_6, run_matches}
 use Rattle.royalty_program.proofs.SplitLemmas.{required_same}
 
--- a new command with the seven options is the command of a run
-pub adds_seven : (c0 c1 c2 c3 c4 c5 c6 c7 : Command) (tis payees cwr usage workers readers nodes : Arg) → HasArgs c0 [] (new_app (codes "run"))
-    → AddsArg c0 tis c1 → AddsArg c1 payees c2 → AddsArg c2 cwr c3 → AddsArg c3 usage c4 → AddsArg c4 workers c5 → AddsArg c5 readers c6 → AddsArg c6 nodes c7
+-- a new command with the eight options is the command of a run
+pub adds_eight : (c0 c1 c2 c3 c4 c5 c6 c7 c8 : Command) (tis payees cwr usage workers readers nodes output : Arg) → HasArgs c0 [] (new_app (codes "run"))
+    → AddsArg c0 tis c1 → AddsArg c1 payees c2 → AddsArg c2 cwr c3 → AddsArg c3 usage c4 → AddsArg c4 workers c5 → AddsArg c5 readers c6 → AddsArg c6 nodes c7 → AddsArg c7 output c8
     → IsRequiredArg (codes "tis") tis → IsOptionalArg (codes "payees") payees → IsRequiredArg (codes "cwr") cwr → IsRequiredArg (codes "usage") usage
-    → IsRequiredArg (codes "workers") workers → IsRequiredArg (codes "readers") readers → IsRequiredArg (codes "nodes") nodes
+    → IsRequiredArg (codes "workers") workers → IsRequiredArg (codes "readers") readers → IsRequiredArg (codes "nodes") nodes → IsOptionalArg (codes "output") output
     → rule_of tis ≡ file_rule (codes "tis") → rule_of payees ≡ optional_rule (codes "payees") → rule_of cwr ≡ file_rule (codes "cwr") → rule_of usage ≡ file_rule (codes "usage")
     → rule_of workers ≡ number_rule (codes "workers") MOST_THREADS → rule_of readers ≡ number_rule (codes "readers") MOST_THREADS
-    → rule_of nodes ≡ number_rule (codes "nodes") MOST_NODES
+    → rule_of nodes ≡ number_rule (codes "nodes") MOST_NODES → rule_of output ≡ optional_rule (codes "output")
     → workers.value_parser ≡ Some (vp.Unsigned 1 MOST_THREADS) → readers.value_parser ≡ Some (vp.Unsigned 1 MOST_THREADS)
     → nodes.value_parser ≡ Some (vp.Unsigned 1 MOST_NODES)
-    → IsRunCommand c7
-adds_seven c0 c1 c2 c3 c4 c5 c6 c7 tis payees cwr usage workers readers nodes has a1 a a2 a3 a4 a5 a6 n1 np n2 n3 n4 n5 n6 r1 rp r2 r3 r4 r5 r6 p4 p5 p6 =
+    → IsRunCommand c8
+adds_eight c0 c1 c2 c3 c4 c5 c6 c7 c8 tis payees cwr usage workers readers nodes output has a1 a a2 a3 a4 a5 a6 a7 n1 np n2 n3 n4 n5 n6 n7 r1 rp r2 r3 r4 r5 r6 r7 p4 p5 p6 =
     let h1 = has_more c0 c1 tis _ _ _ _ has a1 (as_optional _ tis n1) r1 in
     let hp = has_more c1 c2 payees _ _ _ _ h1 a np rp in
     let h2 = has_more c2 c3 cwr _ _ _ _ hp a2 (as_optional _ cwr n2) r2 in
     let h3 = has_more c3 c4 usage _ _ _ _ h2 a3 (as_optional _ usage n3) r3 in
     let h4 = has_more c4 c5 workers _ _ _ _ h3 a4 (as_optional _ workers n4) r4 in
     let h5 = has_more c5 c6 readers _ _ _ _ h4 a5 (as_optional _ readers n5) r5 in
-    let h6 = has_more c6 c7 nodes _ _ _ _ h5 a6 (as_optional _ nodes n6) r6 in record {
+    let h6 = has_more c6 c7 nodes _ _ _ _ h5 a6 (as_optional _ nodes n6) r6 in
+    let ho = has_more c7 c8 output _ _ _ _ h6 a7 n7 r7 in record {
       tis = a1.arg;
       payees = a.arg;
       cwr = a2.arg;
@@ -43,7 +44,8 @@ adds_seven c0 c1 c2 c3 c4 c5 c6 c7 tis payees cwr usage workers readers nodes ha
       workers = a4.arg;
       readers = a5.arg;
       nodes = a6.arg;
-      args = h6.list;
+      output = a7.arg;
+      args = ho.list;
       needs_tis = required_same _ tis a1.arg a1.rules n1;
       may_have_payees = optional_same _ payees a.arg a.rules np;
       needs_cwr = required_same _ cwr a2.arg a2.rules n2;
@@ -51,22 +53,23 @@ adds_seven c0 c1 c2 c3 c4 c5 c6 c7 tis payees cwr usage workers readers nodes ha
       needs_workers = required_same _ workers a4.arg a4.rules n4;
       needs_readers = required_same _ readers a5.arg a5.rules n5;
       needs_nodes = required_same _ nodes a6.arg a6.rules n6;
+      may_have_output = optional_same _ output a7.arg a7.rules n7;
       few_workers = a4.rules.parser _ p4;
       few_readers = a5.rules.parser _ p5;
       few_nodes = a6.rules.parser _ p6;
-      plain = h6.plain;
-      globals = h6.globals;
-      negates = h6.negates;
-      shape = h6.shape;
+      plain = ho.plain;
+      globals = ho.globals;
+      negates = ho.negates;
+      shape = ho.shape;
     }
 
 -- the names of its options
 abbrev pub run_names : List Text
-run_names = codes "tis" ∷ codes "payees" ∷ codes "cwr" ∷ codes "usage" ∷ codes "workers" ∷ codes "readers" ∷ codes "nodes" ∷ []
+run_names = codes "tis" ∷ codes "payees" ∷ codes "cwr" ∷ codes "usage" ∷ codes "workers" ∷ codes "readers" ∷ codes "nodes" ∷ codes "output" ∷ []
 
 pub run_options : (c : Command) → IsRunCommand c → HasOptions c run_names run_app
 run_options c s = record {
-  ids = rw (s.args, s.needs_tis.id, s.may_have_payees.id, s.needs_cwr.id, s.needs_usage.id, s.needs_workers.id, s.needs_readers.id, s.needs_nodes.id) refl;
+  ids = rw (s.args, s.needs_tis.id, s.may_have_payees.id, s.needs_cwr.id, s.needs_usage.id, s.needs_workers.id, s.needs_readers.id, s.needs_nodes.id, s.may_have_output.id) refl;
   are = refl;
   plain = s.plain;
   globals = s.globals;
@@ -154,6 +157,10 @@ one_nodes : (tis : Text) (payees : Option Text) (cwr usage workers readers nodes
 one_nodes tis None cwr usage workers readers nodes = refl
 one_nodes tis (Some payees) cwr usage workers readers nodes = refl
 
+first_output : (tis : Text) (payees : Option Text) (cwr usage workers readers nodes : Text) → first_of (codes "output") (rows_6 tis payees cwr usage workers readers nodes) ≡ None
+first_output tis None cwr usage workers readers nodes = refl
+first_output tis (Some payees) cwr usage workers readers nodes = refl
+
 pub tis_in_order : (words : List Text) (r : AreRunWords words) → path_given run_app (codes "tis") words ≡ r.tis
 tis_in_order words r = path_in_order words r (codes "tis") r.tis (first_tis r.tis r.payees r.cwr r.usage r.workers r.readers r.nodes)
 
@@ -167,6 +174,15 @@ cwr_in_order words r = path_in_order words r (codes "cwr") r.cwr (first_cwr r.ti
 pub usage_in_order : (words : List Text) (r : AreRunWords words) → path_given run_app (codes "usage") words ≡ r.usage
 usage_in_order words r = path_in_order words r (codes "usage") r.usage (first_usage r.tis r.payees r.cwr r.usage r.workers r.readers r.nodes)
 
+-- no output is named
+output_in_order : (words : List Text) (r : AreRunWords words) → path_if_given run_app (codes "output") words ≡ None
+unfolding path_if_given
+output_in_order words r = ap (first_of (codes "output")) (run_matches words r) ∙ first_output r.tis r.payees r.cwr r.usage r.workers r.readers r.nodes
+
+none_shown : {X Y : Type 0} (f : X → Y) (o : Option X) → option_map f o ≡ None → o ≡ None
+none_shown f None is = refl
+none_shown f (Some x) is = cc
+
 -- so what is read of the plain form are its values
 pub read_in_order : (words : List Text) (asked : RunWords) (r : AreRunWords words) → AreReadFrom words asked → AreReadInOrder words r asked
 read_in_order words asked r read = record {
@@ -178,4 +194,5 @@ read_in_order words asked r read = record {
       (number_in_order words r (codes "workers") r.workers (one_workers r.tis r.payees r.cwr r.usage r.workers r.readers r.nodes))
       (number_in_order words r (codes "readers") r.readers (one_readers r.tis r.payees r.cwr r.usage r.workers r.readers r.nodes))
       (number_in_order words r (codes "nodes") r.nodes (one_nodes r.tis r.payees r.cwr r.usage r.workers r.readers r.nodes));
+  output = none_shown _ asked.output (read.output ∙ output_in_order words r);
 }

@@ -112,7 +112,7 @@ amount_read c m r s p reads =
     (read.0, read.2)
 
 -- an answer that shows the same as some value is some answer
-some_of_map : {X Y Z : Type 0} (f : X → Z) (g : Y → Z) (r : Option X) (o : Option Y)
+pub some_of_map : {X Y Z : Type 0} (f : X → Z) (g : Y → Z) (r : Option X) (o : Option Y)
     → option_map f r ≡ option_map g o → is_some o ≡ true → IsSome r
 some_of_map f g (Some x) o same given = refl
 some_of_map f g None (Some y) same given = cc

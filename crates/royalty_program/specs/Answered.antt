@@ -1,19 +1,23 @@
 -- What is read of a command line, and what answers it.
-use Rattle.std.specs.Prelude.{ℕ, ◌≡◌, ◌≤◌, Bool, true, List, codes, drop, map, string_bytes, ⊤}
+use Rattle.std.specs.Prelude.{ℕ, ◌≡◌, ◌<◌, ◌≤◌, ◌⊎◌, Bool, true, List, None, Option, Some, codes, drop, length, map, string_bytes, ⊤}
 use Rattle.std.specs.Option.{option_map}
+use Rattle.std.specs.Io.KnownBytes.{Appends, Keeps}
 use Rattle.line_split.specs.declared.TheConstants.{MOST_AMOUNT}
 use Rattle.royalty_program.specs.RunCommand.{run_app}
-use Rattle.royalty_program.specs.Asked.{AreRunWords, AskForCheck, AskForExplanation, AskForRun, IsDivision, IsRun, amount_of, number_given, number_in, pairs_of, path_given, path_if_given}
+use Rattle.royalty_program.specs.Asked.{AreRunWords, AreAccepted, AskForCheck, AskForExplanation, AskForMerge, AskForRun, IsDivision, IsRun, amount_of, number_given, number_in, pairs_of, path_given, path_if_given, paths_given}
 use Rattle.pair_split.specs.PairFault.{AreSound}
 use Rattle.pair_split.specs.Pair.{word_at}
 use Rattle.pair_split.specs.Rows.{split_text}
 use Rattle.royalty_program.specs.CheckCommand.{check_app}
 use Rattle.royalty_program.specs.ExplainCommand.{explain_app}
+use Rattle.royalty_program.specs.MergeCommand.{AreFewAndDifferent, merge_app}
+use Rattle.royalty_program.specs.MergeFiles.{IsMergeOver}
 use Rattle.royalty_program.specs.Files.{AreStatementsOver, IsExplanationOver, IsReportOver}
 use Rattle.royalty_program.specs.declared.check_command.CheckWords.{CheckWords}
 use Rattle.royalty_program.specs.declared.commands.Asked.{Asked}
-use Rattle.royalty_program.specs.declared.commands.Asked.TheVariants.{Check, Division, Explanation, Run}
+use Rattle.royalty_program.specs.declared.commands.Asked.TheVariants.{Check, Division, Explanation, Merge, Run}
 use Rattle.royalty_program.specs.declared.explain_command.ExplainWords.{ExplainWords}
+use Rattle.royalty_program.specs.declared.merge_command.MergeWords.{MergeWords}
 use Rattle.royalty_program.specs.declared.run_command.RunWords.{RunWords}
 
 -- the command is the one that the word names
@@ -22,6 +26,7 @@ IsNamedBy word (Division asked) = word ≡ codes "split"
 IsNamedBy word (Run asked) = word ≡ codes "run"
 IsNamedBy word (Explanation asked) = word ≡ codes "explain"
 IsNamedBy word (Check asked) = word ≡ codes "check"
+IsNamedBy word (Merge asked) = word ≡ codes "merge"
 
 -- an amount that is divided is in range
 abbrev pub IsInRange : Asked → Type 0
@@ -29,6 +34,7 @@ IsInRange (Division asked) = asked.amount ≤ MOST_AMOUNT
 IsInRange (Run asked) = ⊤
 IsInRange (Explanation asked) = ⊤
 IsInRange (Check asked) = ⊤
+IsInRange (Merge asked) = ⊤
 
 -- the amount and the pairs are those of the words
 abbrev pub IsDivisionOf : List (List ℕ) → Asked → Type 0
@@ -36,6 +42,7 @@ IsDivisionOf words (Division asked) = (asked.amount ≡ amount_of words) × (map
 IsDivisionOf words (Run asked) = ⊥
 IsDivisionOf words (Explanation asked) = ⊥
 IsDivisionOf words (Check asked) = ⊥
+IsDivisionOf words (Merge asked) = ⊥
 
 -- the paths and the numbers are those that the options of a run are given
 pub record AreReadFrom (words : List (List ℕ)) (asked : RunWords) : Type 0 where
@@ -48,8 +55,9 @@ pub record AreReadFrom (words : List (List ℕ)) (asked : RunWords) : Type 0 whe
     readers = number_given run_app (codes "readers") words;
     nodes = number_given run_app (codes "nodes") words;
   }
+  pub output : option_map string_bytes asked.output ≡ path_if_given run_app (codes "output") words
 
--- and in the plain form they are the values after the options
+-- and in the plain form they are the values after the options, with no path of an output
 pub record AreReadInOrder (words : List (List ℕ)) (run : AreRunWords words) (asked : RunWords) : Type 0 where
   pub tis : string_bytes asked.tis ≡ run.tis
   pub payees : option_map string_bytes asked.payees ≡ run.payees
@@ -60,18 +68,21 @@ pub record AreReadInOrder (words : List (List ℕ)) (run : AreRunWords words) (a
     readers = number_in run.readers;
     nodes = number_in run.nodes;
   }
+  pub output : asked.output ≡ None
 
 abbrev pub IsRunOf : List (List ℕ) → Asked → Type 0
 IsRunOf words (Division asked) = ⊥
 IsRunOf words (Run asked) = AreReadFrom (drop 1 words) asked
 IsRunOf words (Explanation asked) = ⊥
 IsRunOf words (Check asked) = ⊥
+IsRunOf words (Merge asked) = ⊥
 
 abbrev pub IsRunInOrder : (words : List (List ℕ)) → AreRunWords (drop 1 words) → Asked → Type 0
 IsRunInOrder words run (Division asked) = ⊥
 IsRunInOrder words run (Run asked) = AreReadInOrder (drop 1 words) run asked
 IsRunInOrder words run (Explanation asked) = ⊥
 IsRunInOrder words run (Check asked) = ⊥
+IsRunInOrder words run (Merge asked) = ⊥
 
 -- the paths and the row are those that the options of an explanation are given
 pub record AreExplainedFrom (words : List (List ℕ)) (asked : ExplainWords) : Type 0 where
@@ -96,14 +107,26 @@ abbrev pub IsCheckAsked : List (List ℕ) → Asked → Type 0
 IsCheckAsked words (Check asked) = AreCheckedFrom (drop 1 words) asked
 IsCheckAsked words _ = ⊥
 
+-- The paths are those that a merge is given, all of them in their order: they are one or more, no more than are merged at once, and each stands once.
+pub record AreMergeFrom (words : List (List ℕ)) (asked : MergeWords) : Type 0 where
+  pub accepted : AreAccepted merge_app words
+  pub output : option_map string_bytes asked.output ≡ path_if_given merge_app (codes "output") words
+  pub statements : map string_bytes asked.statements.items ≡ paths_given merge_app (codes "statements") words
+  pub some : 0 < length asked.statements.items
+  pub different : AreFewAndDifferent (map string_bytes asked.statements.items)
+
+abbrev pub IsMergeAsked : List (List ℕ) → Asked → Type 0
+IsMergeAsked words (Merge asked) = AreMergeFrom (drop 1 words) asked
+IsMergeAsked words _ = ⊥
+
 -- the text answers the division that the words ask for, and nothing is wrong with them
 pub record IsAnswerTo (words : List (List ℕ)) (text : List ℕ) : Type 0 where
   pub in_range : amount_of words ≤ MOST_AMOUNT
   pub sound : AreSound (pairs_of words)
   pub rows : text ≡ split_text (amount_of words) (pairs_of words)
 
--- The text answers the words, where a file of a path holds these bytes: those of a division with its rows, those of a run with the statements of the files that its options name, those of an explanation with that of the line in the row, those of a check with the report on the files. Only a report may tell of a fault.
-pub record IsAnswered (holds : List ℕ → List ℕ → Type 0) (words : List (List ℕ)) (sound : Bool) (text : List ℕ) : Type 0 where
+-- The text answers the words, where a file of a path holds these bytes: those of a division with its rows, those of a run with the statements of the files that its options name, those of an explanation with that of the line in the row, those of a check with the report on the files. Only a report may tell of a fault. Those of a merge are answered with what the texts merge to that the files give which the words name.
+pub record IsAnswered (holds gives : List ℕ → List ℕ → Type 0) (words : List (List ℕ)) (sound : Bool) (text : List ℕ) : Type 0 where
   pub division : IsDivision words → IsAnswerTo words text
   pub run : AskForRun words
       → AreStatementsOver holds (path_given run_app (codes "tis") (drop 1 words)) (path_if_given run_app (codes "payees") (drop 1 words)) (path_given run_app (codes "cwr") (drop 1 words)) (path_given run_app (codes "usage") (drop 1 words)) text
@@ -111,5 +134,23 @@ pub record IsAnswered (holds : List ℕ → List ℕ → Type 0) (words : List (
       → IsExplanationOver holds (path_given explain_app (codes "tis") (drop 1 words)) (path_if_given explain_app (codes "payees") (drop 1 words)) (path_given explain_app (codes "cwr") (drop 1 words)) (path_given explain_app (codes "usage") (drop 1 words)) (number_given explain_app (codes "row") (drop 1 words)) text
   pub checked : AskForCheck words
       → IsReportOver holds (path_given check_app (codes "tis") (drop 1 words)) (path_if_given check_app (codes "payees") (drop 1 words)) (path_given check_app (codes "cwr") (drop 1 words)) (path_given check_app (codes "usage") (drop 1 words)) sound text
+  pub merged : AskForMerge words → IsMergeOver gives (paths_given merge_app (codes "statements") (drop 1 words)) text
   pub others : ¬ (word_at words 1 ≡ codes "check") → sound ≡ true
   pub in_order : (asked : IsRun words) → AreStatementsOver holds asked.options.tis asked.options.payees asked.options.cwr asked.options.usage text
+
+-- the words of a run or of a merge name a file for the text
+abbrev pub NameOutput : List (List ℕ) → (path : List ℕ) → Type 0
+NameOutput words path =
+    ((word_at words 1 ≡ codes "run") × (path_if_given run_app (codes "output") (drop 1 words) ≡ Some path))
+    ⊎ ((word_at words 1 ≡ codes "merge") × (path_if_given merge_app (codes "output") (drop 1 words) ≡ Some path))
+
+-- and do not ask for help
+abbrev pub AskForOutput : List (List ℕ) → (path : List ℕ) → Type 0
+AskForOutput words path =
+    (AskForRun words × (path_if_given run_app (codes "output") (drop 1 words) ≡ Some path))
+    ⊎ (AskForMerge words × (path_if_given merge_app (codes "output") (drop 1 words) ≡ Some path))
+
+-- The text went to standard output, or it is kept in the file that the words name, and then nothing was printed. Only help is printed although words name a file.
+pub record IsDelivered (keeps : List ℕ → Option (List ℕ) → Type 0) (words : List (List ℕ)) (before after : Option (List ℕ)) (text : List ℕ) : Type 0 where
+  pub either : Appends before after text ⊎ ((path : List ℕ) × NameOutput words path × keeps path (Some text) × Keeps before after)
+  pub kept : (path : List ℕ) → AskForOutput words path → keeps path (Some text) × Keeps before after

@@ -1,12 +1,13 @@
 -- What a command line asks for: a division in its plain form, with no options; or a run, its options in any order and form that clap takes.
 use Rattle.std.specs.Prelude.{ℕ, ◌≡◌, ◌≢◌, ◌⊎◌, ◌∷◌, ◌++◌, List, [], All, IfSome, None, Some, drop, codes, slice_index, unwrap_or, Option}
 use Rattle.std.specs.Str.Parse.{digits_value, without_leading_plus}
-use Rattle.clap.specs.Words.{App, HasKind, IsAmong, fault_of, first_of, matches_of, one_of}
+use Rattle.clap.specs.Words.{App, HasKind, IsAmong, all_of, fault_of, first_of, kind_of, matches_of, one_of}
 use Rattle.clap.specs.declared.error.Error.{Error}
 use Rattle.clap.specs.declared.error.kind.ErrorKind.TheVariants as kinds
 use Rattle.pair_split.specs.Pair.{word_at}
 use Rattle.royalty_program.specs.CheckCommand.{check_app}
 use Rattle.royalty_program.specs.ExplainCommand.{explain_app}
+use Rattle.royalty_program.specs.MergeCommand.{AreWrongPaths, merge_app}
 use Rattle.royalty_program.specs.RunCommand.{run_app}
 
 -- a value, and no option: the word does not begin with `-`
@@ -36,6 +37,10 @@ path_given app name words = unwrap_or (first_of name (matches_of app words)) []
 -- the path of an option that need not be there
 unfoldable pub path_if_given : App → (name : List ℕ) → List (List ℕ) → Option (List ℕ)
 path_if_given app name words = first_of name (matches_of app words)
+
+-- all the paths of an argument that takes several, in the order in which they stand
+unfoldable pub paths_given : App → (name : List ℕ) → List (List ℕ) → List (List ℕ)
+paths_given app name words = unwrap_or (all_of name (matches_of app words)) []
 
 unfoldable pub number_given : App → (name : List ℕ) → List (List ℕ) → ℕ
 number_given app name words = number_in (unwrap_or (one_of name (matches_of app words)) [])
@@ -71,6 +76,21 @@ pub record AskForExplanation (words : List (List ℕ)) : Type 0 where
 pub record AskForCheck (words : List (List ℕ)) : Type 0 where
   pub command : word_at words 1 ≡ codes "check"
   pub no_help : ¬ AskForHelp check_app (drop 1 words)
+
+-- The words of a command line ask for a merge, and for no help.
+pub record AskForMerge (words : List (List ℕ)) : Type 0 where
+  pub command : word_at words 1 ≡ codes "merge"
+  pub no_help : ¬ AskForHelp merge_app (drop 1 words)
+
+-- clap accepts the words of a merge, but they name too many files, or one of them twice
+pub record NameWrongPaths (words : List (List ℕ)) (error : Error) : Type 0 where
+  pub accepted : AreAccepted merge_app words
+  pub paths : AreWrongPaths (paths_given merge_app (codes "statements") words)
+  pub kind : kind_of error ≡ kinds.ValueValidation
+
+-- the error is one that clap has for the words of a merge, or of the paths in them, or memory was refused
+abbrev pub IsMergeError : List (List ℕ) → Error → Type 0
+IsMergeError words error = IsErrorOf merge_app words error ⊎ NameWrongPaths words error
 
 -- the option of a table of payees, where there is one
 abbrev pub payees_words : Option (List ℕ) → List (List ℕ)

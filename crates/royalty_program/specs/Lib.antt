@@ -3,7 +3,10 @@ pub mod Asked
 pub mod CheckCommand
 pub mod ExplainCommand
 pub mod Files
+pub mod MergeCommand
+pub mod MergeFiles
 pub mod RequiredArg
 pub mod RunCommand
 pub mod SplitCommand
 pub mod Status
+pub mod Targets

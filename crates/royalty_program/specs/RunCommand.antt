@@ -34,11 +34,12 @@ number_rule name most = record (file_rule name) {
 -- and of the command
 abbrev pub run_app : App
 run_app =
-    with_rule (with_rule (with_rule (with_rule (with_rule (with_rule (with_rule (new_app (codes "run"))
+    with_rule (with_rule (with_rule (with_rule (with_rule (with_rule (with_rule (with_rule (new_app (codes "run"))
     (file_rule (codes "tis"))) (optional_rule (codes "payees"))) (file_rule (codes "cwr"))) (file_rule (codes "usage")))
-    (number_rule (codes "workers") MOST_THREADS)) (number_rule (codes "readers") MOST_THREADS)) (number_rule (codes "nodes") MOST_NODES)
+    (number_rule (codes "workers") MOST_THREADS)) (number_rule (codes "readers") MOST_THREADS)) (number_rule (codes "nodes") MOST_NODES))
+    (optional_rule (codes "output"))
 
--- the command has seven options: four paths, one of which need not be there, and three numbers, each up to its most
+-- the command has eight options: four paths, one of which need not be there, three numbers, each up to its most, and the path of the output, which need not be there
 pub record IsRunCommand (c : Command) : Type 0 where
   pub tis : Arg
   pub payees : Arg
@@ -47,7 +48,8 @@ pub record IsRunCommand (c : Command) : Type 0 where
   pub workers : Arg
   pub readers : Arg
   pub nodes : Arg
-  pub args : args_of c ≡ tis ∷ payees ∷ cwr ∷ usage ∷ workers ∷ readers ∷ nodes ∷ []
+  pub output : Arg
+  pub args : args_of c ≡ tis ∷ payees ∷ cwr ∷ usage ∷ workers ∷ readers ∷ nodes ∷ output ∷ []
   pub needs_tis : IsRequiredArg (codes "tis") tis
   pub may_have_payees : IsOptionalArg (codes "payees") payees
   pub needs_cwr : IsRequiredArg (codes "cwr") cwr
@@ -55,6 +57,7 @@ pub record IsRunCommand (c : Command) : Type 0 where
   pub needs_workers : IsRequiredArg (codes "workers") workers
   pub needs_readers : IsRequiredArg (codes "readers") readers
   pub needs_nodes : IsRequiredArg (codes "nodes") nodes
+  pub may_have_output : IsOptionalArg (codes "output") output
   pub few_workers : workers.value_parser ≡ Some (vp.Unsigned 1 MOST_THREADS)
   pub few_readers : readers.value_parser ≡ Some (vp.Unsigned 1 MOST_THREADS)
   pub few_nodes : nodes.value_parser ≡ Some (vp.Unsigned 1 MOST_NODES)

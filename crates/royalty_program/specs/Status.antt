@@ -1,5 +1,5 @@
 -- What a failure stands for, and the status that the program answers.
-use Rattle.std.specs.Prelude.{ℕ, ◌≡◌, ◌≢◌, ◌⊎◌, ◌++◌, [], ⊤, List, Option, Some, None, String, codes, decimal, drop, string_bytes}
+use Rattle.std.specs.Prelude.{ℕ, Contains, ◌≡◌, ◌≢◌, ◌⊎◌, ◌++◌, [], ⊤, List, Option, Some, None, String, codes, decimal, drop, string_bytes}
 use Rattle.std.specs.declared.alloc.Global.{Global}
 use Rattle.clap.specs.Words.{kind_of}
 use Rattle.clap.specs.declared.error.kind.ErrorKind.TheVariants as kinds
@@ -7,24 +7,30 @@ use Rattle.std.specs.declared.io.ErrorKind as io
 use Rattle.std.specs.declared.io.ErrorKind.TheVariants as io_kind
 use Rattle.pair_split.specs.Pair.{word_at}
 use Rattle.royalty_program.specs.RunCommand.{run_app}
-use Rattle.royalty_program.specs.Asked.{AreAccepted, IsDivision, number_given, pairs_of, path_given, path_if_given}
+use Rattle.royalty_program.specs.Asked.{AreAccepted, IsDivision, NameWrongPaths, number_given, pairs_of, path_given, path_if_given, paths_given}
 use Rattle.pair_split.specs.PairFault.{IsFaultOf}
 use Rattle.pair_split.specs.PairFault as pair
 use Rattle.tis_tree.specs.TisRows as tis
 use Rattle.cwr_share.specs.CwrFile as cwr
 use Rattle.cwr_share.specs.PayeeTable as payees
 use Rattle.line_split.specs.UsageTable as usage
+use Rattle.merge_statements.specs.Refused.{IsFaultIn}
+use Rattle.merge_statements.specs.Refused as statement
+use Rattle.merge_statements.specs.declared.refusal.Refusal.{Refusal}
+use Rattle.merge_statements.specs.declared.refusal.Refusal.TheVariants as refusal
 use Rattle.royalty_program.specs.CheckCommand.{check_app}
 use Rattle.royalty_program.specs.ExplainCommand.{explain_app}
 use Rattle.royalty_program.specs.Files.{HasNoRowOver, IsFaultOver}
+use Rattle.royalty_program.specs.MergeCommand.{merge_app}
+use Rattle.royalty_program.specs.MergeFiles.{AreTooMany, HoldsOf, IsFaultAt, IsFirstRefused, IsOneOfSound}
 use Rattle.royalty_program.specs.declared.failure.Failure.{Failure}
-use Rattle.royalty_program.specs.declared.failure.Failure.TheVariants.{Words, NotText, Pairs, Input, Row, Room, File, Output}
+use Rattle.royalty_program.specs.declared.failure.Failure.TheVariants.{Words, NotText, Pairs, Input, Row, Room, File, Output, Target, Statement, Many, Changed}
 use Rattle.run_inputs.specs.declared.fault.Fault.{Fault}
 use Rattle.run_inputs.specs.declared.fault.Fault.TheVariants as input
 use Rattle.pair_split.specs.declared.pair_fault.PairFault.{PairFault}
 use Rattle.pair_split.specs.declared.pair_fault.PairFault.TheVariants as fault
 
--- 1 for an input that is refused, 2 for words that are, 3 for lack of memory, 4 for a file that cannot be read and for an output that cannot be written
+-- 1 for an input or a text of statements that is refused, 2 for words that are, 3 for lack of memory, 4 for a file that cannot be read or written, or changed meanwhile, and for an output that cannot be written
 abbrev pub status_of : Failure → ℕ
 status_of (Words error) = 2
 status_of NotText = 2
@@ -34,6 +40,10 @@ status_of (Input fault) = 1
 status_of Room = 3
 status_of (File path) = 4
 status_of Output = 4
+status_of (Target path) = 4
+status_of (Statement fault path) = 1
+status_of Many = 1
+status_of (Changed path) = 4
 
 -- a fault of a number, and of a place where it has one, as a line of text
 abbrev pub fault_text : (what : List ℕ) → ℕ → (where_is : List ℕ) → Option ℕ → List ℕ
@@ -55,6 +65,11 @@ text_of (Row row) = Some (codes "royalty_run: the usage list has no row " ++ dec
 text_of Room = Some (codes "royalty_run: out of room\n")
 text_of (File path) = Some (codes "royalty_run: cannot read " ++ string_bytes path ++ codes "\n")
 text_of Output = Some (codes "royalty_run: cannot write\n")
+text_of (Target path) = Some (codes "royalty_run: cannot write " ++ string_bytes path ++ codes "\n")
+text_of (Statement f path) =
+    Some (codes "royalty_run: statement fault " ++ decimal (statement.number_of_fault f) ++ codes " at row " ++ decimal (statement.row_of_fault f) ++ codes " of " ++ string_bytes path ++ codes "\n")
+text_of Many = Some (codes "royalty_run: the statements are of more than 1000000000000000000 usage lines\n")
+text_of (Changed path) = Some (codes "royalty_run: " ++ string_bytes path ++ codes " changed while it was read\n")
 
 -- words and inputs are refused for what is wrong with them: lack of memory is a failure of its own, and help is none
 abbrev pub IsRefusal : Failure → Type 0
@@ -65,12 +80,21 @@ IsRefusal (Input f) = f ≢ input.Room
 IsRefusal (Row row) = ⊤
 IsRefusal Room = ⊤
 IsRefusal (File path) = ⊤
+IsRefusal (Target path) = ⊤
+IsRefusal (Statement f path) = ⊤
+IsRefusal Many = ⊤
+IsRefusal (Changed path) = ⊤
 IsRefusal _ = ⊥
 
 -- lack of memory is no failure of a file, which any other error leaves unread
 abbrev pub failure_of_file : io.ErrorKind → String Global → Failure
 failure_of_file io_kind.OutOfMemory path = Room
 failure_of_file _ path = File path
+
+-- nor of one that is to be written
+abbrev pub failure_of_target : io.ErrorKind → String Global → Failure
+failure_of_target io_kind.OutOfMemory path = Room
+failure_of_target _ path = Target path
 
 -- A file fails as its error has it. `refuses path kind` says that a path is refused with an error of this kind.
 abbrev pub IsOfFile : (refuses : List ℕ → io.ErrorKind → Type 0) → String Global → Failure → Type 0
@@ -108,9 +132,15 @@ IsOfPaths holds refuses tis payees cwr usage Room = ⊤
 IsOfPaths holds refuses tis payees cwr usage (File name) = IsFirstUnread holds refuses tis payees cwr usage (string_bytes name)
 IsOfPaths holds refuses tis payees cwr usage _ = ⊥
 
--- and the words of a run fail for that, or for themselves where clap does not accept them
+-- What is written to a file fails for that, or since the file cannot be written. The option that names a file may be left out.
+abbrev pub IsOfOutput : (output : Option (String Global)) → (Failure → Type 0) → Failure → Type 0
+IsOfOutput output IsOf (Target path) = output ≡ Some path
+IsOfOutput output IsOf failure = IsOf failure
+
+-- and the words of a run fail for that, for the file of their output, or for themselves where clap does not accept them
 abbrev pub IsOfRun : (holds : List ℕ → List ℕ → Type 0) (refuses : List ℕ → io.ErrorKind → Type 0) → List (List ℕ) → Failure → Type 0
 IsOfRun holds refuses words (Words error) = ¬ AreAccepted run_app words
+IsOfRun holds refuses words (Target path) = path_if_given run_app (codes "output") words ≡ Some (string_bytes path)
 IsOfRun holds refuses words failure =
     IsOfPaths holds refuses (path_given run_app (codes "tis") words) (path_if_given run_app (codes "payees") words) (path_given run_app (codes "cwr") words) (path_given run_app (codes "usage") words) failure
 
@@ -125,6 +155,48 @@ IsOfExplanation holds refuses words (Words error) = ¬ AreAccepted explain_app w
 IsOfExplanation holds refuses words failure =
     IsUnexplained holds refuses (path_given explain_app (codes "tis") words) (path_if_given explain_app (codes "payees") words) (path_given explain_app (codes "cwr") words) (path_given explain_app (codes "usage") words)
     (number_given explain_app (codes "row") words) failure
+
+-- A merge of the texts of these paths fails for the first fault of the first that has one, since they are of too many usage lines, for lack of memory, for one that cannot be read, or since one changed after all were found to be sound.
+abbrev pub IsOfTexts : (gives : List ℕ → List ℕ → Type 0) → List (List ℕ) → Failure → Type 0
+IsOfTexts gives paths (Statement fault path) = IsFaultAt gives paths (string_bytes path) fault
+IsOfTexts gives paths Many = AreTooMany gives paths
+IsOfTexts gives paths Room = ⊤
+IsOfTexts gives paths (File path) = IsFirstRefused gives paths (string_bytes path)
+IsOfTexts gives paths (Changed path) = IsOneOfSound gives paths (string_bytes path)
+IsOfTexts gives paths _ = ⊥
+
+-- one text alone fails for its first fault, for lack of memory, or since it cannot be read
+abbrev pub IsOfText : (gives : List ℕ → List ℕ → Type 0) → List ℕ → Failure → Type 0
+IsOfText gives path (Statement fault name) = (string_bytes name ≡ path) × HoldsOf (gives path) (λ text. IsFaultIn text fault)
+IsOfText gives path Room = ⊤
+IsOfText gives path (File name) = string_bytes name ≡ path
+IsOfText gives path _ = ⊥
+
+-- which is a failure of its path, or lack of memory
+abbrev pub IsUnopened : List ℕ → Failure → Type 0
+IsUnopened path Room = ⊤
+IsUnopened path (File name) = string_bytes name ≡ path
+IsUnopened path _ = ⊥
+
+-- and that for what it is refused for
+abbrev pub IsOfRefusal : List ℕ → Refusal → Failure → Type 0
+IsOfRefusal path was (Statement fault name) = (string_bytes name ≡ path) × (was ≡ refusal.Fault fault)
+IsOfRefusal path was Room = ⊤
+IsOfRefusal path was (File name) = string_bytes name ≡ path
+IsOfRefusal path was _ = ⊥
+
+-- the failure is of one of these paths, or lack of memory
+abbrev pub IsOfOne : List (List ℕ) → Failure → Type 0
+IsOfOne paths Room = ⊤
+IsOfOne paths (File name) = Contains paths (string_bytes name)
+IsOfOne paths (Changed name) = Contains paths (string_bytes name)
+IsOfOne paths _ = ⊥
+
+-- and its words for that, for the file of their output, for the paths that they name, or for themselves where clap does not accept them
+abbrev pub IsOfMerge : (gives : List ℕ → List ℕ → Type 0) → List (List ℕ) → Failure → Type 0
+IsOfMerge gives words (Words error) = NameWrongPaths words error ⊎ (¬ AreAccepted merge_app words)
+IsOfMerge gives words (Target path) = path_if_given merge_app (codes "output") words ≡ Some (string_bytes path)
+IsOfMerge gives words failure = IsOfTexts gives (paths_given merge_app (codes "statements") words) failure
 
 -- no input is refused: a check tells of what is wrong with it
 abbrev pub IsOfNoInput : Failure → Type 0
@@ -146,12 +218,13 @@ IsOfDivision words Room = ⊤
 IsOfDivision words _ = ⊥
 
 -- the words of a command line fail for this
-pub record FailFor (holds : List ℕ → List ℕ → Type 0) (refuses : List ℕ → io.ErrorKind → Type 0) (words : List (List ℕ)) (failure : Failure) : Type 0 where
+pub record FailFor (holds gives : List ℕ → List ℕ → Type 0) (refuses : List ℕ → io.ErrorKind → Type 0) (words : List (List ℕ)) (failure : Failure) : Type 0 where
   pub refusal : IsRefusal failure
   pub division : IsDivision words → IsOfDivision words failure
   pub run : word_at words 1 ≡ codes "run" → IsOfRun holds refuses (drop 1 words) failure
   pub explanation : word_at words 1 ≡ codes "explain" → IsOfExplanation holds refuses (drop 1 words) failure
   pub checked : word_at words 1 ≡ codes "check" → IsOfCheck holds refuses (drop 1 words) failure
+  pub merge : word_at words 1 ≡ codes "merge" → IsOfMerge gives (drop 1 words) failure
 
 -- lack of memory is no fault of the pairs
 abbrev pub failure_of_fault : PairFault → Failure

@@ -3,9 +3,11 @@
 ghost use Rattle.std.specs.Prelude.{◌≡◌, ◌≢◌, ◌≤◌, ◌⊎◌, ℕ, List, true, false, IfOk, IfErr, IsOk, OnErr, OnOk, codes, drop, if◌then◌else◌, map, string_bytes};
 ghost use Rattle.std.specs.Io.KnownBytes.{Appends, Keeps};
 ghost use Rattle.royalty_program.specs.Asked.{AreRun, IsDivision};
-ghost use Rattle.royalty_program.specs.Answered.{IsAnswered};
+ghost use Rattle.royalty_program.specs.Answered.{IsAnswered, IsDelivered, NameOutput};
 ghost use Rattle.royalty_program.specs.Files.{for_any_error, on_disk};
-ghost use Rattle.royalty_program.specs.Status.{FailFor, IsOfCheck, IsOfDivision, IsOfExplanation, IsOfRun, IsRefusal, failure_of_kind, status_of};
+ghost use Rattle.royalty_program.specs.MergeFiles.{any_text};
+ghost use Rattle.royalty_program.specs.Targets.{IsLeftOrHas, in_any_file};
+ghost use Rattle.royalty_program.specs.Status.{FailFor, IsOfCheck, IsOfDivision, IsOfExplanation, IsOfMerge, IsOfRun, IsRefusal, failure_of_kind, status_of};
 ghost use Rattle.royalty_program.specs.declared.failure.Failure.{Failure};
 ghost use Rattle.royalty_program.specs.declared.failure.Failure.TheVariants.{Output, Room};
 ghost use Rattle.pair_split.specs.Pair.{word_at};
@@ -14,7 +16,9 @@ ghost use Rattle.std.specs.Vec.Iter.{into_iter_items};
 
 use crate::commands::{Asked, read_words};
 use crate::failure::Failure;
-use crate::files::{Disk, Source, check_files, explain_files, settle_files};
+use crate::files::{Disk, Source, check_files, explain_files, settle_out};
+use crate::merge_files::merge_out;
+use crate::targets::Target;
 use clap::error::ErrorKind;
 use pair_split::split_words;
 use std::alloc::Global;
@@ -48,9 +52,9 @@ fn no_words(kind: io::ErrorKind) -> Failure
 }
 
 /// Does what the words ask for, of which the first is the program's own name. The answer goes to
-/// `out`, and what went wrong to `err`. The status is 0 where the answer was printed or help was
+/// `out`, or into the file that the words name, and what went wrong to `err`. The status is 0 where the answer was printed or kept, or help was
 /// asked for, 1 where an input file is refused for what is in it or a report tells of a fault, 2 where the words are refused, 3 for
-/// lack of memory, and 4 where a file cannot be read or `out` refused a write.
+/// lack of memory, and 4 where a file cannot be read or written, or `out` refused a write.
 pub fn program<R: Files + Threads + Wait + Sync, W: Write, E: Write>(
     rt: &R,
     alloc: Global,
@@ -59,14 +63,14 @@ pub fn program<R: Files + Threads + Wait + Sync, W: Write, E: Write>(
     err: &mut E,
 ) -> u8
     ensures known { result ≤ 4 }
-    ensures printed { result ≡ 0 → (text : List ℕ) × Appends (W.contents out.old) (W.contents out.new) text × IsAnswered on_disk (map string_bytes words.now) true text }
-    ensures told { result ≡ 1 → word_at (map string_bytes words.now) 1 ≡ codes "check" → (text : List ℕ) × Appends (W.contents out.old) (W.contents out.new) text × IsAnswered on_disk (map string_bytes words.now) false text }
+    ensures printed { result ≡ 0 → (text : List ℕ) × IsDelivered in_any_file (map string_bytes words.now) (W.contents out.old) (W.contents out.new) text × IsAnswered on_disk any_text (map string_bytes words.now) true text }
+    ensures told { result ≡ 1 → word_at (map string_bytes words.now) 1 ≡ codes "check" → (text : List ℕ) × Appends (W.contents out.old) (W.contents out.new) text × IsAnswered on_disk any_text (map string_bytes words.now) false text }
     ensures quiet { (result ≡ 0) ⊎ ((result ≡ 1) × (word_at (map string_bytes words.now) 1 ≡ codes "check")) → err.new ≡ err.old }
-    ensures silent { ((result ≡ 1) × ¬ (word_at (map string_bytes words.now) 1 ≡ codes "check")) ⊎ ((result ≡ 2) ⊎ (result ≡ 3)) → out.new ≡ out.old }
+    ensures silent { ((result ≡ 1) × ¬ (word_at (map string_bytes words.now) 1 ≡ codes "check")) ⊎ ((result ≡ 2) ⊎ ((result ≡ 3) × ¬ (word_at (map string_bytes words.now) 1 ≡ codes "merge"))) → out.new ≡ out.old }
     ensures accepted { AreRun (map string_bytes words.now) → result ≢ 2 }
-    ensures failed { result ≢ 0 → ¬ ((result ≡ 1) × (word_at (map string_bytes words.now) 1 ≡ codes "check")) → (failure : Failure) × (result ≡ status_of failure) × ((failure ≡ Output) ⊎ FailFor on_disk for_any_error (map string_bytes words.now) failure) }
+    ensures failed { result ≢ 0 → ¬ ((result ≡ 1) × (word_at (map string_bytes words.now) 1 ≡ codes "check")) → (failure : Failure) × (result ≡ status_of failure) × ((failure ≡ Output) ⊎ FailFor on_disk any_text for_any_error (map string_bytes words.now) failure) }
 {
-    let printed = answer(rt, alloc, &Disk { rt }, words, out);
+    let printed = answer(rt, alloc, &Disk { rt }, &mut Disk { rt }, words, out);
     end(printed, out, err)
 }
 
@@ -91,24 +95,28 @@ fn end<W: Write, E: Write>(
     }
 }
 
-/// Prints the rows of a division, the statements of a run, the explanation of a usage line or a report over these files, or help;
-/// and answers whether no report tells of a fault.
-fn answer<R: Threads + Wait + Sync, S: Source, W: Write>(
+/// Prints the rows of a division, the statements of a run, merged statements, the explanation of a usage line or a report over these files, or
+/// help; or keeps statements in the file that the words name. Answers whether no report tells of a fault.
+fn answer<R: Threads + Wait + Sync, S: Source, T: Target, W: Write>(
     rt: &R,
     alloc: Global,
     files: &S,
+    target: &mut T,
     words: &[String],
     out: &mut W,
 ) -> Result<(io::Result<()>, bool), Failure>
-    ensures answered { IfOk result (λ done. OnOk done.0 ((text : List ℕ) × Appends (W.contents out.old) (W.contents out.new) text
-        × IsAnswered (S.holds files.now) (map string_bytes words.now) done.1 text)) }
+    ensures answered { IfOk result (λ done. OnOk done.0 ((text : List ℕ) × IsDelivered (T.keeps target.new) (map string_bytes words.now) (W.contents out.old) (W.contents out.new) text
+        × IsAnswered (S.holds files.now) (S.gives files.now) (map string_bytes words.now) done.1 text)) }
     ensures others { IfOk result (λ done. ¬ (word_at (map string_bytes words.now) 1 ≡ codes "check") → done.1 ≡ true) }
     ensures failure { IfErr result IsRefusal }
     ensures run { word_at (map string_bytes words.now) 1 ≡ codes "run" → IfErr result (IsOfRun (S.holds files.now) (S.refuses files.now) (drop 1 (map string_bytes words.now))) }
     ensures explanation { word_at (map string_bytes words.now) 1 ≡ codes "explain" → IfErr result (IsOfExplanation (S.holds files.now) (S.refuses files.now) (drop 1 (map string_bytes words.now))) }
     ensures checked { word_at (map string_bytes words.now) 1 ≡ codes "check" → IfErr result (IsOfCheck (S.holds files.now) (S.refuses files.now) (drop 1 (map string_bytes words.now))) }
     ensures pairs { IsDivision (map string_bytes words.now) → IfErr result (IsOfDivision (map string_bytes words.now)) }
-    ensures silent { IfErr result (λ _. out.new ≡ out.old) }
+    ensures merge { word_at (map string_bytes words.now) 1 ≡ codes "merge" → IfErr result (IsOfMerge (S.gives files.now) (drop 1 (map string_bytes words.now))) }
+    ensures silent { IfErr result (λ failure. (status_of failure ≤ 2) ⊎ (¬ (word_at (map string_bytes words.now) 1 ≡ codes "merge")) → out.new ≡ out.old) }
+    ensures left { (path : List ℕ) → NameOutput (map string_bytes words.now) path → IsLeftOrHas (T.keeps target.old path) (T.keeps target.new path) (IsAnswered (S.holds files.now) (S.gives files.now) (map string_bytes words.now) true) }
+    ensures unused { ((path : List ℕ) → ¬ NameOutput (map string_bytes words.now) path) → target.new ≡ target.old }
 {
     match read_words(alloc, words) {
         Ok(Asked::Division(asked)) => {
@@ -117,7 +125,7 @@ fn answer<R: Threads + Wait + Sync, S: Source, W: Write>(
                 Err(fault) => Err(Failure::from(fault)),
             }
         }
-        Ok(Asked::Run(asked)) => Ok((settle_files(rt, alloc, files, asked, out)?, true)),
+        Ok(Asked::Run(asked)) => Ok((settle_out(rt, alloc, files, target, asked, out)?, true)),
         Ok(Asked::Explanation(asked)) => {
             let text = explain_files(alloc, files, asked)?;
             Ok((out.write_all(text.as_slice()), true))
@@ -126,6 +134,7 @@ fn answer<R: Threads + Wait + Sync, S: Source, W: Write>(
             let checked = check_files(alloc, files, asked)?;
             Ok((out.write_all(checked.text.as_slice()), checked.is_sound))
         }
+        Ok(Asked::Merge(asked)) => Ok((merge_out(alloc, files, target, asked, out)?, true)),
         Err(error) if error.kind() == ErrorKind::OutOfMemory => Err(Failure::Room),
         Err(error) if error.use_stderr() => Err(Failure::Words(error)),
         Err(help) => match format!(in alloc; "{help}") {

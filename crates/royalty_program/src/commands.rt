@@ -3,15 +3,16 @@
 ghost use Rattle.std.specs.Prelude.{◌≡◌, ◌≢◌, IfOk, IfErr, codes, drop, map, string_bytes};
 ghost use Rattle.clap.specs.Words.{kind_of};
 ghost use Rattle.clap.specs.declared.error.kind.ErrorKind.TheVariants as kinds;
-ghost use Rattle.royalty_program.specs.Asked.{IsDivision, IsErrorOf, IsRun};
+ghost use Rattle.royalty_program.specs.Asked.{IsDivision, IsErrorOf, IsMergeError, IsRun};
 ghost use Rattle.royalty_program.specs.CheckCommand.{check_app};
 ghost use Rattle.royalty_program.specs.ExplainCommand.{explain_app};
 ghost use Rattle.royalty_program.specs.RunCommand.{run_app};
-ghost use Rattle.royalty_program.specs.Answered.{IsCheckAsked, IsDivisionOf, IsExplanationAsked, IsInRange, IsNamedBy, IsRunInOrder, IsRunOf};
+ghost use Rattle.royalty_program.specs.Answered.{IsCheckAsked, IsDivisionOf, IsExplanationAsked, IsInRange, IsMergeAsked, IsNamedBy, IsRunInOrder, IsRunOf};
 ghost use Rattle.pair_split.specs.Pair.{word_at};
 
 use crate::check_command::{CheckWords, check_command, read_check};
 use crate::explain_command::{ExplainWords, explain_command, read_explain};
+use crate::merge_command::{MergeWords, merge_command, read_merge};
 use crate::run_command::{RunWords, read_run, run_command};
 use crate::split_command::{SplitWords, read_split, split_command};
 use clap::error::ErrorKind;
@@ -25,8 +26,9 @@ const VERSION: &str = "0.1.0\nlogic dac8208d650f15bf";
 /// What stands below the help of the whole program.
 const HELP: &str = "\
 `royalty_run run --help` says what the files of a distribution run have in them,
-`royalty_run check --help` how they are checked, `royalty_run explain --help` how one usage line is
-explained, and `royalty_run split --help` how an amount is divided.
+`royalty_run merge --help` how the statements of several runs are merged, `royalty_run check --help`
+how the files are checked, `royalty_run explain --help` how one usage line is explained, and
+`royalty_run split --help` how an amount is divided.
 
 A refusal has a number and a place: `royalty_run check` says all of them in words, and the table of
 faults in docs/FORMATS.md what to mend.
@@ -49,6 +51,8 @@ pub enum Asked {
     Explanation(ExplainWords),
     /// A report on the files of a run.
     Check(CheckWords),
+    /// The statements of several runs in one text.
+    Merge(MergeWords),
 }
 
 /// Reads the words of the command line, the first of which is the program's own name.
@@ -61,6 +65,8 @@ pub fn read_words(alloc: Global, words: &[String]) -> Result<Asked, Error>
     ensures unexplained { word_at (map string_bytes words.now) 1 ≡ codes "explain" → IfErr result (IsErrorOf explain_app (drop 1 (map string_bytes words.now))) }
     ensures checked { word_at (map string_bytes words.now) 1 ≡ codes "check" → IfOk result (IsCheckAsked (map string_bytes words.now)) }
     ensures unchecked { word_at (map string_bytes words.now) 1 ≡ codes "check" → IfErr result (IsErrorOf check_app (drop 1 (map string_bytes words.now))) }
+    ensures merged { word_at (map string_bytes words.now) 1 ≡ codes "merge" → IfOk result (IsMergeAsked (map string_bytes words.now)) }
+    ensures unmerged { word_at (map string_bytes words.now) 1 ≡ codes "merge" → IfErr result (IsMergeError (drop 1 (map string_bytes words.now))) }
     ensures in_order { (run : IsRun (map string_bytes words.now)) → IfOk result (IsRunInOrder (map string_bytes words.now) run.options) }
     ensures error { word_at (map string_bytes words.now) 1 ≡ codes "run" → IfErr result (IsErrorOf run_app (drop 1 (map string_bytes words.now))) }
     ensures no_help { IsDivision (map string_bytes words.now) → IfErr result (λ error. (kind_of error ≢ kinds.DisplayHelp) × (kind_of error ≢ kinds.DisplayVersion)) }
@@ -73,6 +79,7 @@ pub fn read_words(alloc: Global, words: &[String]) -> Result<Asked, Error>
         "run" => Ok(Asked::Run(read_run(alloc, &words[1..])?)),
         "explain" => Ok(Asked::Explanation(read_explain(alloc, &words[1..])?)),
         "check" => Ok(Asked::Check(read_check(alloc, &words[1..])?)),
+        "merge" => Ok(Asked::Merge(read_merge(alloc, &words[1..])?)),
         _ => Err(refusal(alloc, words)?),
     }
 }
@@ -87,6 +94,7 @@ fn refusal(alloc: Global, words: &[String]) -> Result<Error, AllocError> {
         .subcommand_required(true)
         .arg_required_else_help(true)
         .subcommand(run_command(alloc)?)?
+        .subcommand(merge_command(alloc)?)?
         .subcommand(check_command(alloc)?)?
         .subcommand(explain_command(alloc)?)?
         .subcommand(split_command(alloc)?)?;

@@ -1,10 +1,11 @@
 //! Why the program has no answer.
 
 ghost use Rattle.std.specs.Io.KnownBytes.{Appends};
-ghost use Rattle.std.specs.Prelude.{◌≡◌, IfSome, OnOk};
+ghost use Rattle.std.specs.Prelude.{◌≡◌, ◌++◌, IfSome, OnOk, codes, decimal};
 ghost use Rattle.std.specs.Fmt.{WritesOnOk};
 ghost use Rattle.royalty_program.specs.Status.{fault_text};
 
+use merge_statements::StatementFault;
 use pair_split::PairFault;
 use run_inputs::Fault;
 use std::fmt;
@@ -30,6 +31,14 @@ pub enum Failure {
     File(String),
     /// The output refused a write.
     Output,
+    /// The text cannot be kept in the file of this path.
+    Target(String),
+    /// The text of statements in the file of a path is refused.
+    Statement { fault: StatementFault, path: String },
+    /// Texts of statements are of more than 1,000,000,000,000,000,000 usage lines together.
+    Many,
+    /// The file of this path changed between two readings.
+    Changed(String),
 }
 
 impl fmt::Display for Failure {
@@ -60,6 +69,16 @@ impl fmt::Display for Failure {
             }
             Failure::File(path) => write!(f, "royalty_run: cannot read {path}\n"),
             Failure::Output => f.write_str("royalty_run: cannot write\n"),
+            Failure::Target(path) => write!(f, "royalty_run: cannot write {path}\n"),
+            Failure::Statement { fault, path } => {
+                write_statement_fault(f, fault.number(), fault.row(), path.as_str())
+            }
+            Failure::Many => f.write_str(
+                "royalty_run: the statements are of more than 1000000000000000000 usage lines\n",
+            ),
+            Failure::Changed(path) => {
+                write!(f, "royalty_run: {path} changed while it was read\n")
+            }
         }
     }
 }
@@ -78,6 +97,21 @@ fn write_fault<W: fmt::Write>(
         Some(place) => write!(f, "royalty_run: {what} fault {number} at {at}{place}\n"),
         None => write!(f, "royalty_run: {what} fault {number}\n"),
     }
+}
+
+/// Says which fault a text of statements has, in which row, and in the file of which path.
+fn write_statement_fault<W: fmt::Write>(
+    f: &mut fmt::Formatter<W>,
+    number: u8,
+    row: u64,
+    path: &str,
+) -> fmt::Result
+    ensures { WritesOnOk W.write_str_gives f.old result (codes "royalty_run: statement fault " ++ decimal number ++ codes " at row " ++ decimal row ++ codes " of " ++ path.now ++ codes "\n") f.new }
+{
+    write!(
+        f,
+        "royalty_run: statement fault {number} at row {row} of {path}\n"
+    )
 }
 
 impl From<PairFault> for Failure {
@@ -122,10 +156,10 @@ impl Failure {
         ensures { result ≡ status_of self.now }
     {
         match self {
-            Failure::Input(_) => 1,
+            Failure::Input(_) | Failure::Statement { .. } | Failure::Many => 1,
             Failure::Words(_) | Failure::NotText | Failure::Pairs(_) | Failure::Row(_) => 2,
             Failure::Room => 3,
-            Failure::File(_) | Failure::Output => 4,
+            Failure::File(_) | Failure::Output | Failure::Target(_) | Failure::Changed(_) => 4,
         }
     }
 

@@ -2,18 +2,21 @@
 
 ghost use Rattle.std.specs.Io.KnownBytes.{Appends};
 ghost use Rattle.std.specs.IoError.{error_kind};
-ghost use Rattle.std.specs.Prelude.{◌≡◌, ◌<◌, ◌≤◌, ◌↔◌, ℕ, List, [], Option, IfOk, IfErr, IfSome, IsSome, IsTrue, OnOk, length, string_bytes, unwrap_or};
+ghost use Rattle.std.specs.Prelude.{◌≡◌, ◌<◌, ◌≤◌, ◌↔◌, ℕ, List, [], Option, IfOk, IfErr, IfSome, IfNone, IsSome, IsTrue, OnErr, OnOk, length, string_bytes, unwrap_or};
 ghost use Rattle.std.specs.Option.{option_map};
 ghost use Rattle.std.specs.declared.io.ErrorKind.{ErrorKind};
 ghost use Rattle.check_inputs.specs.Checked.{IsReportOn, files_of, path_if_given, paths_of};
 ghost use Rattle.royalty_program.specs.Files.{AreRead, AreStatementsOver, HaveNoFaultOver, HoldsIfGiven, IsExplanationOver, IsReportOver, for_any_error, on_disk};
 ghost use Rattle.royalty_program.specs.declared.failure.Failure.TheVariants.{Room};
-ghost use Rattle.royalty_program.specs.Status.{IsOfFile, IsOfNoInput, IsOfPaths, IsRefusal, IsUnexplained, failure_of_file};
+ghost use Rattle.royalty_program.specs.Status.{IsOfFile, IsOfNoInput, IsOfOutput, IsOfPaths, IsRefusal, IsUnexplained, failure_of_file};
+ghost use Rattle.royalty_program.specs.MergeFiles.{Gives, any_text};
+ghost use Rattle.royalty_program.specs.Targets.{IsLeftOrHas, IsPut};
 
 use crate::check_command::CheckWords;
 use crate::explain_command::ExplainWords;
 use crate::failure::Failure;
 use crate::run_command::RunWords;
+use crate::targets::{Target, finish, unkept};
 use check_inputs::{Checked, File, check};
 use explain_line::explain;
 use settle_run::settle_to;
@@ -29,16 +32,25 @@ pub const MOST_BYTES: u64 = 268_435_456;
 
 /// Where the files of a run are read from.
 pub trait Source {
+    /// What a text is read through.
+    type Reader: Read + Drop;
+
     // The file of a path has these bytes.
     ghost holds: { Self → List ℕ → List ℕ → Type 0 };
     // It refuses a path with an error of this kind.
     ghost refuses: { Self → List ℕ → ErrorKind → Type 0 };
+    // The file of a path gives this text, whatever its size.
+    ghost gives: { Self → List ℕ → List ℕ → Type 0 };
 
     /// The bytes of the file of a path. A file of more than the most bytes cannot be read.
     fn read(&self, alloc: Global, path: &str) -> io::Result<Vec<u8>>
         ensures bytes { IfOk result (λ bytes. holds self.now path.now bytes.items) }
         ensures few { IfOk result (λ bytes. length bytes.items ≤ 268435456) }
         ensures error { IfErr result (λ error. refuses self.now path.now (error_kind error)) };
+
+    /// A reader of the text of the file of a path.
+    fn open(&self, path: &str) -> io::Result<Self::Reader>
+        ensures text { IfOk result (λ reader. Gives (gives self.now path.now) (Self.Reader.remaining reader)) };
 }
 
 /// The files of the system.
@@ -48,9 +60,13 @@ pub struct Disk<'a, R> {
 }
 
 impl<'a, R: Files> Source for Disk<'a, R> {
+    type Reader = R::File;
+
     ghost holds = { λ _. on_disk };
 
     ghost refuses = { λ _. for_any_error };
+
+    ghost gives = { λ _. any_text };
 
     fn read(&self, alloc: Global, path: &str) -> io::Result<Vec<u8>> {
         let file = fs::open(self.rt, path)?;
@@ -59,6 +75,10 @@ impl<'a, R: Files> Source for Disk<'a, R> {
             return Err(io::Error::from(ErrorKind::FileTooLarge));
         }
         read_whole(alloc, file, size as usize + 1)
+    }
+
+    fn open(&self, path: &str) -> io::Result<R::File> {
+        fs::open(self.rt, path)
     }
 }
 
@@ -105,11 +125,63 @@ pub fn settle_files<R: Threads + Wait + Sync, S: Source, W: Write>(
         cwr,
         usage,
         plan,
+        output: _,
     } = asked;
     let (tis, payees, cwr, usage) = read_all(files, alloc, tis, payees, cwr, usage)?;
     match settle_to(rt, alloc, tis, payees, cwr, usage, plan, out) {
         Ok(printed) => Ok(printed),
         Err(fault) => Err(Failure::from(fault)),
+    }
+}
+
+/// The same into the file of a path: whole, or that is as it was.
+fn settle_kept<R: Threads + Wait + Sync, S: Source, T: Target>(
+    rt: &R,
+    alloc: Global,
+    files: &S,
+    target: &mut T,
+    asked: RunWords,
+    path: String,
+) -> Result<(), Failure>
+    ensures statements { IfOk result (λ _. (text : List ℕ) × T.keeps target.new (string_bytes path) (Some text)
+        × AreStatementsOver (S.holds files.now) (string_bytes asked.tis) (option_map string_bytes asked.payees) (string_bytes asked.cwr) (string_bytes asked.usage) text) }
+    ensures failure { IfErr result IsRefusal }
+    ensures files { IfErr result (IsOfOutput (Some path) (IsOfPaths (S.holds files.now) (S.refuses files.now) (string_bytes asked.tis) (option_map string_bytes asked.payees) (string_bytes asked.cwr) (string_bytes asked.usage))) }
+    ensures left { OnErr result (IsLeftOrHas (T.keeps target.old (string_bytes path)) (T.keeps target.new (string_bytes path))
+        (AreStatementsOver (S.holds files.now) (string_bytes asked.tis) (option_map string_bytes asked.payees) (string_bytes asked.cwr) (string_bytes asked.usage))) }
+{
+    let mut draft = match target.begin(alloc, path.as_str()) {
+        Ok(draft) => draft,
+        Err(error) => return Err(unkept(error.kind(), path)),
+    };
+    let written = settle_files(rt, alloc, files, asked, &mut draft);
+    finish(target, draft, path, written)
+}
+
+/// Prints the statements of a run, or keeps them in the file of a path, where there is one.
+pub fn settle_out<R: Threads + Wait + Sync, S: Source, T: Target, W: Write>(
+    rt: &R,
+    alloc: Global,
+    files: &S,
+    target: &mut T,
+    mut asked: RunWords,
+    out: &mut W,
+) -> Result<io::Result<()>, Failure>
+    ensures statements { IfOk result (λ printed. OnOk printed ((text : List ℕ) × IsPut (option_map string_bytes asked.output) (T.keeps target.new) (W.contents out.old) (W.contents out.new) text
+        × AreStatementsOver (S.holds files.now) (string_bytes asked.tis) (option_map string_bytes asked.payees) (string_bytes asked.cwr) (string_bytes asked.usage) text)) }
+    ensures failure { IfErr result IsRefusal }
+    ensures files { IfErr result (IsOfOutput asked.output (IsOfPaths (S.holds files.now) (S.refuses files.now) (string_bytes asked.tis) (option_map string_bytes asked.payees) (string_bytes asked.cwr) (string_bytes asked.usage))) }
+    ensures silent { IfErr result (λ _. out.new ≡ out.old) }
+    ensures left { IfSome asked.output (λ path. IsLeftOrHas (T.keeps target.old (string_bytes path)) (T.keeps target.new (string_bytes path))
+        (AreStatementsOver (S.holds files.now) (string_bytes asked.tis) (option_map string_bytes asked.payees) (string_bytes asked.cwr) (string_bytes asked.usage))) }
+    ensures unused { IfNone asked.output (target.new ≡ target.old) }
+{
+    match asked.output.take() {
+        None => settle_files(rt, alloc, files, asked, out),
+        Some(path) => {
+            settle_kept(rt, alloc, files, target, asked, path)?;
+            Ok(Ok(()))
+        }
     }
 }
 
@@ -273,7 +345,7 @@ fn read_file<S: Source>(files: &S, alloc: Global, path: String) -> Result<Vec<u8
 }
 
 /// Why there is no file of a path, by the kind of the error.
-fn unread(kind: ErrorKind, path: String) -> Failure
+pub fn unread(kind: ErrorKind, path: String) -> Failure
     ensures { result ≡ failure_of_file kind path }
 {
     match kind {

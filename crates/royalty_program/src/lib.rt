@@ -7,9 +7,12 @@ mod commands;
 mod explain_command;
 mod failure;
 mod files;
+mod merge_command;
+mod merge_files;
 mod options;
 mod run_command;
 mod split_command;
+mod targets;
 
 pub use answering::{program, words_of};
 pub use failure::Failure;

@@ -1,7 +1,7 @@
 //! Options that several commands have.
 
 ghost use Rattle.std.specs.Option.{option_map};
-ghost use Rattle.std.specs.Prelude.{◌≡◌, IfOk, Some, string_bytes};
+ghost use Rattle.std.specs.Prelude.{◌≡◌, IfOk, Some, map, string_bytes};
 ghost use Rattle.clap.specs.Words.{rule_of};
 ghost use Rattle.royalty_program.specs.RequiredArg.{IsOptionalArg, IsRequiredArg};
 ghost use Rattle.royalty_program.specs.RunCommand.{file_rule, optional_rule};
@@ -63,4 +63,15 @@ pub(crate) fn kept(alloc: Global, text: Option<&str>) -> Result<Option<String>, 
         Some(text) => Ok(Some(String::from_str(alloc, text)?)),
         None => Ok(None),
     }
+}
+
+/// Texts of one's own, in the order of these.
+pub(crate) fn kept_all(alloc: Global, texts: &[&str]) -> Result<Vec<String>, AllocError>
+    ensures { IfOk result (λ kept. map string_bytes kept.items ≡ map (λ text. text.now) texts.now) }
+{
+    let mut kept = Vec::new(alloc);
+    for text in texts {
+        kept.push(String::from_str(alloc, text)?)?;
+    }
+    Ok(kept)
 }

@@ -29,6 +29,8 @@ S,payee,count,total; for each portion of the residue M,reason,usage,amount with 
 LAND, OVER or OPEN, then T,,count,total; last R,,lines,amount.
 The numbers of workers, readers and nodes have no bearing on it. A row M,WORK is a usage line whose
 work has no registration: many of them say that the wrong file, or half of one, went in.
+With `--output F` the statements go to a new file beside F, which takes the name F once it is whole;
+whatever fails, F stays as it was.
 
 A refusal has a number and a place. `royalty_run check` with the same files says all of them in words,
 and what the lines come to by reason; the table of faults in docs/FORMATS.md says what to mend.
@@ -49,6 +51,8 @@ pub struct RunWords {
     /// The table of usage lines.
     pub usage: String,
     pub plan: Plan,
+    /// The file that the statements go to, where it is not standard output.
+    pub output: Option<String>,
 }
 
 /// Reads the words of a run, the first of which is `run`. They are a command of their own, as those of a
@@ -62,6 +66,7 @@ pub fn read_run(alloc: Global, words: &[String]) -> Result<RunWords, Error>
     let payees = kept(alloc, matches.get_str("payees"))?;
     let cwr = String::from_str(alloc, matches.get_str("cwr").unwrap())?;
     let usage = String::from_str(alloc, matches.get_str("usage").unwrap())?;
+    let output = kept(alloc, matches.get_str("output"))?;
     let workers = matches.get_one::<u64>("workers").unwrap();
     let readers = matches.get_one::<u64>("readers").unwrap();
     let nodes = matches.get_one::<u64>("nodes").unwrap();
@@ -72,6 +77,7 @@ pub fn read_run(alloc: Global, words: &[String]) -> Result<RunWords, Error>
         cwr,
         usage,
         plan,
+        output,
     })
 }
 
@@ -107,5 +113,10 @@ pub fn run_command<'a>(alloc: Global) -> Result<Command<'a>, AllocError>
             "nodes",
             value_parser!(u64).range(1..=64),
             "How many postings a worker has under way to an account at most: 1 to 64",
+        ))?
+        .arg(optional_file_arg(
+            alloc,
+            "output",
+            "A file for the statements, in place of standard output",
         ))
 }

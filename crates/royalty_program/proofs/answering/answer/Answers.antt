@@ -1,4 +1,4 @@
-use Rattle.std.proofs.Common.{◌≡◌, ◌≢◌, ℕ, List, Bool, refl, drop, map, codes, false, true, rules}
+use Rattle.std.proofs.Common.{◌≡◌, ◌≢◌, ◌∙◌, ℕ, List, Bool, refl, drop, inl, inr, map, codes, false, sym, true, rules}
 use Rattle.std.proofs.lemmas.Result.{on_ok_weaker}
 use Rattle.std.specs.Option.{option_map}
 use Rattle.std.specs.Prelude.{string_bytes}
@@ -11,14 +11,19 @@ use Rattle.pair_split.specs.declared.pair_fault.PairFault.TheVariants.{Pair, Nam
 use Rattle.royalty_program.specs.CheckCommand.{check_app}
 use Rattle.royalty_program.specs.ExplainCommand.{explain_app}
 use Rattle.royalty_program.specs.RunCommand.{run_app}
-use Rattle.royalty_program.specs.Answered.{AreCheckedFrom, AreExplainedFrom, AreReadFrom, IsAnswerTo, IsAnswered}
+use Rattle.royalty_program.specs.Answered.{AreCheckedFrom, AreExplainedFrom, AreMergeFrom, AreReadFrom, AskForOutput, IsAnswerTo, IsAnswered}
 use Rattle.royalty_program.specs.Asked.{AskForHelp, IsDivision, pairs_of}
 use Rattle.royalty_program.specs.Files.{AreStatementsOver, IsExplanationOver, IsReportOver}
+use Rattle.royalty_program.specs.MergeCommand.{merge_app}
+use Rattle.royalty_program.specs.MergeFiles.{IsMergeOver}
 use Rattle.royalty_program.specs.Status.{IsOfDivision, failure_of_fault}
 use Rattle.royalty_program.specs.declared.check_command.CheckWords.{CheckWords}
 use Rattle.royalty_program.specs.declared.explain_command.ExplainWords.{ExplainWords}
+use Rattle.royalty_program.specs.declared.merge_command.MergeWords.{MergeWords}
 use Rattle.royalty_program.specs.declared.run_command.RunWords.{RunWords}
-use Rattle.royalty_program.proofs.OverLemmas.{explained_given, over_given, over_in_order, reported_given}
+use Rattle.royalty_program.proofs.CommandNames.{split_not_run, split_not_explain, split_not_check, split_not_merge, run_not_split, run_not_explain, run_not_check, run_not_merge, explain_not_split, explain_not_run, explain_not_check, explain_not_merge, check_not_split, check_not_run, check_not_explain, check_not_merge, merge_not_split, merge_not_run, merge_not_explain, merge_not_check}
+use Rattle.royalty_program.proofs.OutputLemmas.{delivered_merge, delivered_out, delivered_run, left_merge, left_run, no_merge_help_given, no_output, unmerged_words, unused_merge, unused_run}
+use Rattle.royalty_program.proofs.OverLemmas.{explained_given, merged_given, over_given, over_in_order, reported_given}
 use Rattle.royalty_program.proofs.OptionLemmas.{accepted_is_memory, no_help_given}
 use Rattle.royalty_program.proofs.RunWalked.{no_help}
 use Rattle.royalty_program.proofs.answering.answer.Goals as goal
@@ -39,76 +44,111 @@ returns-in-Ok-Division-clause-pairs g c asked =
     rw c.from.ensures (fault_stands (map string_bytes c.args.words.now) c.in-Err-split_words.fault of_words)
 
 -- words that ask for a division ask for no other
-no_other : {holds : List ℕ → List ℕ → Type 0} (words : List (List ℕ)) (text : List ℕ) → ¬ (word_at words 1 ≡ codes "run") → ¬ (word_at words 1 ≡ codes "explain") → ¬ (word_at words 1 ≡ codes "check") → (IsDivision words → IsAnswerTo words text)
-    → IsAnswered holds words true text
-no_other words text no_run no_explanation no_check division = record {
+no_other : {holds gives : List ℕ → List ℕ → Type 0} (words : List (List ℕ)) (text : List ℕ) → ¬ (word_at words 1 ≡ codes "run") → ¬ (word_at words 1 ≡ codes "explain") → ¬ (word_at words 1 ≡ codes "check") → ¬ (word_at words 1 ≡ codes "merge") → (IsDivision words → IsAnswerTo words text)
+    → IsAnswered holds gives words true text
+no_other words text no_run no_explanation no_check no_merge division = record {
   division = division;
   run = λ asked. absurd (no_run asked.command);
   explained = λ asked. absurd (no_explanation asked.command);
   checked = λ asked. absurd (no_check asked.command);
+  merged = λ asked. absurd (no_merge asked.command);
   others = λ other. refl;
   in_order = λ asked. absurd (no_run asked.command);
 }
 
 -- those that ask for a run are answered by its statements
-answers_run : (holds : List ℕ → List ℕ → Type 0) (words : List (List ℕ)) (asked : RunWords) (text : List ℕ) → ¬ IsDivision words → ¬ (word_at words 1 ≡ codes "explain") → ¬ (word_at words 1 ≡ codes "check")
-    → (word_at words 1 ≡ codes "run" → AreReadFrom (drop 1 words) asked)
-    → AreStatementsOver holds (string_bytes asked.tis) (option_map string_bytes asked.payees) (string_bytes asked.cwr) (string_bytes asked.usage) text → IsAnswered holds words true text
-answers_run holds words asked text no_division no_explanation no_check read over = record {
-  division = λ division. absurd (no_division division);
-  run = λ run. over_given holds (drop 1 words) asked text (read run.command) over;
-  explained = λ explain. absurd (no_explanation explain.command);
-  checked = λ check. absurd (no_check check.command);
+answers_run : (holds gives : List ℕ → List ℕ → Type 0) (words : List (List ℕ)) (asked : RunWords) (text : List ℕ) → word_at words 1 ≡ codes "run" → AreReadFrom (drop 1 words) asked
+    → AreStatementsOver holds (string_bytes asked.tis) (option_map string_bytes asked.payees) (string_bytes asked.cwr) (string_bytes asked.usage) text → IsAnswered holds gives words true text
+answers_run holds gives words asked text command read over = record {
+  division = λ division. absurd (run_not_split (sym command ∙ division.command));
+  run = λ run. over_given holds (drop 1 words) asked text read over;
+  explained = λ explain. absurd (run_not_explain (sym command ∙ explain.command));
+  checked = λ check. absurd (run_not_check (sym command ∙ check.command));
+  merged = λ merge. absurd (run_not_merge (sym command ∙ merge.command));
   others = λ other. refl;
-  in_order = λ run. over_in_order holds (drop 1 words) asked text run.options (read run.command) over;
+  in_order = λ run. over_in_order holds (drop 1 words) asked text run.options read over;
+}
+
+-- those that ask for a merge by what the texts merge to
+answers_merge : (holds gives : List ℕ → List ℕ → Type 0) (words : List (List ℕ)) (asked : MergeWords) (text : List ℕ) → word_at words 1 ≡ codes "merge" → AreMergeFrom (drop 1 words) asked
+    → IsMergeOver gives (map string_bytes asked.statements.items) text → IsAnswered holds gives words true text
+answers_merge holds gives words asked text command read over = record {
+  division = λ division. absurd (merge_not_split (sym command ∙ division.command));
+  run = λ run. absurd (merge_not_run (sym command ∙ run.command));
+  explained = λ explain. absurd (merge_not_explain (sym command ∙ explain.command));
+  checked = λ check. absurd (merge_not_check (sym command ∙ check.command));
+  merged = λ merge. merged_given gives (drop 1 words) asked text read over;
+  others = λ other. refl;
+  in_order = λ run. absurd (merge_not_run (sym command ∙ run.command));
 }
 
 -- and those that ask for an explanation by it
-answers_explanation : (holds : List ℕ → List ℕ → Type 0) (words : List (List ℕ)) (asked : ExplainWords) (text : List ℕ) → ¬ IsDivision words → ¬ (word_at words 1 ≡ codes "run") → ¬ (word_at words 1 ≡ codes "check")
-    → (word_at words 1 ≡ codes "explain" → AreExplainedFrom (drop 1 words) asked)
-    → IsExplanationOver holds (string_bytes asked.tis) (option_map string_bytes asked.payees) (string_bytes asked.cwr) (string_bytes asked.usage) asked.row text → IsAnswered holds words true text
-answers_explanation holds words asked text no_division no_run no_check read over = record {
-  division = λ division. absurd (no_division division);
-  run = λ run. absurd (no_run run.command);
-  explained = λ explain. explained_given holds (drop 1 words) asked text (read explain.command) over;
-  checked = λ check. absurd (no_check check.command);
+answers_explanation : (holds gives : List ℕ → List ℕ → Type 0) (words : List (List ℕ)) (asked : ExplainWords) (text : List ℕ) → word_at words 1 ≡ codes "explain" → AreExplainedFrom (drop 1 words) asked
+    → IsExplanationOver holds (string_bytes asked.tis) (option_map string_bytes asked.payees) (string_bytes asked.cwr) (string_bytes asked.usage) asked.row text → IsAnswered holds gives words true text
+answers_explanation holds gives words asked text command read over = record {
+  division = λ division. absurd (explain_not_split (sym command ∙ division.command));
+  run = λ run. absurd (explain_not_run (sym command ∙ run.command));
+  explained = λ explain. explained_given holds (drop 1 words) asked text read over;
+  checked = λ check. absurd (explain_not_check (sym command ∙ check.command));
+  merged = λ merge. absurd (explain_not_merge (sym command ∙ merge.command));
   others = λ other. refl;
-  in_order = λ run. absurd (no_run run.command);
+  in_order = λ run. absurd (explain_not_run (sym command ∙ run.command));
 }
 
 -- and those that ask for a check by its report
-answers_check : (holds : List ℕ → List ℕ → Type 0) (words : List (List ℕ)) (asked : CheckWords) (sound : Bool) (text : List ℕ) → ¬ IsDivision words → ¬ (word_at words 1 ≡ codes "run") → ¬ (word_at words 1 ≡ codes "explain")
-    → word_at words 1 ≡ codes "check" → AreCheckedFrom (drop 1 words) asked
-    → IsReportOver holds (string_bytes asked.tis) (option_map string_bytes asked.payees) (string_bytes asked.cwr) (string_bytes asked.usage) sound text → IsAnswered holds words sound text
-answers_check holds words asked sound text no_division no_run no_explanation command read over = record {
-  division = λ division. absurd (no_division division);
-  run = λ run. absurd (no_run run.command);
-  explained = λ explain. absurd (no_explanation explain.command);
+answers_check : (holds gives : List ℕ → List ℕ → Type 0) (words : List (List ℕ)) (asked : CheckWords) (sound : Bool) (text : List ℕ) → word_at words 1 ≡ codes "check" → AreCheckedFrom (drop 1 words) asked
+    → IsReportOver holds (string_bytes asked.tis) (option_map string_bytes asked.payees) (string_bytes asked.cwr) (string_bytes asked.usage) sound text → IsAnswered holds gives words sound text
+answers_check holds gives words asked sound text command read over = record {
+  division = λ division. absurd (check_not_split (sym command ∙ division.command));
+  run = λ run. absurd (check_not_run (sym command ∙ run.command));
+  explained = λ explain. absurd (check_not_explain (sym command ∙ explain.command));
   checked = λ check. reported_given holds (drop 1 words) asked sound text read over;
+  merged = λ merge. absurd (check_not_merge (sym command ∙ merge.command));
   others = λ other. absurd (other command);
-  in_order = λ run. absurd (no_run run.command);
+  in_order = λ run. absurd (check_not_run (sym command ∙ run.command));
 }
+
+-- two words that differ are not both the command
+other_command : (words : List (List ℕ)) (own other : List ℕ) → word_at words 1 ≡ own → ¬ (own ≡ other) → ¬ (word_at words 1 ≡ other)
+other_command words own other is differ same = differ (sym is ∙ same)
 
 pub returns-in-Ok-clause-answered : goal.returns-in-Ok-clause-answered
 returns-in-Ok-clause-answered g c =
     let words = map string_bytes c.args.words.now in
     let text = c.as_slice-in-Ok.result.now in
-    let no_run_asked : ¬ (word_at words 1 ≡ codes "run") = λ command. rw (c.in-Ok-Division.is, c.in-Ok-Division.field-0-is) at (c.read_words.ensures.run command) in
-    let no_explanation_asked : ¬ (word_at words 1 ≡ codes "explain") = λ command. rw (c.in-Ok-Division.is, c.in-Ok-Division.field-0-is) at (c.read_words.ensures.explanation command) in
-    let no_check_asked : ¬ (word_at words 1 ≡ codes "check") = λ command. rw (c.in-Ok-Division.is, c.in-Ok-Division.field-0-is) at (c.read_words.ensures.checked command) in
+    let command : word_at words 1 ≡ codes "split" = rw (c.in-Ok-Division.is, c.in-Ok-Division.field-0-is) at c.read_words.ensures.named in
+    let no_run : ¬ (word_at words 1 ≡ codes "run") = other_command words (codes "split") (codes "run") command split_not_run in
+    let no_merge : ¬ (word_at words 1 ≡ codes "merge") = other_command words (codes "split") (codes "merge") command split_not_merge in
     let rows : IsDivision words → IsAnswerTo words text = search rules in
-    on_ok_weaker c.write_all.result (λ wrote. (text, wrote, no_other words text no_run_asked no_explanation_asked no_check_asked rows)) c.write_all.ensures.bytes
+    let answered : IsAnswered (g.S.Source.holds c.args.files.now) (g.S.Source.gives c.args.files.now) words true text =
+    no_other words text no_run (other_command words (codes "split") (codes "explain") command split_not_explain) (other_command words (codes "split") (codes "check") command split_not_check) no_merge rows in
+    on_ok_weaker c.write_all.result (λ wrote. (text, delivered_out _ words _ _ text (no_output (g.T.Target.keeps c.args.target.now) words no_run no_merge) wrote, answered)) c.write_all.ensures.bytes
 
 pub returns-in-Ok-Run-clause-answered : goal.returns-in-Ok-Run-clause-answered
 returns-in-Ok-Run-clause-answered g c =
     let words = map string_bytes c.args.words.now in
     let holds = g.S.Source.holds c.args.files.now in
+    let gives = g.S.Source.gives c.args.files.now in
+    let keeps = g.T.Target.keeps c.settle_out.new.target in
     let asked = c.in-Ok-Run.asked in
-    let no_division : ¬ IsDivision words = λ division. rw (c.in-Ok-Run.is, c.in-Ok-Run.field-0-is) at (c.read_words.ensures.division division) in
-    let no_explanation : ¬ (word_at words 1 ≡ codes "explain") = λ command. rw (c.in-Ok-Run.is, c.in-Ok-Run.field-0-is) at (c.read_words.ensures.explanation command) in
-    let read : word_at words 1 ≡ codes "run" → AreReadFrom (drop 1 words) asked = λ command. rw (c.in-Ok-Run.is, c.in-Ok-Run.field-0-is) at (c.read_words.ensures.run command) in
-    let no_check : ¬ (word_at words 1 ≡ codes "check") = λ command. rw (c.in-Ok-Run.is, c.in-Ok-Run.field-0-is) at (c.read_words.ensures.checked command) in
-    on_ok_weaker c.in_ok-settle_files-in-Ok-Run.field-0 (λ wrote. (wrote.0, wrote.1, answers_run holds words asked wrote.0 no_division no_explanation no_check read wrote.2)) c.in_ok-settle_files-in-Ok-Run.ensures.statements
+    let command : word_at words 1 ≡ codes "run" = rw (c.in-Ok-Run.is, c.in-Ok-Run.field-0-is) at c.read_words.ensures.named in
+    let read : AreReadFrom (drop 1 words) asked = rw (c.in-Ok-Run.is, c.in-Ok-Run.field-0-is) at (c.read_words.ensures.run command) in
+    on_ok_weaker c.in_ok-settle_out-in-Ok-Run.field-0
+    (λ wrote. (wrote.0, delivered_run keeps words (option_map string_bytes asked.output) _ _ wrote.0 command read.output wrote.1, answers_run holds gives words asked wrote.0 command read wrote.2))
+    c.in_ok-settle_out-in-Ok-Run.ensures.statements
+
+pub returns-in-Ok-Merge-clause-answered : goal.returns-in-Ok-Merge-clause-answered
+returns-in-Ok-Merge-clause-answered g c =
+    let words = map string_bytes c.args.words.now in
+    let holds = g.S.Source.holds c.args.files.now in
+    let gives = g.S.Source.gives c.args.files.now in
+    let keeps = g.T.Target.keeps c.merge_out.new.target in
+    let asked = c.in-Ok-Merge.asked in
+    let command : word_at words 1 ≡ codes "merge" = rw (c.in-Ok-Merge.is, c.in-Ok-Merge.field-0-is) at c.read_words.ensures.named in
+    let read : AreMergeFrom (drop 1 words) asked = rw (c.in-Ok-Merge.is, c.in-Ok-Merge.field-0-is) at (c.read_words.ensures.merged command) in
+    on_ok_weaker c.in_ok-merge_out-in-Ok-Merge.field-0
+    (λ wrote. (wrote.0, delivered_merge keeps words (option_map string_bytes asked.output) _ _ wrote.0 command read.output wrote.1, answers_merge holds gives words asked wrote.0 command read wrote.2))
+    c.in_ok-merge_out-in-Ok-Merge.ensures.merged
 
 pub returns-in-Ok-format-clause-answered : goal.returns-in-Ok-format-clause-answered
 returns-in-Ok-format-clause-answered g c =
@@ -119,15 +159,22 @@ returns-in-Ok-format-clause-answered g c =
     let bad : false ≡ true = c.if-use_stderr.ensures.1 (no_help_given explain_app (drop 1 words) c.in-Err.error (c.in-Err.ensures.unexplained command) none) in cc in
     let no_check_help : word_at words 1 ≡ codes "check" → ¬ AskForHelp check_app (drop 1 words) → ⊥ = λ command none.
     let bad : false ≡ true = c.if-use_stderr.ensures.1 (no_help_given check_app (drop 1 words) c.in-Err.error (c.in-Err.ensures.unchecked command) none) in cc in
-    let answered : IsAnswered (g.S.Source.holds c.args.files.now) words true c.as_bytes.result.now = record {
+    let no_merge_help : word_at words 1 ≡ codes "merge" → ¬ AskForHelp merge_app (drop 1 words) → ⊥ = λ command none.
+    let bad : false ≡ true = c.if-use_stderr.ensures.1 (no_merge_help_given (drop 1 words) c.in-Err.error (c.in-Err.ensures.unmerged command) none) in cc in
+    let no_file : (path : List ℕ) → ¬ AskForOutput words path = λ path asks. elim asks [
+      | inl (run, named) ↦ no_help_asked run.command run.no_help
+      | inr (merge, named) ↦ no_merge_help merge.command merge.no_help
+    ] in
+    let answered : IsAnswered (g.S.Source.holds c.args.files.now) (g.S.Source.gives c.args.files.now) words true c.as_bytes.result.now = record {
       division = λ asked. let bad : false ≡ true = c.if-use_stderr.ensures.1 (c.in-Err.ensures.no_help asked) in cc;
       run = λ asked. absurd (no_help_asked asked.command asked.no_help);
       explained = λ asked. absurd (no_explain_help asked.command asked.no_help);
       checked = λ asked. absurd (no_check_help asked.command asked.no_help);
+      merged = λ asked. absurd (no_merge_help asked.command asked.no_help);
       others = λ other. refl;
       in_order = λ asked. absurd (no_help_asked asked.command (no_help (drop 1 words) asked.options));
     } in
-    on_ok_weaker c.write_all-in-Ok-format.result (λ wrote. (c.as_bytes.result.now, wrote, answered)) c.write_all-in-Ok-format.ensures.bytes
+    on_ok_weaker c.write_all-in-Ok-format.result (λ wrote. (c.as_bytes.result.now, delivered_out (g.T.Target.keeps c.args.target.now) words _ _ c.as_bytes.result.now no_file wrote, answered)) c.write_all-in-Ok-format.ensures.bytes
 
 pub returns-in-Err-2-clause-run : goal.returns-in-Err-2-clause-run
 returns-in-Err-2-clause-run g c command accepted =
@@ -147,6 +194,12 @@ returns-in-Err-2-clause-checked g c command accepted =
     let not_memory : kind_of c.in-Err-2.error ≢ kinds.OutOfMemory = search rules in
     not_memory (accepted_is_memory check_app (drop 1 words) c.in-Err-2.error (c.in-Err-2.ensures.unchecked command) accepted)
 
+pub returns-in-Err-2-clause-merge : goal.returns-in-Err-2-clause-merge
+returns-in-Err-2-clause-merge g c command =
+    let words = map string_bytes c.args.words.now in
+    let not_memory : kind_of c.in-Err.error ≢ kinds.OutOfMemory = search rules in
+    unmerged_words (g.S.Source.gives c.args.files.now) (drop 1 words) c.in-Err.error not_memory (c.in-Err.ensures.unmerged command)
+
 pub returns-in-Ok-Run-clause-pairs : goal.returns-in-Ok-Run-clause-pairs
 returns-in-Ok-Run-clause-pairs g c division =
     let none : ⊥ = rw (c.in-Ok-Run.is, c.in-Ok-Run.field-0-is) at (c.read_words.ensures.division division) in
@@ -156,25 +209,88 @@ pub returns-in-Ok-Explanation-clause-answered : goal.returns-in-Ok-Explanation-c
 returns-in-Ok-Explanation-clause-answered g c =
     let words = map string_bytes c.args.words.now in
     let holds = g.S.Source.holds c.args.files.now in
+    let gives = g.S.Source.gives c.args.files.now in
     let asked = c.in-Ok-Explanation.asked in
     let text = c.in_ok-text-in-Ok-Explanation.text.items in
-    let no_division : ¬ IsDivision words = λ division. rw (c.in-Ok-Explanation.is, c.in-Ok-Explanation.field-0-is) at (c.read_words.ensures.division division) in
-    let no_run : ¬ (word_at words 1 ≡ codes "run") = λ command. rw (c.in-Ok-Explanation.is, c.in-Ok-Explanation.field-0-is) at (c.read_words.ensures.run command) in
-    let read : word_at words 1 ≡ codes "explain" → AreExplainedFrom (drop 1 words) asked = λ command. rw (c.in-Ok-Explanation.is, c.in-Ok-Explanation.field-0-is) at (c.read_words.ensures.explanation command) in
-    let no_check : ¬ (word_at words 1 ≡ codes "check") = λ command. rw (c.in-Ok-Explanation.is, c.in-Ok-Explanation.field-0-is) at (c.read_words.ensures.checked command) in
-    let answered : IsAnswered holds words true text = answers_explanation holds words asked text no_division no_run no_check read c.in_ok-text-in-Ok-Explanation.ensures.explanation in
-    on_ok_weaker c.write_all-in-Ok-Explanation.result (λ wrote. (text, wrote, answered)) (rw c.as_slice-in-Ok-Explanation.ensures.value at c.write_all-in-Ok-Explanation.ensures.bytes)
+    let command : word_at words 1 ≡ codes "explain" = rw (c.in-Ok-Explanation.is, c.in-Ok-Explanation.field-0-is) at c.read_words.ensures.named in
+    let read : AreExplainedFrom (drop 1 words) asked = rw (c.in-Ok-Explanation.is, c.in-Ok-Explanation.field-0-is) at (c.read_words.ensures.explanation command) in
+    let no_file = no_output (g.T.Target.keeps c.args.target.now) words (other_command words (codes "explain") (codes "run") command explain_not_run) (other_command words (codes "explain") (codes "merge") command explain_not_merge) in
+    let answered : IsAnswered holds gives words true text = answers_explanation holds gives words asked text command read c.in_ok-text-in-Ok-Explanation.ensures.explanation in
+    on_ok_weaker c.write_all-in-Ok-Explanation.result (λ wrote. (text, delivered_out (g.T.Target.keeps c.args.target.now) words _ _ text no_file wrote, answered)) (rw c.as_slice-in-Ok-Explanation.ensures.value at c.write_all-in-Ok-Explanation.ensures.bytes)
 
 pub returns-in-Ok-Check-clause-answered : goal.returns-in-Ok-Check-clause-answered
 returns-in-Ok-Check-clause-answered g c =
     let words = map string_bytes c.args.words.now in
     let holds = g.S.Source.holds c.args.files.now in
+    let gives = g.S.Source.gives c.args.files.now in
     let asked = c.in-Ok-Check.asked in
     let checked = c.in_ok-checked-in-Ok-Check.checked in
-    let no_division : ¬ IsDivision words = λ division. rw (c.in-Ok-Check.is, c.in-Ok-Check.field-0-is) at (c.read_words.ensures.division division) in
-    let no_run : ¬ (word_at words 1 ≡ codes "run") = λ command. rw (c.in-Ok-Check.is, c.in-Ok-Check.field-0-is) at (c.read_words.ensures.run command) in
-    let no_explanation : ¬ (word_at words 1 ≡ codes "explain") = λ command. rw (c.in-Ok-Check.is, c.in-Ok-Check.field-0-is) at (c.read_words.ensures.explanation command) in
     let command : word_at words 1 ≡ codes "check" = rw (c.in-Ok-Check.is, c.in-Ok-Check.field-0-is) at c.read_words.ensures.named in
     let read : AreCheckedFrom (drop 1 words) asked = rw (c.in-Ok-Check.is, c.in-Ok-Check.field-0-is) at (c.read_words.ensures.checked command) in
-    let answered : IsAnswered holds words checked.is_sound checked.text.items = answers_check holds words asked checked.is_sound checked.text.items no_division no_run no_explanation command read c.in_ok-checked-in-Ok-Check.ensures.report in
-    on_ok_weaker c.write_all-in-Ok-Check.result (λ wrote. (checked.text.items, wrote, answered)) (rw c.as_slice-in-Ok-Check.ensures.value at c.write_all-in-Ok-Check.ensures.bytes)
+    let no_file = no_output (g.T.Target.keeps c.args.target.now) words (other_command words (codes "check") (codes "run") command check_not_run) (other_command words (codes "check") (codes "merge") command check_not_merge) in
+    let answered : IsAnswered holds gives words checked.is_sound checked.text.items = answers_check holds gives words asked checked.is_sound checked.text.items command read c.in_ok-checked-in-Ok-Check.ensures.report in
+    on_ok_weaker c.write_all-in-Ok-Check.result (λ wrote. (checked.text.items, delivered_out (g.T.Target.keeps c.args.target.now) words _ _ checked.text.items no_file wrote, answered)) (rw c.as_slice-in-Ok-Check.ensures.value at c.write_all-in-Ok-Check.ensures.bytes)
+
+pub returns-in_err-settle_out-in-Ok-Run-clause-left : goal.returns-in_err-settle_out-in-Ok-Run-clause-left
+returns-in_err-settle_out-in-Ok-Run-clause-left g c path named =
+    let words = map string_bytes c.args.words.now in
+    let asked = c.in-Ok-Run.asked in
+    let command : word_at words 1 ≡ codes "run" = rw (c.in-Ok-Run.is, c.in-Ok-Run.field-0-is) at c.read_words.ensures.named in
+    let read : AreReadFrom (drop 1 words) asked = rw (c.in-Ok-Run.is, c.in-Ok-Run.field-0-is) at (c.read_words.ensures.run command) in
+    left_run (g.T.Target.keeps c.args.target.now) (g.T.Target.keeps c.settle_out.new.target) words asked.output _ _ command read.output
+    (λ text over. answers_run (g.S.Source.holds c.args.files.now) (g.S.Source.gives c.args.files.now) words asked text command read over) c.settle_out.ensures.left path named
+
+pub returns-in-Ok-Run-clause-left : goal.returns-in-Ok-Run-clause-left
+returns-in-Ok-Run-clause-left g c path named =
+    let words = map string_bytes c.args.words.now in
+    let asked = c.in-Ok-Run.asked in
+    let command : word_at words 1 ≡ codes "run" = rw (c.in-Ok-Run.is, c.in-Ok-Run.field-0-is) at c.read_words.ensures.named in
+    let read : AreReadFrom (drop 1 words) asked = rw (c.in-Ok-Run.is, c.in-Ok-Run.field-0-is) at (c.read_words.ensures.run command) in
+    left_run (g.T.Target.keeps c.args.target.now) (g.T.Target.keeps c.settle_out.new.target) words asked.output _ _ command read.output
+    (λ text over. answers_run (g.S.Source.holds c.args.files.now) (g.S.Source.gives c.args.files.now) words asked text command read over) c.settle_out.ensures.left path named
+
+pub returns-in_err-merge_out-in-Ok-Merge-clause-left : goal.returns-in_err-merge_out-in-Ok-Merge-clause-left
+returns-in_err-merge_out-in-Ok-Merge-clause-left g c path named =
+    let words = map string_bytes c.args.words.now in
+    let asked = c.in-Ok-Merge.asked in
+    let command : word_at words 1 ≡ codes "merge" = rw (c.in-Ok-Merge.is, c.in-Ok-Merge.field-0-is) at c.read_words.ensures.named in
+    let read : AreMergeFrom (drop 1 words) asked = rw (c.in-Ok-Merge.is, c.in-Ok-Merge.field-0-is) at (c.read_words.ensures.merged command) in
+    left_merge (g.T.Target.keeps c.args.target.now) (g.T.Target.keeps c.merge_out.new.target) words asked.output _ _ command read.output
+    (λ text over. answers_merge (g.S.Source.holds c.args.files.now) (g.S.Source.gives c.args.files.now) words asked text command read over) c.merge_out.ensures.left path named
+
+pub returns-in-Ok-Merge-clause-left : goal.returns-in-Ok-Merge-clause-left
+returns-in-Ok-Merge-clause-left g c path named =
+    let words = map string_bytes c.args.words.now in
+    let asked = c.in-Ok-Merge.asked in
+    let command : word_at words 1 ≡ codes "merge" = rw (c.in-Ok-Merge.is, c.in-Ok-Merge.field-0-is) at c.read_words.ensures.named in
+    let read : AreMergeFrom (drop 1 words) asked = rw (c.in-Ok-Merge.is, c.in-Ok-Merge.field-0-is) at (c.read_words.ensures.merged command) in
+    left_merge (g.T.Target.keeps c.args.target.now) (g.T.Target.keeps c.merge_out.new.target) words asked.output _ _ command read.output
+    (λ text over. answers_merge (g.S.Source.holds c.args.files.now) (g.S.Source.gives c.args.files.now) words asked text command read over) c.merge_out.ensures.left path named
+
+pub returns-in_err-settle_out-in-Ok-Run-clause-unused : goal.returns-in_err-settle_out-in-Ok-Run-clause-unused
+returns-in_err-settle_out-in-Ok-Run-clause-unused g c none =
+    let words = map string_bytes c.args.words.now in
+    let command : word_at words 1 ≡ codes "run" = rw (c.in-Ok-Run.is, c.in-Ok-Run.field-0-is) at c.read_words.ensures.named in
+    let read : AreReadFrom (drop 1 words) c.in-Ok-Run.asked = rw (c.in-Ok-Run.is, c.in-Ok-Run.field-0-is) at (c.read_words.ensures.run command) in
+    unused_run words c.in-Ok-Run.asked.output _ command read.output c.settle_out.ensures.unused none
+
+pub returns-in-Ok-Run-clause-unused : goal.returns-in-Ok-Run-clause-unused
+returns-in-Ok-Run-clause-unused g c none =
+    let words = map string_bytes c.args.words.now in
+    let command : word_at words 1 ≡ codes "run" = rw (c.in-Ok-Run.is, c.in-Ok-Run.field-0-is) at c.read_words.ensures.named in
+    let read : AreReadFrom (drop 1 words) c.in-Ok-Run.asked = rw (c.in-Ok-Run.is, c.in-Ok-Run.field-0-is) at (c.read_words.ensures.run command) in
+    unused_run words c.in-Ok-Run.asked.output _ command read.output c.settle_out.ensures.unused none
+
+pub returns-in_err-merge_out-in-Ok-Merge-clause-unused : goal.returns-in_err-merge_out-in-Ok-Merge-clause-unused
+returns-in_err-merge_out-in-Ok-Merge-clause-unused g c none =
+    let words = map string_bytes c.args.words.now in
+    let command : word_at words 1 ≡ codes "merge" = rw (c.in-Ok-Merge.is, c.in-Ok-Merge.field-0-is) at c.read_words.ensures.named in
+    let read : AreMergeFrom (drop 1 words) c.in-Ok-Merge.asked = rw (c.in-Ok-Merge.is, c.in-Ok-Merge.field-0-is) at (c.read_words.ensures.merged command) in
+    unused_merge words c.in-Ok-Merge.asked.output _ command read.output c.merge_out.ensures.unused none
+
+pub returns-in-Ok-Merge-clause-unused : goal.returns-in-Ok-Merge-clause-unused
+returns-in-Ok-Merge-clause-unused g c none =
+    let words = map string_bytes c.args.words.now in
+    let command : word_at words 1 ≡ codes "merge" = rw (c.in-Ok-Merge.is, c.in-Ok-Merge.field-0-is) at c.read_words.ensures.named in
+    let read : AreMergeFrom (drop 1 words) c.in-Ok-Merge.asked = rw (c.in-Ok-Merge.is, c.in-Ok-Merge.field-0-is) at (c.read_words.ensures.merged command) in
+    unused_merge words c.in-Ok-Merge.asked.output _ command read.output c.merge_out.ensures.unused none

@@ -1,28 +1,38 @@
-use Rattle.std.proofs.Common.{◌≡◌, inl, inr, codes, drop, false, map, true}
+use Rattle.std.proofs.Common.{◌≡◌, ◌≤◌, ◌⊎◌, ℕ, List, inl, inr, codes, drop, false, map, true}
 use Rattle.std.proofs.lemmas.Result.{IfErr-weaker}
+use Rattle.std.specs.Io.KnownBytes.{Appends}
 use Rattle.std.specs.Prelude.{string_bytes}
 use Rattle.pair_split.specs.Pair.{word_at}
-use Rattle.royalty_program.specs.Answered.{IsAnswered}
+use Rattle.royalty_program.specs.Answered.{IsAnswered, IsDelivered}
 use Rattle.royalty_program.specs.Files.{for_any_error, on_disk}
+use Rattle.royalty_program.specs.MergeFiles.{any_text}
+use Rattle.royalty_program.specs.Status.{status_of}
+use Rattle.royalty_program.specs.Targets.{in_any_file}
+use Rattle.royalty_program.specs.declared.failure.Failure.{Failure}
 use Rattle.royalty_program.proofs.EndLemmas.{check_fails_with, fails_with, left_alone, printed_whole, quiet_then, silent_then}
+use Rattle.royalty_program.proofs.OutputLemmas.{delivered_on, printed_check}
 use Rattle.royalty_program.proofs.OverLemmas.{ends_with}
 use Rattle.royalty_program.proofs.answering.program.Goals as goal
 
 pub returns-clause-failed : goal.returns-clause-failed
-returns-clause-failed g c = ends_with c.answer-printed.result c.end.result on_disk for_any_error (map string_bytes c.args.words.now) _ _
+returns-clause-failed g c = ends_with c.answer-printed.result c.end.result on_disk any_text for_any_error (map string_bytes c.args.words.now) _ _
     c.end.ensures.failed c.end.ensures.answered c.answer-printed.ensures.others c.answer-printed.ensures.failure c.answer-printed.ensures.pairs c.answer-printed.ensures.run c.answer-printed.ensures.explanation
-    c.answer-printed.ensures.checked
+    c.answer-printed.ensures.checked c.answer-printed.ensures.merge
 
 pub returns-clause-printed : goal.returns-clause-printed
 returns-clause-printed g c same =
-    printed_whole c.answer-printed.result c.end.result true (IsAnswered on_disk (map string_bytes c.args.words.now)) _ _ _ c.answer-printed.ensures.answered c.end.ensures.answered c.end.ensures.failed
+    let words = map string_bytes c.args.words.now in
+    printed_whole c.answer-printed.result c.end.result true (IsDelivered in_any_file words (g.W.Write.contents c.args.out.now)) (IsAnswered on_disk any_text words) _ _
+    (λ text put kept. delivered_on in_any_file words (g.W.Write.contents c.args.out.now) _ _ text put kept) c.answer-printed.ensures.answered c.end.ensures.answered c.end.ensures.failed
     (IfErr-weaker c.answer-printed.result _ _ (λ failure _. fails_with failure) c.answer-printed.ensures.failure) same
 
 pub returns-clause-told : goal.returns-clause-told
 returns-clause-told g c same command =
     let words = map string_bytes c.args.words.now in
-    printed_whole c.answer-printed.result c.end.result false (IsAnswered on_disk words) _ _ _ c.answer-printed.ensures.answered c.end.ensures.answered c.end.ensures.failed
-    (IfErr-weaker c.answer-printed.result _ _ (check_fails_with on_disk for_any_error (drop 1 words)) (c.answer-printed.ensures.checked command)) same
+    printed_check in_any_file words (g.W.Write.contents c.args.out.now) _ (IsAnswered on_disk any_text words false) command
+    (printed_whole c.answer-printed.result c.end.result false (IsDelivered in_any_file words (g.W.Write.contents c.args.out.now)) (IsAnswered on_disk any_text words) _ _
+    (λ text put kept. delivered_on in_any_file words (g.W.Write.contents c.args.out.now) _ _ text put kept) c.answer-printed.ensures.answered c.end.ensures.answered c.end.ensures.failed
+    (IfErr-weaker c.answer-printed.result _ _ (check_fails_with on_disk for_any_error (drop 1 words)) (c.answer-printed.ensures.checked command)) same)
 
 pub returns-clause-quiet : goal.returns-clause-quiet
 returns-clause-quiet g c which = elim which [
@@ -36,5 +46,6 @@ returns-clause-quiet g c which = elim which [
 
 pub returns-clause-silent : goal.returns-clause-silent
 returns-clause-silent g c which =
-    silent_then c.answer-printed.result c.end.result (word_at (map string_bytes c.args.words.now) 1 ≡ codes "check") _ _ _ c.end.ensures.answered c.answer-printed.ensures.others
-    (left_alone c.answer-printed.result _ _ _ c.end.ensures.silent c.answer-printed.ensures.silent) which
+    let words = map string_bytes c.args.words.now in
+    silent_then c.answer-printed.result c.end.result (word_at words 1 ≡ codes "check") (word_at words 1 ≡ codes "merge") _ _ _ c.end.ensures.answered c.answer-printed.ensures.others c.end.ensures.failed
+    (left_alone c.answer-printed.result (λ (failure : Failure). (status_of failure ≤ 2) ⊎ (¬ (word_at words 1 ≡ codes "merge"))) _ _ _ c.end.ensures.silent c.answer-printed.ensures.silent) which

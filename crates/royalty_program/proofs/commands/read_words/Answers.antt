@@ -1,7 +1,7 @@
 use Rattle.std.proofs.Common.{All, map, drop, ap, ◌∙◌}
 use Rattle.std.specs.Prelude.{string_bytes}
 use Rattle.royalty_program.specs.Asked.{IsValue, number_in}
-use Rattle.royalty_program.specs.Answered.{AreCheckedFrom, AreExplainedFrom, AreReadFrom}
+use Rattle.royalty_program.specs.Answered.{AreCheckedFrom, AreExplainedFrom, AreMergeFrom, AreReadFrom}
 use Rattle.royalty_program.proofs.RunLemmas.{read_in_order}
 use Rattle.royalty_program.proofs.Shifted.{mapped_others, one_on, others, third, two_on}
 use Rattle.royalty_program.proofs.commands.read_words.Goals as goal
@@ -36,4 +36,10 @@ pub returns-in_ok-read_check-in-check-clause-checked : goal.returns-in_ok-read_c
 returns-in_ok-read_check-in-check-clause-checked c command =
     let words = c.args.words.now in
     let read : AreCheckedFrom (map string_bytes (others words)) c.in_ok-read_check-in-check.field-0 = c.in_ok-read_check-in-check.ensures.read in
+    rw (mapped_others string_bytes words) at read
+
+pub returns-in_ok-read_merge-in-merge-clause-merged : goal.returns-in_ok-read_merge-in-merge-clause-merged
+returns-in_ok-read_merge-in-merge-clause-merged c command =
+    let words = c.args.words.now in
+    let read : AreMergeFrom (map string_bytes (others words)) c.in_ok-read_merge-in-merge.field-0 = c.in_ok-read_merge-in-merge.ensures.read in
     rw (mapped_others string_bytes words) at read

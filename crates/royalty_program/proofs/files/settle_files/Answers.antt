@@ -40,8 +40,8 @@ returns-in-Ok-clause-read g c =
       sound = c.in-Ok.ensures.read;
     }
 
-pub returns-in-Err-clause-files : goal.returns-in-Err-clause-files
-returns-in-Err-clause-files g c =
+pub returns-clause-files : goal.returns-clause-files
+returns-clause-files g c =
     let asked = c.args.asked in
     let read = c.in_ok-tis in
     let over : IsFaultOver (g.S.Source.holds c.args.files.now) (string_bytes asked.tis) (option_map string_bytes asked.payees) (string_bytes asked.cwr) (string_bytes asked.usage) c.in-Err.fault = record {

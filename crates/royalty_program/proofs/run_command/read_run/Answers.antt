@@ -42,6 +42,9 @@ returns-in_err-cwr-clause-error c = memory_is run_app (map string_bytes c.args.w
 pub returns-in_err-usage-clause-error : goal.returns-in_err-usage-clause-error
 returns-in_err-usage-clause-error c = memory_is run_app (map string_bytes c.args.words.now) c.from_residual-in_err-usage.result c.from_residual-in_err-usage.ensures.1
 
+pub returns-in_err-output-clause-error : goal.returns-in_err-output-clause-error
+returns-in_err-output-clause-error c = memory_is run_app (map string_bytes c.args.words.now) c.from_residual-in_err-output.result c.from_residual-in_err-output.ensures.1
+
 pub unwrap-workers-requires : goal.unwrap-workers-requires
 unwrap-workers-requires c = (workers_read c.in_ok-run_command.field-0 c.in_ok-matches.matches c.get_one.result
     c.in_ok-run_command.ensures c.in_ok-matches.ensures.parsed c.get_one.ensures.value).0
@@ -87,4 +90,5 @@ returns-clause-read c =
       cwr = c.in_ok-cwr.ensures.ok ∙ path_is run_app m words (codes "cwr") c.get_str-3.result c.unwrap-2.result rows c.get_str-3.ensures c.unwrap-2.ensures;
       usage = c.in_ok-usage.ensures.ok ∙ path_is run_app m words (codes "usage") c.get_str-4.result c.unwrap-3.result rows c.get_str-4.ensures c.unwrap-3.ensures;
       plan = same_plan c.unwrap-plan.result _ _ _ _ _ _ plan workers readers nodes;
+      output = c.in_ok-output.ensures ∙ path_if_is run_app m words (codes "output") c.get_str-5.result rows c.get_str-5.ensures;
     }

@@ -1,0 +1,146 @@
+-- Where a text went: to standard output, or into the file that the words name.
+use Rattle.std.proofs.Common.{◌≡◌, ◌≢◌, ◌∙◌, ◌⊎◌, ℕ, List, Option, None, Some, codes, drop, inl, inr, subst, sym}
+use Rattle.std.specs.Io.KnownBytes.{Appends, Keeps}
+use Rattle.std.specs.Option.{IfNone, IfSome, option_map}
+use Rattle.std.specs.Prelude.{String, string_bytes}
+use Rattle.std.specs.declared.alloc.Global.{Global}
+use Rattle.clap.specs.Words.{kind_of}
+use Rattle.clap.specs.declared.error.Error.{Error}
+use Rattle.clap.specs.declared.error.kind.ErrorKind.TheVariants as kinds
+use Rattle.pair_split.specs.Pair.{word_at}
+use Rattle.royalty_program.specs.Answered.{AskForOutput, IsDelivered, NameOutput}
+use Rattle.royalty_program.specs.Asked.{AskForHelp, AskForMerge, AskForRun, IsMergeError, path_if_given}
+use Rattle.royalty_program.specs.MergeCommand.{merge_app}
+use Rattle.royalty_program.specs.RunCommand.{run_app}
+use Rattle.royalty_program.specs.Status.{IsOfMerge}
+use Rattle.royalty_program.specs.Targets.{IsLeftOrHas, IsPut}
+use Rattle.royalty_program.specs.declared.failure.Failure.TheVariants.{Words}
+use Rattle.royalty_program.proofs.CommandNames.{run_not_merge, check_not_run, check_not_merge, merge_not_run}
+use Rattle.royalty_program.proofs.EndLemmas.{sent_on}
+use Rattle.royalty_program.proofs.OptionLemmas.{accepted_is_memory, no_help_given}
+
+kept_on : (old mid new : Option (List ℕ)) → Keeps old mid → Keeps mid new → Keeps old new
+kept_on None mid new first second = tt
+kept_on (Some xs) None new first second = absurd first
+kept_on (Some xs) (Some ys) None first second = absurd second
+kept_on (Some xs) (Some ys) (Some zs) first second = second ∙ first
+
+-- an error of a merge that asks for no help is none of help
+pub no_merge_help_given : (words : List (List ℕ)) (error : Error) → IsMergeError words error → ¬ AskForHelp merge_app words → (kind_of error ≢ kinds.DisplayHelp) × (kind_of error ≢ kinds.DisplayVersion)
+no_merge_help_given words error (inl is) none = no_help_given merge_app words error is none
+no_merge_help_given words error (inr wrong) none = (
+  λ help. let bad : kinds.ValueValidation ≡ kinds.DisplayHelp = sym wrong.kind ∙ help in cc,
+  λ version. let bad : kinds.ValueValidation ≡ kinds.DisplayVersion = sym wrong.kind ∙ version in cc,
+)
+
+-- its words are refused for their paths, or since clap does not accept them
+pub unmerged_words : (gives : List ℕ → List ℕ → Type 0) (words : List (List ℕ)) (error : Error) → kind_of error ≢ kinds.OutOfMemory → IsMergeError words error → IsOfMerge gives words (Words error)
+unmerged_words gives words error not_memory (inl is) = inr (λ accepted. not_memory (accepted_is_memory merge_app words error is accepted))
+unmerged_words gives words error not_memory (inr wrong) = inl wrong
+
+module _ (keeps : List ℕ → Option (List ℕ) → Type 0) (words : List (List ℕ)) where
+  -- a text stays where it went as the output is seen through
+  pub delivered_on : (old mid new : Option (List ℕ)) (text : List ℕ) → IsDelivered keeps words old mid text → Keeps mid new → IsDelivered keeps words old new text
+  delivered_on old mid new text went kept = record {
+    either = elim went.either [
+      | inl added ↦ inl (sent_on old mid new text added kept)
+      | inr (path, named, has, same) ↦ inr (path, named, has, kept_on old mid new same kept)
+    ];
+    kept = λ path asks. ((went.kept path asks).0, kept_on old mid new (went.kept path asks).1 kept);
+  }
+
+  -- words that ask for no output file are answered on standard output
+  pub delivered_out : (old new : Option (List ℕ)) (text : List ℕ) → ((path : List ℕ) → ¬ AskForOutput words path) → Appends old new text → IsDelivered keeps words old new text
+  delivered_out old new text none added = record { either = inl added; kept = λ path asks. absurd (none path asks) }
+
+  -- no other words do
+  pub no_output : ¬ (word_at words 1 ≡ codes "run") → ¬ (word_at words 1 ≡ codes "merge") → (path : List ℕ) → ¬ AskForOutput words path
+  no_output no_run no_merge path asks = elim asks [
+    | inl (run, named) ↦ no_run run.command
+    | inr (merge, named) ↦ no_merge merge.command
+  ]
+
+  pub no_name : ¬ (word_at words 1 ≡ codes "run") → ¬ (word_at words 1 ≡ codes "merge") → (path : List ℕ) → ¬ NameOutput words path
+  no_name no_run no_merge path named = elim named [
+    | inl (run, is) ↦ no_run run
+    | inr (merge, is) ↦ no_merge merge
+  ]
+
+  -- a run goes where its option says
+  pub delivered_run : (output : Option (List ℕ)) (old new : Option (List ℕ)) (text : List ℕ) → word_at words 1 ≡ codes "run" → output ≡ path_if_given run_app (codes "output") (drop 1 words)
+      → IsPut output keeps old new text → IsDelivered keeps words old new text
+  delivered_run None old new text command is put = delivered_out old new text
+      (λ path asks. elim asks [ inl (run, named) ↦ cc | inr (merge, named) ↦ absurd (run_not_merge (sym command ∙ merge.command)) ])
+      put
+  delivered_run (Some output) old new text command is put = record {
+    either = inr (output, inl (command, sym is), put.0, put.1);
+    kept = λ path asks. elim asks [
+      | inl (run, named) ↦ let same : output ≡ path = cc in (subst (λ (p : List ℕ). keeps p (Some text)) same put.0, put.1)
+      | inr (merge, named) ↦ absurd (run_not_merge (sym command ∙ merge.command))
+    ];
+  }
+
+  -- and so does a merge
+  pub delivered_merge : (output : Option (List ℕ)) (old new : Option (List ℕ)) (text : List ℕ) → word_at words 1 ≡ codes "merge" → output ≡ path_if_given merge_app (codes "output") (drop 1 words)
+      → IsPut output keeps old new text → IsDelivered keeps words old new text
+  delivered_merge None old new text command is put = delivered_out old new text
+      (λ path asks. elim asks [ inl (run, named) ↦ absurd (merge_not_run (sym command ∙ run.command)) | inr (merge, named) ↦ cc ])
+      put
+  delivered_merge (Some output) old new text command is put = record {
+    either = inr (output, inr (command, sym is), put.0, put.1);
+    kept = λ path asks. elim asks [
+      | inl (run, named) ↦ absurd (merge_not_run (sym command ∙ run.command))
+      | inr (merge, named) ↦ let same : output ≡ path = cc in (subst (λ (p : List ℕ). keeps p (Some text)) same put.0, put.1)
+    ];
+  }
+
+  -- a report goes to standard output
+  pub printed_check : (old new : Option (List ℕ)) (Answers : List ℕ → Type 0) → word_at words 1 ≡ codes "check" → (text : List ℕ) × IsDelivered keeps words old new text × Answers text
+      → (text : List ℕ) × Appends old new text × Answers text
+  printed_check old new Answers command (text, went, answers) = elim went.either [
+    | inl added ↦ (text, added, answers)
+    | inr (path, named, has, same) ↦ elim named [
+      | inl (run, is) ↦ absurd (check_not_run (sym command ∙ run))
+      | inr (merge, is) ↦ absurd (check_not_merge (sym command ∙ merge))
+    ]
+  ]
+
+-- what the path of an option has is what the path of its value has
+left_named : (old new : List ℕ → Option (List ℕ) → Type 0) (output : Option (String Global)) (named : Option (List ℕ)) (path : List ℕ) (P Q : List ℕ → Type 0) → option_map string_bytes output ≡ named → named ≡ Some path
+    → ((text : List ℕ) → P text → Q text) → IfSome output (λ value. IsLeftOrHas (old (string_bytes value)) (new (string_bytes value)) P) → IsLeftOrHas (old path) (new path) Q
+left_named old new None named path P Q is there weaker left = let bad : None ≡ Some path = is ∙ there in cc
+left_named old new (Some value) named path P Q is there weaker left =
+    let both : Some (string_bytes value) ≡ Some path = is ∙ there in
+    let same : string_bytes value ≡ path = cc both in
+    subst (λ (p : List ℕ). IsLeftOrHas (old p) (new p) Q) same (elim left [
+      | inl as_before ↦ inl as_before
+      | inr (text, has, is_text) ↦ inr (text, has, weaker text is_text)
+    ])
+
+module _ (old new : List ℕ → Option (List ℕ) → Type 0) (words : List (List ℕ)) (output : Option (String Global)) (P Q : List ℕ → Type 0) where
+  -- the path that a run names has what it had, or the whole text
+  pub left_run : word_at words 1 ≡ codes "run" → option_map string_bytes output ≡ path_if_given run_app (codes "output") (drop 1 words) → ((text : List ℕ) → P text → Q text)
+      → IfSome output (λ value. IsLeftOrHas (old (string_bytes value)) (new (string_bytes value)) P) → (path : List ℕ) → NameOutput words path → IsLeftOrHas (old path) (new path) Q
+  left_run command is weaker left path named = elim named [
+    | inl (run, there) ↦ left_named old new output (path_if_given run_app (codes "output") (drop 1 words)) path P Q is there weaker left
+    | inr (merge, there) ↦ absurd (run_not_merge (sym command ∙ merge))
+  ]
+
+  -- and so has that of a merge
+  pub left_merge : word_at words 1 ≡ codes "merge" → option_map string_bytes output ≡ path_if_given merge_app (codes "output") (drop 1 words) → ((text : List ℕ) → P text → Q text)
+      → IfSome output (λ value. IsLeftOrHas (old (string_bytes value)) (new (string_bytes value)) P) → (path : List ℕ) → NameOutput words path → IsLeftOrHas (old path) (new path) Q
+  left_merge command is weaker left path named = elim named [
+    | inl (run, there) ↦ absurd (merge_not_run (sym command ∙ run))
+    | inr (merge, there) ↦ left_named old new output (path_if_given merge_app (codes "output") (drop 1 words)) path P Q is there weaker left
+  ]
+
+-- where a run names no path, nothing is kept
+pub unused_run : (words : List (List ℕ)) (output : Option (String Global)) (Same : Type 0) → word_at words 1 ≡ codes "run" → option_map string_bytes output ≡ path_if_given run_app (codes "output") (drop 1 words)
+    → IfNone output Same → ((path : List ℕ) → ¬ NameOutput words path) → Same
+unused_run words None Same command is same none = same
+unused_run words (Some value) Same command is same none = absurd (none (string_bytes value) (inl (command, sym is)))
+
+pub unused_merge : (words : List (List ℕ)) (output : Option (String Global)) (Same : Type 0) → word_at words 1 ≡ codes "merge" → option_map string_bytes output ≡ path_if_given merge_app (codes "output") (drop 1 words)
+    → IfNone output Same → ((path : List ℕ) → ¬ NameOutput words path) → Same
+unused_merge words None Same command is same none = same
+unused_merge words (Some value) Same command is same none = absurd (none (string_bytes value) (inr (command, sym is)))

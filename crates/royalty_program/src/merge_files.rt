@@ -1,0 +1,207 @@
+//! A merge over files.
+
+ghost use Rattle.std.specs.Io.KnownBytes.{Appends};
+ghost use Rattle.std.specs.Prelude.{◌≡◌, ◌<◌, ◌≤◌, ◌+◌, ◌^◌, ℕ, List, Some, IfErr, IfNone, IfOk, IfSome, OnErr, OnOk, map, string_bytes};
+ghost use Rattle.std.specs.Option.{option_map};
+ghost use Rattle.royalty_program.specs.MergeFiles.{AreOpened, AreSoundTexts, IsMergeOver, IsSoundText};
+ghost use Rattle.royalty_program.specs.Status.{IsOfOne, IsOfOutput, IsOfRefusal, IsOfText, IsOfTexts, IsRefusal, IsUnopened, status_of};
+ghost use Rattle.royalty_program.specs.Targets.{IsLeftOrHas, IsPut};
+ghost use Rattle.royalty_program.specs.declared.failure.Failure.TheVariants.{Many};
+
+use crate::failure::Failure;
+use crate::files::{Source, unread};
+use crate::merge_command::MergeWords;
+use crate::targets::{Target, finish, unkept};
+use merge_statements::{Refusal, TextRefusal, check, merge};
+use std::alloc::Global;
+use std::io::{self, ErrorKind, Write};
+
+/// The most usage lines that texts are of together.
+const MOST_USAGE_LINES: u64 = 1_000_000_000_000_000_000;
+
+/// Prints what the texts of statements in the files of these paths merge to, in their order. All are read through before anything is printed.
+pub fn merge_files<S: Source, W: Write>(
+    alloc: Global,
+    files: &S,
+    paths: &[String],
+    out: &mut W,
+) -> Result<io::Result<()>, Failure>
+    ensures merged { IfOk result (λ printed. OnOk printed ((text : List ℕ) × Appends (W.contents out.old) (W.contents out.new) text
+        × IsMergeOver (S.gives files.now) (map string_bytes paths.now) text)) }
+    ensures failure { IfErr result IsRefusal }
+    ensures files { IfErr result (IsOfTexts (S.gives files.now) (map string_bytes paths.now)) }
+    ensures silent { IfErr result (λ failure. status_of failure ≤ 2 → out.new ≡ out.old) }
+{
+    check_all(alloc, files, paths)?;
+    let readers = open_all(alloc, files, paths)?;
+    match merge(alloc, readers, out) {
+        Ok(()) => Ok(Ok(())),
+        Err(TextRefusal { place, refusal }) => match refusal {
+            Refusal::Write(error) => Ok(Err(error)),
+            _ => Err(changed(alloc, paths, place, refusal)),
+        },
+    }
+}
+
+/// The same into the file of a path: whole, or that is as it was.
+fn merge_kept<S: Source, T: Target>(
+    alloc: Global,
+    files: &S,
+    target: &mut T,
+    paths: &[String],
+    path: String,
+) -> Result<(), Failure>
+    ensures merged { IfOk result (λ _. (text : List ℕ) × T.keeps target.new (string_bytes path) (Some text)
+        × IsMergeOver (S.gives files.now) (map string_bytes paths.now) text) }
+    ensures failure { IfErr result IsRefusal }
+    ensures files { IfErr result (IsOfOutput (Some path) (IsOfTexts (S.gives files.now) (map string_bytes paths.now))) }
+    ensures left { OnErr result (IsLeftOrHas (T.keeps target.old (string_bytes path)) (T.keeps target.new (string_bytes path))
+        (IsMergeOver (S.gives files.now) (map string_bytes paths.now))) }
+{
+    let mut draft = match target.begin(alloc, path.as_str()) {
+        Ok(draft) => draft,
+        Err(error) => return Err(unkept(error.kind(), path)),
+    };
+    let written = merge_files(alloc, files, paths, &mut draft);
+    finish(target, draft, path, written)
+}
+
+/// Prints the merged text, or keeps it in the file of a path, where there is one.
+pub fn merge_out<S: Source, T: Target, W: Write>(
+    alloc: Global,
+    files: &S,
+    target: &mut T,
+    asked: MergeWords,
+    out: &mut W,
+) -> Result<io::Result<()>, Failure>
+    ensures merged { IfOk result (λ printed. OnOk printed ((text : List ℕ) × IsPut (option_map string_bytes asked.output) (T.keeps target.new) (W.contents out.old) (W.contents out.new) text
+        × IsMergeOver (S.gives files.now) (map string_bytes asked.statements.items) text)) }
+    ensures failure { IfErr result IsRefusal }
+    ensures files { IfErr result (IsOfOutput asked.output (IsOfTexts (S.gives files.now) (map string_bytes asked.statements.items))) }
+    ensures silent { IfErr result (λ failure. status_of failure ≤ 2 → out.new ≡ out.old) }
+    ensures left { IfSome asked.output (λ path. IsLeftOrHas (T.keeps target.old (string_bytes path)) (T.keeps target.new (string_bytes path))
+        (IsMergeOver (S.gives files.now) (map string_bytes asked.statements.items))) }
+    ensures unused { IfNone asked.output (target.new ≡ target.old) }
+{
+    let MergeWords { output, statements } = asked;
+    match output {
+        None => merge_files(alloc, files, statements.as_slice(), out),
+        Some(path) => {
+            merge_kept(alloc, files, target, statements.as_slice(), path)?;
+            Ok(Ok(()))
+        }
+    }
+}
+
+/// Reads the text of each path through.
+fn check_all<S: Source>(alloc: Global, files: &S, paths: &[String]) -> Result<(), Failure>
+    ensures sound { OnOk result ((lines : ℕ) × AreSoundTexts (S.gives files.now) (map string_bytes paths.now) lines × (lines ≤ 10 ^ 18)) }
+    ensures failure { IfErr result IsRefusal }
+    ensures files { IfErr result (IsOfTexts (S.gives files.now) (map string_bytes paths.now)) }
+{
+    let mut lines = 0;
+    for path in paths {
+        let own = check_text(alloc, files, path.as_str())?;
+        lines = more_lines(lines, own)?;
+    }
+    Ok(())
+}
+
+/// Reads the text of a path through, and answers how many usage lines it is of.
+fn check_text<S: Source>(alloc: Global, files: &S, path: &str) -> Result<u64, Failure>
+    ensures sound { IfOk result (IsSoundText (S.gives files.now) path.now) }
+    ensures failure { IfErr result IsRefusal }
+    ensures refused { IfErr result (IsOfText (S.gives files.now) path.now) }
+{
+    let reader = match files.open(path) {
+        Ok(reader) => reader,
+        Err(error) => return Err(unopened(alloc, error.kind(), path)),
+    };
+    match check(alloc, reader) {
+        Ok(lines) => Ok(lines),
+        Err(refusal) => Err(refused(alloc, refusal, path)),
+    }
+}
+
+/// So many usage lines and more, as long as they are not too many.
+fn more_lines(lines: u64, more: u64) -> Result<u64, Failure>
+    ensures sum { IfOk result (λ all. all ≡ lines + more) }
+    ensures few { IfOk result (λ all. all ≤ 10 ^ 18) }
+    ensures failure { IfErr result (λ failure. failure ≡ Many) }
+    ensures many { IfErr result (λ _. 10 ^ 18 < lines + more) }
+{
+    match lines.checked_add(more) {
+        Some(all) if all <= MOST_USAGE_LINES => Ok(all),
+        _ => Err(Failure::Many),
+    }
+}
+
+/// Readers of the files of these paths, in their order.
+fn open_all<S: Source>(
+    alloc: Global,
+    files: &S,
+    paths: &[String],
+) -> Result<Vec<S::Reader>, Failure>
+    ensures opened { IfOk result (λ readers. AreOpened (S.gives files.now) (map string_bytes paths.now) (map S.Reader.remaining readers.items)) }
+    ensures failure { IfErr result IsRefusal }
+    ensures files { IfErr result (IsOfOne (map string_bytes paths.now)) }
+{
+    let mut readers = Vec::new(alloc);
+    for path in paths {
+        let reader = match files.open(path.as_str()) {
+            Ok(reader) => reader,
+            Err(error) => return Err(unopened(alloc, error.kind(), path.as_str())),
+        };
+        match readers.push(reader) {
+            Ok(()) => {}
+            Err(_) => return Err(Failure::Room),
+        }
+    }
+    Ok(readers)
+}
+
+/// Why there is no reader of a path, by the kind of the error.
+fn unopened(alloc: Global, kind: ErrorKind, path: &str) -> Failure
+    ensures failure { IsRefusal result }
+    ensures file { IsUnopened path.now result }
+{
+    match String::from_str(alloc, path) {
+        Ok(path) => unread(kind, path),
+        Err(_) => Failure::Room,
+    }
+}
+
+/// Why the text of a path is refused. A text of more rows than are counted cannot be read.
+fn refused(alloc: Global, refusal: Refusal, path: &str) -> Failure
+    ensures failure { IsRefusal result }
+    ensures refused { IsOfRefusal path.now refusal result }
+{
+    let Ok(path) = String::from_str(alloc, path) else {
+        return Failure::Room;
+    };
+    match refusal {
+        Refusal::Fault(fault) => Failure::Statement { fault, path },
+        Refusal::Memory => Failure::Room,
+        Refusal::Many => Failure::File(path),
+        Refusal::Read(error) | Refusal::Write(error) => unread(error.kind(), path),
+    }
+}
+
+/// Why texts that were read through cannot be merged, where the one in a place is refused: it changed, or cannot be read any more.
+fn changed(alloc: Global, paths: &[String], place: u64, refusal: Refusal) -> Failure
+    ensures failure { IsRefusal result }
+    ensures one { IsOfOne (map string_bytes paths.now) result }
+    ensures late { 2 < status_of result }
+{
+    let Some(path) = paths.get(place as usize) else {
+        return Failure::Room;
+    };
+    let Ok(path) = path.clone() else {
+        return Failure::Room;
+    };
+    match refusal {
+        Refusal::Memory => Failure::Room,
+        Refusal::Fault(_) | Refusal::Many => Failure::Changed(path),
+        Refusal::Read(error) | Refusal::Write(error) => unread(error.kind(), path),
+    }
+}
