@@ -1,5 +1,5 @@
 -- Texts of statements over files, path by path.
-use Rattle.std.proofs.Common.{◌≡◌, ◌∙◌, ◌+◌, ◌<◌, ◌≤◌, ◌^◌, ◌++◌, ◌∷◌, ℕ, List, [], Option, None, Some, ap, arith, length, map, refl, slice_index_or, subst, suc, sym, take, zero}
+use Rattle.std.proofs.Common.{◌≡◌, ◌∙◌, ◌+◌, ◌<◌, ◌≤◌, ◌^◌, ◌++◌, ◌∷◌, ℕ, List, [], Option, ap, arith, length, map, refl, slice_index_or, subst, suc, sym, take, zero}
 use Rattle.std.proofs.lemmas.List.{length-map, map-append, map_more, take-map}
 use Rattle.std.specs.Option.{IfSome}
 use Rattle.std.specs.List.{Contains}
@@ -12,7 +12,6 @@ use Rattle.merge_statements.specs.Refused.{IsFaultIn, IsRefusedFor}
 use Rattle.merge_statements.specs.Together.{AreTexts, WritesMerge}
 use Rattle.merge_statements.specs.Together.AreTexts.{none as no_texts, more as more_texts}
 use Rattle.merge_statements.specs.declared.refusal.Refusal.{Refusal}
-use Rattle.merge_statements.specs.declared.refusal.Refusal.TheVariants as refusal
 use Rattle.royalty_program.specs.MergeFiles.{AreOpened, AreSoundTexts, AreTextsAt, Gives, HoldsOf, IsMergeOver, IsSoundText}
 use Rattle.royalty_program.specs.Status.{IsOfOne, IsOfRefusal, IsOfText, IsOfTexts, IsUnopened, failure_of_file}
 use Rattle.royalty_program.specs.declared.failure.Failure.{Failure}

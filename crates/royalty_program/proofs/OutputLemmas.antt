@@ -1,5 +1,5 @@
 -- Where a text went: to standard output, or into the file that the words name.
-use Rattle.std.proofs.Common.{◌≡◌, ◌≢◌, ◌∙◌, ◌⊎◌, ℕ, List, Option, None, Some, codes, drop, inl, inr, subst, sym}
+use Rattle.std.proofs.Common.{◌≡◌, ◌≢◌, ◌∙◌, ℕ, List, Option, None, Some, codes, drop, inl, inr, subst, sym}
 use Rattle.std.specs.Io.KnownBytes.{Appends, Keeps}
 use Rattle.std.specs.Option.{IfNone, IfSome, option_map}
 use Rattle.std.specs.Prelude.{String, string_bytes}
@@ -9,7 +9,7 @@ use Rattle.clap.specs.declared.error.Error.{Error}
 use Rattle.clap.specs.declared.error.kind.ErrorKind.TheVariants as kinds
 use Rattle.pair_split.specs.Pair.{word_at}
 use Rattle.royalty_program.specs.Answered.{AskForOutput, IsDelivered, NameOutput}
-use Rattle.royalty_program.specs.Asked.{AskForHelp, AskForMerge, AskForRun, IsMergeError, path_if_given}
+use Rattle.royalty_program.specs.Asked.{AskForHelp, IsMergeError, path_if_given}
 use Rattle.royalty_program.specs.MergeCommand.{merge_app}
 use Rattle.royalty_program.specs.RunCommand.{run_app}
 use Rattle.royalty_program.specs.Status.{IsOfMerge}
