@@ -36,7 +36,7 @@ pub fn merge<R: Read + Drop, W: Write>(
     merge_parts(alloc, parts.as_mut_slice(), &mut page, out)?;
     match page.pass_on(out) {
         Ok(()) => Ok(()),
-        Err(error) => Err(refused(0, Refusal::Write(error))),
+        Err(refusal) => Err(refused(0, refusal)),
     }
 }
 
@@ -189,7 +189,7 @@ fn push_total<W: Write>(
 {
     match page.push_total(out, kind, whose, sum.0, sum.1) {
         Ok(()) => Ok(()),
-        Err(error) => Err(refused(0, Refusal::Write(error))),
+        Err(refusal) => Err(refused(0, refusal)),
     }
 }
 

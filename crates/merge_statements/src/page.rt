@@ -6,10 +6,11 @@ ghost use Rattle.std.specs.Prelude.{◌≡◌, ◌∷◌, [], IfOk, OnOk, decima
 ghost use Rattle.csv_table.specs.Written.{text_of_row};
 ghost use Rattle.merge_statements.specs.Statements.{total_row};
 
+use crate::refusal::Refusal;
 use csv_table::RowWriter;
 use itoa::Buffer;
 use std::alloc::{AllocError, Global};
-use std::io::{self, Write};
+use std::io::Write;
 use std::marker::Model;
 
 /// How long a page becomes, in bytes, before it goes on.
@@ -42,7 +43,7 @@ impl Page {
     }
 
     /// Adds a text.
-    pub(crate) fn push<W: Write>(&mut self, out: &mut W, text: &[u8]) -> io::Result<()>
+    pub(crate) fn push<W: Write>(&mut self, out: &mut W, text: &[u8]) -> Result<(), Refusal>
         ensures { OnOk result (Appends (append_known (W.contents out.old) self.old) (append_known (W.contents out.new) self.new) text.now) }
     {
         if self.text.len() >= PAGE_BYTES {
@@ -53,13 +54,17 @@ impl Page {
     }
 
     /// Passes on what there is.
-    pub(crate) fn pass_on<W: Write>(&mut self, out: &mut W) -> io::Result<()>
+    pub(crate) fn pass_on<W: Write>(&mut self, out: &mut W) -> Result<(), Refusal>
         ensures empty { OnOk result (self.new ≡ []) }
         ensures passed { OnOk result (Appends (append_known (W.contents out.old) self.old) (W.contents out.new) []) }
     {
-        out.write_all(self.text.as_slice())?;
-        self.text.clear();
-        Ok(())
+        match out.write_all(self.text.as_slice()) {
+            Ok(()) => {
+                self.text.clear();
+                Ok(())
+            }
+            Err(error) => Err(Refusal::Write(error)),
+        }
     }
 
     /// Adds a row of so many portions or lines, and what they come to.
@@ -70,7 +75,7 @@ impl Page {
         whose: &[u8],
         count: u64,
         total: i128,
-    ) -> io::Result<()>
+    ) -> Result<(), Refusal>
         ensures { OnOk result (Appends (append_known (W.contents out.old) self.old) (append_known (W.contents out.new) self.new) (text_of_row (total_row kind.now whose.now count total))) }
     {
         let text = total_text(self.alloc, kind, whose, count, total)?;
@@ -84,7 +89,7 @@ fn total_text(
     whose: &[u8],
     count: u64,
     total: i128,
-) -> Result<Vec<u8>, io::Error>
+) -> Result<Vec<u8>, AllocError>
     ensures { IfOk result (λ text. text.items ≡ text_of_row (total_row kind.now whose.now count total)) }
 {
     let mut digits = Buffer::new();
@@ -96,7 +101,5 @@ fn total_text(
         digits.format(count).as_bytes(),
         sum.format(total).as_bytes(),
     ])?;
-    let mut text = Vec::new(alloc);
-    rows.write_to(&mut text)?;
-    Ok(text)
+    rows.into_text()
 }

@@ -274,14 +274,8 @@ impl<R: Read + Drop> Part<R> {
 fn push_line<W: Write>(page: &mut Page, out: &mut W, line: &[u8]) -> Result<(), Refusal>
     ensures { OnOk result (Appends (append_known (W.contents out.old) page.old) (append_known (W.contents out.new) page.new) (line.now ++ 10 ∷ [])) }
 {
-    match page.push(out, line) {
-        Ok(()) => {}
-        Err(error) => return Err(Refusal::Write(error)),
-    }
-    match page.push(out, b"\n") {
-        Ok(()) => Ok(()),
-        Err(error) => Err(Refusal::Write(error)),
-    }
+    page.push(out, line)?;
+    page.push(out, b"\n")
 }
 
 /// Goes on behind the line at hand, if it is a row that can stand there.
