@@ -133,7 +133,7 @@ r help check [Usage: royalty_run check] -> 0 out
 r --version [royalty_run 0.1.0|logic ] -> 0 out
 r help split [Usage: royalty_run split] -> 0 out
 r help run [Usage: royalty_run run] -> 0 out
-r --help [  4  a file cannot be read, or the output refused a write|] -> 0 out
+r --help [  4  a file cannot be read or written, or the output refused a write|] -> 0 out
 r run --help [at most 268435456 bytes] -> 0 out
 r run --help [code,groups: a TIS numeric code] -> 0 out
 r run --help [usage,work,territory,right,amount: a name] -> 0 out

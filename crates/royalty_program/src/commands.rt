@@ -38,7 +38,7 @@ Exit status:
   1  an input file is refused for what is in it, or a check tells of a fault
   2  the words are refused
   3  memory was refused
-  4  a file cannot be read, or the output refused a write";
+  4  a file cannot be read or written, or the output refused a write";
 
 /// What the words of the command line ask for.
 #[derive(Debug, Drop)]
