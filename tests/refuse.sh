@@ -92,7 +92,8 @@ sweep() {
     ((refusals > 0)) || fail "$1: nothing was refused"
 }
 
-# sweep_all: all of it over the words, whose run starts so many threads that it cannot do without
+# sweep_all THREADS [FILES]: all of it over the words, whose run starts so many threads that it cannot do without, and opens, gives permissions, brings to the disk or renames so many
+# files: one that is not brought to the disk is missing among them
 sweep_all() {
     local threads=$1 allocations transfers files=0
     answer REFUSE=0
@@ -104,6 +105,7 @@ sweep_all() {
     if [[ ${words[0]} != split ]]; then
         sweep REFUSE_FILE is_cut_off
         files=$refusals
+        ((files == ${2-$files})) || fail "$files files refused, not $2"
     fi
     if ((threads > 0)); then
         sweep REFUSE_THREAD is_out_of_room
@@ -147,11 +149,11 @@ done
 kept=$room/kept
 set_run "$examples/usage.csv" 2 1 16
 words+=(--output "$kept") name="$name, into a file"
-sweep_all 3
+sweep_all 3 9
 cp "$whole" "$room/all"
 printf 'T,,0,0\nR,,0,0\n' > "$room/none"
 words=(merge --output "$kept" "$room/all" "$room/none") name='a merge into a file'
-sweep_all 0
+sweep_all 0 10
 kept='' may_begin=1
 words=(merge "$room/none" "$room/all") name='a merge'
 sweep_all 0

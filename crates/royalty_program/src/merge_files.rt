@@ -33,6 +33,42 @@ pub fn merge_files<S: Source, W: Write>(
     ensures silent { IfErr result (λ failure. status_of failure ≤ 2 → out.new ≡ out.old) }
 {
     check_all(alloc, files, paths)?;
+    merge_opened(alloc, files, paths, out)
+}
+
+/// The same of texts that are read once, for an output that may have a beginning where one is refused. Only then are they read through, to tell which is the first.
+fn merge_once<S: Source, W: Write>(
+    alloc: Global,
+    files: &S,
+    paths: &[String],
+    out: &mut W,
+) -> Result<io::Result<()>, Failure>
+    ensures merged { IfOk result (λ printed. OnOk printed ((text : List ℕ) × Appends (W.contents out.old) (W.contents out.new) text
+        × IsMergeOver (S.gives files.now) (map string_bytes paths.now) text)) }
+    ensures failure { IfErr result IsRefusal }
+    ensures files { IfErr result (IsOfTexts (S.gives files.now) (map string_bytes paths.now)) }
+{
+    match merge_opened(alloc, files, paths, out) {
+        Ok(printed) => Ok(printed),
+        Err(failure) => {
+            check_all(alloc, files, paths)?;
+            Err(failure)
+        }
+    }
+}
+
+/// Prints what the texts merge to while they are read.
+fn merge_opened<S: Source, W: Write>(
+    alloc: Global,
+    files: &S,
+    paths: &[String],
+    out: &mut W,
+) -> Result<io::Result<()>, Failure>
+    ensures merged { IfOk result (λ printed. OnOk printed ((text : List ℕ) × Appends (W.contents out.old) (W.contents out.new) text
+        × IsMergeOver (S.gives files.now) (map string_bytes paths.now) text)) }
+    ensures failure { IfErr result IsRefusal }
+    ensures one { IfErr result (IsOfOne (map string_bytes paths.now)) }
+{
     let readers = open_all(alloc, files, paths)?;
     match merge(alloc, readers, out) {
         Ok(()) => Ok(Ok(())),
@@ -62,7 +98,7 @@ fn merge_kept<S: Source, T: Target>(
         Ok(draft) => draft,
         Err(error) => return Err(unkept(error.kind(), path)),
     };
-    let written = merge_files(alloc, files, paths, &mut draft);
+    let written = merge_once(alloc, files, paths, &mut draft);
     finish(target, draft, path, written)
 }
 
