@@ -153,7 +153,7 @@ sweep_all 3 9
 cp "$whole" "$room/all"
 printf 'T,,0,0\nR,,0,0\n' > "$room/none"
 words=(merge --output "$kept" "$room/all" "$room/none") name='a merge into a file'
-sweep_all 0 10
+sweep_all 0 8
 kept='' may_begin=1
 words=(merge "$room/none" "$room/all") name='a merge'
 sweep_all 0

@@ -26,8 +26,8 @@ after another, in the order of the parts, and each once.
 The answer is one text in the same form: each payee with its portions of the first file, then those
 of the second, and so on, and a sum of them all; then so for the residue, and all usage lines.
 
-Each file is read twice, first to look for what is wrong in it and then to merge it, so it must be a
-file and no pipe. Where a text is refused, nothing is printed but the fault and its row, as
+Each file may be read twice, to look for what is wrong in it before anything is printed, so it must
+be a file and no pipe. Where a text is refused, nothing is printed but the fault and its row, as
   royalty_run: statement fault 1 at row 3 of february.csv
 With `--output F` the statements go to a new file beside F, which takes the name F once it is whole;
 whatever fails, F stays as it was.
