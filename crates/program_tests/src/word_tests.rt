@@ -144,7 +144,7 @@ r run --help [--output <F>   A file for the statements, in place of standard out
 r help merge [Usage: royalty_run merge [OPTIONS] <STATEMENTS>...|] -> 0 out
 r merge --help [--output <F>  A file for the merged statements, in place of standard output|] -> 0 out
 r merge --help [in their order, at most 1024 of them|] -> 0 out
-r merge --help [Each file is read twice] -> 0 out
+r merge --help [Each file may be read twice] -> 0 out
 r merge --help [merge --output year.csv january.csv february.csv march.csv] -> 0 out
 r run --help [table of faults in docs/FORMATS.md] -> 0 out
 r run --help [P (performing), M (mechanical) or S (synchronisation)] -> 0 out
