@@ -113,6 +113,10 @@ check 'a path that ends in a blank' 1 '' 'royalty_run: tis fault 1 at row 0\n' "
 check 'a standard error that is full' 1 '' '' bash -c '"$0" "$@" 2>/dev/full' "$program" run --tis usage.csv --cwr works.cwr --usage usage.csv "${plan[@]}"
 check 'an output that is full' 4 '' 'royalty_run: cannot write\n' bash -c '"$0" split 3 A=5000 >/dev/full' "$program"
 
+# A file of registrations whose one fault is more payees than a run has accounts: a check tells that fault, and no lack of memory.
+awk 'BEGIN { for (work = 0; work < 64; work++) { printf "NWR%016d%-62s%-14s\n", 0, "SONG", "W" work; for (party = 0; party < 256; party++) printf "SPT%016d%-9s      000010000100001I2136\n", 0, "P" work * 256 + party } }' >many.cwr
+check 'more payees than accounts' 1 'many.cwr: the parties in force have more than 16383 payees (fault 8)\nterritories.csv: territories: 22\nusage.csv: usage lines: 9\n' '' "$program" check --tis territories.csv --cwr many.cwr --usage usage.csv
+
 # An output file is whole under its name, or it is as it was and nothing is left beside it.
 # is_alone DIRECTORY NAME..: a directory has files of these names and no others
 is_alone() { local directory=$1; shift; [ "$(ls -A "$directory")" = "$(printf '%s\n' "$@" | sort)" ]; }
