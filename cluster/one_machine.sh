@@ -21,8 +21,8 @@ fi
 PATH=$PATH:/usr/sbin:/usr/local/sbin
 program=$(realpath "$1")
 
-# The path of a socket has at most 107 bytes, and munged refuses folders that others may write to.
-room=$(mktemp -d /tmp/month.XXXXXX)
+# The path of a socket has at most 107 bytes, so a long TMPDIR will not do, and munged refuses folders that others may write to.
+room=$(mktemp -d --tmpdir month.XXXXXX)
 daemons=()
 end() {
     local status=$? daemon
