@@ -126,7 +126,7 @@ def registration(kind, number, work, interests, rng):
 
 
 def generate(outdir, lines, works, parties, seed, taken_back=0.0):
-    assert 1 <= lines <= 1_000_000 and 1 <= works <= 20_000 and 2 <= parties <= 16_383
+    assert 1 <= lines <= 20_000_000 and 1 <= works <= 20_000 and 2 <= parties <= 16_383
     rng = random.Random(seed)
     os.makedirs(outdir, exist_ok=True)
     rows, lands = make_tis(rng)

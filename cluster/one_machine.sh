@@ -1,15 +1,17 @@
 #!/usr/bin/env bash
-# A small month under Slurm on this machine alone: munged, slurmctld and slurmd are started for it, on the loopback address and with
-# configurations of their own in a temporary folder, and are ended again. The merged text has to be that of `month run`, which
-# does without Slurm. Nothing is installed, and no Slurm that runs here already is touched.
+# A month of 16 parts under Slurm on this machine alone: munged, slurmctld and slurmd are started for it, on the loopback
+# address and with configurations of their own in a temporary folder, and are ended again. The process of one part is killed
+# while it runs: nothing may be merged then, and the part is run again alone. The merged text has to be that of the plain
+# program of bench/ over the whole list. Nothing is installed, and no Slurm that runs here already is touched.
 #
-#   cluster/one_machine.sh PROGRAM
-#   cluster/one_machine.sh --needs    only says which commands are missing
+#   cluster/one_machine.sh PROGRAM [LINES]   a month of so many usage lines, 1,600,000 if it is not said
+#   cluster/one_machine.sh --needs           only says which commands are missing
 set -euo pipefail
 here=$(realpath "$(dirname "$0")")
+bench=$(realpath "$here/../bench")
 
 missing=()
-for word in sbatch squeue sinfo scontrol slurmctld slurmd munged python3 sha256sum; do
+for word in sbatch squeue sinfo scontrol slurmctld slurmd munged python3 cargo sha256sum; do
     # Daemons are often where only root's path leads.
     PATH=$PATH:/usr/sbin:/usr/local/sbin command -v "$word" > /dev/null || missing+=("$word")
 done
@@ -20,6 +22,8 @@ fi
 [[ ${1-} != --needs ]] || exit 0
 PATH=$PATH:/usr/sbin:/usr/local/sbin
 program=$(realpath "$1")
+lines=${2:-1600000}
+[[ $lines =~ ^[1-9][0-9]{2,7}$ ]] && ((lines <= 20000000)) || { echo 'one_machine.sh: LINES is a number from 100 to 20000000' >&2 && exit 2; }
 
 # The path of a socket has at most 107 bytes, so a long TMPDIR will not do, and munged refuses folders that others may write to.
 room=$(mktemp -d --tmpdir month.XXXXXX)
@@ -112,11 +116,32 @@ wait_for 60 'the node is idle' is_idle
 
 month=$here/month
 cd "$room"
-python3 "$here/../bench/large.py" made --lines 160000 --works 2000 --parties 200 --seed 3
-for folder in 'by Slurm' 'without Slurm'; do
-    "$month" cut "$folder" --tis made/tis.csv --cwr made/works.cwr --usage made/usage.csv --program "$program" --lines 10000
-done
-"$month" run 'without Slurm' -j 2
+python3 "$bench/large.py" made --lines "$lines" --works 20000 --parties 400 --seed 3
+files=(--tis made/tis.csv --cwr made/works.cwr --usage made/usage.csv)
+(cd "$bench/plain" && cargo build --release --offline --quiet)
+"$bench/plain/target/release/plain" run "${files[@]}" --workers 1 --readers 1 --nodes 64 --whole > whole.statements
+
+# Waits until the process that runs the part with this name is there, and kills it.
+cat > kill_part.py <<'TEXT'
+import os, signal, sys, time
+
+end = time.monotonic() + 300
+while time.monotonic() < end:
+    for entry in os.listdir("/proc"):
+        if not entry.isdigit():
+            continue
+        try:
+            with open(f"/proc/{entry}/cmdline", "rb") as file:
+                words = file.read().split(b"\0")
+        except OSError:
+            continue
+        if any(word.endswith(b"royalty_run") for word in words[:2]) and b"run" in words and sys.argv[1].encode() in words:
+            os.kill(int(entry), signal.SIGKILL)
+            print("killed process", entry, "of", sys.argv[1])
+            sys.exit()
+    time.sleep(0.002)
+sys.exit("no process of " + sys.argv[1])
+TEXT
 
 # Tasks ask for less memory than the scripts say, so that several are run at a time here.
 options=(-- --mem=500M --cpus-per-task=1)
@@ -124,17 +149,29 @@ is_done() {
     local queue
     queue=$(squeue --noheader) && [[ -z $queue ]]
 }
-mv 'by Slurm/parts/part-0007.csv' away
-"$month" submit 'by Slurm' "${options[@]}"
-wait_for 300 'the jobs of the month have ended' is_done
-if [[ -e 'by Slurm/month.statements' ]]; then
+# wait_for_jobs SINCE: until no job is left
+wait_for_jobs() {
+    wait_for 1800 'the jobs of the month have ended' is_done
+    echo "the jobs took $((SECONDS - $1)) s"
+}
+
+"$month" cut march "${files[@]}" --program "$program" --lines "$(((lines + 15) / 16))"
+python3 kill_part.py parts/part-0007.csv &
+killer=$! since=$SECONDS
+"$month" submit march "${options[@]}"
+wait "$killer"
+wait_for_jobs "$since"
+if [[ -e march/month.statements ]]; then
     echo 'one_machine.sh: it was merged without part 7' >&2
     exit 1
 fi
-"$month" status 'by Slurm' || true
-mv away 'by Slurm/parts/part-0007.csv'
-"$month" again 'by Slurm' "${options[@]}"
-wait_for 300 'the jobs of the month have ended' is_done
-"$month" status 'by Slurm'
-cmp 'by Slurm/month.statements' 'without Slurm/month.statements'
+status=0
+"$month" status march > said || status=$?
+cat said
+[[ $status == 1 && $(< said) == *'part-0007: the program was killed by signal 9'* ]]
+since=$SECONDS
+"$month" again march "${options[@]}"
+wait_for_jobs "$since"
+"$month" status march
+cmp march/month.statements whole.statements
 echo 'one_machine.sh: ok'
