@@ -1,5 +1,6 @@
-//! Where the nodes, the words and the slots of a table are. Each node has eight words, of which it uses four; the head of a
-//! mailbox stands in the fifth of its stub. Six words come before the first node.
+//! Where the nodes, the words and the slots of a table are. Each node has eight words, of which it
+//! uses four; the head of a mailbox stands in the fifth of its stub. Six words come before the first
+//! node.
 ghost use Rattle.std.specs.Prelude.{◌≡◌, ◌<◌, ◌^◌};
 ghost use Rattle.node_table.specs.Layout.{amount_word_of, first_of, head_word, line_word_of, next_word, slot_of, slots_in, stub_of, turn_word, words_in};
 
