@@ -11,6 +11,7 @@ mod posting;
 
 use pooling::post_to_pool;
 use posting::{Came, post_of_one, post_of_two};
+use queue_core::{MOST_MAILBOXES, MOST_NODES, MOST_POSTS};
 use std::alloc::{AllocError, Global};
 use std::io;
 use std::process::ExitCode;
@@ -33,7 +34,7 @@ fn through_mailbox<R: Threads + Sync>(
 ) -> Result<Option<Came>, AllocError> {
     let nodes = number_at(line, 1);
     let posts = number_at(line, 2);
-    if nodes == 0 || nodes > 64 || posts > 1_000_000 {
+    if !(1..=MOST_NODES).contains(&nodes) || posts > MOST_POSTS {
         return Ok(None);
     }
     Ok(match number_at(line, 0) {
@@ -51,10 +52,13 @@ fn through_pool<R: Threads + Sync>(
 ) -> Result<Option<Came>, AllocError> {
     let (senders, readers) = (number_at(line, 1), number_at(line, 2));
     let (mailboxes, nodes, posts) = (number_at(line, 3), number_at(line, 4), number_at(line, 5));
-    if senders == 0 || senders > 2 || readers == 0 || readers > 2 {
+    if !(1..=2).contains(&senders) || !(1..=2).contains(&readers) {
         return Ok(None);
     }
-    if mailboxes == 0 || mailboxes > 16_384 || nodes == 0 || nodes > 64 || posts > 1_000_000 {
+    if !(1..=MOST_MAILBOXES).contains(&mailboxes)
+        || !(1..=MOST_NODES).contains(&nodes)
+        || posts > MOST_POSTS
+    {
         return Ok(None);
     }
     let came = post_to_pool(rt, alloc, senders, readers, mailboxes, nodes, posts)?;

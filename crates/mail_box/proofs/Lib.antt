@@ -1,5 +1,4 @@
 pub mod Relays
-pub mod SeatLists
 pub mod LaneLists
-pub mod Endings
+pub use Rattle.queue_core.proofs.Endings
 pub mod AwaitedLemmas

@@ -8,7 +8,7 @@ use Rattle.mail_box.specs.declared.lane_mail.Lanes.{Lanes}
 use Rattle.mail_box.specs.declared.lane_mail.LaneSender.{LaneSender}
 use Rattle.mail_box.specs.declared.lane_mail.LaneReceiver.{LaneReceiver}
 use Rattle.mail_box.specs.declared.lane_mail.LaneHeld.{LaneHeld}
-use Rattle.mail_box.specs.Mails.{HeldView, IsItemFor, ReceiverView, SenderView, with_item}
+use Rattle.mail_box.specs.Mails.{HasGained, HeldView, ReceiverView, SenderView}
 
 abbrev pub sender_of : LaneSender → SenderView Lanes
 sender_of s = record { mailbox = arc_value s.lanes; number = s.number; nodes = (arc_value s.lanes).nodes; left = s.left; is_ended = s.ended; sent = (view s.pass).sent }
@@ -42,4 +42,4 @@ IsWholeAmong from to r = (number : ℕ) → from ≤ number → number < to → 
 
 -- from the first receiver to the second this item was taken
 abbrev pub HasTaken : ReceiverView Lanes → ReceiverView Lanes → LaneHeld → Type 0
-HasTaken old new h = IsItemFor old (held_of h) × (new ≡ with_item old (held_of h))
+HasTaken old new h = HasGained old new (held_of h)

@@ -1,5 +1,5 @@
 -- The rule of a lane: what was sent is what was taken and then what the lane holds. One pass at most may send, and it has the list of what was sent. The same of takes.
-use Rattle.std.specs.Prelude.{◌≡◌, ◌<◌, ◌++◌, ℕ, Bool, true, false, All, List, [], Option, length, slice_index_or}
+use Rattle.std.specs.Prelude.{◌≡◌, ◌<◌, ◌++◌, ◌∷◌, ℕ, Bool, true, false, All, List, [], Option, length, slice_index_or}
 use mathlib.Core.Option.{some}
 use lib.ListN.{get_elem?}
 use Rattle.queue_core.specs.declared.item.Item.{Item}
@@ -24,9 +24,24 @@ Relays items views = (sender : ℕ) × (taker : ℕ) × (sent : List Item) × (g
 abbrev pub MayTake : Log → Type 0
 MayTake v = v.takes ≡ true
 
+-- the pass of a sender after this item, and that of a receiver
+abbrev pub with_sent : Log → Item → Log
+with_sent v x = log true v.takes (v.sent ++ x ∷ []) v.got
+
+abbrev pub with_taken : Log → Item → Log
+with_taken v x = log v.sends true v.sent (v.got ++ x ∷ [])
+
+-- a pass that knows what was sent has taken all of it
+abbrev pub IsWholeLane : Log → Type 0
+IsWholeLane v = v.sends ≡ true → v.sent ≡ v.got
+
 -- a pass that knows what was sent has taken the first of it
 abbrev pub BeginsLane : Log → Type 0
 BeginsLane v = v.sends ≡ true → IsFirstOf v.got v.sent
+
+-- the second pass is the first after it has taken this item
+abbrev pub HasPopped : Log → Log → Item → Type 0
+HasPopped v w x = (w ≡ with_taken v x) × IsInRange x × BeginsLane w
 
 module _ {Q A : Type 0} where
   -- each pass is of the lane with its number

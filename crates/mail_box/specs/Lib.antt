@@ -1,6 +1,6 @@
 pub mod Mails
 pub mod LinkViews
-pub mod Endings
+pub use Rattle.queue_core.specs.Endings
 pub mod Lanes
 pub mod LaneViews
 pub mod Awaited

@@ -3,7 +3,7 @@ ghost use Rattle.std.specs.Prelude.{◌≡◌, ◌<◌, ◌≤◌, ◌++◌, ◌
 ghost use Rattle.crossbeam_queue.specs.Passes.{IsPassOf, IsSamePass, ruled_capacity, view};
 ghost use Rattle.queue_core.specs.Items.{IsFirstOf, IsInRange};
 ghost use Rattle.queue_core.specs.Matches.{MatchPosted};
-ghost use Rattle.mail_box.specs.Lanes.{BeginsLane, log};
+ghost use Rattle.mail_box.specs.Lanes.{BeginsLane, HasPopped, IsWholeLane, log, with_sent};
 
 use crossbeam_queue::protocol::{Join, Lesson, Outcome, Protocol, Split};
 use crossbeam_queue::{Pass, RuledArrayQueue};
@@ -94,7 +94,7 @@ pub fn push<R: Wait>(rt: &R, lane: &Lane, pass: &mut Pass<Item, Log>, item: Item
     requires role { (view pass.old).sends ≡ true }
     requires range { IsInRange item }
     ensures same { IsSamePass pass.old pass.new }
-    ensures posted { MatchPosted result (view pass.new ≡ log true (view pass.old).takes ((view pass.old).sent ++ item ∷ []) (view pass.old).got) ((view pass.new ≡ view pass.old) × (ruled_capacity lane.now ≤ length (view pass.old).sent)) }
+    ensures posted { MatchPosted result (view pass.new ≡ with_sent (view pass.old) item) ((view pass.new ≡ view pass.old) × (ruled_capacity lane.now ≤ length (view pass.old).sent)) }
 {
     match lane.push_as::<Sends, R>(rt, pass, item) {
         Ok(()) => Posted::Sent,
@@ -107,7 +107,7 @@ pub fn pop<R: Wait>(rt: &R, lane: &Lane, pass: &mut Pass<Item, Log>) -> Option<I
     requires lane { IsPassOf lane.now pass.old }
     requires role { (view pass.old).takes ≡ true }
     ensures same { IsSamePass pass.old pass.new }
-    ensures popped { MatchOption result ((view pass.new ≡ view pass.old) × ((view pass.old).sends ≡ true → (view pass.old).sent ≡ (view pass.old).got)) (λ x. (view pass.new ≡ log (view pass.old).sends true (view pass.old).sent ((view pass.old).got ++ x ∷ [])) × IsInRange x × BeginsLane (view pass.new)) }
+    ensures popped { MatchOption result ((view pass.new ≡ view pass.old) × IsWholeLane (view pass.old)) (HasPopped (view pass.old) (view pass.new)) }
 {
     lane.pop_as::<Takes, R>(rt, pass)
 }

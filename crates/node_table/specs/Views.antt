@@ -1,5 +1,5 @@
 -- How a clause sees the ends of a table of nodes.
-use Rattle.std.specs.Prelude.{◌≡◌, ◌<◌, ◌++◌, ◌∷◌, List, [], false}
+use Rattle.std.specs.Prelude.{◌≡◌, ◌<◌, ◌≤◌, ◌++◌, ◌∷◌, ℕ, HoldsAt, List, [], false}
 use Rattle.atomic_table.specs.Seated.{TableId}
 use Rattle.queue_core.specs.declared.entry.Entry.{Entry}
 use Rattle.queue_core.specs.declared.entry.Entry.TheVariants.{Of}
@@ -16,7 +16,7 @@ use Rattle.node_table.specs.declared.seats.TallySeat.{TallySeat}
 use Rattle.node_table.specs.Asks.{holding_in, reader_in, sender_in, tally_in}
 use Rattle.queue_core.specs.Items.{IsInRange}
 use Rattle.node_table.specs.Seats.{own_entries}
-use Rattle.node_table.specs.Tells.{BeginsAt, IsHeldAt}
+use Rattle.node_table.specs.Tells.{BeginsAt, IsAwaitedAt, IsHeldAt, IsWholeAt, found_full, new_reader_seat, new_sender}
 
 -- a table, and its shape
 pub record Name : Type 0 where
@@ -37,16 +37,31 @@ abbrev pub table_of_reader : NodeReader → Name
 table_of_reader r = record { table = r.seat.table_id; shape = (reader_of r).shape }
 
 abbrev pub holding_of : NodeHeld → Holding
-holding_of h = holding_in h.note.me.0
+holding_of h = holding_in h.seat.me.0
 
 abbrev pub table_of_held : NodeHeld → Name
-table_of_held h = record { table = h.note.table_id; shape = (holding_of h).shape }
+table_of_held h = record { table = h.seat.table_id; shape = (holding_of h).shape }
 
 abbrev pub tally_of : NodeTally → TallySeat
 tally_of t = tally_in t.seat.me.0
 
 abbrev pub table_of_tally : NodeTally → Name
 table_of_tally t = record { table = t.seat.table_id; shape = (tally_of t).shape }
+
+-- ---- what was just opened
+
+-- the senders of a table by number, and its readers by mailbox
+abbrev pub AreNewSenders : TableId → Shape → List NodeSender → Type 0
+AreNewSenders table shape senders = (p : ℕ) → p < shape.senders → HoldsAt (λ s. (s.seat.table_id ≡ table) × (sender_of s ≡ new_sender shape p)) senders p
+
+abbrev pub AreNewReaders : TableId → Shape → List NodeReader → Type 0
+AreNewReaders table shape readers = (b : ℕ) → b < shape.mailboxes → HoldsAt (λ r. (r.seat.table_id ≡ table) × (reader_of r ≡ new_reader_seat shape b)) readers b
+
+-- ---- a sender that could not send
+
+-- it found its next ring node not given back, and had sent as many posts as it has ring nodes
+abbrev pub WasFull : SenderSeat → SenderSeat → Type 0
+WasFull v w = (w ≡ found_full v) × (v.shape.ring ≤ v.caller.count)
 
 -- ---- what a reader has taken
 
@@ -80,3 +95,14 @@ pub record HasSame (v w : ReaderSeat) : Type 0 where
   pub given : w.given ≡ v.given
   pub got : w.got ≡ v.got
   pub taken_in : w.taken_in ≡ v.taken_in
+
+-- It found nothing: all is received of the senders that it took in, or some sender was not taken in.
+abbrev pub WasWhole : ReaderSeat → ReaderSeat → Type 0
+WasWhole v w = HasSame v w × IsWholeAt v
+
+abbrev pub WasAwaited : ReaderSeat → ReaderSeat → Type 0
+WasAwaited v w = HasSame v w × IsAwaitedAt v
+
+-- What the reader has taken, received and taken in is as it was, and so is its mailbox.
+abbrev pub HasKept : ReaderSeat → ReaderSeat → Type 0
+HasKept v w = (taken_by w ≡ taken_by v) × (w.got ≡ v.got) × (w.taken_in ≡ v.taken_in) × (w.mailbox ≡ v.mailbox)

@@ -7,6 +7,7 @@
 //! once another follows it, and gives it back by adding one to its turn.
 #![tactic(auto)]
 
+mod layout;
 mod nodes;
 mod seats;
 mod steps;

@@ -14,12 +14,13 @@ ghost use Rattle.node_table.specs.Calls.{AtNode, AtRest, HasFound, HasSameMail, 
 ghost use Rattle.node_table.specs.Layout.{IsSmall, head_word, next_word, nodes_in, slot_of, stub_of, words_in};
 ghost use Rattle.node_table.specs.Rule.{opened_tally};
 ghost use Rattle.node_table.specs.Seats.{HasEndedEverywhere, has_ended};
-ghost use Rattle.node_table.specs.Tells.{BeginsAt, IsAwaitedAt, IsHeldAt, IsWholeAt, TallyBegins, found_full, new_reader_seat, new_sender, posting, with_hand, with_reader, with_sender, with_taken_in};
+ghost use Rattle.node_table.specs.Tells.{BeginsAt, IsHeldAt, TallyBegins, new_reader_seat, new_sender, posting, with_hand, with_reader, with_sender, with_taken_in};
 
+use crate::layout::{first_of, head_word, slots_in, stub_of, words_in};
 use crate::seats::{Posting, Shape};
 use crate::steps;
-use crate::steps::{Board, NodeSeat, Nodes, first_of, stub_of};
-use queue_core::{Item, NULL, Posted, Took, encoded, item_of};
+use crate::steps::{Board, NodeSeat, Nodes};
+use queue_core::{Item, NULL, Posted, Took, encoded, item_of, link_to, linked_node};
 use std::alloc::{AllocError, Global};
 use std::sync::Arc;
 
@@ -50,11 +51,11 @@ pub struct NodeReader {
 
 /// An item that was taken. It has a seat of its own, which says that its node is held.
 pub struct NodeHeld {
-    note: NodeSeat,
+    seat: NodeSeat,
     node: u64,
     number: u64,
     item: Item,
-    ghost me: { IsHeldSeat node number item note.me },
+    ghost me: { IsHeldSeat node number item seat.me },
 }
 
 /// What gathers the readers of a table and takes its senders in.
@@ -125,7 +126,7 @@ fn look_at_stub(nodes: &Nodes, seat: &mut NodeSeat, mailbox: u64, tail: u64) -> 
     ensures same { seat.new.table_id ≡ seat.old.table_id }
     ensures found { HasFound nodes.now.shape mailbox (result, tail) seat.old.me seat.new.me }
 {
-    if steps::load_head(nodes, seat, mailbox) == tail + 1 {
+    if steps::load_head(nodes, seat, mailbox) == link_to(tail) {
         Took::Empty
     } else {
         Took::Busy
@@ -156,7 +157,7 @@ fn take_last(nodes: &Nodes, seat: &mut NodeSeat, mailbox: u64, tail: u64) -> (To
     ensures same { seat.new.table_id ≡ seat.old.table_id }
     ensures found { HasFound nodes.now.shape mailbox result seat.old.me seat.new.me }
 {
-    if steps::load_head(nodes, seat, mailbox) != tail + 1 {
+    if steps::load_head(nodes, seat, mailbox) != link_to(tail) {
         return (Took::Busy, tail);
     }
     put_stub_in(nodes, seat, mailbox, tail);
@@ -164,7 +165,7 @@ fn take_last(nodes: &Nodes, seat: &mut NodeSeat, mailbox: u64, tail: u64) -> (To
     if next == NULL {
         (Took::Busy, tail)
     } else {
-        (Took::Held(tail), next - 1)
+        (Took::Held(tail), linked_node(next))
     }
 }
 
@@ -181,7 +182,7 @@ fn take_node(nodes: &Nodes, seat: &mut NodeSeat, mailbox: u64, tail: u64) -> (To
     if next == NULL {
         take_last(nodes, seat, mailbox, tail)
     } else {
-        (Took::Held(tail), next - 1)
+        (Took::Held(tail), linked_node(next))
     }
 }
 
@@ -200,7 +201,7 @@ fn take_from(nodes: &Nodes, seat: &mut NodeSeat, mailbox: u64, tail: u64) -> (To
     if next == NULL {
         return (look_at_stub(nodes, seat, mailbox, tail), tail);
     }
-    take_node(nodes, seat, mailbox, next - 1)
+    take_node(nodes, seat, mailbox, linked_node(next))
 }
 
 /// The words of a table in which nothing has happened: each mailbox has its stub alone.
@@ -210,12 +211,11 @@ fn first_words(alloc: Global, shape: &Shape) -> Result<Vec<u64>, AllocError>
     ensures heads { IfOk result (λ words. (b : ℕ) → b < shape.now.mailboxes → get_or (vec_items words) (head_word shape.now b) 0 ≡ stub_of shape.now b + 1) }
     ensures zeros { IfOk result (λ words. (n k : ℕ) → k < 4 → get_or (vec_items words) (next_word n + k) 0 ≡ 0) }
 {
-    let nodes = stub_of(shape, shape.mailboxes);
-    let many = 8 * nodes as usize + 6;
+    let many = words_in(shape);
     let mut words = Vec::from_elem(alloc, NULL, many)?;
     for mailbox in 0..shape.mailboxes {
-        let stub = stub_of(shape, mailbox);
-        words[8 * stub as usize + 10] = stub + 1;
+        let head = head_word(shape, mailbox);
+        words[head] = link_to(stub_of(shape, mailbox));
     }
     Ok(words)
 }
@@ -232,7 +232,7 @@ fn open_nodes(alloc: Global, shape: Shape) -> Result<(Arc<Nodes>, NodeSeat), All
         mailbox: 0,
         item: Item::End,
     };
-    let slots = Vec::from_elem(alloc, slot, 4 * shape.senders as usize + 2)?;
+    let slots = Vec::from_elem(alloc, slot, slots_in(&shape))?;
     let Ok((board, seat)) = Board::new(alloc, words.as_slice(), slots, &shape) else {
         return Err(AllocError);
     };
@@ -240,7 +240,7 @@ fn open_nodes(alloc: Global, shape: Shape) -> Result<(Arc<Nodes>, NodeSeat), All
 }
 
 impl NodeSender {
-    ghost use Rattle.node_table.specs.Views.{sender_of, table_of_sender};
+    ghost use Rattle.node_table.specs.Views.{AreNewSenders, WasFull, sender_of, table_of_sender};
 
     /// A sender for each number, each with its slot.
     fn deal_all(
@@ -253,7 +253,7 @@ impl NodeSender {
         ensures same { tally.new.table_id ≡ tally.old.table_id }
         ensures me { IfOk result (λ _. tally.new.me ≡ (Tallies (opened_tally (arc_value nodes.now).shape (arc_value nodes.now).shape.senders), [])) }
         ensures count { IfOk result (λ senders. vec_len senders ≡ (arc_value nodes.now).shape.senders) }
-        ensures opened { IfOk result (λ senders. (p : ℕ) → p < (arc_value nodes.now).shape.senders → HoldsAt (λ s. (s.seat.table_id ≡ tally.old.table_id) × (sender_of s ≡ new_sender (arc_value nodes.now).shape p)) (vec_items senders) p) }
+        ensures opened { IfOk result (λ senders. AreNewSenders tally.old.table_id (arc_value nodes.now).shape (vec_items senders)) }
     {
         let many = nodes.shape.senders;
         let mut senders = Vec::with_capacity(alloc, many as usize)?;
@@ -287,7 +287,7 @@ impl NodeSender {
         requires line { line < MOST_POSTS }
         requires amount { (0 < unsigned_abs amount) × (unsigned_abs amount ≤ MOST_AMOUNT) }
         ensures same { table_of_sender self.new ≡ table_of_sender self.old }
-        ensures posted { MatchPosted result (sender_of self.new ≡ sent (posting mailbox (Post line amount)) (sender_of self.old)) ((sender_of self.new ≡ found_full (sender_of self.old)) × ((sender_of self.old).shape.ring ≤ (sender_of self.old).caller.count)) }
+        ensures posted { MatchPosted result (sender_of self.new ≡ sent (posting mailbox (Post line amount)) (sender_of self.old)) (WasFull (sender_of self.old) (sender_of self.new)) }
     {
         if !send(
             &self.nodes,
@@ -335,7 +335,7 @@ impl NodeSender {
 }
 
 impl NodeReader {
-    ghost use Rattle.node_table.specs.Views.{HasSame, HasTaken, entry_of, holding_of, reader_of, sender_of, table_of_held, table_of_reader, table_of_sender, taken_by};
+    ghost use Rattle.node_table.specs.Views.{AreNewReaders, HasKept, HasTaken, WasAwaited, WasWhole, entry_of, holding_of, reader_of, sender_of, table_of_held, table_of_reader, table_of_sender};
 
     /// A reader for each mailbox.
     fn deal_all(
@@ -348,7 +348,7 @@ impl NodeReader {
         ensures same { tally.new.table_id ≡ tally.old.table_id }
         ensures me { IfOk result (λ _. tally.new.me ≡ (Tallies (opened_tally (arc_value nodes.now).shape ((arc_value nodes.now).shape.senders + (arc_value nodes.now).shape.mailboxes)), [])) }
         ensures count { IfOk result (λ readers. vec_len readers ≡ (arc_value nodes.now).shape.mailboxes) }
-        ensures opened { IfOk result (λ readers. (b : ℕ) → b < (arc_value nodes.now).shape.mailboxes → HoldsAt (λ r. (r.seat.table_id ≡ tally.old.table_id) × (reader_of r ≡ new_reader_seat (arc_value nodes.now).shape b)) (vec_items readers) b) }
+        ensures opened { IfOk result (λ readers. AreNewReaders tally.old.table_id (arc_value nodes.now).shape (vec_items readers)) }
     {
         let many = nodes.shape.mailboxes;
         let mut readers = Vec::with_capacity(alloc, many as usize)?;
@@ -369,15 +369,15 @@ impl NodeReader {
     fn hold(nodes: &Nodes, seat: &mut NodeSeat, node: u64) -> NodeHeld
         requires seat { seat.old.table_id ≡ nodes.now.board.shared.table_id }
         requires at { IsHolder nodes.now.shape node seat.old.me }
-        ensures same { (seat.new.table_id ≡ seat.old.table_id) × (result.note.table_id ≡ seat.old.table_id) }
+        ensures same { (seat.new.table_id ≡ seat.old.table_id) × (result.seat.table_id ≡ seat.old.table_id) }
         ensures reads { seat.new.me ≡ (Reads (with_hand None (reader_in seat.old.me.0)), []) }
-        ensures hand { (reader_in seat.old.me.0).at_hand ≡ Some (holding_in result.note.me.0) }
-        ensures held { IsHeldSeat result.node result.number result.item result.note.me }
+        ensures hand { (reader_in seat.old.me.0).at_hand ≡ Some (holding_in result.seat.me.0) }
+        ensures held { IsHeldSeat result.node result.number result.item result.seat.me }
     {
         let line = steps::load_line(nodes, seat, node);
         let word = steps::load_amount(nodes, seat, node);
         NodeHeld {
-            note: steps::hand_out(nodes, seat),
+            seat: steps::hand_out(nodes, seat),
             node,
             number: node / (nodes.shape.ring + nodes.shape.mailboxes),
             item: item_of(line, word),
@@ -395,7 +395,7 @@ impl NodeReader {
     /// senders that it took in. `Busy`: something may be on its way, and some sender was not taken in.
     pub fn take(&mut self) -> Took<NodeHeld>
         ensures same { table_of_reader self.new ≡ table_of_reader self.old }
-        ensures took { MatchTook result (λ h. (table_of_held h ≡ table_of_reader self.old) × HasTaken (holding_of h) (reader_of self.old) (reader_of self.new)) (HasSame (reader_of self.old) (reader_of self.new) × IsWholeAt (reader_of self.old)) (HasSame (reader_of self.old) (reader_of self.new) × IsAwaitedAt (reader_of self.old)) }
+        ensures took { MatchTook result (λ h. (table_of_held h ≡ table_of_reader self.old) × HasTaken (holding_of h) (reader_of self.old) (reader_of self.new)) (WasWhole (reader_of self.old) (reader_of self.new)) (WasAwaited (reader_of self.old) (reader_of self.new)) }
         ensures begins { BeginsAt (reader_of self.new) }
     {
         let (took, tail) = take_from(&self.nodes, &mut self.seat, self.mailbox, self.tail);
@@ -413,16 +413,16 @@ impl NodeReader {
         requires mailbox { (holding_of held).mailbox ≡ (reader_of self.old).mailbox }
         ensures same { table_of_reader self.new ≡ table_of_reader self.old }
         ensures given { (reader_of self.new).given ≡ (reader_of self.old).given ++ entry_of (holding_of held) ∷ [] }
-        ensures kept { (taken_by (reader_of self.new) ≡ taken_by (reader_of self.old)) × ((reader_of self.new).got ≡ (reader_of self.old).got) × ((reader_of self.new).taken_in ≡ (reader_of self.old).taken_in) × ((reader_of self.new).mailbox ≡ (reader_of self.old).mailbox) }
+        ensures kept { HasKept (reader_of self.old) (reader_of self.new) }
         ensures held { IsHeldAt (reader_of self.old) (holding_of held) }
     {
         let NodeHeld {
-            note,
+            seat,
             node,
             number: _,
             item: _,
         } = held;
-        steps::take_back(&self.nodes, &mut self.seat, note);
+        steps::take_back(&self.nodes, &mut self.seat, seat);
         steps::give_back(&self.nodes, &mut self.seat, node);
     }
 

@@ -14,9 +14,12 @@ ghost use Rattle.node_table.specs.Asks.{HasAtHand, IsDealing, IsEnding, IsGather
 ghost use Rattle.node_table.specs.Tells.{BeginsAt, HasLoadedHead, HasLoadedNext, IsHeldAt, LoadsHead, LoadsNext, TallyBegins, after_amount_at, after_deal, after_give, after_hand, after_line_at, after_link_at, after_null_at, dealt, filling, gathered, hand_of, in_slot, new_reader_seat, new_sender, posting, reading_at, taken_back, taken_in, tallied};
 ghost use Rattle.node_table.specs.Tells.{tells_begin_reading, tells_give_back, tells_give_slot, tells_load_amount, tells_load_head, tells_load_line, tells_load_next, tells_load_turn, tells_look, tells_store_amount, tells_store_line, tells_store_link, tells_store_null, tells_stub_link, tells_stub_null, tells_stub_swap, tells_swap_head, tells_take_slot, tells_tally};
 
+use crate::layout::{
+    amount_word_of, first_of, head_word, line_word_of, next_word, slot_of, stub_of, turn_word,
+};
 use crate::seats::{Known, Posting, Shape};
 use atomic_table::{Join, Play, Seat, Split, Table, TableRule};
-use queue_core::{Item, NULL};
+use queue_core::{Item, NULL, link_to, linked_node};
 use std::alloc::Global;
 
 /// The rule of the table.
@@ -209,22 +212,6 @@ pub struct Nodes {
     ghost table: { IsTableOf shape board.shared.key board.shared.table_id.words },
 }
 
-/// The first node of a sender: its ring nodes come first, then those of its end marks.
-pub fn first_of(shape: &Shape, number: u64) -> u64
-    requires { (number < 10000) × (shape.now.mailboxes < 100000) × (shape.now.ring < 10000) }
-    ensures { result ≡ first_of shape.now number }
-{
-    number * (shape.ring + shape.mailboxes)
-}
-
-/// The stub of a mailbox.
-pub fn stub_of(shape: &Shape, mailbox: u64) -> u64
-    requires { (mailbox < 100000) × (shape.now.senders < 10000) × (shape.now.mailboxes < 100000) × (shape.now.ring < 10000) }
-    ensures { result ≡ stub_of shape.now mailbox }
-{
-    first_of(shape, shape.senders) + mailbox
-}
-
 /// The tally deals the next seat: the senders come first, then the readers.
 pub fn deal_seat(nodes: &Nodes, tally: &mut NodeSeat) -> NodeSeat
     requires seat { tally.old.table_id ≡ nodes.now.board.shared.table_id }
@@ -325,14 +312,14 @@ pub fn load_turn(
 {
     nodes.board.shared.exchange(
         seat,
-        4 * number as usize + 2,
+        slot_of(number),
         Posting {
             mailbox,
             item: Item::Post { line, amount },
         },
     );
     let node = first_of(&nodes.shape, number) + count % nodes.shape.ring;
-    let word = 8 * node as usize + 7;
+    let word = turn_word(node);
     nodes.board.shared.load::<LoadTurn>(seat, word) == count / nodes.shape.ring
 }
 
@@ -345,7 +332,7 @@ pub fn store_line(nodes: &Nodes, seat: &mut NodeSeat, node: u64, line: u64)
     ensures same { seat.new.table_id ≡ seat.old.table_id }
     ensures told { seat.new.me ≡ (Sends (after_line_at (sender_in seat.old.me.0).caller.point (in_slot seat.old.me.1) (sender_in seat.old.me.0)), seat.old.me.1) }
 {
-    let word = 8 * node as usize + 8;
+    let word = line_word_of(node);
     nodes.board.shared.store::<StoreLine>(seat, word, line + 1);
 }
 
@@ -359,14 +346,14 @@ pub fn end_line(nodes: &Nodes, seat: &mut NodeSeat, number: u64, mailbox: u64)
 {
     nodes.board.shared.exchange(
         seat,
-        4 * number as usize + 2,
+        slot_of(number),
         Posting {
             mailbox,
             item: Item::End,
         },
     );
     let node = first_of(&nodes.shape, number) + (nodes.shape.ring + mailbox);
-    let word = 8 * node as usize + 8;
+    let word = line_word_of(node);
     nodes.board.shared.store::<StoreLine>(seat, word, 0);
 }
 
@@ -378,7 +365,7 @@ pub fn store_amount(nodes: &Nodes, seat: &mut NodeSeat, node: u64, amount: u64)
     ensures same { seat.new.table_id ≡ seat.old.table_id }
     ensures told { seat.new.me ≡ (Sends (after_amount_at (sender_in seat.old.me.0).caller.point (sender_in seat.old.me.0)), seat.old.me.1) }
 {
-    let word = 8 * node as usize + 9;
+    let word = amount_word_of(node);
     nodes.board.shared.store::<StoreAmount>(seat, word, amount);
 }
 
@@ -390,7 +377,7 @@ pub fn store_null(nodes: &Nodes, seat: &mut NodeSeat, node: u64)
     ensures same { seat.new.table_id ≡ seat.old.table_id }
     ensures told { seat.new.me ≡ (Sends (after_null_at (sender_in seat.old.me.0).caller.point (sender_in seat.old.me.0)), seat.old.me.1) }
 {
-    let word = 8 * node as usize + 6;
+    let word = next_word(node);
     nodes.board.shared.store::<StoreNull>(seat, word, NULL);
 }
 
@@ -403,8 +390,9 @@ pub fn swap_head(nodes: &Nodes, seat: &mut NodeSeat, mailbox: u64, node: u64) ->
     ensures told { seat.new.me ≡ (Sends (after_swap_on (sender_in seat.old.me.0).caller.point result (sender_in seat.old.me.0)), seat.old.me.1) }
     ensures before { result < nodes_in nodes.now.shape }
 {
-    let word = 8 * stub_of(&nodes.shape, mailbox) as usize + 10;
-    nodes.board.shared.swap::<SwapHead>(seat, word, node + 1) - 1
+    let word = head_word(&nodes.shape, mailbox);
+    let link = link_to(node);
+    linked_node(nodes.board.shared.swap::<SwapHead>(seat, word, link))
 }
 
 /// It stores its node as the next of the node that was the head.
@@ -415,8 +403,9 @@ pub fn store_link(nodes: &Nodes, seat: &mut NodeSeat, before: u64, node: u64)
     ensures same { seat.new.table_id ≡ seat.old.table_id }
     ensures told { seat.new.me ≡ (Sends (after_link_at (sender_in seat.old.me.0).caller.point (sender_in seat.old.me.0)), seat.old.me.1) }
 {
-    let word = 8 * before as usize + 6;
-    nodes.board.shared.store::<StoreLink>(seat, word, node + 1);
+    let word = next_word(before);
+    let link = link_to(node);
+    nodes.board.shared.store::<StoreLink>(seat, word, link);
 }
 
 /// A sender in no call gives its slot back.
@@ -439,7 +428,7 @@ pub fn load_next(nodes: &Nodes, seat: &mut NodeSeat, tail: u64) -> u64
     ensures reads { seat.new.me ≡ (Reads (reader_in seat.new.me.0), []) }
     ensures told { HasLoadedNext result (reader_in seat.old.me.0) (reader_in seat.new.me.0) }
 {
-    let word = 8 * tail as usize + 6;
+    let word = next_word(tail);
     nodes.board.shared.load::<LoadNext>(seat, word)
 }
 
@@ -452,7 +441,7 @@ pub fn load_head(nodes: &Nodes, seat: &mut NodeSeat, mailbox: u64) -> u64
     ensures reads { seat.new.me ≡ (Reads (reader_in seat.new.me.0), []) }
     ensures told { HasLoadedHead result (reader_in seat.old.me.0) (reader_in seat.new.me.0) }
 {
-    let word = 8 * stub_of(&nodes.shape, mailbox) as usize + 10;
+    let word = head_word(&nodes.shape, mailbox);
     nodes.board.shared.load::<LoadHead>(seat, word)
 }
 
@@ -465,7 +454,7 @@ pub fn stub_null(nodes: &Nodes, seat: &mut NodeSeat, mailbox: u64, stub: u64)
     ensures same { seat.new.table_id ≡ seat.old.table_id }
     ensures told { seat.new.me ≡ (Reads (reading_at reads.Swap (reader_in seat.old.me.0)), []) }
 {
-    let word = 8 * stub as usize + 6;
+    let word = next_word(stub);
     nodes.board.shared.store::<StubNull>(seat, word, NULL);
 }
 
@@ -479,8 +468,9 @@ pub fn stub_swap(nodes: &Nodes, seat: &mut NodeSeat, mailbox: u64, stub: u64) ->
     ensures told { seat.new.me ≡ (Reads (reading_at (reads.Link result) (reader_in seat.old.me.0)), []) }
     ensures before { result < nodes_in nodes.now.shape }
 {
-    let word = 8 * stub_of(&nodes.shape, mailbox) as usize + 10;
-    nodes.board.shared.swap::<StubSwap>(seat, word, stub + 1) - 1
+    let word = head_word(&nodes.shape, mailbox);
+    let link = link_to(stub);
+    linked_node(nodes.board.shared.swap::<StubSwap>(seat, word, link))
 }
 
 /// It stores the stub as the next of the node that was the head.
@@ -493,8 +483,9 @@ pub fn stub_link(nodes: &Nodes, seat: &mut NodeSeat, mailbox: u64, before: u64, 
     ensures same { seat.new.table_id ≡ seat.old.table_id }
     ensures told { seat.new.me ≡ (Reads (reading_at reads.Last (reader_in seat.old.me.0)), []) }
 {
-    let word = 8 * before as usize + 6;
-    nodes.board.shared.store::<StubLink>(seat, word, stub + 1);
+    let word = next_word(before);
+    let link = link_to(stub);
+    nodes.board.shared.store::<StubLink>(seat, word, link);
 }
 
 /// It loads the line of what it has at hand.
@@ -506,7 +497,7 @@ pub fn load_line(nodes: &Nodes, seat: &mut NodeSeat, node: u64) -> u64
     ensures told { seat.new.me ≡ seat.old.me }
     ensures found { (h : AHolding) → (reader_in seat.old.me.0).at_hand ≡ Some h → result ≡ line_word h.item }
 {
-    let word = 8 * node as usize + 8;
+    let word = line_word_of(node);
     nodes.board.shared.load::<LoadLine>(seat, word)
 }
 
@@ -519,7 +510,7 @@ pub fn load_amount(nodes: &Nodes, seat: &mut NodeSeat, node: u64) -> u64
     ensures told { seat.new.me ≡ seat.old.me }
     ensures found { (h : AHolding) → (reader_in seat.old.me.0).at_hand ≡ Some h → result ≡ amount_word h.item }
 {
-    let word = 8 * node as usize + 9;
+    let word = amount_word_of(node);
     nodes.board.shared.load::<LoadAmount>(seat, word)
 }
 
@@ -532,7 +523,7 @@ pub fn give_back(nodes: &Nodes, seat: &mut NodeSeat, node: u64)
     ensures told { seat.new.me ≡ (Reads (after_give (reader_in seat.old.me.0).at_hand (reader_in seat.old.me.0)), []) }
     ensures held { (h : AHolding) → (reader_in seat.old.me.0).at_hand ≡ Some h → IsHeldAt (reader_in seat.old.me.0) h }
 {
-    let word = 8 * node as usize + 7;
+    let word = turn_word(node);
     nodes.board.shared.fetch_add::<GiveBack>(seat, word, 1);
 }
 

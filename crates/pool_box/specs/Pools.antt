@@ -1,5 +1,5 @@
 -- How a clause sees the senders, the receivers, the held items and the tally of a pool, whatever it is made of.
-use Rattle.std.specs.Prelude.{ℕ, ℤ, ◌≡◌, ◌<◌, ◌-◌, ◌+◌, ◌==◌, ◌++◌, ◌∷◌, [], Bool, true, false, List, None, Option, Some, cond}
+use Rattle.std.specs.Prelude.{ℕ, ℤ, ◌≡◌, ◌<◌, ◌≤◌, ◌-◌, ◌+◌, ◌==◌, ◌++◌, ◌∷◌, [], Bool, true, false, List, None, Option, Some, cond}
 use Rattle.queue_core.specs.declared.item.Item.{Item}
 use Rattle.queue_core.specs.declared.item.Item.TheVariants.{End, Post}
 use Rattle.queue_core.specs.Items.{IsInRange}
@@ -87,6 +87,14 @@ module _ {Name : Type 0} where
   -- an item of this receiver's mailbox, of one of its senders, and within the limits
   abbrev pub IsItemFor : ReceiverView Name → HeldView Name → Type 0
   IsItemFor r h = (h.pool ≡ r.pool) × (h.mailbox ≡ r.mailbox) × (h.sender < r.senders) × IsInRange h.item
+
+  -- the second receiver is the first after a take of this item
+  abbrev pub HasGained : ReceiverView Name → ReceiverView Name → HeldView Name → Type 0
+  HasGained old new h = IsItemFor old h × (new ≡ with_item old h)
+
+  -- the sender is as it was, and had sent as many posts as it has nodes
+  abbrev pub WasFull : SenderView Name → SenderView Name → Type 0
+  WasFull old new = (new ≡ old) × (old.nodes ≤ old.posted)
 
   -- a tally after it gathered a receiver, and after it took in a sender
   abbrev pub with_receiver : TallyView Name → ReceiverView Name → TallyView Name

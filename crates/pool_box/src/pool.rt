@@ -1,7 +1,7 @@
 //! What every pool does, whatever it is made of.
 ghost use Rattle.std.specs.Prelude.{unsigned_abs, ◌≡◌, ◌<◌, ◌≤◌, ℕ, false, HoldsAt, IfOk, vec_items, vec_len};
 ghost use Rattle.queue_core.specs.Matches.{MatchPosted, MatchTook};
-ghost use Rattle.pool_box.specs.Pools.{Begins, HasEndedEverywhere, HeldView, IsItemFor, ReceiverView, SenderView, TallyView, opened_receiver, opened_sender, opened_tally, with_end, with_item, with_post, with_receiver, with_sender};
+ghost use Rattle.pool_box.specs.Pools.{Begins, HasEndedEverywhere, HasGained, HeldView, ReceiverView, SenderView, TallyView, WasFull, opened_receiver, opened_sender, opened_tally, with_end, with_post, with_receiver, with_sender};
 
 use queue_core::{Item, Posted, Took};
 use std::alloc::{AllocError, Global};
@@ -78,7 +78,7 @@ pub trait Pool: Sync {
         requires left { 0 < (sender s.old).left }
         requires line { line ≤ 999999 }
         requires amount { (0 < unsigned_abs amount) × (unsigned_abs amount ≤ 1000000000000) }
-        ensures { MatchPosted result (sender s.new ≡ with_post (sender s.old) mailbox line amount) ((sender s.new ≡ sender s.old) × ((sender s.old).nodes ≤ (sender s.old).posted)) };
+        ensures { MatchPosted result (sender s.new ≡ with_post (sender s.old) mailbox line amount) (WasFull (sender s.old) (sender s.new)) };
 
     /// Sends the end mark to a mailbox, after which the sender sends nothing there. There is room for it.
     fn end(s: &mut Self::Sender, mailbox: u64)
@@ -88,7 +88,7 @@ pub trait Pool: Sync {
 
     /// Takes an item of any sender. `Empty` and `Busy`: nothing was taken.
     fn take(r: &mut Self::Receiver) -> Took<Self::Held>
-        ensures { MatchTook result (λ h. IsItemFor (receiver r.old) (held h) × (receiver r.new ≡ with_item (receiver r.old) (held h))) (receiver r.new ≡ receiver r.old) (receiver r.new ≡ receiver r.old) };
+        ensures { MatchTook result (λ h. HasGained (receiver r.old) (receiver r.new) (held h)) (receiver r.new ≡ receiver r.old) (receiver r.new ≡ receiver r.old) };
 
     /// The sender's number and the item, as often as asked while the item is held.
     fn read(r: &mut Self::Receiver, h: &Self::Held) -> (u64, Item)

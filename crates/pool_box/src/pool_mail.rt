@@ -32,7 +32,7 @@ pub type PoolHeld = NodeHeld;
 pub type PoolTally = NodeTally;
 
 impl PoolMail {
-    ghost use Rattle.pool_box.specs.Pools.{Begins, HasEndedEverywhere, IsItemFor, opened_receiver, opened_sender, opened_tally, with_end, with_item, with_post, with_receiver, with_sender};
+    ghost use Rattle.pool_box.specs.Pools.{Begins, HasEndedEverywhere, HasGained, WasFull, opened_receiver, opened_sender, opened_tally, with_end, with_post, with_receiver, with_sender};
     ghost use Rattle.std.specs.Prelude.{[], ◌++◌, ◌∷◌, ⊤};
     ghost use Rattle.queue_core.specs.Mailbox.{is_among};
     ghost use Rattle.pool_box.specs.PoolViews.{IsHeldBy, entry_of, given_by, held_of, receiver_of, sender_of, taken_by, tally_of};
@@ -105,7 +105,7 @@ impl PoolMail {
         requires left { 0 < (sender_of s.old).left }
         requires line { line ≤ 999999 }
         requires amount { (0 < unsigned_abs amount) × (unsigned_abs amount ≤ 1000000000000) }
-        ensures { MatchPosted result (sender_of s.new ≡ with_post (sender_of s.old) mailbox line amount) ((sender_of s.new ≡ sender_of s.old) × ((sender_of s.old).nodes ≤ (sender_of s.old).posted)) }
+        ensures { MatchPosted result (sender_of s.new ≡ with_post (sender_of s.old) mailbox line amount) (WasFull (sender_of s.old) (sender_of s.new)) }
     {
         match s.sender.try_send(mailbox, line, amount) {
             Posted::Sent => {
@@ -129,7 +129,7 @@ impl PoolMail {
     /// Takes an item of any sender, which was not taken before, and is held from then on. `Empty` and `Busy`: nothing was
     /// taken.
     pub fn take(r: &mut PoolReceiver) -> Took<PoolHeld>
-        ensures took { MatchTook result (λ h. IsItemFor (receiver_of r.old) (held_of h) × (receiver_of r.new ≡ with_item (receiver_of r.old) (held_of h))) (receiver_of r.new ≡ receiver_of r.old) (receiver_of r.new ≡ receiver_of r.old) }
+        ensures took { MatchTook result (λ h. HasGained (receiver_of r.old) (receiver_of r.new) (held_of h)) (receiver_of r.new ≡ receiver_of r.old) (receiver_of r.new ≡ receiver_of r.old) }
         ensures taken { MatchTook result (λ h. taken_by r.new ≡ taken_by r.old ++ entry_of h ∷ []) (taken_by r.new ≡ taken_by r.old) (taken_by r.new ≡ taken_by r.old) }
         ensures given { given_by r.new ≡ given_by r.old }
         ensures held { MatchTook result (λ h. (is_among (entry_of h) (taken_by r.old) ≡ false) × IsHeldBy r.new h) ⊤ ⊤ }

@@ -4,10 +4,11 @@ use Rattle.std.specs.List.{list_any}
 use Rattle.queue_core.specs.declared.item.Item.{Item}
 use Rattle.queue_core.specs.declared.item.Item.TheVariants.{Post}
 use Rattle.queue_core.specs.Items.{is_end}
+use Rattle.queue_core.specs.Endings.{HasEnd}
+use Rattle.queue_core.proofs.Endings.{all_received}
 use Rattle.pool_box.specs.Pools.{Begins, ReceiverView, SenderView, TallyView, put_at, with_receiver, with_sender}
 use Rattle.pool_relay.specs.declared.posting.Posting.{Posting}
-use Rattle.pool_relay.specs.Postings.{HasEnd, HasGot, closed, posts_to}
-use Rattle.pool_relay.proofs.Endings.{all_received}
+use Rattle.pool_relay.specs.Postings.{HasGot, closed, posts_to}
 
 no_end : (posts : List Posting) → list_any is_end (map (λ posting. Post posting.line posting.amount) posts) ≡ false
 no_end [] = refl
@@ -18,7 +19,7 @@ module _ {Name : Type 0} where
   received : (t : TallyView Name) (b p : ℕ) (got sent : ℕ → List Item) (posts : List Posting) → Begins t → t.got b ≡ Some got → t.known p ≡ Some sent → sent b ≡ closed b posts → HasEnd (got p) → HasGot t b p (closed b posts)
   received t b p got sent posts begins gathered known is has =
       let first = subst (λ (whole : List Item). take (length (got p)) whole ≡ got p) is (begins b p got sent gathered known) in
-      let same : got p ≡ closed b posts = all_received (got p) (posts_to b posts) (no_end (filter (λ (posting : Posting). b == posting.mailbox) posts)) first has in
+      let same : got p ≡ closed b posts = all_received (got p) (closed b posts) (posts_to b posts, no_end (filter (λ (posting : Posting). b == posting.mailbox) posts), refl) first has in
       subst (λ (o : Option (ℕ → List Item)). MatchOption o ⊥ (λ got. got p ≡ closed b posts)) (sym gathered) same
 
   -- all that is known of a tally that has two receivers and two senders

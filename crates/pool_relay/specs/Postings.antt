@@ -1,10 +1,9 @@
 -- What two senders post to two mailboxes, and what is received of it.
-use Rattle.std.specs.Prelude.{ℕ, unsigned_abs, ◌≡◌, ◌<◌, ◌≤◌, ◌==◌, ◌++◌, ◌∷◌, [], All, List, MatchOption, false, filter, length, map, true}
-use Rattle.std.specs.List.{list_any}
+use Rattle.std.specs.Prelude.{ℕ, unsigned_abs, ◌≡◌, ◌<◌, ◌≤◌, ◌==◌, ◌++◌, ◌∷◌, [], All, List, MatchOption, false, filter, length, map}
 use Rattle.queue_core.specs.declared.item.Item.{Item}
 use Rattle.queue_core.specs.declared.item.Item.TheVariants.{End, Post}
-use Rattle.queue_core.specs.Items.{is_end}
-use Rattle.pool_box.specs.Pools.{HasEndedEverywhere, HeldView, IsItemFor, ReceiverView, SenderView, TallyView, with_item}
+use Rattle.queue_core.specs.Endings.{HasEnd}
+use Rattle.pool_box.specs.Pools.{HasEndedEverywhere, HasGained, ReceiverView, SenderView, TallyView}
 use Rattle.pool_relay.specs.declared.posting.Posting.{Posting}
 
 -- the line and the amount of a post are within the limits
@@ -23,10 +22,6 @@ posts_to mailbox posts = map (λ posting. Post posting.line posting.amount) (fil
 abbrev pub closed : (mailbox : ℕ) → List Posting → List Item
 closed mailbox posts = posts_to mailbox posts ++ End ∷ []
 
--- an end mark is among them
-abbrev pub HasEnd : List Item → Type 0
-HasEnd items = list_any is_end items ≡ true
-
 module _ {Name : Type 0} where
   -- a sender of two mailboxes that has sent nothing, and may post all these
   abbrev pub IsFreshFor : SenderView Name → List Posting → Type 0
@@ -42,9 +37,7 @@ module _ {Name : Type 0} where
 
   -- the second receiver is the first after an item of this sender
   abbrev pub HasReceived : ReceiverView Name → ReceiverView Name → (sender : ℕ) → Item → Type 0
-  HasReceived old new sender item =
-      let held : HeldView Name = record { pool = old.pool; mailbox = old.mailbox; sender = sender; item = item } in
-      IsItemFor old held × (new ≡ with_item old held)
+  HasReceived old new sender item = HasGained old new (record { pool = old.pool; mailbox = old.mailbox; sender = sender; item = item })
 
   -- the second receiver has the end marks of two senders
   abbrev pub HasReceivedBoth : ReceiverView Name → ReceiverView Name → Type 0

@@ -7,12 +7,10 @@ use crate::posting::Posting;
 use crate::receiving::receive_all;
 use crate::sending::send_all;
 use pool_box::Pool;
+use queue_core::MOST_POOL_POSTS;
 use std::alloc::{AllocError, Global};
 use std::sync::Wait;
 use std::thread::{Threads, join};
-
-/// How many posts a sender may send.
-const MOST: u64 = 257_000_000;
 
 /// Opens a pool, posts both lists in two threads, each post to its mailbox, and receives in two more. The tally has, of
 /// each mailbox, all that each sender was given for it, in order, however the threads run.
@@ -66,7 +64,7 @@ fn open_two<P: Pool>(
     ensures here { IfOk result (λ r. P.receiver r.1.0 ≡ opened_receiver (P.tally r.2).pool 0 2) }
     ensures there { IfOk result (λ r. P.receiver r.1.1 ≡ opened_receiver (P.tally r.2).pool 1 2) }
 {
-    let (mut senders, mut receivers, tally) = pool.open(alloc, 2, 2, nodes, MOST)?;
+    let (mut senders, mut receivers, tally) = pool.open(alloc, 2, 2, nodes, MOST_POOL_POSTS)?;
     let second = senders.swap_remove(1);
     let first = senders.swap_remove(0);
     let there = receivers.swap_remove(1);

@@ -20,7 +20,7 @@ use Rattle.queue_core.specs.Pooled.{IsPooled, Pooled, is_held_in, is_mailbox, no
 use Rattle.queue_core.specs.PoolSteps.{may_use}
 use Rattle.queue_core.specs.PoolShows.{ShowsPool, box_in, node_in, place_of}
 use Rattle.queue_core.specs.PoolLaws.{PoolStepShows, ShowsAfterIn, gives_back, held_in}
-use Rattle.queue_core.proofs.BoxFrame.{box_stays}
+use Rattle.queue_core.proofs.BoxFrame.{ReadsSame, box_stays}
 use Rattle.queue_core.proofs.BoxGive.{give_box, given}
 use Rattle.queue_core.proofs.Entries.{among_first, among_kept, first_kept, kept_passes, same_self}
 use Rattle.queue_core.proofs.EventsKeep.{holds_after}
@@ -130,6 +130,23 @@ module _ (c : Pooled) (ok : IsPooled c) (events : List (ℕ × Event)) (q : Pool
     node_same : (d s j : ℕ) → node_in n q' d (Of s j) ≡ node_in c q d (Of s j)
     node_same d s j = λ i. s * (c.ring + length c.heads) + place_of c.ring (q.posts s) d (slice_index_or (items_same d i s) j End) j
 
+    -- a mailbox reads what it read, but for what is held
+    reads_same : (d : ℕ) (m' : Mailbox) (is_held : ℕ → Bool) → ((a : ℕ) → is_held_in n d a ≡ is_held a) → ReadsSame m' (record (box_in c q d) { held = is_held }) (box_in n q' d)
+    reads_same d m' is_held held_now = record {
+      node = λ s j within. node_same d s j;
+      stub = refl;
+      next = λ e is. word (λ (z : Node). z.next) refl (node_in c q d e);
+      line = λ e is. word (λ (z : Node). z.line) refl (node_in c q d e);
+      amount = λ e is. word (λ (z : Node). z.amount) refl (node_in c q d e);
+      head = refl;
+      tail = refl;
+      points = λ s. refl;
+      point = refl;
+      senders = refl;
+      ended = λ s. refl;
+      held = held_now;
+    }
+
     apart : (e f : Entry) → IsStanding m e → IsStanding m f → node_in c q b e ≡ node_in c q b f → e ≡ f
     apart e f se sf same = (nodes_apart c ok q h holds (no_others c q shows) b b low low e f se sf same).1
 
@@ -138,38 +155,13 @@ module _ (c : Pooled) (ok : IsPooled c) (events : List (ℕ × Event)) (q : Pool
         let x = box_in c q b in
         subst (ShowsBox (box_in n q' b)) (sym (box_own q b (GiveBack p k)))
         (box_stays c.ring (events_in b events ++ GiveBack p k ∷ []) (after (GiveBack p k) m) (given c.ring m (holds b) x (shows.boxes b low) apart p k held) (box_in n q' b)
-        (leads_more (events_in b events) m (GiveBack p k) (its_leads b) held) record {
-          node = λ s j within. node_same b s j;
-          stub = refl;
-          next = λ e is. word (λ (z : Node). z.next) refl (node_in c q b e);
-          line = λ e is. word (λ (z : Node). z.line) refl (node_in c q b e);
-          amount = λ e is. word (λ (z : Node). z.amount) refl (node_in c q b e);
-          head = refl;
-          tail = refl;
-          points = λ s. refl;
-          point = refl;
-          senders = refl;
-          ended = λ s. refl;
-          held = own_held;
-        } (give_box c.ring m (holds b) x (shows.boxes b low) apart p k held))
+        (leads_more (events_in b events) m (GiveBack p k) (its_leads b) held)
+        (reads_same b (after (GiveBack p k) m) (λ a. if a == node then false else is_held_in c b a) own_held) (give_box c.ring m (holds b) x (shows.boxes b low) apart p k held))
 
     other_box : (d : ℕ) → d < length c.heads → ¬ (d ≡ b) → ShowsBox (box_in n q' d) (q'.boxes d)
     other_box d in_range other =
         subst (ShowsBox (box_in n q' d)) (sym (box_other q b (GiveBack p k) d other))
-        (box_stays c.ring (events_in d events) (q.boxes d) (box_in c q d) (box_in n q' d) (its_leads d) record {
-          node = λ s j within. node_same d s j;
-          stub = refl;
-          next = λ e is. word (λ (z : Node). z.next) refl (node_in c q d e);
-          line = λ e is. word (λ (z : Node). z.line) refl (node_in c q d e);
-          amount = λ e is. word (λ (z : Node). z.amount) refl (node_in c q d e);
-          head = refl;
-          tail = refl;
-          points = λ s. refl;
-          point = refl;
-          senders = refl;
-          ended = λ s. refl;
-          held = other_held d other;
-        } (shows.boxes d in_range))
+        (box_stays c.ring (events_in d events) (q.boxes d) (box_in c q d) (box_in n q' d) (its_leads d) (reads_same d (q.boxes d) (is_held_in c d) (other_held d other)) (shows.boxes d in_range))
 
     pub give_shows : ShowsPool n q'
     give_shows = record {

@@ -100,6 +100,39 @@ module _ (c : Pooled) (ok : IsPooled c) (events : List (ℕ × Event)) (q : Pool
       (λ more. look_shows reads.Rest (Some took.Busy) (owed reads.NodeHead at) tt))
   at_head _ at n e = cc
 
+  -- ---- a node is written, and the reader is at another point
+
+  module _ (place : ℕ) (node : Node) (pt : ReaderPoint) where
+    abbrev stored_core : Pooled
+    stored_core = goes_to b pt (with_node place node c)
+
+    stored_own : reader_in stored_core b ≡ record reader { point = pt }
+    stored_own = moved_own pt reader.last
+
+    module _ (there : place < length c.nodes) where
+      stored_word : node_at stored_core place ≡ node
+      stored_word = get_or-set_same c.nodes place node empty_node there
+
+      stored_words : (a : ℕ) → ¬ (a ≡ place) → node_at stored_core a ≡ node_at c a
+      stored_words a other = get_or-set_other c.nodes place a node empty_node other
+
+      stored_same : (f : Node → ℕ) → f node ≡ f (node_at c place) → (a : ℕ) → f (node_at stored_core a) ≡ f (node_at c a)
+      stored_same = field_kept c place node there
+
+      stored_stays : node.turn ≡ (node_at c place).turn → Stays c stored_core b
+      stored_stays turn = record {
+        ring = refl;
+        heads = refl;
+        senders = refl;
+        ended = refl;
+        head = λ d other. refl;
+        reader = λ d other. get_or-set_other c.readers b d (moved pt reader.last) _ other;
+        points = λ d other s. refl;
+        held = λ d in_range other a. refl;
+        counts = λ s. refl;
+        turns = stored_same (λ (z : Node). z.turn) turn;
+      }
+
   -- ---- the stub is emptied, exchanged in and linked
 
   module _ (at : reader.point ≡ reads.Null) where
@@ -107,41 +140,27 @@ module _ (c : Pooled) (ok : IsPooled c) (events : List (ℕ × Event)) (q : Pool
     nulled_node = record (node_at c (stub_in c b)) { next = null }
 
     abbrev nulled_core : Pooled
-    nulled_core = goes_to b reads.Swap (with_node (stub_in c b) nulled_node c)
+    nulled_core = stored_core (stub_in c b) nulled_node reads.Swap
 
     stub_low : stub_in c b < length c.nodes
     stub_low = omega (arith, stub_within c ok b low)
 
-    null_word : node_at nulled_core (stub_in c b) ≡ nulled_node
-    null_word = get_or-set_same c.nodes (stub_in c b) nulled_node empty_node stub_low
-
     null_words : (a : ℕ) → ¬ (a ≡ stub_in c b) → node_at nulled_core a ≡ node_at c a
-    null_words a other = get_or-set_other c.nodes (stub_in c b) a nulled_node empty_node other
+    null_words = stored_words (stub_in c b) nulled_node reads.Swap stub_low
 
     null_same : (f : Node → ℕ) → f nulled_node ≡ f (node_at c (stub_in c b)) → (a : ℕ) → f (node_at nulled_core a) ≡ f (node_at c a)
-    null_same = field_kept c (stub_in c b) nulled_node stub_low
+    null_same = stored_same (stub_in c b) nulled_node reads.Swap stub_low
 
     null_own : reader_in nulled_core b ≡ record reader { point = reads.Swap }
-    null_own = moved_own reads.Swap reader.last
+    null_own = stored_own (stub_in c b) nulled_node reads.Swap
 
     null_stays : Stays c nulled_core b
-    null_stays = record {
-      ring = refl;
-      heads = refl;
-      senders = refl;
-      ended = refl;
-      head = λ d other. refl;
-      reader = λ d other. get_or-set_other c.readers b d (moved reads.Swap reader.last) _ other;
-      points = λ d other s. refl;
-      held = λ d in_range other a. refl;
-      counts = λ s. refl;
-      turns = null_same (λ (z : Node). z.turn) refl;
-    }
+    null_stays = stored_stays (stub_in c b) nulled_node reads.Swap stub_low refl
 
     null_shows : ShowsPool nulled_core q
     null_shows =
         let next : ℕ → ℕ = λ a. (node_at nulled_core a).next in
-        let there : next (stub_in c b) ≡ null = ap (λ (z : Node). z.next) null_word in
+        let there : next (stub_in c b) ≡ null = ap (λ (z : Node). z.next) (stored_word (stub_in c b) nulled_node reads.Swap stub_low) in
         let box = null_box c.ring m holds x (shows.boxes b low) apart at next there (λ a other. ap (λ (z : Node). z.next) (null_words a other)) in
         let is : record x { links = record (links_in c q b) { next = next; point = reads.Swap } } ≡ here c ok events q leads shows b low nulled_core null_stays Stub tt null_words q (same_pool q b) =
         λ t. record x {
@@ -195,45 +214,31 @@ module _ (c : Pooled) (ok : IsPooled c) (events : List (ℕ × Event)) (q : Pool
     link_node = record (node_at c before) { next = link_to (stub_in c b) }
 
     abbrev link_core : Pooled
-    link_core = goes_to b reads.Last (with_node before link_node c)
+    link_core = stored_core before link_node reads.Last
 
     before_low : before < length c.nodes
     before_low = subst (λ (pt : ReaderPoint). IsReaderPoint (length c.nodes) pt) at (reader_keeps c ok b low).1
 
-    link_word : node_at link_core before ≡ link_node
-    link_word = get_or-set_same c.nodes before link_node empty_node before_low
-
     link_words : (a : ℕ) → ¬ (a ≡ before) → node_at link_core a ≡ node_at c a
-    link_words a other = get_or-set_other c.nodes before a link_node empty_node other
+    link_words = stored_words before link_node reads.Last before_low
 
     link_same : (f : Node → ℕ) → f link_node ≡ f (node_at c before) → (a : ℕ) → f (node_at link_core a) ≡ f (node_at c a)
-    link_same = field_kept c before link_node before_low
+    link_same = stored_same before link_node reads.Last before_low
 
     link_own : reader_in link_core b ≡ record reader { point = reads.Last }
-    link_own = moved_own reads.Last reader.last
+    link_own = stored_own before link_node reads.Last
 
     abbrev link_next : ℕ → ℕ
     link_next a = (node_at link_core a).next
 
     link_there : link_next before ≡ link_to (stub_in c b)
-    link_there = ap (λ (z : Node). z.next) link_word
+    link_there = ap (λ (z : Node). z.next) (stored_word before link_node reads.Last before_low)
 
     link_else : (a : ℕ) → ¬ (a ≡ before) → link_next a ≡ (node_at c a).next
     link_else a other = ap (λ (z : Node). z.next) (link_words a other)
 
     link_stays : Stays c link_core b
-    link_stays = record {
-      ring = refl;
-      heads = refl;
-      senders = refl;
-      ended = refl;
-      head = λ d other. refl;
-      reader = λ d other. get_or-set_other c.readers b d (moved reads.Last reader.last) _ other;
-      points = λ d other s. refl;
-      held = λ d in_range other a. refl;
-      counts = λ s. refl;
-      turns = link_same (λ (z : Node). z.turn) refl;
-    }
+    link_stays = stored_stays before link_node reads.Last before_low refl
 
     link_may : is_in_flight m Stub ≡ true
     link_may = (owed_stub c.ring m holds x (shows.boxes b low) apart before at link_next link_there link_else).0

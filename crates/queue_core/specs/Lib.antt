@@ -1,4 +1,5 @@
 pub mod Items
+pub mod Endings
 pub mod Mailbox
 pub mod Events
 pub mod Received

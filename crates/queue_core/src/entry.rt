@@ -1,6 +1,6 @@
-//! What is exchanged into a mailbox.
+//! The entries of a mailbox.
 
-/// An entry of a mailbox.
+/// What is exchanged into a mailbox.
 #[derive(Clone, Copy, Debug, PartialEq, Eq)]
 pub enum Entry {
     /// Of a sender, by its number: the item that it filled at a place among its items, from 0.

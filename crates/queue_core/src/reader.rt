@@ -23,7 +23,7 @@ pub enum ReaderPoint {
     Last,
 }
 
-/// The reader.
+/// The reader of a mailbox, as its steps leave it.
 #[derive(Clone, Copy, Debug, PartialEq, Eq)]
 pub struct Reader {
     pub point: ReaderPoint,

@@ -11,7 +11,7 @@ use crate::item::Took;
 use crate::reader::{Reader, ReaderPoint};
 use crate::state::State;
 use crate::step::Stepped;
-use crate::words::{NULL, Node, link_to};
+use crate::words::{NULL, Node, link_to, linked_node};
 
 impl State {
     /// Whether the tail is the stub.
@@ -60,14 +60,8 @@ impl State {
         ensures { self.new ≡ passes b self.old }
     {
         let reader = self.reader(b);
-        let next = self.node(reader.tail).next;
-        self.set_reader(
-            b,
-            Reader {
-                tail: next - 1,
-                ..reader
-            },
-        );
+        let tail = linked_node(self.node(reader.tail).next);
+        self.set_reader(b, Reader { tail, ..reader });
     }
 
     /// Takes the tail, a sender's node, and ends the take.
@@ -188,22 +182,14 @@ impl State {
         ensures moved { result ≡ Moved → stub_null_at (reader_in self.old b).point b self.old ≡ Some self.new }
         ensures not_now { result ≡ NotNow → (stub_null_at (reader_in self.old b).point b self.old ≡ None) × (self.new ≡ self.old) }
     {
-        match self.reader(b).point {
-            ReaderPoint::Null => {
-                let stub = self.stub(b);
-                let node = self.node(stub);
-                self.set_node(stub, Node { next: NULL, ..node });
-                self.go_to(b, ReaderPoint::Swap);
-                Stepped::Moved
-            }
-            ReaderPoint::Rest
-            | ReaderPoint::Second
-            | ReaderPoint::StubHead
-            | ReaderPoint::NodeHead
-            | ReaderPoint::Swap
-            | ReaderPoint::Link(_)
-            | ReaderPoint::Last => Stepped::NotNow,
-        }
+        let ReaderPoint::Null = self.reader(b).point else {
+            return Stepped::NotNow;
+        };
+        let stub = self.stub(b);
+        let node = self.node(stub);
+        self.set_node(stub, Node { next: NULL, ..node });
+        self.go_to(b, ReaderPoint::Swap);
+        Stepped::Moved
     }
 
     /// Exchanges the head for the stub.
@@ -213,22 +199,14 @@ impl State {
         ensures moved { result ≡ Moved → stub_swap_at (reader_in self.old b).point b self.old ≡ Some self.new }
         ensures not_now { result ≡ NotNow → (stub_swap_at (reader_in self.old b).point b self.old ≡ None) × (self.new ≡ self.old) }
     {
-        match self.reader(b).point {
-            ReaderPoint::Swap => {
-                let before = self.head(b) - 1;
-                let head = link_to(self.stub(b));
-                self.go_to(b, ReaderPoint::Link(before));
-                self.set_head(b, head);
-                Stepped::Moved
-            }
-            ReaderPoint::Rest
-            | ReaderPoint::Second
-            | ReaderPoint::StubHead
-            | ReaderPoint::NodeHead
-            | ReaderPoint::Null
-            | ReaderPoint::Link(_)
-            | ReaderPoint::Last => Stepped::NotNow,
-        }
+        let ReaderPoint::Swap = self.reader(b).point else {
+            return Stepped::NotNow;
+        };
+        let before = linked_node(self.head(b));
+        let head = link_to(self.stub(b));
+        self.go_to(b, ReaderPoint::Link(before));
+        self.set_head(b, head);
+        Stepped::Moved
     }
 
     /// Stores the link to the stub in the node that was the head.
@@ -238,22 +216,14 @@ impl State {
         ensures moved { result ≡ Moved → stub_link_at (reader_in self.old b).point b self.old ≡ Some self.new }
         ensures not_now { result ≡ NotNow → (stub_link_at (reader_in self.old b).point b self.old ≡ None) × (self.new ≡ self.old) }
     {
-        match self.reader(b).point {
-            ReaderPoint::Link(before) => {
-                let next = link_to(self.stub(b));
-                let node = self.node(before);
-                self.set_node(before, Node { next, ..node });
-                self.go_to(b, ReaderPoint::Last);
-                Stepped::Moved
-            }
-            ReaderPoint::Rest
-            | ReaderPoint::Second
-            | ReaderPoint::StubHead
-            | ReaderPoint::NodeHead
-            | ReaderPoint::Null
-            | ReaderPoint::Swap
-            | ReaderPoint::Last => Stepped::NotNow,
-        }
+        let ReaderPoint::Link(before) = self.reader(b).point else {
+            return Stepped::NotNow;
+        };
+        let next = link_to(self.stub(b));
+        let node = self.node(before);
+        self.set_node(before, Node { next, ..node });
+        self.go_to(b, ReaderPoint::Last);
+        Stepped::Moved
     }
 
     /// Loads a word of a node that is held.

@@ -81,7 +81,7 @@ impl SenderPoint {
     }
 }
 
-/// A sender.
+/// A sender, as its steps leave it.
 #[derive(Clone, Copy, Debug, PartialEq, Eq)]
 pub struct Caller {
     pub point: SenderPoint,

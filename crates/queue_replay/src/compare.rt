@@ -1,7 +1,9 @@
 //! A core beside the answers that a schedule gives.
 
 use crate::parse;
-use queue_core::{Core, PoolCore, PoolStep, Posted, Step, Stepped, Took};
+use queue_core::{
+    Core, MOST_MAILBOXES, MOST_NODES, MOST_SENDERS, PoolCore, PoolStep, Posted, Step, Stepped, Took,
+};
 use std::alloc::{AllocError, Global};
 use std::fmt;
 
@@ -103,7 +105,7 @@ impl Comparison {
         let (senders, nodes) = numbers.split_once(' ').unwrap_or(("", ""));
         let senders = senders.parse().unwrap_or(0);
         let nodes = nodes.parse().unwrap_or(0);
-        if !(1..=8).contains(&senders) || !(1..=64).contains(&nodes) {
+        if !(1..=MOST_SENDERS).contains(&senders) || !(1..=MOST_NODES).contains(&nodes) {
             self.note(false);
             return Ok(());
         }
@@ -118,9 +120,9 @@ impl Comparison {
         let senders = senders.parse().unwrap_or(0);
         let mailboxes = mailboxes.parse().unwrap_or(0);
         let nodes = nodes.parse().unwrap_or(0);
-        if !(1..=8).contains(&senders)
-            || !(1..=16_384).contains(&mailboxes)
-            || !(1..=64).contains(&nodes)
+        if !(1..=MOST_SENDERS).contains(&senders)
+            || !(1..=MOST_MAILBOXES).contains(&mailboxes)
+            || !(1..=MOST_NODES).contains(&nodes)
         {
             self.note(false);
             return Ok(());

@@ -6,7 +6,8 @@ pub load-requires : goal.load-requires
 load-requires c =
     let nodes = c.args.nodes.now in
     let seat = c.args.seat.now in
-    let at = c.requires.at in (
+    let at = c.requires.at in
+    rw c.next_word-word.ensures (
       c.requires.seat,
       omega (arith, nodes.table.wide, c.requires.tail),
       loads_next nodes.shape nodes.board.shared.key nodes.board.shared.table_id.words nodes.table nodes.board.shared.table_id.slots seat.id seat.me at.0 c.args.tail at.1,

@@ -7,4 +7,4 @@ store-requires c =
     let board = c.args.nodes.now.board.shared in
     let at = c.requires.at in
     let told = stores_amount c.args.nodes.now.shape board.key board.table_id.words c.args.nodes.now.table board.table_id.slots seat.id seat.me at.0 c.args.node at.1 c.requires.node c.args.amount at.2 at.3 in
-    (c.requires.seat, told.0, told.1)
+    rw c.amount_word_of-word.ensures (c.requires.seat, told.0, told.1)

@@ -7,4 +7,4 @@ store-requires c =
     let board = c.args.nodes.now.board.shared in
     let at = c.requires.at in
     let told = stores_link c.args.nodes.now.shape board.key board.table_id.words c.args.nodes.now.table board.table_id.slots seat.id seat.me at.0 c.args.node at.1 c.args.before c.requires.nodes.1 at.2 in
-    (c.requires.seat, told.0, told.1)
+    rw c.next_word-word.ensures (rw c.link_to-link.ensures (c.requires.seat, told.0, told.1))

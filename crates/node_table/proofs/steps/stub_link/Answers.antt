@@ -6,8 +6,9 @@ pub store-requires : goal.store-requires
 store-requires c =
     let nodes = c.args.nodes.now in
     let seat = c.args.seat.now in
-    let at = c.requires.at in (
+    let at = c.requires.at in
+    rw c.next_word-word.ensures (rw c.link_to-link.ensures (
       c.requires.seat,
       omega (arith, nodes.table.wide, c.requires.before),
       links_stub nodes.shape nodes.board.shared.key nodes.board.shared.table_id.words nodes.table nodes.board.shared.table_id.slots seat.id seat.me c.args.mailbox at.0 c.args.stub c.requires.stub c.args.before at.1,
-    )
+    ))

@@ -1,5 +1,5 @@
 use Rattle.std.specs.Prelude.{◌≡◌, true}
-use Rattle.pool_relay.specs.Postings.{HasEnd}
+use Rattle.queue_core.specs.Endings.{HasEnd}
 use Rattle.pool_relay.proofs.receiving.receive_all.Given as goal
 
 abbrev pub invariant-loop : goal.invariant-loop

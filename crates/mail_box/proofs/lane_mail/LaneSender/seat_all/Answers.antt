@@ -1,11 +1,12 @@
 use Rattle.std.proofs.Common.{ap, arith, rules, subst, sym, slice_index_or, vec_items, ◌+◌, ◌≡◌, ◌∙◌}
 use Rattle.std.specs.Arc.{arc_value}
 use Rattle.crossbeam_queue.specs.Passes.{IsPassOf, view}
+use Rattle.mail_box.specs.declared.lane_mail.LaneSender.{LaneSender}
 use Rattle.mail_box.specs.declared.lane_mail.Lanes.{Lanes}
 use Rattle.mail_box.specs.LaneViews.{sender_of}
 use Rattle.mail_box.specs.Mails.{opened_sender}
 use Rattle.mail_box.proofs.LaneLists.{opens_sender}
-use Rattle.mail_box.proofs.SeatLists.{seats_more}
+use Rattle.node_table.proofs.SeatLists.{seats_more}
 use Rattle.mail_box.proofs.lane_mail.LaneSender.seat_all.Goals as goal
 
 pub invariant_of-push : goal.invariant_of-push
@@ -32,5 +33,5 @@ loop-pass-preserved c =
       search rules,
       search rules,
       (λ k d below. let h = was.2 (k + 1) d in grind rules),
-      seats_more sender_of (λ k. opened_sender (arc_value c.args.lanes.now) k (arc_value c.args.lanes.now).nodes c.args.most) number _ _ _ c.in_ok-push.ensures.items (grind rules) was.3 (opens_sender _ _ _ _ _ same sent),
+      seats_more (λ k (s : LaneSender). sender_of s ≡ opened_sender (arc_value c.args.lanes.now) k (arc_value c.args.lanes.now).nodes c.args.most) number _ _ _ c.in_ok-push.ensures.items (grind rules) was.3 (opens_sender _ _ _ _ _ same sent),
     )

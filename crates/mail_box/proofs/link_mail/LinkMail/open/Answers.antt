@@ -9,7 +9,7 @@ use Rattle.node_table.specs.declared.seats.Shape.{Shape}
 use Rattle.node_table.specs.Seats.{items_in}
 use Rattle.node_table.specs.Tells.{new_sender}
 use Rattle.node_table.specs.Views.{Name, sender_of as sender_seat, table_of_reader, table_of_sender, table_of_tally}
-use Rattle.node_table.proofs.SeatLists.{seats_more as more_seats}
+use Rattle.node_table.proofs.SeatLists.{seats_more}
 use Rattle.mail_box.specs.declared.link_mail.LinkSender.{LinkSender}
 use Rattle.mail_box.specs.Mails.{opened_sender}
 use Rattle.mail_box.specs.LinkViews.{sender_of, sender_with}
@@ -48,7 +48,7 @@ loop-sender-preserved c =
     let more : length (c.loop-sender.yielded ++ c.in-Some.sender ∷ []) ≡ number + 1 = length_push c.loop-sender.yielded c.in-Some.sender in
     let was = c.loop-sender.invariant in record {
       count = search rules;
-      opened = λ k below. more_seats (λ k (s : LinkSender). sender_of s ≡ opened_sender (table_of_tally c.in_ok-opened.tally) k c.args.nodes c.args.most) number _ _ _ c.in_ok-push.ensures.items (grind rules) was.opened
+      opened = λ k below. seats_more (λ k (s : LinkSender). sender_of s ≡ opened_sender (table_of_tally c.in_ok-opened.tally) k c.args.nodes c.args.most) number _ _ _ c.in_ok-push.ensures.items (grind rules) was.opened
           (sender_opened c.in-Some.sender (table_of_tally c.in_ok-opened.tally) shape number c.args.most its.0 its.1) k (subst (λ (n : ℕ). k < n) more below);
     }
 

@@ -1,19 +1,11 @@
 -- Where the end mark is received, all that was sent is.
 use Rattle.std.proofs.Common.{Bool, List, ap, false, length, refl, subst, sym, take, true, true≢false, [], ◌++◌, ◌||◌, ◌≡◌, ◌∙◌, ◌∷◌}
 use Rattle.std.specs.List.{list_any}
+use Rattle.std.proofs.lemmas.Bool.{or_parts}
 use Rattle.queue_core.specs.declared.item.Item.{Item}
 use Rattle.queue_core.specs.declared.item.Item.TheVariants.{End}
-use Rattle.queue_core.specs.Items.{is_end}
-use Rattle.mail_box.specs.Endings.{HasEnd, IsClosed}
-use Rattle.queue_core.specs.Items.{IsFirstOf}
-
-or_left : (a b : Bool) → (a || b) ≡ false → a ≡ false
-or_left true b e = e
-or_left false b e = refl
-
-or_right : (a b : Bool) → (a || b) ≡ false → b ≡ false
-or_right true b e = absurd (true≢false e)
-or_right false b e = e
+use Rattle.queue_core.specs.Items.{IsFirstOf, is_end}
+use Rattle.queue_core.specs.Endings.{HasEnd, IsClosed}
 
 or_other : (a b : Bool) → a ≡ false → (a || b) ≡ true → b ≡ true
 or_other true b f e = absurd (true≢false f)
@@ -29,7 +21,8 @@ all_of (x ∷ xs) [] none first has = let h : End ≡ x = cc in let t : [] ≡ x
 all_of (x ∷ xs) (y ∷ ys) none first has =
     let same : y ≡ x = cc in
     let rest : take (length xs) (ys ++ End ∷ []) ≡ xs = cc in
-    let others = all_of xs ys (or_right (is_end y) (list_any is_end ys) none) rest (or_other (is_end x) (list_any is_end xs) (ap is_end (sym same) ∙ or_left (is_end y) (list_any is_end ys) none) has) in
+    let parts = or_parts (is_end y) (list_any is_end ys) none in
+    let others = all_of xs ys parts.1 rest (or_other (is_end x) (list_any is_end xs) (ap is_end (sym same) ∙ parts.0) has) in
     cc
 
 -- what was received is the first of what was sent, and has its end mark
