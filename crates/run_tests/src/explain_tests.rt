@@ -1,6 +1,6 @@
 //! Explanations of usage lines, worked out by hand.
 
-use crate::rows::text_of;
+use crate::merge_tests::text_of;
 use explain_line::explain;
 use line_split::LineFault;
 use run_inputs::Fault;

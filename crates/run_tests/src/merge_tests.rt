@@ -7,7 +7,7 @@ use std::io::{self, ErrorKind, Read};
 use std::test::Fail;
 
 /// The text that bytes are, or a question mark.
-fn text_of(bytes: &[u8]) -> &str {
+pub fn text_of(bytes: &[u8]) -> &str {
     str::from_utf8(bytes).unwrap_or("?")
 }
 

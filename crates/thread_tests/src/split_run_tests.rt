@@ -1,11 +1,11 @@
 //! Plans in range and out of it, and what a worker alone sends.
 ghost use Rattle.std.specs.Prelude.{◌≡◌, ◌<◌, ◌≤◌, IfOk, false, map};
 ghost use Rattle.mail_box.specs.LaneViews.{sender_of};
+ghost use Rattle.mail_box.specs.Mails.{opened_sender};
 ghost use Rattle.block_draw.specs.Views.{drawer_of};
 ghost use Rattle.split_run.specs.Running.{IsFresh};
 ghost use Rattle.split_run.specs.Sending.{AreFresh, AreReadyFor};
 
-use crate::mail_rows::open_one;
 use crate::run_threads_tests::{Inputs, watch};
 use line_split::{MOST_CLAIMS, Portions};
 use mail_box::{Item, LaneMail, LaneReceiver, LaneSender, Mail, receive};
@@ -34,6 +34,20 @@ fn takes_plans_in_range(rt: HostRuntime) -> Result<(), Fail> {
         assert_eq!(rt; Plan::new(workers, readers, nodes).is_some(), expected);
     }
     Ok(())
+}
+
+/// A mailbox of one sender.
+fn open_one<M: Mail>(
+    alloc: Global,
+    mail: &M,
+    nodes: u64,
+    most: u64,
+) -> Result<(M::Sender, M::Receiver), AllocError>
+    requires { (0 < nodes) × (nodes ≤ 64) × (most ≤ 1000000) }
+    ensures { IfOk result (λ r. M.sender r.0 ≡ opened_sender (M.receiver r.1).mailbox 0 nodes most) }
+{
+    let (mut senders, receiver) = mail.open(alloc, 1, nodes, most)?;
+    Ok((senders.swap_remove(0), receiver))
 }
 
 /// Three mailboxes, each of one sender with so many nodes, which may post three times.

@@ -1,5 +1,5 @@
 use Rattle.std.specs.Prelude.{◌≡◌, All, vec_items}
-use Rattle.thread_tests.proofs.pool_rows.rows_of.Given as goal
+use Rattle.mail_tests.proofs.pool_rows.rows_of.Given as goal
 
 abbrev pub invariant-loop-row : goal.invariant-loop-row
 invariant-loop-row g l =

@@ -1,5 +1,5 @@
 use Rattle.std.specs.Prelude.{◌≡◌, All, vec_items}
-use Rattle.thread_tests.proofs.pool_rows.settle.Given as goal
+use Rattle.mail_tests.proofs.pool_rows.settle.Given as goal
 
 abbrev pub invariant-loop : goal.invariant-loop
 invariant-loop g l =

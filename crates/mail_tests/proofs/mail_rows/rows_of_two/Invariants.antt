@@ -1,5 +1,5 @@
 use Rattle.std.specs.Prelude.{◌≡◌}
-use Rattle.thread_tests.proofs.mail_rows.rows_of_two.Given as goal
+use Rattle.mail_tests.proofs.mail_rows.rows_of_two.Given as goal
 
 abbrev pub invariant-loop-row : goal.invariant-loop-row
 invariant-loop-row g l =
