@@ -9,7 +9,7 @@ help:
 	@echo 'make fuzz     the same on 100000 damaged inputs; some ten minutes on four cores'
 	@echo 'make sizes    run both at each limit and one beyond it, print times and peak memory; a minute, 2 GB of memory'
 	@echo 'make refuse   run the program with each allocation, thread, read, write and file refused in turn, kill it as it writes a file, and refuse each call as make test does; two minutes once both are built'
-	@echo 'make bench    run both on a million usage lines, print times and peak memory; and a mailbox alone and pools'
+	@echo 'make bench    run both on a million usage lines, print the table and the aims of bench/README.md; and a mailbox alone and pools'
 	@echo 'make explore  go through every state of a small mailbox and of a small pool, with the model in Python, and find each wrong one out; a minute'
 	@echo 'make months   run small months in parts, with stand-ins for Slurm; kill parts, change files, and compare with the plain program; a minute'
 	@echo 'make cluster  run a small month under Slurm, which is started for it on this machine alone and has to be installed'
@@ -64,8 +64,7 @@ refuse:
 	tests/refuse_calls.sh crates/refusal_runs/out/refusal_runs
 
 bench:
-	python3 bench/bench.py --program $(PROGRAM) --lines 1000000 --works 20000 --parties 400 --repeats 5
-	python3 bench/bench.py --program $(PROGRAM) --lines 1000000 --works 20000 --parties 16000 --repeats 3
+	python3 bench/bench.py --program $(PROGRAM) --lines 1000000 --works 20000 --parties 400 16000 --repeats 5
 	cd crates/mail_bench && rt run < stdin > /dev/null
 	python3 bench/mail.py --program crates/mail_bench/out/mail_bench
 
