@@ -1,8 +1,9 @@
-.PHONY: help build demo test edits compare fuzz sizes refuse bench explore months cluster
+.PHONY: help build demo install test edits compare fuzz sizes refuse bench explore months cluster
 
 help:
 	@echo 'make demo     make the statements of the example in about a minute, with a build that is not proved'
 	@echo 'make build    prove and build the program, leave it as out/royalty_run'
+	@echo 'make install  put the program that was built, its man page and its completions below PREFIX (/usr/local), or below DESTDIR and PREFIX; prove and build it first where it was not'
 	@echo 'make test     the gate: prove every crate from nothing, refuse wrong bodies, run every test, and the program and each call, also with memory and threads refused'
 	@echo 'make edits    refuse the wrong bodies that the gate leaves out, of every crate or of one: make edits CRATE=mail_box; an hour for all'
 	@echo 'make compare  run the program and a plain Rust one on made-up inputs, good and bad, and compare'
@@ -19,6 +20,7 @@ help:
 	@echo 'python3, compare, fuzz, sizes, bench and months cargo, and test and refuse a C compiler.'
 
 PROGRAM = out/royalty_run
+PREFIX = /usr/local
 ifeq ($(origin PROGRAM),file)
 compare fuzz sizes refuse bench months: build
 endif
@@ -27,6 +29,18 @@ build:
 	cd crates/royalty_run && rt run -- --help > /dev/null
 	mkdir -p out
 	cp crates/royalty_run/out/royalty_run out/royalty_run
+
+# A program that stands built is not built anew.
+out/royalty_run:
+	$(MAKE) build
+
+install: $(PROGRAM)
+	install/pages.sh $(PROGRAM) out/pages
+	install -D -m 755 $(PROGRAM) $(DESTDIR)$(PREFIX)/bin/royalty_run
+	install -D -m 644 out/pages/royalty_run.1 $(DESTDIR)$(PREFIX)/share/man/man1/royalty_run.1
+	install -D -m 644 out/pages/royalty_run.bash $(DESTDIR)$(PREFIX)/share/bash-completion/completions/royalty_run
+	install -D -m 644 out/pages/_royalty_run $(DESTDIR)$(PREFIX)/share/zsh/site-functions/_royalty_run
+	install -D -m 644 out/pages/royalty_run.fish $(DESTDIR)$(PREFIX)/share/fish/vendor_completions.d/royalty_run.fish
 
 demo:
 	@echo 'This build proves nothing; make build proves the program and leaves it as out/royalty_run.'
@@ -41,6 +55,7 @@ demo:
 test:
 	rt ci
 	tests/program.sh crates/royalty_run/out/royalty_run
+	tests/install.sh crates/royalty_run/out/royalty_run
 	tests/refuse.sh crates/royalty_run/out/royalty_run quick
 	tests/refuse_calls.sh crates/refusal_runs/out/refusal_runs
 
