@@ -1,15 +1,16 @@
-.PHONY: help build demo test edits compare fuzz sizes refuse bench explore months cluster
+.PHONY: help build demo install test edits compare fuzz sizes refuse bench explore months cluster
 
 help:
 	@echo 'make demo     make the statements of the example in about a minute, with a build that is not proved'
 	@echo 'make build    prove and build the program, leave it as out/royalty_run'
+	@echo 'make install  put the program that was built, its man page and its completions below PREFIX (/usr/local), or below DESTDIR and PREFIX; prove and build it first where it was not'
 	@echo 'make test     the gate: prove every crate from nothing, refuse wrong bodies, run every test, and the program and each call, also with memory and threads refused'
 	@echo 'make edits    refuse the wrong bodies that the gate leaves out, of every crate or of one: make edits CRATE=mail_box; an hour for all'
 	@echo 'make compare  run the program and a plain Rust one on made-up inputs, good and bad, and compare'
 	@echo 'make fuzz     the same on 100000 damaged inputs; some ten minutes on four cores'
 	@echo 'make sizes    run both at each limit and one beyond it, print times and peak memory; a minute, 2 GB of memory'
 	@echo 'make refuse   run the program with each allocation, thread, read, write and file refused in turn, kill it as it writes a file, and refuse each call as make test does; two minutes once both are built'
-	@echo 'make bench    run both on a million usage lines, print times and peak memory; and a mailbox alone and pools'
+	@echo 'make bench    run both on a million usage lines, print the table and the aims of bench/README.md; and a mailbox alone and pools'
 	@echo 'make explore  go through every state of a small mailbox and of a small pool, with the model in Python, and find each wrong one out; a minute'
 	@echo 'make months   run small months in parts, with stand-ins for Slurm; kill parts, change files, and compare with the plain program; a minute'
 	@echo 'make cluster  run a small month under Slurm, which is started for it on this machine alone and has to be installed'
@@ -19,6 +20,7 @@ help:
 	@echo 'python3, compare, fuzz, sizes, bench and months cargo, and test and refuse a C compiler.'
 
 PROGRAM = out/royalty_run
+PREFIX = /usr/local
 ifeq ($(origin PROGRAM),file)
 compare fuzz sizes refuse bench months: build
 endif
@@ -27,6 +29,18 @@ build:
 	cd crates/royalty_run && rt run -- --help > /dev/null
 	mkdir -p out
 	cp crates/royalty_run/out/royalty_run out/royalty_run
+
+# A program that stands built is not built anew.
+out/royalty_run:
+	$(MAKE) build
+
+install: $(PROGRAM)
+	install/pages.sh $(PROGRAM) out/pages
+	install -D -m 755 $(PROGRAM) $(DESTDIR)$(PREFIX)/bin/royalty_run
+	install -D -m 644 out/pages/royalty_run.1 $(DESTDIR)$(PREFIX)/share/man/man1/royalty_run.1
+	install -D -m 644 out/pages/royalty_run.bash $(DESTDIR)$(PREFIX)/share/bash-completion/completions/royalty_run
+	install -D -m 644 out/pages/_royalty_run $(DESTDIR)$(PREFIX)/share/zsh/site-functions/_royalty_run
+	install -D -m 644 out/pages/royalty_run.fish $(DESTDIR)$(PREFIX)/share/fish/vendor_completions.d/royalty_run.fish
 
 demo:
 	@echo 'This build proves nothing; make build proves the program and leaves it as out/royalty_run.'
@@ -41,6 +55,7 @@ demo:
 test:
 	rt ci
 	tests/program.sh crates/royalty_run/out/royalty_run
+	tests/install.sh crates/royalty_run/out/royalty_run
 	tests/refuse.sh crates/royalty_run/out/royalty_run quick
 	tests/refuse_calls.sh crates/refusal_runs/out/refusal_runs
 
@@ -64,8 +79,7 @@ refuse:
 	tests/refuse_calls.sh crates/refusal_runs/out/refusal_runs
 
 bench:
-	python3 bench/bench.py --program $(PROGRAM) --lines 1000000 --works 20000 --parties 400 --repeats 5
-	python3 bench/bench.py --program $(PROGRAM) --lines 1000000 --works 20000 --parties 16000 --repeats 3
+	python3 bench/bench.py --program $(PROGRAM) --lines 1000000 --works 20000 --parties 400 16000 --repeats 5
 	cd crates/mail_bench && rt run < stdin > /dev/null
 	python3 bench/mail.py --program crates/mail_bench/out/mail_bench
 

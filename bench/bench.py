@@ -1,22 +1,23 @@
 #!/usr/bin/env python3
-"""Runs the program and the plain Rust one on the same large data, side by side.
+"""Runs the program and the plain Rust one on the same large data, side by side, and prints a table in Markdown.
 
-    python3 bench.py --program PATH [--lines 1000000] [--works 20000]
-        [--parties 400] [--seed 1] [--repeats 5] [--nodes 64] [--phases] [--lanes PATH]
+    python3 bench.py --program PATH [--lines 1000000] [--works 20000] [--parties 400 16000]
+        [--seed 1] [--repeats 5] [--nodes 64] [--modes] [--phases] [--lanes PATH]
 
-With --lanes PATH, a build of the program in which `settle` runs over `LaneMail`, only mailboxes are compared: linked nodes, lanes,
-and the plain program's linked queues, with 1, 2 and 4 workers, 1 and 2 readers, and 1, 8 and 64 nodes.
+The program runs with each number of workers and of readers, and beside it the plain program's pool
+of linked nodes with the same plan, with bells where the program has them. The plain program also
+runs on one thread. So it goes for each number of parties. The table, with the commit and the machine above it
+and the aims below it, is made to be pasted into README.md.
 
-The program runs with each number of workers and of readers, and beside it the plain program's pool of linked nodes, with bells and
-without. The plain one runs on one thread, as it is and
-without its hints to fetch memory ahead (`prefetch`), which Rattle has no word for; and in each
-of its other modes with threads, with 4 workers and 2 readers.
+With --modes the plain program also runs without its hints to fetch memory ahead (`prefetch`), which
+Rattle has no word for, and in each of its other modes with threads, with 4 workers and 2 readers.
+With --lanes PATH, a build of the program in which a run goes over `LaneMail`, only mailboxes are
+compared: linked nodes, lanes, and the plain program's linked queues, with 1, 2 and 4 workers, 1 and
+2 readers, and 1, 8 and 64 nodes.
 
-The data are made once. Every repeat runs each row once, so that noise hits all
-alike. Outputs go to a file and have to be the same bytes. Shown are the best wall
-time, the user and system time of that run, and the greatest peak memory; then how many
-times as long the program took as other rows, by these best times and by the median over the repeats,
-which a machine with other work on it disturbs less. The load is that of the minute before, at the start and at the end.
+The data are made once. Every repeat runs each row once, so that noise hits all alike. Statements go
+to a file, and have to be the same bytes. A time is the best wall time of the repeats, and MB the
+greatest peak memory. How many times as long one program took as another is said by these times.
 """
 import argparse
 import hashlib
@@ -25,6 +26,7 @@ import statistics
 import subprocess
 import sys
 import tempfile
+import time
 
 HERE = os.path.dirname(os.path.abspath(__file__))
 
@@ -94,17 +96,37 @@ def times(ours, theirs):
     return f"{ours.wall / theirs.wall:.2f} times the time (median of the repeats {median:.2f})"
 
 
-def mailboxes(a, folder, words, program, plain):
+def machine():
+    """The processor and how many of them there are."""
+    with open("/proc/cpuinfo") as f:
+        names = [line.split(":", 1)[1].strip() for line in f if line.startswith("model name")]
+    return f"{os.cpu_count()} x {names[0] if names else 'a processor without a name'}"
+
+
+def commit():
+    """The commit that is checked out, and whether files differ from it."""
+    def git(*words):
+        return subprocess.run(["git", "-C", HERE, *words], stdout=subprocess.PIPE, text=True, check=True).stdout.strip()
+    return git("rev-parse", "--short", "HEAD") + (", with changes" if git("status", "--porcelain") else "")
+
+
+def compare_mailboxes(a, parties, program, plain):
     """Compares kinds of mailboxes: a line for each plan, with the best wall time over each kind."""
     kinds = {"links": [program], "lanes": [os.path.abspath(a.lanes)], "plain links": [plain, "--mode", "linked"]}
     plans = [(w, r, n) for w in (1, 2, 4) for r in (1, 2) for n in (1, 8, 64)]
-    rows = {(plan, kind): Row(kind, [command[0], *words(*plan), *command[1:]])
-            for plan in plans for kind, command in kinds.items()}
     load = os.getloadavg()[0]
-    for _ in range(a.repeats):
-        for row in rows.values():
-            row.run(folder)
-    print(f"{a.lines} lines, {a.works} works, {a.parties} parties, best of {a.repeats}, "
+    with tempfile.TemporaryDirectory() as folder:
+        files = make_data(a, parties, folder)
+
+        def words(workers, readers, nodes):
+            return [*files, "--workers", str(workers), "--readers", str(readers), "--nodes", str(nodes)]
+
+        rows = {(plan, kind): Row(kind, [command[0], *words(*plan), *command[1:]])
+                for plan in plans for kind, command in kinds.items()}
+        for _ in range(a.repeats):
+            for row in rows.values():
+                row.run(folder)
+    print(f"{a.lines} lines, {a.works} works, {parties} parties, best of {a.repeats}, "
           f"{os.cpu_count()} cores, load {load:.1f} to {os.getloadavg()[0]:.1f}")
     print(f"{'workers x readers, nodes':<26}" + "".join(f"{kind:>14}" for kind in kinds))
     for plan in plans:
@@ -116,70 +138,153 @@ def mailboxes(a, folder, words, program, plain):
     return 0
 
 
+class Measured:
+    """What was measured with one number of parties."""
+
+    def __init__(self, a, parties, folder, program, plain, no_hints):
+        self.parties = parties
+        files = make_data(a, parties, folder)
+
+        def words(workers, readers, nodes=a.nodes):
+            return [*files, "--workers", str(workers), "--readers", str(readers), "--nodes", str(nodes)]
+
+        self.ours = {plan: Row("program {} x {}".format(*plan), [program, *words(*plan)]) for plan in PLANS}
+        mode = "bells" if parties >= BELLS_FROM else "pool"
+        self.pools = {plan: Row("{} {} x {}".format(mode, *plan), [plain, *words(*plan), "--mode", mode])
+                      for plan in PLANS}
+        self.plain = Row("plain", [plain, *words(1, 1), "--times"])
+        self.others = []
+        if a.modes:
+            self.others = [Row("no hints", [no_hints, *words(1, 1)])] + [
+                Row(f"{mode} 4 x 2", [plain, *words(4, 2), "--mode", mode])
+                for mode in ("threads", "channels", "batches", "linked")]
+        self.rows = [*self.ours.values(), *self.pools.values(), self.plain, *self.others]
+        for _ in range(a.repeats):
+            for row in self.rows:
+                row.run(folder)
+        self.postings = postings_in(os.path.join(folder, "out"))
+
+    def best(self):
+        return min(self.ours.values(), key=lambda row: row.wall)
+
+    def cells(self, plan):
+        ours, pool = self.ours[plan], self.pools[plan]
+        return [f"{ours.wall:.2f}", f"{pool.wall:.2f}", f"{ours.wall / pool.wall:.2f}", f"{ours.memory:.0f}"]
+
+    def worst(self):
+        """The plan that took longest beside the plain pool, and how many times as long."""
+        plan = max(PLANS, key=lambda plan: self.ours[plan].wall / self.pools[plan].wall)
+        return plan, self.ours[plan].wall / self.pools[plan].wall
+
+    def is_one_text(self):
+        return len({row.sha for row in self.rows}) == 1
+
+
+# The program's readers look at bells from so many accounts on, and so the plain pool beside it does.
+BELLS_FROM = 1_000
+PLANS = [(workers, readers) for workers in (1, 2, 4, 8) for readers in (1, 2, 4)] + [(8, 8)]
+
+
+def make_data(a, parties, folder):
+    """Makes the files of a run in a folder, and answers the words that name them."""
+    subprocess.run([sys.executable, os.path.join(HERE, "large.py"), folder, "--lines", str(a.lines),
+                    "--works", str(a.works), "--parties", str(parties), "--seed", str(a.seed)], check=True)
+    words = ["run"]
+    for option, name in (("tis", "tis.csv"), ("cwr", "works.cwr"), ("usage", "usage.csv")):
+        words += [f"--{option}", os.path.join(folder, name)]
+    return words
+
+
+def postings_in(path):
+    with open(path, "rb") as f:
+        return sum(line.startswith((b"L,", b"M,")) for line in f)
+
+
+def row_of(cells):
+    return "| " + " | ".join(cells) + " |"
+
+
+def print_table(a, measured, load):
+    print(f"{time.strftime('%Y-%m-%d')}, commit {commit()}, {machine()}, load {load:.1f} to {os.getloadavg()[0]:.1f}.")
+    print(f"{a.lines:,} usage lines of {a.works:,} works, {a.nodes} nodes, best of {a.repeats}.\n")
+    heads = ["workers x readers"]
+    for m in measured:
+        heads += [f"{m.parties:,} parties", "plain pool", "times as long", "MB"]
+    print(row_of(heads))
+    print("|" + "---|" * len(heads))
+    for plan in PLANS:
+        print(row_of(["{} x {}".format(*plan)] + [cell for m in measured for cell in m.cells(plan)]))
+    print(row_of(["the plain program, one thread"] + [
+        cell for m in measured for cell in (f"{m.plain.wall:.2f}", "", "", f"{m.plain.memory:.0f}")]))
+
+
+def print_aims(measured):
+    """Each aim that these runs can meet: what it is, what was measured, and whether it is met."""
+    print("\n" + row_of(["aim", "measured", "met"]) + "\n|---|---|---|")
+
+    def tell(aim, value, most, unit=""):
+        print(row_of([aim, f"{value:.2f}{unit}", "yes" if value <= most else "no"]))
+
+    few, many = measured[0], measured[-1]
+    for m, most in ((few, 1.25), (many, 1.3)):
+        plan, value = m.worst()
+        tell(f"{m.parties:,} parties: each plan takes at most {most} times as long as the plain pool", value, most,
+             " ({} x {})".format(*plan))
+    tell(f"{few.parties:,} parties: the best plan takes at most 1.15 times as long as the plain program on one thread",
+         few.best().wall / few.plain.wall, 1.15, f" ({few.best().name.removeprefix('program ')})")
+    tell(f"{few.parties:,} parties: 1 x 1 takes at most 1.0 s where the plain program takes 0.56, which is 1.79 times as long",
+         few.ours[1, 1].wall / few.plain.wall, 1.79)
+    per_posting = [min(row.wall for row in m.ours.values()) / m.postings for m in (few, many)]
+    tell(f"the best plan takes at most twice as long a posting with {many.parties:,} parties as with {few.parties:,}",
+         per_posting[1] / per_posting[0], 2)
+    tell(f"{many.parties:,} parties: 8 x 8 takes at most 40 MB more than the plain program",
+         many.ours[8, 8].memory - many.plain.memory, 40, " MB")
+
+
+def print_modes(measured):
+    """The plain program without hints and in its other modes, beside the program."""
+    for m in measured:
+        print(f"\n{m.parties:,} parties{'':<8}{'wall s':>10}{'user+sys':>10}{'MB':>8}")
+        for row in (m.best(), m.plain, *m.others):
+            print(f"{row.name:<20}{row.wall:>10.3f}{row.cpu:>10.3f}{row.memory:>8.0f}")
+        for other in (m.plain, *m.others):
+            print(f"program 1 x 1 to {other.name}: {times(m.ours[1, 1], other)}")
+
+
 def main():
     parser = argparse.ArgumentParser(formatter_class=argparse.RawDescriptionHelpFormatter,
                                      description=__doc__)
     parser.add_argument("--program", required=True)
     parser.add_argument("--lines", type=int, default=1_000_000)
     parser.add_argument("--works", type=int, default=20_000)
-    parser.add_argument("--parties", type=int, default=400)
+    parser.add_argument("--parties", type=int, nargs="+", default=[400, 16_000])
     parser.add_argument("--seed", type=int, default=1)
     parser.add_argument("--repeats", type=int, default=5)
     parser.add_argument("--nodes", type=int, default=64)
+    parser.add_argument("--modes", action="store_true", help="the plain program's other modes, and without hints")
     parser.add_argument("--phases", action="store_true", help="those of the plain program")
     parser.add_argument("--lanes", help="a build of the program over lanes")
     a = parser.parse_args()
     plain = build_plain("target")
-    no_hints = build_plain("target/no_hints", "--no-default-features")
-    with tempfile.TemporaryDirectory() as folder:
-        subprocess.run([sys.executable, os.path.join(HERE, "large.py"), folder,
-                        "--lines", str(a.lines), "--works", str(a.works),
-                        "--parties", str(a.parties), "--seed", str(a.seed)], check=True)
-        files = ["run"]
-        for option, name in (("tis", "tis.csv"), ("cwr", "works.cwr"), ("usage", "usage.csv")):
-            files += [f"--{option}", os.path.join(folder, name)]
-
-        def words(workers, readers, nodes=a.nodes):
-            return [*files, "--workers", str(workers), "--readers", str(readers), "--nodes", str(nodes)]
-
-        program = os.path.abspath(a.program)
-        if a.lanes:
-            return mailboxes(a, folder, words, program, plain)
-        ours = {plan: Row("program {} x {}".format(*plan), [program, *words(*plan)])
-                for plan in [(w, r) for w in (1, 2, 4, 8) for r in (1, 2, 4)] + [(8, 8)]}
-        theirs = Row("plain", [plain, *words(1, 1), "--times"])
-        unhinted = Row("no hints", [no_hints, *words(1, 1), "--times"])
-        modes = {mode: Row(f"{mode} 4 x 2", [plain, *words(4, 2), "--mode", mode])
-                 for mode in ("threads", "channels", "batches", "linked")}
-        pools = {(plan, mode): Row("{} {} x {}".format(mode, *plan), [plain, *words(*plan), "--mode", mode])
-                 for plan in ours for mode in ("pool", "bells")}
-        rows = [*ours.values(), theirs, unhinted, *modes.values(), *pools.values()]
-        load = os.getloadavg()[0]
-        for _ in range(a.repeats):
-            for row in rows:
-                row.run(folder)
-    print(f"{a.lines} lines, {a.works} works, {a.parties} parties, {a.nodes} nodes, best of {a.repeats}, "
-          f"{os.cpu_count()} cores, load {load:.1f} to {os.getloadavg()[0]:.1f}")
-    print(f"{'':<16}{'wall s':>10}{'user+sys':>10}{'MB':>8}")
-    for row in (theirs, unhinted, *modes.values()):
-        print(f"{row.name:<16}{row.wall:>10.3f}{row.cpu:>10.3f}{row.memory:>8.0f}")
-    print(f"{'program':<16}{'wall s':>10}{'user+sys':>10}{'MB':>8}{'pool s':>10}{'bells s':>10}{'to the better':>15}")
-    for plan, row in ours.items():
-        pool, bells = pools[plan, "pool"], pools[plan, "bells"]
-        print(f"{'{} x {}'.format(*plan):<16}{row.wall:>10.3f}{row.cpu:>10.3f}{row.memory:>8.0f}{pool.wall:>10.3f}{bells.wall:>10.3f}"
-              f"{row.wall / min(pool.wall, bells.wall):>15.2f}")
-    best = min(ours.values(), key=lambda row: row.wall)
-    print(f"{best.name} is the best plan; to plain on one thread: {times(best, theirs)}")
-    for plan, other in (((1, 1), theirs), ((1, 1), unhinted), ((4, 2), modes["channels"]),
-                        ((4, 2), ours[1, 1]), ((8, 8), ours[4, 2])):
-        print(f"{ours[plan].name} to {other.name}: {times(ours[plan], other)}, "
-              f"{ours[plan].memory / other.memory:.2f} times the memory")
+    no_hints = build_plain("target/no_hints", "--no-default-features") if a.modes else None
+    program = os.path.abspath(a.program)
+    if a.lanes:
+        return max(compare_mailboxes(a, parties, program, plain) for parties in a.parties)
+    load = os.getloadavg()[0]
+    measured = []
+    for parties in a.parties:
+        with tempfile.TemporaryDirectory() as folder:
+            measured.append(Measured(a, parties, folder, program, plain, no_hints))
+    print_table(a, measured, load)
+    print_aims(measured)
+    if a.modes:
+        print_modes(measured)
     if a.phases:
-        print(theirs.phases, end="")
-    if len({row.sha for row in rows}) != 1:
-        print("the statements differ")
+        print("\n" + measured[0].plain.phases, end="")
+    if not all(m.is_one_text() for m in measured):
+        print("\nthe statements differ")
         return 1
-    print("the statements are the same bytes")
+    print("\nThe statements are the same bytes.")
     return 0
 
 
