@@ -13,7 +13,7 @@ help:
 	@echo 'make bench    run both on a million usage lines, print the table and the aims of bench/README.md; and a mailbox alone and pools'
 	@echo 'make explore  go through every state of a small mailbox and of a small pool, with the model in Python, and find each wrong one out; a minute'
 	@echo 'make months   run small months in parts, with stand-ins for Slurm; kill parts, change files, and compare with the plain program; a minute'
-	@echo 'make cluster  run a small month under Slurm, which is started for it on this machine alone and has to be installed'
+	@echo 'make cluster  run a month under Slurm, which is started for it on this machine alone and has to be installed: 1,600,000 usage lines, or make cluster LINES=10000000'
 	@echo 'make help     this list'
 	@echo 'compare, fuzz, sizes, refuse, bench, months and cluster build and prove the program first, unless they are given one: make bench PROGRAM=out/royalty_run'
 	@echo 'All but explore need the command rt of the Rattle kit on the path; compare, fuzz, sizes, bench, explore, months and cluster also'
@@ -97,4 +97,4 @@ cluster:
 ifeq ($(origin PROGRAM),file)
 	$(MAKE) build
 endif
-	cluster/one_machine.sh $(PROGRAM)
+	cluster/one_machine.sh $(PROGRAM) $(LINES)
