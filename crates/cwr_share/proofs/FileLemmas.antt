@@ -905,7 +905,7 @@ interest_small lines reading read = by reading.open read.1
 
 -- what a share line of the open registration is refused for
 pub fault_of_share : (before : List (List ℕ)) (line : List ℕ) (number : ℕ) (reading : Reading) (registration : Open) (fault : CwrFault) → reading.open ≡ Some registration → is_share_line line ≡ true
-    → IsFaultOfShare (length registration.shares.items) (share_fields line) line number fault → IsReadTo before reading → IsFaultOfLine before line number fault
+    → IsFaultOfShare (length registration.shares.items) (share_fields line) line number fault → IsReadTo before reading → IsFaultOfLine before number line fault
 fault_of_share before line number reading registration fault was is refused read =
     let (earlier, opening, body, split, forced, with) = read_at before reading (Some registration) was read in
     inr (

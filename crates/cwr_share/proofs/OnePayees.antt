@@ -2,7 +2,8 @@
 use Rattle.std.proofs.Common.{◌≡◌, ◌<◌, ◌+◌, ℕ, List, ◌∷◌, ◌++◌, length, map, ap, refl, subst, inl, inr, arith, length-append}
 use Rattle.std.proofs.lemmas.List.{length-map}
 use Rattle.std.proofs.Math.Seq.{get_or-append_seam, take-append_seam}
-use Rattle.cwr_share.specs.PayeeTable.{AreRows, IsFaultOf, IsFaultOfRow, IsFirstFault, IsPayeeRow, IsTableOf, payee_row_of}
+use Rattle.csv_table.specs.FirstFault.{IsFirstFault}
+use Rattle.cwr_share.specs.PayeeTable.{AreRows, IsFaultOf, IsFaultOfRow, IsPayeeRow, IsTableOf, header, payee_row_of}
 use Rattle.cwr_share.specs.declared.payees.TheConstants.{MOST_PAYEES}
 use Rattle.cwr_share.specs.declared.payee_fault.PayeeFault.{PayeeFault}
 use Rattle.cwr_share.specs.declared.payee_fault.PayeeFault.TheVariants.{Csv, Fields, Twice, Rows, Memory}
@@ -30,8 +31,9 @@ row_between before row after sound =
     rw (take-append_seam, get_or-append_seam) at (sound (length before) within)
 
 -- no row of a table is the first that is refused, but for lack of memory
-no_first_fault : (rows : List (List (List ℕ))) (payees : List (List ℕ × List ℕ)) (fault : PayeeFault) → IsTableOf rows payees → IsFirstFault rows fault → fault ≡ Memory
-no_first_fault rows payees fault is first =
+no_first_fault : (rows : List (List (List ℕ))) (payees : List (List ℕ × List ℕ)) (fault : PayeeFault) (below : List (List (List ℕ))) → IsTableOf rows payees → rows ≡ header ∷ below
+    → IsFirstFault AreRows (λ before. IsFaultOfRow (map payee_row_of before)) below fault → fault ≡ Memory
+no_first_fault rows payees fault below is headed first =
     let same : is.below ≡ first.before ++ first.row ∷ first.after = cc in
     sound_row (map payee_row_of first.before) first.row (length first.before + 1) fault
     (row_between first.before first.row first.after (subst AreRows same is.sound))
@@ -40,9 +42,6 @@ no_first_fault rows payees fault is first =
 
 -- rows that are a table are refused for nothing but lack of memory
 pub no_fault : (rows : List (List (List ℕ))) (payees : List (List ℕ × List ℕ)) (fault : PayeeFault) → IsTableOf rows payees → IsFaultOf rows fault → fault ≡ Memory
-no_fault rows payees (Csv n) is (inl (first, none)) = absurd (none is.below is.headed)
-no_fault rows payees (Csv n) is (inr first) = no_first_fault rows payees (Csv n) is first
-no_fault rows payees (Fields n) is first = no_first_fault rows payees (Fields n) is first
-no_fault rows payees (Twice n) is first = no_first_fault rows payees (Twice n) is first
-no_fault rows payees Rows is first = no_first_fault rows payees Rows is first
-no_fault rows payees Memory is fault = refl
+no_fault rows payees fault is (inl memory) = memory
+no_fault rows payees fault is (inr (inl (first, none))) = absurd (none is.below is.headed)
+no_fault rows payees fault is (inr (inr (below, headed, first))) = no_first_fault rows payees fault below is headed first

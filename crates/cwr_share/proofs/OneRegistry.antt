@@ -14,7 +14,8 @@ use Rattle.std.proofs.lemmas.List.Elements.{All-cons, All-contains, All-tail, Al
 use Rattle.std.proofs.lemmas.Map.Keys.{sorted_tail}
 use Rattle.std.proofs.lemmas.Map.Views.{All-after_first}
 use Rattle.std.proofs.lemmas.Slice.Eq.{bytes_eq-Decides}
-use Rattle.cwr_share.specs.CwrFile.{AreSound, IsFaultOf, IsFaultOfLine, IsFaultOfOpening, IsFaultOfShare, IsFileOf, IsFirstFault, IsOpening, IsPartyInForce, IsPayeeInForce, IsShareRecord, IsSound}
+use Rattle.csv_table.specs.FirstFault.{IsFirstFault}
+use Rattle.cwr_share.specs.CwrFile.{AreSound, IsFaultOf, IsFaultOfLine, IsFaultOfOpening, IsFaultOfShare, IsFileOf, IsOpening, IsPartyInForce, IsPayeeInForce, IsShareRecord, IsSound}
 use Rattle.cwr_share.specs.Parties.{party_of, payee_by}
 use Rattle.cwr_share.specs.Payees.{HasRow, IsPayeeIn, payee_of}
 use Rattle.cwr_share.specs.Records.{is_share_line, share_fields}
@@ -266,16 +267,16 @@ share_stands earlier fields line number Accounts sound fault = fault
 share_stands earlier fields line number Memory sound fault = fault
 
 -- a sound line is not refused
-line_stands : (before : List (List ℕ)) (line : List ℕ) (number : ℕ) (fault : CwrFault) → IsSound before line → ¬ IsFaultOfLine before line number fault
+line_stands : (before : List (List ℕ)) (line : List ℕ) (number : ℕ) (fault : CwrFault) → IsSound before line → ¬ IsFaultOfLine before number line fault
 line_stands before line number fault sound (inl (opens, refused)) = opening_stands line number fault (sound.opening opens) refused
 line_stands before line number fault sound (inr (is_share, body, stands, refused)) =
     share_stands (count_by is_share_line body) (share_fields line) line number fault (sound.share body stands is_share) refused
 
 -- sound lines have no first fault
-lines_stand : (lines : List (List ℕ)) (fault : CwrFault) → AreSound lines → ¬ IsFirstFault lines fault
+lines_stand : (lines : List (List ℕ)) (fault : CwrFault) → AreSound lines → ¬ IsFirstFault AreSound IsFaultOfLine lines fault
 lines_stand lines fault sound first =
-    line_stands first.before first.line (length first.before + 1) fault
-    (at_split lines first.before first.line first.after first.split sound) first.refused
+    line_stands first.before first.row (length first.before + 1) fault
+    (at_split lines first.before first.row first.after first.split sound) first.refused
   where
     at_split : (lines before : List (List ℕ)) (line : List ℕ) (after : List (List ℕ)) → lines ≡ before ++ line ∷ after → AreSound lines → IsSound before line
     at_split lines before line after split sound =

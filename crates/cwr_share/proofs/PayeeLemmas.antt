@@ -15,11 +15,12 @@ use Rattle.std.specs.Map.{lookup}
 use Rattle.csv_table.specs.ReadOn.{ReadsOn}
 use Rattle.csv_table.specs.ReadOn.ReadsOn.{here, read, left_out, stopped}
 use Rattle.cwr_share.specs.PayeeReading.{IsReadWithout, Reads, Refuses, Stops}
-use Rattle.cwr_share.specs.PayeeTable.{AreRows, HasNoHeader, IsFaultOf, IsFaultOfRow, IsFirstFault, IsPayeeRow, IsTableOf, header, payee_row_of, place_of_fault}
+use Rattle.csv_table.specs.FirstFault.{HasNoHeader}
+use Rattle.cwr_share.specs.PayeeTable.{AreRows, IsFaultOf, IsFaultOfRow, IsPayeeRow, IsTableOf, header, payee_row_of, place_of_fault}
 use Rattle.cwr_share.specs.Payees.{AreNames, HasRow, IsName, payee_of}
 use Rattle.cwr_share.specs.declared.payees.TheConstants.{MOST_PAYEES}
 use Rattle.cwr_share.specs.declared.payee_fault.PayeeFault.{PayeeFault}
-use Rattle.cwr_share.specs.declared.payee_fault.PayeeFault.TheVariants.{Csv, Fields, Twice, Rows, Memory}
+use Rattle.cwr_share.specs.declared.payee_fault.PayeeFault.TheVariants.{Csv, Rows, Memory}
 use Rattle.cwr_share.proofs.CompiledLemmas.{contains_cases, contains_later}
 
 -- the rows below the header that were read so far are this table
@@ -69,26 +70,22 @@ walked_table rows number payees walked = record {
   same = walked.same;
 }
 
--- the row at hand is the first that is refused
-first_fault : (rows left : List (List (List ℕ))) (row : List (List ℕ)) (number : ℕ) (payees : List (List ℕ × List ℕ)) (fault : PayeeFault)
-    → Walked rows (row ∷ left) number payees → IsFaultOfRow payees number row fault → IsFirstFault rows fault
-first_fault rows left row number payees fault walked refused = record {
-  before = walked.below;
-  row = row;
-  after = left;
-  split = walked.split;
-  sound = walked.sound;
-  refused = rw walked.count (rw walked.same at refused);
-}
-
--- the table is refused for the row at hand
+-- the table is refused for the row at hand, which is the first that is refused
 pub walked_fault : (rows left : List (List (List ℕ))) (row : List (List ℕ)) (number : ℕ) (payees : List (List ℕ × List ℕ)) (fault : PayeeFault)
     → Walked rows (row ∷ left) number payees → IsFaultOfRow payees number row fault → IsFaultOf rows fault
-walked_fault rows left row number payees (Csv n) walked refused = inr (first_fault rows left row number payees (Csv n) walked refused)
-walked_fault rows left row number payees (Fields n) walked refused = first_fault rows left row number payees (Fields n) walked refused
-walked_fault rows left row number payees (Twice n) walked refused = first_fault rows left row number payees (Twice n) walked refused
-walked_fault rows left row number payees Rows walked refused = first_fault rows left row number payees Rows walked refused
-walked_fault rows left row number payees Memory walked refused = tt
+walked_fault rows left row number payees fault walked refused =
+    inr (inr (
+      walked.below ++ row ∷ left,
+      walked.split,
+      record {
+        before = walked.below;
+        row = row;
+        after = left;
+        split = refl;
+        sound = walked.sound;
+        refused = rw walked.count (rw walked.same at refused);
+      },
+    ))
 
 -- a row that is refused for what is in it is left out
 pub left_out_row : (payees after : List (List ℕ × List ℕ)) (row : List (List ℕ)) (number : ℕ) (fault : PayeeFault) → IsFaultOfRow payees number row fault
@@ -124,7 +121,7 @@ below_header rows out payees whole rest is same =
 pub read_whole : (rows : List (List (List ℕ))) (payees : List (List ℕ × List ℕ)) → IsReadWithout rows [] payees → IsTableOf rows payees
 read_whole rows payees whole = by whole.headed
   where
-    by : ((rest : List (List (List ℕ))) × (rows ≡ header ∷ rest) × ([] ≡ whole.below)) ⊎ (HasNoHeader rows × ([] ≡ ([], Csv 0) ∷ whole.below)) → IsTableOf rows payees
+    by : ((rest : List (List (List ℕ))) × (rows ≡ header ∷ rest) × ([] ≡ whole.below)) ⊎ (HasNoHeader header rows × ([] ≡ ([], Csv 0) ∷ whole.below)) → IsTableOf rows payees
     by (inl (rest, is, same)) =
         walked_table rows whole.end payees
         (walked_on rows rest [] 1 whole.end [] payees (walked_start rows rest 1 [] is (refl, refl)) (below_header rows [] payees whole rest is same))
@@ -135,13 +132,13 @@ pub first_fault_read : (rows : List (List (List ℕ))) (row : List (List ℕ)) (
     → IsReadWithout rows ((row, fault) ∷ more) payees → IsFaultOf rows fault
 first_fault_read rows row fault more payees whole = by whole.headed
   where
-    by : ((rest : List (List (List ℕ))) × (rows ≡ header ∷ rest) × ((row, fault) ∷ more ≡ whole.below)) ⊎ (HasNoHeader rows × ((row, fault) ∷ more ≡ ([], Csv 0) ∷ whole.below)) → IsFaultOf rows fault
+    by : ((rest : List (List (List ℕ))) × (rows ≡ header ∷ rest) × ((row, fault) ∷ more ≡ whole.below)) ⊎ (HasNoHeader header rows × ((row, fault) ∷ more ≡ ([], Csv 0) ∷ whole.below)) → IsFaultOf rows fault
     by (inl (rest, is, same)) =
         first_left_out rows rest [] row fault more 1 whole.end [] payees (walked_start rows rest 1 [] is (refl, refl)) (below_header rows ((row, fault) ∷ more) payees whole rest is same)
     by (inr (none, is)) =
         let same : ◌≡◌ {A = List (List ℕ) × PayeeFault} (row, fault) ([], Csv 0) = cc is in
         let headless : fault ≡ Csv 0 = ap (λ (e : List (List ℕ) × PayeeFault). e.1) same in
-        subst (λ (f : PayeeFault). IsFaultOf rows f) (sym headless) (inl (refl, none))
+        inr (inl (headless, none))
 
 -- what a look-up finds is the payee of the row of the party, and nothing where it has no row
 pub looked_up : (payees : List (List ℕ × List ℕ)) (party : List ℕ)

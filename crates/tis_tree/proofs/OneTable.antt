@@ -2,7 +2,8 @@
 use Rattle.std.proofs.Common.{◌≡◌, ◌<◌, ◌+◌, ℕ, List, ◌∷◌, ◌++◌, length, map, ap, refl, subst, inl, inr, arith, length-append}
 use Rattle.std.proofs.lemmas.List.{length-map}
 use Rattle.std.proofs.Math.Seq.{get_or-append_seam, take-append_seam}
-use Rattle.tis_tree.specs.TisRows.{AreRows, IsFaultOf, IsFaultOfRow, IsFirstFault, IsTableOf, IsTerritory, territory_of}
+use Rattle.csv_table.specs.FirstFault.{IsFirstFault}
+use Rattle.tis_tree.specs.TisRows.{AreRows, IsFaultOf, IsFaultOfRow, IsTableOf, IsTerritory, header, territory_of}
 use Rattle.tis_tree.specs.declared.TheConstants.{MOST_ROWS}
 use Rattle.tis_tree.specs.declared.tis_fault.TisFault.{TisFault}
 use Rattle.tis_tree.specs.declared.tis_fault.TisFault.TheVariants.{Csv, Code, Twice, Group, Rows, Memory}
@@ -31,8 +32,9 @@ row_between before row after sound =
     rw (take-append_seam, get_or-append_seam) at (sound (length before) within)
 
 -- no row of a table is the first that is refused, but for lack of memory
-no_first_fault : (rows : List (List (List ℕ))) (table : List (ℕ × List ℕ)) (fault : TisFault) → IsTableOf rows table → IsFirstFault rows fault → fault ≡ Memory
-no_first_fault rows table fault is first =
+no_first_fault : (rows : List (List (List ℕ))) (table : List (ℕ × List ℕ)) (fault : TisFault) (below : List (List (List ℕ))) → IsTableOf rows table → rows ≡ header ∷ below
+    → IsFirstFault AreRows (λ before. IsFaultOfRow (map territory_of before)) below fault → fault ≡ Memory
+no_first_fault rows table fault below is headed first =
     let same : is.below ≡ first.before ++ first.row ∷ first.after = cc in
     sound_row (map territory_of first.before) first.row (length first.before + 1) fault
     (row_between first.before first.row first.after (subst AreRows same is.sound))
@@ -41,10 +43,6 @@ no_first_fault rows table fault is first =
 
 -- rows that are a table are refused for nothing but lack of memory
 pub no_fault : (rows : List (List (List ℕ))) (table : List (ℕ × List ℕ)) (fault : TisFault) → IsTableOf rows table → IsFaultOf rows fault → fault ≡ Memory
-no_fault rows table (Csv n) is (inl (first, none)) = absurd (none is.below is.headed)
-no_fault rows table (Csv n) is (inr first) = no_first_fault rows table (Csv n) is first
-no_fault rows table (Code n) is first = no_first_fault rows table (Code n) is first
-no_fault rows table (Twice n) is first = no_first_fault rows table (Twice n) is first
-no_fault rows table (Group n) is first = no_first_fault rows table (Group n) is first
-no_fault rows table Rows is first = no_first_fault rows table Rows is first
-no_fault rows table Memory is fault = refl
+no_fault rows table fault is (inl memory) = memory
+no_fault rows table fault is (inr (inl (first, none))) = absurd (none is.below is.headed)
+no_fault rows table fault is (inr (inr (below, headed, first))) = no_first_fault rows table fault below is headed first

@@ -7,10 +7,10 @@ use Rattle.tis_tree.specs.Territories.{IsKnown}
 use Rattle.csv_table.specs.ReadOn.{ReadsOn}
 use Rattle.csv_table.specs.ReadOn.ReadsOn.{here, read, left_out, stopped}
 use Rattle.tis_tree.specs.TisReading.{Reads, Refuses, Stops}
-use Rattle.tis_tree.specs.TisRows.{AreRows, HasCode, HasGroups, IsFaultOf, IsFaultOfRow, IsFirstFault, IsTableOf, IsTerritory, code_field, header, place_of_fault, territory_of}
+use Rattle.tis_tree.specs.TisRows.{AreRows, HasCode, HasGroups, IsFaultOf, IsFaultOfRow, IsTableOf, IsTerritory, code_field, header, place_of_fault, territory_of}
 use Rattle.tis_tree.specs.declared.TheConstants.{MOST_ROWS}
 use Rattle.tis_tree.specs.declared.tis_fault.TisFault.{TisFault}
-use Rattle.tis_tree.specs.declared.tis_fault.TisFault.TheVariants.{Csv, Code, Twice, Group, Rows, Memory}
+use Rattle.tis_tree.specs.declared.tis_fault.TisFault.TheVariants.{Group, Rows, Memory}
 use Rattle.tis_tree.proofs.Compiling.{last_or}
 
 -- the rows below the header that were read so far are this table
@@ -57,27 +57,22 @@ walked_table rows number table walked = record {
   same = walked.same;
 }
 
--- the row at hand is the first that is refused
-first_fault : (rows left : List (List (List ℕ))) (row : List (List ℕ)) (number : ℕ) (table : List (ℕ × List ℕ)) (fault : TisFault)
-    → Walked rows (row ∷ left) number table → IsFaultOfRow table number row fault → IsFirstFault rows fault
-first_fault rows left row number table fault walked refused = record {
-  before = walked.below;
-  row = row;
-  after = left;
-  split = walked.split;
-  sound = walked.sound;
-  refused = rw walked.count (rw walked.same at refused);
-}
-
--- the table is refused for the row at hand
+-- the table is refused for the row at hand, which is the first that is refused
 pub walked_fault : (rows left : List (List (List ℕ))) (row : List (List ℕ)) (number : ℕ) (table : List (ℕ × List ℕ)) (fault : TisFault)
     → Walked rows (row ∷ left) number table → IsFaultOfRow table number row fault → IsFaultOf rows fault
-walked_fault rows left row number table (Csv n) walked refused = inr (first_fault rows left row number table (Csv n) walked refused)
-walked_fault rows left row number table (Code n) walked refused = first_fault rows left row number table (Code n) walked refused
-walked_fault rows left row number table (Twice n) walked refused = first_fault rows left row number table (Twice n) walked refused
-walked_fault rows left row number table (Group n) walked refused = first_fault rows left row number table (Group n) walked refused
-walked_fault rows left row number table Rows walked refused = first_fault rows left row number table Rows walked refused
-walked_fault rows left row number table Memory walked refused = tt
+walked_fault rows left row number table fault walked refused =
+    inr (inr (
+      walked.below ++ row ∷ left,
+      walked.split,
+      record {
+        before = walked.below;
+        row = row;
+        after = left;
+        split = refl;
+        sound = walked.sound;
+        refused = rw walked.count (rw walked.same at refused);
+      },
+    ))
 
 -- a row that is refused for what is in it is left out
 pub left_out_row : (table after : List (ℕ × List ℕ)) (row : List (List ℕ)) (number : ℕ) (fault : TisFault) → IsFaultOfRow table number row fault
