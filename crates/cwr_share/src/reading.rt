@@ -174,7 +174,7 @@ fn registry_of(
     let mut registration = CompiledRegistration::new(alloc);
     for shares in &lists {
         registration.compile(shares.as_slice(), &parties.accounts)?;
-        registrations = registrations.and(&registration)?;
+        registrations = registrations.followed_by(&registration)?;
     }
     Ok(Registry::of(works, registrations, parties))
 }

@@ -58,7 +58,7 @@ impl Registrations {
     }
 
     /// These and one more, which comes last.
-    pub(crate) fn and(
+    pub(crate) fn followed_by(
         self,
         registration: &CompiledRegistration,
     ) -> Result<Registrations, AllocError>

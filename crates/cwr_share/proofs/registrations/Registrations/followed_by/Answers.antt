@@ -1,7 +1,7 @@
 use Rattle.std.proofs.Common.{◌≡◌, ◌∙◌, ◌∷◌, ◌++◌, [], List, ap, length}
 use Rattle.cwr_share.specs.Compiled.{Kept, whole}
 use Rattle.cwr_share.proofs.CompiledLemmas.{parts_more}
-use Rattle.cwr_share.proofs.registrations.Registrations.and.Goals as goal
+use Rattle.cwr_share.proofs.registrations.Registrations.followed_by.Goals as goal
 
 pub returns : goal.returns
 returns c =
