@@ -1,5 +1,9 @@
 -- What a text is refused for: the first of its rows, or lines, that is not as it has to be.
-use Rattle.std.specs.Prelude.{ℕ, ◌≡◌, ◌+◌, ◌⊎◌, ◌∷◌, ◌++◌, List, length}
+use Rattle.std.specs.Prelude.{ℕ, ◌≡◌, ◌<◌, ◌+◌, ◌⊎◌, ◌∷◌, ◌++◌, [], List, length, slice_index_or, take}
+
+-- each row is as it has to be behind those before it
+abbrev pub AreInTurn : {X : Type 0} → (IsSound : List (List X) → List X → Type 0) → List (List X) → Type 0
+AreInTurn IsSound rows = (place : ℕ) → place < length rows → IsSound (take place rows) (slice_index_or rows place [])
 
 -- a row that is refused stands behind rows that are sound; the first counts as 1. It is refused by the rows before it, for its number and what it is.
 pub record IsFirstFault {R F : Type 0} (AreSound : List R → Type 0) (Refuses : List R → ℕ → R → F → Type 0) (rows : List R) (fault : F) : Type 0 where
@@ -11,7 +15,7 @@ pub record IsFirstFault {R F : Type 0} (AreSound : List R → Type 0) (Refuses :
   pub refused : Refuses before (length before + 1) row fault
 
 -- the first row is not the header, or there is none
-abbrev pub HasNoHeader : {R : Type 0} (header : R) → List R → Type 0
+abbrev pub HasNoHeader : {R : Type 0} → (header : R) → List R → Type 0
 HasNoHeader {R} header rows = (below : List R) → ¬ (rows ≡ header ∷ below)
 
 -- What a table is refused for: its header, which has a fault of its own, or else the first of the rows below it.

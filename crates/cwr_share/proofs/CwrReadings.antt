@@ -13,7 +13,7 @@ use Rattle.cwr_share.specs.declared.cwr_fault.CwrFault.{CwrFault}
 use Rattle.cwr_share.specs.declared.cwr_fault.CwrFault.TheVariants.{Short, Share, Mark, Land, Party, Work, Many, Accounts, Memory}
 use Rattle.cwr_share.specs.declared.cwr_reader.CwrReader.{CwrReader}
 use Rattle.cwr_share.specs.declared.reading.Reading.{Reading}
-use Rattle.cwr_share.proofs.FileLemmas.{sound_none, sound_push}
+use Rattle.csv_table.proofs.InTurn.{sound_none, sound_push}
 
 -- the last of sound lines is sound after the others
 pub sound_last : (lines : List (List ℕ)) (line : List ℕ) → AreSound (lines ++ line ∷ []) → IsSound lines line
@@ -49,7 +49,7 @@ pub first_left_out : (lines before left after : List (List ℕ)) (line : List �
 first_left_out lines before left after line fault more number end last split sound count (read _ next _ _ _ one rest _ _ (good, is) on) =
     first_left_out lines next rest after line fault more (number + 1) end last
     (split ∙ rw is (sym (append_assoc before (one ∷ []) rest)))
-    (rw is (sound_push before one sound good))
+    (rw is (sound_push IsSound before one sound good))
     (rw (is, length_push before one, count) refl) on
 first_left_out lines before left after line fault more number end last split sound count (left_out _ _ _ _ _ _ rest _ _ (refused, place) on) = (
   record {
@@ -85,7 +85,7 @@ file_read_whole rows lines registered whole =
 pub first_fault_read : (rows : List (List ℕ × List ℕ)) (lines : List (List ℕ)) (line : List ℕ) (fault : CwrFault) (more : List (List ℕ × CwrFault)) (registered : Registered)
     → IsReadWithout rows lines ((line, fault) ∷ more) registered → IsFaultOf rows lines fault
 first_fault_read rows lines line fault more registered whole =
-    let (first, placed) = first_left_out lines [] lines [] line fault more 1 whole.end whole.kept refl sound_none refl whole.read in
+    let (first, placed) = first_left_out lines [] lines [] line fault more 1 whole.end whole.kept refl (sound_none IsSound) refl whole.read in
     fault_of_first rows lines fault first placed
 
 -- also where there are too many payees
@@ -101,5 +101,5 @@ first_fault_of_many rows lines line fault more whole = by whole.faults whole.rea
         (subst (λ (l : List (List ℕ)). HasTooMany rows l) (all_read [] lines 1 whole.end whole.kept on) whole.many)
     by (one ∷ others) on is =
         let same : one ≡ (line, fault) = cc is in
-        let (first, placed) = first_left_out lines [] lines [] line fault others 1 whole.end whole.kept refl sound_none refl (subst (λ (e : List ℕ × CwrFault). ReadsOn Reads Refuses Stops [] 1 lines (e ∷ others) whole.kept whole.end []) same on) in
+        let (first, placed) = first_left_out lines [] lines [] line fault others 1 whole.end whole.kept refl (sound_none IsSound) refl (subst (λ (e : List ℕ × CwrFault). ReadsOn Reads Refuses Stops [] 1 lines (e ∷ others) whole.kept whole.end []) same on) in
         fault_of_first rows lines fault first placed

@@ -1,9 +1,9 @@
 -- A CWR file: when its lines are registrations, and what it is refused for.
-use Rattle.std.specs.Prelude.{ℕ, ◌≡◌, ◌≤◌, ◌<◌, ◌⊎◌, ◌∷◌, ◌++◌, true, false, List, All, Contains, [], count_by, length, map, slice_index_or, take, Option, Some, None, ⊤}
+use Rattle.std.specs.Prelude.{ℕ, ◌≡◌, ◌≤◌, ◌<◌, ◌⊎◌, ◌∷◌, ◌++◌, true, false, List, All, Contains, count_by, length, map, Option, Some, None, ⊤}
 use Rattle.std.specs.List.Sorted.{IsStrictlySortedBy}
 use Rattle.std.specs.Cmp.Lexicographic.{slice_cmp}
 use Rattle.std.specs.Ordering.{nat_cmp}
-use Rattle.csv_table.specs.FirstFault.{IsFirstFault}
+use Rattle.csv_table.specs.FirstFault.{AreInTurn, IsFirstFault}
 use Rattle.cwr_share.specs.Fields.{HasLand, HasMark, HasParty, HasShares, IsFilled, field_of}
 use Rattle.cwr_share.specs.Records.{ends_registration, is_share_line, opens_registration, share_fields}
 use Rattle.cwr_share.specs.Payees.{payee_of}
@@ -51,7 +51,7 @@ pub record IsSound (before : List (List ℕ)) (line : List ℕ) : Type 0 where
   pub share : (body : List (List ℕ)) → StandsIn before body → is_share_line line ≡ true → IsShareRecord (count_by is_share_line body) (share_fields line) line
 
 abbrev pub AreSound : List (List ℕ) → Type 0
-AreSound lines = (place : ℕ) → place < length lines → IsSound (take place lines) (slice_index_or lines place [])
+AreSound lines = AreInTurn IsSound lines
 
 -- what the first line of a registration is refused for
 abbrev pub IsFaultOfOpening : List ℕ → (number : ℕ) → CwrFault → Type 0

@@ -1,6 +1,6 @@
 -- The table of payees as CSV: a header, and a row for each party that is paid to another account. Rows count from 0, the header's.
-use Rattle.std.specs.Prelude.{ℕ, ◌≡◌, ◌≤◌, ◌<◌, ◌⊎◌, ◌∷◌, [], List, length, map, codes, take, slice_index_or, Option, Some, None, ⊤}
-use Rattle.csv_table.specs.FirstFault.{IsFaultOfTable}
+use Rattle.std.specs.Prelude.{ℕ, ◌≡◌, ◌≤◌, ◌<◌, ◌⊎◌, ◌∷◌, [], List, length, map, codes, slice_index_or, Option, Some, None, ⊤}
+use Rattle.csv_table.specs.FirstFault.{AreInTurn, IsFaultOfTable}
 use Rattle.csv_table.specs.Forms.{IsPrintable}
 use Rattle.cwr_share.specs.Fields.{trimmed}
 use Rattle.cwr_share.specs.Payees.{HasRow}
@@ -34,7 +34,7 @@ pub record IsPayeeRow (earlier : List (List ℕ × List ℕ)) (row : List (List 
 
 -- rows below the header that name payees, each below those before it
 abbrev pub AreRows : List (List (List ℕ)) → Type 0
-AreRows rows = (place : ℕ) → place < length rows → IsPayeeRow (map payee_row_of (take place rows)) (slice_index_or rows place [])
+AreRows rows = AreInTurn (λ before. IsPayeeRow (map payee_row_of before)) rows
 
 -- the rows are this table
 pub record IsTableOf (rows : List (List (List ℕ))) (payees : List (List ℕ × List ℕ)) : Type 0 where

@@ -1,7 +1,7 @@
 -- The table of territories as CSV: a header, and a row for each code. Rows count from 0, the header's.
-use Rattle.std.specs.Prelude.{ℕ, ◌≡◌, ◌≤◌, ◌<◌, ◌⊎◌, ◌==◌, ◌∷◌, [], List, All, length, map, not, codes, take, slice_index_or, if◌then◌else◌, Option, Some, None, ⊤}
+use Rattle.std.specs.Prelude.{ℕ, ◌≡◌, ◌≤◌, ◌<◌, ◌⊎◌, ◌==◌, ◌∷◌, [], List, All, length, map, not, codes, slice_index_or, if◌then◌else◌, Option, Some, None, ⊤}
 use Rattle.std.specs.List.{filter}
-use Rattle.csv_table.specs.FirstFault.{IsFaultOfTable}
+use Rattle.csv_table.specs.FirstFault.{AreInTurn, IsFaultOfTable}
 use Rattle.csv_table.specs.Forms.{IsCode, number_of}
 use Rattle.tis_tree.specs.Territories.{IsKnown}
 use Rattle.tis_tree.specs.declared.TheConstants.{MOST_ROWS}
@@ -52,7 +52,7 @@ pub record IsTerritory (earlier : List (ℕ × List ℕ)) (row : List (List ℕ)
 
 -- rows below the header that are territories, each below those before it
 abbrev pub AreRows : List (List (List ℕ)) → Type 0
-AreRows rows = (place : ℕ) → place < length rows → IsTerritory (map territory_of (take place rows)) (slice_index_or rows place [])
+AreRows rows = AreInTurn (λ before. IsTerritory (map territory_of before)) rows
 
 -- the rows are this table
 pub record IsTableOf (rows : List (List (List ℕ))) (table : List (ℕ × List ℕ)) : Type 0 where
