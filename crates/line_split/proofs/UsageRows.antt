@@ -9,7 +9,7 @@ use Rattle.csv_table.specs.FirstFault.{IsFirstFault}
 use Rattle.csv_table.specs.Forms.{IsSignedNumber, has_minus, number_of, signed_number_of, without_minus}
 use Rattle.csv_table.proofs.Codes.{code_small}
 use Rattle.csv_table.specs.Table.{HaveNoLineFeed}
-use Rattle.line_split.proofs.LineFeeds.{in_lines, in_table}
+use Rattle.line_split.proofs.WithoutFeeds.{in_lines, in_table}
 use Rattle.line_split.specs.declared.TheConstants.{MOST_AMOUNT}
 use Rattle.line_split.specs.UsageLine.{HasAmount, HasRight, HasTerritory, HasTexts, UsageLine, amount_of, line_of}
 use Rattle.line_split.specs.UsageLines.{AreUsageLines, IsUsageLine}
