@@ -154,16 +154,16 @@ abbrev type_opens : RecordType → Bool
 type_opens Registration = true
 type_opens _ = false
 
-abbrev type_ends : RecordType → Bool
+abbrev pub type_ends : RecordType → Bool
 type_ends Registration = true
 type_ends Closing = true
 type_ends _ = false
 
-abbrev type_opens_interest : RecordType → Bool
+abbrev pub type_opens_interest : RecordType → Bool
 type_opens_interest Interest = true
 type_opens_interest _ = false
 
-abbrev type_is_share : RecordType → Bool
+abbrev pub type_is_share : RecordType → Bool
 type_is_share PublisherShare = true
 type_is_share WriterShare = true
 type_is_share _ = false
