@@ -5,7 +5,7 @@ use Rattle.std.specs.Prelude.{ℕ, ◌≡◌, ◌<◌, ◌+◌, ◌⊎◌, ◌�
 abbrev pub AreInTurn : {X : Type 0} → (IsSound : List (List X) → List X → Type 0) → List (List X) → Type 0
 AreInTurn IsSound rows = (place : ℕ) → place < length rows → IsSound (take place rows) (slice_index_or rows place [])
 
--- a row that is refused stands behind rows that are sound; the first counts as 1. It is refused by the rows before it, for its number and what it is.
+-- A row that is refused stands behind rows that are sound. What refuses it looks at the rows before it, at its number, where the first counts as 1, and at the row.
 pub record IsFirstFault {R F : Type 0} (AreSound : List R → Type 0) (Refuses : List R → ℕ → R → F → Type 0) (rows : List R) (fault : F) : Type 0 where
   pub before : List R
   pub row : R
