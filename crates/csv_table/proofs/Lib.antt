@@ -1,5 +1,6 @@
 pub mod Codes
 pub mod Fields
+pub mod InTurn
 pub mod LineFeeds
 pub mod ReadBack
 pub mod ReadingOn

@@ -1,3 +1,4 @@
+pub mod FirstFault
 pub mod Forms
 pub mod ReadOn
 pub mod Table

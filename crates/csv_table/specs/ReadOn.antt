@@ -1,5 +1,6 @@
 -- Reading on: where a row, or a line, is refused it is left out, and reading goes on with the next one.
 use Rattle.std.specs.Prelude.{ℕ, ◌≡◌, ◌+◌, ◌⊎◌, ◌∷◌, List, [], drop}
+use Rattle.csv_table.specs.FirstFault.{HasNoHeader}
 
 -- By the next rows, of which the first has a number, from one state to another: the rows that are left out, each with what it is refused for, and the rows to come. Of a row it is said what state it leads to, what it is refused for, and whether it ends reading.
 pub data ReadsOn {S R F : Type 0} (Reads : S → R → S → Type 0) (Refuses : S → ℕ → R → F → Type 0) (Stops : S → R → F → Type 0)
@@ -19,6 +20,6 @@ pub record ReadsTable {S F : Type 0} (Reads : S → List (List ℕ) → S → Ty
     (header : List (List ℕ)) (headless : F) (first : S) (rows : List (List (List ℕ))) (out : List (List (List ℕ) × F)) (last : S) : Type 0 where
   pub below : List (List (List ℕ) × F)
   pub headed : ((rest : List (List (List ℕ))) × (rows ≡ header ∷ rest) × (out ≡ below))
-      ⊎ (((rest : List (List (List ℕ))) → ¬ (rows ≡ header ∷ rest)) × (out ≡ ([], headless) ∷ below))
+      ⊎ (HasNoHeader header rows × (out ≡ ([], headless) ∷ below))
   pub end : ℕ
   pub read : ReadsOn Reads Refuses Stops first 1 (drop 1 rows) below last end []

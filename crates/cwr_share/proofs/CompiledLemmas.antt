@@ -390,30 +390,23 @@ kept_next parties lines place line kept share within is before same =
     ∙ (ap (λ (l : ShareLine). take place lines ++ l ∷ []) (same ∙ is) ∙ sym (take_more lines place line within)))
 
 -- Registrations side by side, with one more behind them.
-module _ (shares these : List RegisteredShare) (lines theirs : List ClaimLine) (paired : length shares ≡ length lines) (equal : length these ≡ length theirs) where
-  -- its part of each list
+module _ (lines theirs : List ClaimLine) (these : Vec RegisteredShare Global) where
+  -- its part of the list
   abbrev pub extent_of_it : Extent
-  extent_of_it = record { first = length lines; count = length theirs }
+  extent_of_it = record { first = length lines; count = length theirs; shares = record { marker = record {}; value = these } }
 
-  parts_as_before : (extents : List Extent) → All (IsExtent lines) extents → map (part (shares ++ these) (lines ++ theirs)) extents ≡ map (part shares lines) extents
+  parts_as_before : (extents : List Extent) → All (IsExtent lines) extents → map (part (lines ++ theirs)) extents ≡ map (part lines) extents
   parts_as_before [] within = refl
   parts_as_before (extent ∷ later) within =
-      let inside : extent.first + extent.count ≤ length lines = within 0 extent (omega arith) in
-      let front = part_stays shares these extent.first extent.count (omega (arith, inside, paired)) in
-      let back = part_stays lines theirs extent.first extent.count inside in
-      let this : part (shares ++ these) (lines ++ theirs) extent ≡ part shares lines extent = cc (front, back) in
+      let back = part_stays lines theirs extent.first extent.count (within 0 extent (omega arith)) in
+      let this : part (lines ++ theirs) extent ≡ part lines extent = cc in
       cc (this, parts_as_before later (All-tail (IsExtent lines) extent later within))
 
-  part_of_it : part (shares ++ these) (lines ++ theirs) extent_of_it ≡ record { shares = these; lines = theirs }
-  part_of_it =
-      let front = rw (paired, equal) at (part_added {X = RegisteredShare} shares these) in
-      cc (front, part_added lines theirs)
-
   pub parts_more : (extents : List Extent) → All (IsExtent lines) extents
-      → map (part (shares ++ these) (lines ++ theirs)) (extents ++ extent_of_it ∷ []) ≡ map (part shares lines) extents ++ record { shares = these; lines = theirs } ∷ []
+      → map (part (lines ++ theirs)) (extents ++ extent_of_it ∷ []) ≡ map (part lines) extents ++ record { shares = these.items; lines = theirs } ∷ []
   parts_more extents within =
-      map_push (part (shares ++ these) (lines ++ theirs)) extents extent_of_it
-      ∙ cc (parts_as_before extents within, part_of_it)
+      let it : part (lines ++ theirs) extent_of_it ≡ record { shares = these.items; lines = theirs } = ap (λ (l : List ClaimLine). record { shares = these.items; lines = l }) (part_added lines theirs) in
+      map_push (part (lines ++ theirs)) extents extent_of_it ∙ cc (parts_as_before extents within, it)
 
 -- works beside their share lines
 abbrev pub entries : List (List ℕ) → List WorkNumber → List Kept → List (List ℕ × List ShareLine)

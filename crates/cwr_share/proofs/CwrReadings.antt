@@ -4,7 +4,8 @@ use Rattle.std.proofs.Math.Seq.{get_or-append_seam, take-append_seam}
 use Rattle.std.proofs.lemmas.List.{append-nil, length_push}
 use Rattle.csv_table.specs.ReadOn.{ReadsOn}
 use Rattle.csv_table.specs.ReadOn.ReadsOn.{here, read, left_out, stopped}
-use Rattle.cwr_share.specs.CwrFile.{AreSound, HasTooMany, IsFaultOf, IsFaultOfLine, IsFileOf, IsFirstFault, IsSound, place_of_fault}
+use Rattle.csv_table.specs.FirstFault.{IsFirstFault}
+use Rattle.cwr_share.specs.CwrFile.{AreSound, HasTooMany, IsFaultOf, IsFaultOfLine, IsFileOf, IsSound, place_of_fault}
 use Rattle.cwr_share.specs.CwrReading.{HasReadOn, HasTooManyWithout, IsReadWithout, Reads, Refuses, Stops}
 use Rattle.cwr_share.specs.Reading.{IsReadTo}
 use Rattle.cwr_share.specs.Registered.{Registered}
@@ -12,7 +13,7 @@ use Rattle.cwr_share.specs.declared.cwr_fault.CwrFault.{CwrFault}
 use Rattle.cwr_share.specs.declared.cwr_fault.CwrFault.TheVariants.{Short, Share, Mark, Land, Party, Work, Many, Accounts, Memory}
 use Rattle.cwr_share.specs.declared.cwr_reader.CwrReader.{CwrReader}
 use Rattle.cwr_share.specs.declared.reading.Reading.{Reading}
-use Rattle.cwr_share.proofs.FileLemmas.{sound_none, sound_push}
+use Rattle.csv_table.proofs.InTurn.{sound_none, sound_push}
 
 -- the last of sound lines is sound after the others
 pub sound_last : (lines : List (List ℕ)) (line : List ℕ) → AreSound (lines ++ line ∷ []) → IsSound lines line
@@ -21,7 +22,7 @@ sound_last lines line sound =
 
 -- a line that is refused for what is in it is left out
 pub left_out_line : (lines : List (List ℕ)) (old new : Reading) (line : List ℕ) (number : ℕ) (fault : CwrFault) → IsReadTo lines old
-    → (fault ≡ Memory) ⊎ ((before : List (List ℕ)) → IsReadTo before old → IsFaultOfLine before line number fault)
+    → (fault ≡ Memory) ⊎ ((before : List (List ℕ)) → IsReadTo before old → IsFaultOfLine before number line fault)
     → (fault ≡ Memory) ⊎ ((new ≡ old) × (place_of_fault fault ≡ Some number)) → is_some (place_of_fault fault) ≡ true → Refuses lines number line fault × (new ≡ old)
 left_out_line lines old new line number fault so_far (inl memory) same placed = cc (rw memory at placed)
 left_out_line lines old new line number fault so_far refused (inl memory) placed = cc (rw memory at placed)
@@ -44,16 +45,16 @@ whole_read lines from to start begun (on, none) =
 -- the first line that is left out is the first that is refused
 pub first_left_out : (lines before left after : List (List ℕ)) (line : List ℕ) (fault : CwrFault) (more : List (List ℕ × CwrFault)) (number end : ℕ) (last : List (List ℕ))
     → lines ≡ before ++ left → AreSound before → length before + 1 ≡ number
-    → ReadsOn Reads Refuses Stops before number left ((line, fault) ∷ more) last end after → IsFirstFault lines fault × ((place : ℕ) × (place_of_fault fault ≡ Some place))
+    → ReadsOn Reads Refuses Stops before number left ((line, fault) ∷ more) last end after → IsFirstFault AreSound IsFaultOfLine lines fault × ((place : ℕ) × (place_of_fault fault ≡ Some place))
 first_left_out lines before left after line fault more number end last split sound count (read _ next _ _ _ one rest _ _ (good, is) on) =
     first_left_out lines next rest after line fault more (number + 1) end last
     (split ∙ rw is (sym (append_assoc before (one ∷ []) rest)))
-    (rw is (sound_push before one sound good))
+    (rw is (sound_push IsSound before one sound good))
     (rw (is, length_push before one, count) refl) on
 first_left_out lines before left after line fault more number end last split sound count (left_out _ _ _ _ _ _ rest _ _ (refused, place) on) = (
   record {
     before = before;
-    line = line;
+    row = line;
     after = rest;
     split = split;
     sound = sound;
@@ -64,7 +65,7 @@ first_left_out lines before left after line fault more number end last split sou
 first_left_out lines before left after line fault more number end last split sound count (stopped _ _ _ _ rest never) = absurd never
 
 -- and is what a file is refused for
-pub fault_of_first : (rows : List (List ℕ × List ℕ)) (lines : List (List ℕ)) (fault : CwrFault) → IsFirstFault lines fault → ((place : ℕ) × (place_of_fault fault ≡ Some place)) → IsFaultOf rows lines fault
+pub fault_of_first : (rows : List (List ℕ × List ℕ)) (lines : List (List ℕ)) (fault : CwrFault) → IsFirstFault AreSound IsFaultOfLine lines fault → ((place : ℕ) × (place_of_fault fault ≡ Some place)) → IsFaultOf rows lines fault
 fault_of_first rows lines (Short n) first placed = first
 fault_of_first rows lines (Share n) first placed = first
 fault_of_first rows lines (Mark n) first placed = first
@@ -84,7 +85,7 @@ file_read_whole rows lines registered whole =
 pub first_fault_read : (rows : List (List ℕ × List ℕ)) (lines : List (List ℕ)) (line : List ℕ) (fault : CwrFault) (more : List (List ℕ × CwrFault)) (registered : Registered)
     → IsReadWithout rows lines ((line, fault) ∷ more) registered → IsFaultOf rows lines fault
 first_fault_read rows lines line fault more registered whole =
-    let (first, placed) = first_left_out lines [] lines [] line fault more 1 whole.end whole.kept refl sound_none refl whole.read in
+    let (first, placed) = first_left_out lines [] lines [] line fault more 1 whole.end whole.kept refl (sound_none IsSound) refl whole.read in
     fault_of_first rows lines fault first placed
 
 -- also where there are too many payees
@@ -100,5 +101,5 @@ first_fault_of_many rows lines line fault more whole = by whole.faults whole.rea
         (subst (λ (l : List (List ℕ)). HasTooMany rows l) (all_read [] lines 1 whole.end whole.kept on) whole.many)
     by (one ∷ others) on is =
         let same : one ≡ (line, fault) = cc is in
-        let (first, placed) = first_left_out lines [] lines [] line fault others 1 whole.end whole.kept refl sound_none refl (subst (λ (e : List ℕ × CwrFault). ReadsOn Reads Refuses Stops [] 1 lines (e ∷ others) whole.kept whole.end []) same on) in
+        let (first, placed) = first_left_out lines [] lines [] line fault others 1 whole.end whole.kept refl (sound_none IsSound) refl (subst (λ (e : List ℕ × CwrFault). ReadsOn Reads Refuses Stops [] 1 lines (e ∷ others) whole.kept whole.end []) same on) in
         fault_of_first rows lines fault first placed

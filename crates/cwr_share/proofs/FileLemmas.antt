@@ -1,10 +1,9 @@
 -- How what the lines of a file are goes on by one more line.
-use Rattle.std.proofs.Common.{◌≡◌, ◌≤◌, ◌<◌, ◌+◌, ◌⊎◌, ℕ, Bool, true, false, cond, not, List, [], ◌∷◌, ◌++◌, length, take, reverse, slice_index, slice_index_or, get_or, eqb, count_by, All, IfSome, Option, Some, None, Vec, nat_eq, ap, sym, refl, subst, ◌∙◌, append_assoc, zero-add, inl, inr, arith}
+use Rattle.std.proofs.Common.{◌≡◌, ◌≤◌, ◌<◌, ◌+◌, ◌⊎◌, ℕ, Bool, true, false, cond, not, List, [], ◌∷◌, ◌++◌, length, take, reverse, slice_index, get_or, eqb, count_by, All, IfSome, Option, Some, None, Vec, nat_eq, ap, sym, refl, subst, ◌∙◌, append_assoc, zero-add, inl, inr, arith}
 use Rattle.std.specs.Cmp.Lexicographic.{pointwise}
 use Rattle.std.specs.List.{cons_option, enumerate_from, filter_map, find, list_all, list_any, position_or_len, slice_set, take_while}
 use Rattle.std.specs.Option.{option_map}
 use Rattle.std.specs.declared.alloc.Global.{Global}
-use Rattle.std.proofs.Math.Nat.{eq-or-lt_of_le}
 use Rattle.std.proofs.Math.Numerals.{one-add}
 use Rattle.std.proofs.Math.Seq.{take-append_seam}
 use Rattle.std.proofs.lemmas.Bool.{cases_Bool, cond-false, cond-true, false≢true, false_from_ne_true, or_parts, not_from_false, not_from_true, true≢false}
@@ -21,6 +20,7 @@ use Rattle.csv_table.specs.Forms.{number_of}
 use Rattle.line_split.proofs.Enumerated.{enumerate_from_push}
 use Rattle.line_split.specs.declared.TheConstants.{FULL_SHARE}
 use Rattle.cwr_share.specs.Compiled.{AreWorkNumbers, InterestsRise, WorkNumber}
+use Rattle.csv_table.proofs.InTurn.{sound_none, sound_push}
 use Rattle.cwr_share.specs.CwrFile.{AreSound, HasTooMany, IsFaultOf, IsFaultOfLine, IsFaultOfShare, IsOpening, IsShareRecord, IsSound, StandsIn}
 use Rattle.cwr_share.specs.Fields.{IsShare, field_of, share_of}
 use Rattle.cwr_share.specs.Reading.{AreShareLines, HasInForce, IsOpenWith, IsReadTo, IsTable, works_of}
@@ -93,14 +93,6 @@ All_front P xs x each = λ k d lt. subst P (get_or_append_left xs (x ∷ []) d k
 All_last : {X : Type 0} (P : X → Type 0) (xs : List X) (x : X) → All P (xs ++ x ∷ []) → P x
 All_last P xs x each = subst P (get_or_push xs x x (length xs) refl) (each (length xs) x (rw length_push (omega arith)))
 
--- a place in a list with one element more is one of the list or its end
-below_or_at : (n place : ℕ) → place < n + 1 → (place < n) ⊎ (place ≡ n)
-below_or_at n place within = let least : place ≤ n = omega arith in swap (eq-or-lt_of_le least)
-  where
-    swap : (place ≡ n) ⊎ (place < n) → (place < n) ⊎ (place ≡ n)
-    swap (inl same) = inr same
-    swap (inr below) = inl below
-
 -- A list cut into parts: each begins at an element that opens one, and goes on as long as the elements stay in it.
 module _ {X W : Type 0} (opens stays : X → Bool) (name : X → W) where
   abbrev parts : List X → List (W × List X)
@@ -162,16 +154,16 @@ abbrev type_opens : RecordType → Bool
 type_opens Registration = true
 type_opens _ = false
 
-abbrev type_ends : RecordType → Bool
+abbrev pub type_ends : RecordType → Bool
 type_ends Registration = true
 type_ends Closing = true
 type_ends _ = false
 
-abbrev type_opens_interest : RecordType → Bool
+abbrev pub type_opens_interest : RecordType → Bool
 type_opens_interest Interest = true
 type_opens_interest _ = false
 
-abbrev type_is_share : RecordType → Bool
+abbrev pub type_is_share : RecordType → Bool
 type_is_share PublisherShare = true
 type_is_share WriterShare = true
 type_is_share _ = false
@@ -394,16 +386,6 @@ pub in_force_same : (before after : List (List ℕ)) (work : List ℕ) → regis
 in_force_same before after work same = ap (λ (l : List (List ℕ × List (List ℕ))). option_map share_lines_of (find_work work (reverse l))) same
 
 -- Lines as they have to be
-
-pub sound_none : AreSound []
-sound_none place within = absurd (omega arith)
-
-pub sound_push : (before : List (List ℕ)) (line : List ℕ) → AreSound before → IsSound before line → AreSound (before ++ line ∷ [])
-sound_push before line sound good = λ place within. by place (below_or_at (length before) place (rw length_push at within))
-  where
-    by : (place : ℕ) → (place < length before) ⊎ (place ≡ length before) → IsSound (take place (before ++ line ∷ [])) (slice_index_or (before ++ line ∷ []) place [])
-    by place (inl earlier) = rw (take-append-le place before (line ∷ []) (omega arith), get_or_append_left before (line ∷ []) [] place earlier) (sound place earlier)
-    by place (inr last) = rw (last, take-append_seam before (line ∷ []), get_or_push before line [] (length before) refl) good
 
 -- a line that begins no registration and is no share line may be anything
 pub sound_other : (before : List (List ℕ)) (line : List ℕ) → opens_registration line ≡ false → is_share_line line ≡ false → IsSound before line
@@ -690,7 +672,7 @@ read_table lines reading read = by reading.open read.1
 -- before the first line nothing is in force
 pub read_start : (reading : Reading) → reading.open ≡ None → reading.works.keys ≡ [] → reading.registrations.items ≡ [] → IsReadTo [] reading
 unfolding registrations_of
-read_start reading none works registrations = read_as [] reading None none sound_none (forced, outside_none)
+read_start reading none works registrations = read_as [] reading None none (sound_none IsSound) (forced, outside_none)
   where
     forced : HasInForce [] reading
     forced = record {
@@ -708,7 +690,7 @@ pub read_outside : (before : List (List ℕ)) (line : List ℕ) (old new : Readi
 read_outside before line old new was is same shut read =
     let (forced, outside) = read_at before old None was read in
     let kept = in_force_alike before old new same forced in
-    read_as (before ++ line ∷ []) new None is (sound_push before line read.0 (sound_outside before line shut outside)) (
+    read_as (before ++ line ∷ []) new None is (sound_push IsSound before line read.0 (sound_outside before line shut outside)) (
       record {
         table = kept.table;
         in_force = λ work. kept.in_force work ∙ sym (in_force_same before (before ++ line ∷ []) work (registrations_outside before line shut outside));
@@ -724,7 +706,7 @@ read_inside before line old new registration next was is same goes read =
     let (earlier, opening, body, split, forced, with) = read_at before old (Some registration) was read in
     let open' = subst (λ (l : List (List ℕ)). StandsIn l body) (sym split) (stands_by earlier opening body with.opens with.stays) in
     let (good, on) = goes opening body open' with in
-    read_as (before ++ line ∷ []) new (Some next) is (sound_push before line read.0 good) (
+    read_as (before ++ line ∷ []) new (Some next) is (sound_push IsSound before line read.0 good) (
       earlier,
       opening,
       body ++ line ∷ [],
@@ -738,7 +720,7 @@ pub read_opening : (before : List (List ℕ)) (line : List ℕ) (ended new : Rea
     → opens_registration line ≡ true → IsSound before line → registration.work.items ≡ work_of line → registration.shares.items ≡ [] → registration.interest ≡ 0
     → AreSound before → HasInForce before ended → IsReadTo (before ++ line ∷ []) new
 read_opening before line ended new registration is same opens good work shares interest sound forced =
-    read_as (before ++ line ∷ []) new (Some registration) is (sound_push before line sound good)
+    read_as (before ++ line ∷ []) new (Some registration) is (sound_push IsSound before line sound good)
     (before, line, [], refl, in_force_alike before ended new same forced, with)
   where
     with : IsOpenWith [] line registration
@@ -755,7 +737,7 @@ read_opening before line ended new registration is same opens good work shares i
 pub read_end : (before : List (List ℕ)) (line : List ℕ) (new : Reading) → new.open ≡ None → opens_registration line ≡ false → ends_registration line ≡ true → is_share_line line ≡ false
     → AreSound before → HasInForce before new → IsReadTo (before ++ line ∷ []) new
 read_end before line new is shut ends other sound forced =
-    read_as (before ++ line ∷ []) new None is (sound_push before line sound (sound_other before line shut other)) (
+    read_as (before ++ line ∷ []) new None is (sound_push IsSound before line sound (sound_other before line shut other)) (
       record {
         table = forced.table;
         in_force = λ work. forced.in_force work ∙ sym (in_force_same before (before ++ line ∷ []) work (registrations_end before line shut ends));
@@ -905,7 +887,7 @@ interest_small lines reading read = by reading.open read.1
 
 -- what a share line of the open registration is refused for
 pub fault_of_share : (before : List (List ℕ)) (line : List ℕ) (number : ℕ) (reading : Reading) (registration : Open) (fault : CwrFault) → reading.open ≡ Some registration → is_share_line line ≡ true
-    → IsFaultOfShare (length registration.shares.items) (share_fields line) line number fault → IsReadTo before reading → IsFaultOfLine before line number fault
+    → IsFaultOfShare (length registration.shares.items) (share_fields line) line number fault → IsReadTo before reading → IsFaultOfLine before number line fault
 fault_of_share before line number reading registration fault was is refused read =
     let (earlier, opening, body, split, forced, with) = read_at before reading (Some registration) was read in
     inr (

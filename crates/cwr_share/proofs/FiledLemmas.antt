@@ -3,13 +3,14 @@ use Rattle.std.proofs.Common.{◌≡◌, ◌≤◌, ◌<◌, ◌+◌, ◌∷◌,
 use Rattle.std.specs.List.{enumerate_from, filter, find}
 use Rattle.std.specs.Cmp.Lexicographic.{pointwise}
 use Rattle.std.specs.Option.{option_map, option_or}
-use Rattle.std.proofs.Math.Seq.{drop-append_seam, drop-cons, get_or-append_seam, take-append_seam}
+use Rattle.std.proofs.Math.Seq.{drop-append_seam, drop-cons}
 use Rattle.std.proofs.lemmas.Bool.{cond-false, cond-true, not_from_false, not_from_true, false≢true}
 use Rattle.std.proofs.lemmas.List.Folds.{find-append}
 use Rattle.std.proofs.lemmas.List.Elements.{All-weaker, filter-append}
-use Rattle.std.proofs.lemmas.List.{append-nil, length-append, length-drop, length-take-le, length_push, map-append, reverse-append, take_more}
+use Rattle.std.proofs.lemmas.List.{append-nil, length-drop, length-take-le, length_push, map-append, reverse-append, take_more}
 use Rattle.std.proofs.lemmas.Option.{none-some}
 use Rattle.line_split.proofs.Enumerated.{enumerate_from_push}
+use Rattle.csv_table.proofs.InTurn.{sound_at}
 use Rattle.cwr_share.specs.CwrFile.{AreSound, IsShareRecord, IsSound}
 use Rattle.cwr_share.specs.Filed.{AreShareRecords, IsFiledTo, body_of, last_opening, opens_work, share_numbers, shares_from}
 use Rattle.cwr_share.specs.Lines.{lines_of}
@@ -74,14 +75,7 @@ pub opening_stands : (work : List ℕ) (lines : List (List ℕ)) (number : ℕ) 
 opening_stands work = by_pushes (λ (lines : List (List ℕ)). (number : ℕ) → last_opening lines work ≡ Some number → StandsAt lines number)
     (λ number is. absurd (none-some number is)) (λ lines line sofar. opening_stands_push lines line work sofar)
 
--- a sound line of the file
-pub sound_at : (lines before : List (List ℕ)) (line : List ℕ) (after : List (List ℕ)) → lines ≡ before ++ line ∷ after → AreSound lines → IsSound before line
-sound_at lines before line after split sound =
-    let within : length before < length (before ++ line ∷ after) = rw length-append (omega arith) in
-    let here = subst AreSound split sound (length before) within in
-    rw (take-append_seam before (line ∷ after), get_or-append_seam before line after []) at here
-
--- so the share lines of the registration are sound
+-- the share lines of a registration of sound lines are sound
 pub records_after : (lines : List (List ℕ)) (work : List ℕ) (number : ℕ) → AreSound lines → last_opening lines work ≡ Some number → AreShareRecords (drop number lines)
 records_after lines work number sound is = λ before line after split stays share.
     let stands = opening_stands work lines number is in
@@ -93,7 +87,7 @@ records_after lines work number sound is = λ before line after split stays shar
     stands.split
     ∙ (ap (λ (l : List (List ℕ)). stands.earlier ++ stands.opening ∷ l) (sym rest ∙ split)
     ∙ sym (append_assoc stands.earlier (stands.opening ∷ before) (line ∷ after))) in
-    (sound_at lines (stands.earlier ++ stands.opening ∷ before) line after whole sound).share before (stands_by stands.earlier stands.opening before stands.opens stays) share
+    (sound_at IsSound lines (stands.earlier ++ stands.opening ∷ before) line after whole sound).share before (stands_by stands.earlier stands.opening before stands.opens stays) share
 
 -- Looking for it
 

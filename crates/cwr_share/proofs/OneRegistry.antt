@@ -8,13 +8,14 @@ use Rattle.std.specs.List.Sorted.{IsStrictlySortedBy}
 use Rattle.std.specs.declared.cmp.Ordering.{Ordering}
 use Rattle.std.specs.declared.cmp.Ordering.TheVariants.{Less}
 use Rattle.std.proofs.lemmas.Cmp.{tied_itself}
-use Rattle.std.proofs.Math.Seq.{get_or-append_seam, take-append_seam}
-use Rattle.std.proofs.lemmas.List.{get_or-map, length-append, length-map}
+use Rattle.std.proofs.lemmas.List.{get_or-map, length-map}
 use Rattle.std.proofs.lemmas.List.Elements.{All-cons, All-contains, All-tail, All-weaker, Contains-get_or}
 use Rattle.std.proofs.lemmas.Map.Keys.{sorted_tail}
 use Rattle.std.proofs.lemmas.Map.Views.{All-after_first}
 use Rattle.std.proofs.lemmas.Slice.Eq.{bytes_eq-Decides}
-use Rattle.cwr_share.specs.CwrFile.{AreSound, IsFaultOf, IsFaultOfLine, IsFaultOfOpening, IsFaultOfShare, IsFileOf, IsFirstFault, IsOpening, IsPartyInForce, IsPayeeInForce, IsShareRecord, IsSound}
+use Rattle.csv_table.specs.FirstFault.{IsFirstFault}
+use Rattle.csv_table.proofs.InTurn.{sound_at}
+use Rattle.cwr_share.specs.CwrFile.{AreSound, IsFaultOf, IsFaultOfLine, IsFaultOfOpening, IsFaultOfShare, IsFileOf, IsOpening, IsPartyInForce, IsPayeeInForce, IsShareRecord, IsSound}
 use Rattle.cwr_share.specs.Parties.{party_of, payee_by}
 use Rattle.cwr_share.specs.Payees.{HasRow, IsPayeeIn, payee_of}
 use Rattle.cwr_share.specs.Records.{is_share_line, share_fields}
@@ -266,22 +267,16 @@ share_stands earlier fields line number Accounts sound fault = fault
 share_stands earlier fields line number Memory sound fault = fault
 
 -- a sound line is not refused
-line_stands : (before : List (List ℕ)) (line : List ℕ) (number : ℕ) (fault : CwrFault) → IsSound before line → ¬ IsFaultOfLine before line number fault
+line_stands : (before : List (List ℕ)) (line : List ℕ) (number : ℕ) (fault : CwrFault) → IsSound before line → ¬ IsFaultOfLine before number line fault
 line_stands before line number fault sound (inl (opens, refused)) = opening_stands line number fault (sound.opening opens) refused
 line_stands before line number fault sound (inr (is_share, body, stands, refused)) =
     share_stands (count_by is_share_line body) (share_fields line) line number fault (sound.share body stands is_share) refused
 
 -- sound lines have no first fault
-lines_stand : (lines : List (List ℕ)) (fault : CwrFault) → AreSound lines → ¬ IsFirstFault lines fault
+lines_stand : (lines : List (List ℕ)) (fault : CwrFault) → AreSound lines → ¬ IsFirstFault AreSound IsFaultOfLine lines fault
 lines_stand lines fault sound first =
-    line_stands first.before first.line (length first.before + 1) fault
-    (at_split lines first.before first.line first.after first.split sound) first.refused
-  where
-    at_split : (lines before : List (List ℕ)) (line : List ℕ) (after : List (List ℕ)) → lines ≡ before ++ line ∷ after → AreSound lines → IsSound before line
-    at_split lines before line after split sound =
-        let within : length before < length (before ++ line ∷ after) = rw length-append (omega arith) in
-        let here = subst AreSound split sound (length before) within in
-        rw (take-append_seam before (line ∷ after), get_or-append_seam before line after []) at here
+    line_stands first.before first.row (length first.before + 1) fault
+    (sound_at IsSound lines first.before first.row first.after first.split sound) first.refused
 
 -- a file that is its registrations is refused for nothing but lack of memory
 pub no_fault : (rows : List (List ℕ × List ℕ)) (lines : List (List ℕ)) (registered : Registered) (fault : CwrFault) → IsFileOf rows lines registered → IsRegistered registered

@@ -1,12 +1,11 @@
 -- How the rows of a table of payees are read one by one, and how a party's payee is found.
-use Rattle.std.proofs.Common.{◌≡◌, ◌≤◌, ◌<◌, ◌+◌, ◌⊎◌, AllPairs, zero, suc, get_or, Bool, true, false, is_some, ℕ, List, Option, Some, None, [], ◌∷◌, ◌++◌, length, map, nat_eq, drop, take, slice_index_or, ap, sym, refl, subst, ◌∙◌, append_assoc, inl, inr, arith}
+use Rattle.std.proofs.Common.{◌≡◌, ◌≤◌, ◌<◌, ◌+◌, ◌⊎◌, AllPairs, zero, suc, get_or, Bool, true, false, is_some, ℕ, List, Option, Some, None, [], ◌∷◌, ◌++◌, length, map, nat_eq, drop, ap, sym, refl, subst, ◌∙◌, append_assoc, inl, inr, arith}
 use Rattle.std.specs.List.{find}
 use Rattle.std.specs.Option.{option_map, option_map_or}
 use Rattle.std.specs.Cmp.Lexicographic.{pointwise}
-use Rattle.std.proofs.Math.Seq.{take-append_seam}
-use Rattle.std.proofs.lemmas.Bool.{cases_Bool, cases_lt, false_from_ne_true, false≢true}
+use Rattle.std.proofs.lemmas.Bool.{cases_Bool, false_from_ne_true, false≢true}
 use Rattle.std.proofs.lemmas.Cmp.{nat_list_eq_equiv}
-use Rattle.std.proofs.lemmas.List.{append-nil, get_or_append_left, get_or_push, length_push, length-map, map-append, take-append-le}
+use Rattle.std.proofs.lemmas.List.{append-nil, length_push, length-map, map-append}
 use Rattle.std.proofs.lemmas.List.Elements.{All-cons, All-head, All-tail}
 use Rattle.std.proofs.lemmas.Option.{none-some}
 use Rattle.std.proofs.lemmas.Slice.Eq.{bytes_eq-Decides}
@@ -15,11 +14,13 @@ use Rattle.std.specs.Map.{lookup}
 use Rattle.csv_table.specs.ReadOn.{ReadsOn}
 use Rattle.csv_table.specs.ReadOn.ReadsOn.{here, read, left_out, stopped}
 use Rattle.cwr_share.specs.PayeeReading.{IsReadWithout, Reads, Refuses, Stops}
-use Rattle.cwr_share.specs.PayeeTable.{AreRows, HasNoHeader, IsFaultOf, IsFaultOfRow, IsFirstFault, IsPayeeRow, IsTableOf, header, payee_row_of, place_of_fault}
+use Rattle.csv_table.specs.FirstFault.{HasNoHeader}
+use Rattle.csv_table.proofs.InTurn.{sound_push}
+use Rattle.cwr_share.specs.PayeeTable.{AreRows, IsFaultOf, IsFaultOfRow, IsPayeeRow, IsTableOf, header, payee_row_of, place_of_fault}
 use Rattle.cwr_share.specs.Payees.{AreNames, HasRow, IsName, payee_of}
 use Rattle.cwr_share.specs.declared.payees.TheConstants.{MOST_PAYEES}
 use Rattle.cwr_share.specs.declared.payee_fault.PayeeFault.{PayeeFault}
-use Rattle.cwr_share.specs.declared.payee_fault.PayeeFault.TheVariants.{Csv, Fields, Twice, Rows, Memory}
+use Rattle.cwr_share.specs.declared.payee_fault.PayeeFault.TheVariants.{Csv, Rows, Memory}
 use Rattle.cwr_share.proofs.CompiledLemmas.{contains_cases, contains_later}
 
 -- the rows below the header that were read so far are this table
@@ -36,17 +37,6 @@ pub walked_start : (rows left : List (List (List ℕ))) (number : ℕ) (payees :
 walked_start rows left number payees is (none, first) =
     record { below = []; split = is; few = omega arith; sound = λ place within. absurd (omega arith); same = none; count = sym first }
 
--- rows that name payees, and one more below them
-rows_push : (below : List (List (List ℕ))) (row : List (List ℕ)) → AreRows below → IsPayeeRow (map payee_row_of below) row → AreRows (below ++ row ∷ [])
-rows_push below row sound good = λ place within. by place (last_or (length below) place (rw length_push at within))
-  where
-    last_or : (n place : ℕ) → place < n + 1 → (place < n) ⊎ (place ≡ n)
-    last_or n place within = elim (cases_lt place n) [ inl before ↦ inl before | inr after ↦ inr (omega (arith, within, after)) ]
-
-    by : (place : ℕ) → (place < length below) ⊎ (place ≡ length below) → IsPayeeRow (map payee_row_of (take place (below ++ row ∷ []))) (slice_index_or (below ++ row ∷ []) place [])
-    by place (inl before) = rw (take-append-le place below (row ∷ []) (omega arith), get_or_append_left below (row ∷ []) [] place before) (sound place before)
-    by place (inr last) = rw (last, take-append_seam below (row ∷ []), get_or_push below row [] (length below) refl) good
-
 -- a row that names a payee adds it to the table
 pub walked_more : (rows left : List (List (List ℕ))) (row : List (List ℕ)) (number : ℕ) (payees grown : List (List ℕ × List ℕ))
     → Walked rows (row ∷ left) number payees → length payees < MOST_PAYEES → IsPayeeRow payees row → grown ≡ payees ++ payee_row_of row ∷ [] → Walked rows left (number + 1) grown
@@ -54,7 +44,7 @@ walked_more rows left row number payees grown walked few good is = record {
   below = walked.below ++ row ∷ [];
   split = walked.split ∙ ap (λ (l : List (List (List ℕ))). header ∷ l) (sym (append_assoc walked.below (row ∷ []) left));
   few = omega (arith, few, ap length walked.same, length-map walked.below payee_row_of, length_push walked.below row);
-  sound = rows_push walked.below row walked.sound (rw walked.same at good);
+  sound = sound_push (λ before. IsPayeeRow (map payee_row_of before)) walked.below row walked.sound (rw walked.same at good);
   same = rw (is, walked.same) (sym (map-append payee_row_of walked.below (row ∷ [])));
   count = rw (length_push walked.below row, walked.count) refl;
 }
@@ -69,26 +59,22 @@ walked_table rows number payees walked = record {
   same = walked.same;
 }
 
--- the row at hand is the first that is refused
-first_fault : (rows left : List (List (List ℕ))) (row : List (List ℕ)) (number : ℕ) (payees : List (List ℕ × List ℕ)) (fault : PayeeFault)
-    → Walked rows (row ∷ left) number payees → IsFaultOfRow payees number row fault → IsFirstFault rows fault
-first_fault rows left row number payees fault walked refused = record {
-  before = walked.below;
-  row = row;
-  after = left;
-  split = walked.split;
-  sound = walked.sound;
-  refused = rw walked.count (rw walked.same at refused);
-}
-
--- the table is refused for the row at hand
+-- the table is refused for the row at hand, which is the first that is refused
 pub walked_fault : (rows left : List (List (List ℕ))) (row : List (List ℕ)) (number : ℕ) (payees : List (List ℕ × List ℕ)) (fault : PayeeFault)
     → Walked rows (row ∷ left) number payees → IsFaultOfRow payees number row fault → IsFaultOf rows fault
-walked_fault rows left row number payees (Csv n) walked refused = inr (first_fault rows left row number payees (Csv n) walked refused)
-walked_fault rows left row number payees (Fields n) walked refused = first_fault rows left row number payees (Fields n) walked refused
-walked_fault rows left row number payees (Twice n) walked refused = first_fault rows left row number payees (Twice n) walked refused
-walked_fault rows left row number payees Rows walked refused = first_fault rows left row number payees Rows walked refused
-walked_fault rows left row number payees Memory walked refused = tt
+walked_fault rows left row number payees fault walked refused =
+    inr (inr (
+      walked.below ++ row ∷ left,
+      walked.split,
+      record {
+        before = walked.below;
+        row = row;
+        after = left;
+        split = refl;
+        sound = walked.sound;
+        refused = rw walked.count (rw walked.same at refused);
+      },
+    ))
 
 -- a row that is refused for what is in it is left out
 pub left_out_row : (payees after : List (List ℕ × List ℕ)) (row : List (List ℕ)) (number : ℕ) (fault : PayeeFault) → IsFaultOfRow payees number row fault
@@ -124,7 +110,7 @@ below_header rows out payees whole rest is same =
 pub read_whole : (rows : List (List (List ℕ))) (payees : List (List ℕ × List ℕ)) → IsReadWithout rows [] payees → IsTableOf rows payees
 read_whole rows payees whole = by whole.headed
   where
-    by : ((rest : List (List (List ℕ))) × (rows ≡ header ∷ rest) × ([] ≡ whole.below)) ⊎ (HasNoHeader rows × ([] ≡ ([], Csv 0) ∷ whole.below)) → IsTableOf rows payees
+    by : ((rest : List (List (List ℕ))) × (rows ≡ header ∷ rest) × ([] ≡ whole.below)) ⊎ (HasNoHeader header rows × ([] ≡ ([], Csv 0) ∷ whole.below)) → IsTableOf rows payees
     by (inl (rest, is, same)) =
         walked_table rows whole.end payees
         (walked_on rows rest [] 1 whole.end [] payees (walked_start rows rest 1 [] is (refl, refl)) (below_header rows [] payees whole rest is same))
@@ -135,13 +121,13 @@ pub first_fault_read : (rows : List (List (List ℕ))) (row : List (List ℕ)) (
     → IsReadWithout rows ((row, fault) ∷ more) payees → IsFaultOf rows fault
 first_fault_read rows row fault more payees whole = by whole.headed
   where
-    by : ((rest : List (List (List ℕ))) × (rows ≡ header ∷ rest) × ((row, fault) ∷ more ≡ whole.below)) ⊎ (HasNoHeader rows × ((row, fault) ∷ more ≡ ([], Csv 0) ∷ whole.below)) → IsFaultOf rows fault
+    by : ((rest : List (List (List ℕ))) × (rows ≡ header ∷ rest) × ((row, fault) ∷ more ≡ whole.below)) ⊎ (HasNoHeader header rows × ((row, fault) ∷ more ≡ ([], Csv 0) ∷ whole.below)) → IsFaultOf rows fault
     by (inl (rest, is, same)) =
         first_left_out rows rest [] row fault more 1 whole.end [] payees (walked_start rows rest 1 [] is (refl, refl)) (below_header rows ((row, fault) ∷ more) payees whole rest is same)
     by (inr (none, is)) =
         let same : ◌≡◌ {A = List (List ℕ) × PayeeFault} (row, fault) ([], Csv 0) = cc is in
         let headless : fault ≡ Csv 0 = ap (λ (e : List (List ℕ) × PayeeFault). e.1) same in
-        subst (λ (f : PayeeFault). IsFaultOf rows f) (sym headless) (inl (refl, none))
+        inr (inl (headless, none))
 
 -- what a look-up finds is the payee of the row of the party, and nothing where it has no row
 pub looked_up : (payees : List (List ℕ × List ℕ)) (party : List ℕ)

@@ -46,9 +46,9 @@ abbrev pub whole : CompiledRegistration → Kept
 whole registration = record { shares = registration.shares.items; lines = registration.lines.items }
 
 -- one that stands among others, in an extent
-abbrev pub part : List RegisteredShare → List ClaimLine → Extent → Kept
-part shares lines extent = record {
-  shares = take extent.count (drop extent.first shares);
+abbrev pub part : List ClaimLine → Extent → Kept
+part lines extent = record {
+  shares = extent.shares.value.items;
   lines = take extent.count (drop extent.first lines);
 }
 

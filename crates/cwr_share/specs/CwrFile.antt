@@ -1,8 +1,9 @@
 -- A CWR file: when its lines are registrations, and what it is refused for.
-use Rattle.std.specs.Prelude.{ℕ, ◌≡◌, ◌≤◌, ◌<◌, ◌+◌, ◌⊎◌, ◌∷◌, ◌++◌, true, false, List, All, Contains, [], count_by, length, map, slice_index_or, take, Option, Some, None, ⊤}
+use Rattle.std.specs.Prelude.{ℕ, ◌≡◌, ◌≤◌, ◌<◌, ◌⊎◌, ◌∷◌, ◌++◌, true, false, List, All, Contains, count_by, length, map, Option, Some, None, ⊤}
 use Rattle.std.specs.List.Sorted.{IsStrictlySortedBy}
 use Rattle.std.specs.Cmp.Lexicographic.{slice_cmp}
 use Rattle.std.specs.Ordering.{nat_cmp}
+use Rattle.csv_table.specs.FirstFault.{AreInTurn, IsFirstFault}
 use Rattle.cwr_share.specs.Fields.{HasLand, HasMark, HasParty, HasShares, IsFilled, field_of}
 use Rattle.cwr_share.specs.Records.{ends_registration, is_share_line, opens_registration, share_fields}
 use Rattle.cwr_share.specs.Payees.{payee_of}
@@ -50,7 +51,7 @@ pub record IsSound (before : List (List ℕ)) (line : List ℕ) : Type 0 where
   pub share : (body : List (List ℕ)) → StandsIn before body → is_share_line line ≡ true → IsShareRecord (count_by is_share_line body) (share_fields line) line
 
 abbrev pub AreSound : List (List ℕ) → Type 0
-AreSound lines = (place : ℕ) → place < length lines → IsSound (take place lines) (slice_index_or lines place [])
+AreSound lines = AreInTurn IsSound lines
 
 -- what the first line of a registration is refused for
 abbrev pub IsFaultOfOpening : List ℕ → (number : ℕ) → CwrFault → Type 0
@@ -73,19 +74,10 @@ IsFaultOfShare earlier fields line number (Many n) =
 IsFaultOfShare earlier fields line number _ = ⊥
 
 -- what a line after others is refused for
-abbrev pub IsFaultOfLine : (before : List (List ℕ)) → List ℕ → (number : ℕ) → CwrFault → Type 0
-IsFaultOfLine before line number fault =
+abbrev pub IsFaultOfLine : (before : List (List ℕ)) → (number : ℕ) → List ℕ → CwrFault → Type 0
+IsFaultOfLine before number line fault =
     ((opens_registration line ≡ true) × IsFaultOfOpening line number fault)
     ⊎ ((is_share_line line ≡ true) × (body : List (List ℕ)) × StandsIn before body × IsFaultOfShare (count_by is_share_line body) (share_fields line) line number fault)
-
--- a line that is refused stands after sound lines; lines count from 1
-pub record IsFirstFault (lines : List (List ℕ)) (fault : CwrFault) : Type 0 where
-  pub before : List (List ℕ)
-  pub line : List ℕ
-  pub after : List (List ℕ)
-  pub split : lines ≡ before ++ line ∷ after
-  pub sound : AreSound before
-  pub refused : IsFaultOfLine before line (length before + 1) fault
 
 -- the party of a share line of a registration in force
 abbrev pub IsPartyInForce : List (List ℕ) → List ℕ → Type 0
@@ -105,11 +97,11 @@ pub record HasTooMany (rows : List (List ℕ × List ℕ)) (lines : List (List �
   pub each : All (IsPayeeInForce rows lines) payees
   pub many : MOST_ACCOUNTS < length payees
 
--- What a file is refused for, with a table of payees: the first line that is not sound, or else too many payees. Memory may run out at any time.
+-- What a file is refused for, with a table of payees: the first line that is not sound, where lines count from 1, or else too many payees. Memory may run out at any time.
 abbrev pub IsFaultOf : List (List ℕ × List ℕ) → List (List ℕ) → CwrFault → Type 0
 IsFaultOf rows lines Accounts = HasTooMany rows lines
 IsFaultOf rows lines Memory = ⊤
-IsFaultOf rows lines fault = IsFirstFault lines fault
+IsFaultOf rows lines fault = IsFirstFault AreSound IsFaultOfLine lines fault
 
 -- a file of sound lines, what its registrations in force are, and who is paid what their parties claim by the rows of a table of payees
 pub record IsFileOf (rows : List (List ℕ × List ℕ)) (lines : List (List ℕ)) (registered : Registered) : Type 0 where

@@ -21,7 +21,7 @@ Reads lines line next = IsSound lines line × (next ≡ lines ++ line ∷ [])
 
 -- a line is left out
 abbrev pub Refuses : List (List ℕ) → ℕ → List ℕ → CwrFault → Type 0
-Refuses lines number line fault = IsFaultOfLine lines line number fault × (place_of_fault fault ≡ Some number)
+Refuses lines number line fault = IsFaultOfLine lines number line fault × (place_of_fault fault ≡ Some number)
 
 -- no line ends reading
 abbrev pub Stops : List (List ℕ) → List ℕ → CwrFault → Type 0

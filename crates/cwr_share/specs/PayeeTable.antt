@@ -1,5 +1,6 @@
 -- The table of payees as CSV: a header, and a row for each party that is paid to another account. Rows count from 0, the header's.
-use Rattle.std.specs.Prelude.{ℕ, ◌≡◌, ◌≤◌, ◌<◌, ◌+◌, ◌⊎◌, ◌∷◌, ◌++◌, [], List, length, map, codes, take, slice_index_or, Option, Some, None, ⊤}
+use Rattle.std.specs.Prelude.{ℕ, ◌≡◌, ◌≤◌, ◌<◌, ◌⊎◌, ◌∷◌, [], List, length, map, codes, slice_index_or, Option, Some, None, ⊤}
+use Rattle.csv_table.specs.FirstFault.{AreInTurn, IsFaultOfTable}
 use Rattle.csv_table.specs.Forms.{IsPrintable}
 use Rattle.cwr_share.specs.Fields.{trimmed}
 use Rattle.cwr_share.specs.Payees.{HasRow}
@@ -33,7 +34,7 @@ pub record IsPayeeRow (earlier : List (List ℕ × List ℕ)) (row : List (List 
 
 -- rows below the header that name payees, each below those before it
 abbrev pub AreRows : List (List (List ℕ)) → Type 0
-AreRows rows = (place : ℕ) → place < length rows → IsPayeeRow (map payee_row_of (take place rows)) (slice_index_or rows place [])
+AreRows rows = AreInTurn (λ before. IsPayeeRow (map payee_row_of before)) rows
 
 -- the rows are this table
 pub record IsTableOf (rows : List (List (List ℕ))) (payees : List (List ℕ × List ℕ)) : Type 0 where
@@ -52,26 +53,9 @@ IsFaultOfRow earlier number row (Twice n) =
     (n ≡ number) × (length earlier < MOST_PAYEES) × (length row ≡ length header) × HasNames row × HasRow earlier (party_field row)
 IsFaultOfRow earlier number row Memory = ⊤
 
--- a row that is refused stands below a header and rows that name payees
-pub record IsFirstFault (rows : List (List (List ℕ))) (fault : PayeeFault) : Type 0 where
-  pub before : List (List (List ℕ))
-  pub row : List (List ℕ)
-  pub after : List (List (List ℕ))
-  pub split : rows ≡ header ∷ (before ++ row ∷ after)
-  pub sound : AreRows before
-  pub refused : IsFaultOfRow (map payee_row_of before) (length before + 1) row fault
-
--- the first row is not the header, or there is none
-abbrev pub HasNoHeader : List (List (List ℕ)) → Type 0
-HasNoHeader rows = (below : List (List (List ℕ))) → ¬ (rows ≡ header ∷ below)
-
 -- What a table is refused for: its header, or else the first row that names no payee. Memory may run out at any row, the header's too.
 abbrev pub IsFaultOf : List (List (List ℕ)) → PayeeFault → Type 0
-IsFaultOf rows Memory = ⊤
-IsFaultOf rows Rows = IsFirstFault rows Rows
-IsFaultOf rows (Csv n) = ((n ≡ 0) × HasNoHeader rows) ⊎ IsFirstFault rows (Csv n)
-IsFaultOf rows (Fields n) = IsFirstFault rows (Fields n)
-IsFaultOf rows (Twice n) = IsFirstFault rows (Twice n)
+IsFaultOf rows fault = (fault ≡ Memory) ⊎ IsFaultOfTable header (Csv 0) AreRows (λ before. IsFaultOfRow (map payee_row_of before)) rows fault
 
 -- the fault's number
 abbrev pub number_of_fault : PayeeFault → ℕ

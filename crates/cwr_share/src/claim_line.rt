@@ -7,11 +7,11 @@ ghost use Rattle.std.specs.Prelude.{◌≡◌, ◌≤◌, ◌<◌, ◌++◌, ◌
 ghost use Rattle.line_split.specs.Claims.{total_of};
 ghost use Rattle.line_split.specs.declared.TheConstants.{MOST_CLAIMED};
 ghost use Rattle.cwr_share.specs.ClaimsOn.{deciding, share_for};
-ghost use Rattle.cwr_share.specs.Compiled.{AreClaimLines, AreInRuns, claim_lines, claims_of_claimants, share_under};
+ghost use Rattle.cwr_share.specs.Compiled.{AreClaimLines, AreInRuns, claim_line, claim_lines, claims_of_claimants, line_by, share_under};
 ghost use Rattle.cwr_share.specs.Registrations.{ShareLine};
 ghost use Rattle.cwr_share.specs.declared.TheConstants.{MOST_SHARES};
 
-use crate::share_line::CollectionShares;
+use crate::share_line::{CollectionShares, RegisteredShare};
 use line_split::{Account, Claims, MOST_CLAIMED, Right};
 use tis_tree::{Code, TisTable};
 
@@ -26,7 +26,30 @@ pub(crate) struct ClaimLine {
     pub(crate) begins: bool,
 }
 
+/// No share under any right.
+const NO_SHARES: CollectionShares = CollectionShares {
+    performing: 0,
+    mechanical: 0,
+    synchronisation: 0,
+};
+
 impl ClaimLine {
+    /// A share line whose party has this account.
+    pub(crate) fn of(share: &RegisteredShare, account: Account, begins: bool) -> ClaimLine
+        ensures { result ≡ claim_line account begins (line_by [] share.now) }
+    {
+        ClaimLine {
+            account,
+            shares: if share.includes {
+                share.shares
+            } else {
+                NO_SHARES
+            },
+            territory: share.territory,
+            begins,
+        }
+    }
+
     /// The share for a right.
     fn share_for(&self, right: Right) -> u16
         ensures { result ≡ share_under right self.now }

@@ -3,7 +3,8 @@
 ghost use Rattle.std.specs.Prelude.{◌≡◌, ◌∷◌, [], false, true, IfErr, IfNone, IfOk, IfSome, drop};
 ghost use Rattle.csv_table.specs.Table.{rows_of};
 ghost use Rattle.cwr_share.specs.PayeeReading.{HasReadOn};
-ghost use Rattle.cwr_share.specs.PayeeTable.{HasNoHeader, IsFaultOf, IsTableOf, header};
+ghost use Rattle.csv_table.specs.FirstFault.{HasNoHeader};
+ghost use Rattle.cwr_share.specs.PayeeTable.{IsFaultOf, IsTableOf, header};
 
 use crate::{MOST_PAYEES, PayeeFault, Payees};
 use csv_table::Rows;
@@ -38,7 +39,7 @@ impl<'a> PayeeReader<'a> {
     pub fn of(alloc: Global, bytes: &'a [u8]) -> Result<PayeeReader<'a>, AllocError>
         ensures begun { IfOk result (λ reader. (reader.payees ≡ []) × (reader.number ≡ 1) × (reader.left ≡ drop 1 (rows_of bytes.now))) }
         ensures headed { IfOk result (λ reader. reader.is_headed ≡ true → rows_of bytes.now ≡ header ∷ reader.left) }
-        ensures headless { IfOk result (λ reader. reader.is_headed ≡ false → HasNoHeader (rows_of bytes.now)) }
+        ensures headless { IfOk result (λ reader. reader.is_headed ≡ false → HasNoHeader header (rows_of bytes.now)) }
     {
         let mut rows = Rows::of(alloc, bytes);
         let is_headed = rows.next()? && rows.is(&["party", "payee"]);

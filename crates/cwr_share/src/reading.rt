@@ -55,7 +55,7 @@ impl Reading {
     pub(crate) fn add(&mut self, alloc: Global, number: u64, line: &[u8]) -> Result<(), CwrFault>
         requires { (before : List (List ℕ)) × IsReadTo before self.old × (length before < number) }
         ensures read { OnOk result ((before : List (List ℕ)) → IsReadTo before self.old → IsReadTo (before ++ line.now ∷ []) self.new) }
-        ensures fault { IfErr result (λ fault. (fault ≡ Memory) ⊎ ((before : List (List ℕ)) → IsReadTo before self.old → IsFaultOfLine before line.now number fault)) }
+        ensures fault { IfErr result (λ fault. (fault ≡ Memory) ⊎ ((before : List (List ℕ)) → IsReadTo before self.old → IsFaultOfLine before number line.now fault)) }
         ensures same { IfErr result (λ fault. (fault ≡ Memory) ⊎ ((self.new ≡ self.old) × (place_of_fault fault ≡ Some number))) }
     {
         match record_type(line) {
@@ -115,7 +115,7 @@ impl Reading {
     ) -> Result<(), CwrFault>
         requires { (is_share_line line.now ≡ true) × (fields.now ≡ share_fields line.now) }
         ensures read { OnOk result ((before : List (List ℕ)) → IsReadTo before self.old → IsReadTo (before ++ line.now ∷ []) self.new) }
-        ensures fault { IfErr result (λ fault. (fault ≡ Memory) ⊎ ((before : List (List ℕ)) → IsReadTo before self.old → IsFaultOfLine before line.now number fault)) }
+        ensures fault { IfErr result (λ fault. (fault ≡ Memory) ⊎ ((before : List (List ℕ)) → IsReadTo before self.old → IsFaultOfLine before number line.now fault)) }
         ensures same { IfErr result (λ fault. (fault ≡ Memory) ⊎ ((self.new ≡ self.old) × (place_of_fault fault ≡ Some number))) }
     {
         let Some(open) = self.open.as_mut() else {
@@ -174,7 +174,7 @@ fn registry_of(
     let mut registration = CompiledRegistration::new(alloc);
     for shares in &lists {
         registration.compile(shares.as_slice(), &parties.accounts)?;
-        registrations = registrations.and(&registration)?;
+        registrations = registrations.followed_by(&registration)?;
     }
     Ok(Registry::of(works, registrations, parties))
 }

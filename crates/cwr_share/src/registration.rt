@@ -105,7 +105,7 @@ fn add_lines(
     for entry in order {
         let share = shares[entry.place as usize];
         let interest = Some((share.party, share.interest));
-        lines.push(share.claim_line(accounts[share.party], later != interest))?;
+        lines.push(ClaimLine::of(&share, accounts[share.party], later != interest))?;
         later = interest;
     }
     Ok(())

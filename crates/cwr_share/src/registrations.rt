@@ -9,33 +9,34 @@ use crate::registration::CompiledRegistration;
 use crate::share_line::RegisteredShare;
 use std::alloc::{AllocError, Global};
 use std::marker::Model;
+use std::snapshot::Snapshot;
 
-/// Registrations, each a part of two lists, so that a look at one of them touches little memory.
+/// Registrations, each a part of one list, so that a look at one of them touches little memory.
 #[derive(Drop)]
 pub(crate) struct Registrations {
-    /// The share lines as they came. No code looks at them again: they are what a contract says of a
-    /// registry, since the claim lines have lost the order of the file and what an exclusion would pay.
-    shares: Vec<RegisteredShare>,
     lines: Vec<ClaimLine>,
     extents: Vec<Extent>,
 }
 
-/// Which part of each list is a registration's.
-#[derive(Clone, Copy)]
+/// Which part of the list is a registration's.
+#[derive(Drop)]
 pub(crate) struct Extent {
     pub(crate) first: usize,
     pub(crate) count: u16,
+    /// The share lines as they came. They take no memory: only contracts speak of them, since the claim
+    /// lines have lost the order of the file and what an exclusion would pay.
+    pub(crate) shares: Snapshot<Vec<RegisteredShare>>,
 }
 
 impl Model for Registrations {
-    ghost use Rattle.std.specs.Prelude.{◌≡◌, List, All, length, map};
+    ghost use Rattle.std.specs.Prelude.{List, All, map};
     ghost use Rattle.cwr_share.specs.Compiled.{Kept, IsExtent, part};
 
     ghost Value = { List Kept };
 
-    ghost view = { λ r. map (part r.shares.items r.lines.items) r.extents.items };
+    ghost view = { λ r. map (part r.lines.items) r.extents.items };
 
-    ghost invariant = { λ r. (length r.shares.items ≡ length r.lines.items) × All (IsExtent r.lines.items) r.extents.items };
+    ghost invariant = { λ r. All (IsExtent r.lines.items) r.extents.items };
 }
 
 impl Registrations {
@@ -44,7 +45,6 @@ impl Registrations {
         ensures { IfOk result (λ registrations. registrations ≡ []) }
     {
         Ok(Registrations {
-            shares: Vec::new(alloc),
             lines: Vec::new(alloc),
             extents: Vec::with_capacity(alloc, n)?,
         })
@@ -58,31 +58,25 @@ impl Registrations {
     }
 
     /// These and one more, which comes last.
-    pub(crate) fn and(
+    pub(crate) fn followed_by(
         self,
         registration: &CompiledRegistration,
     ) -> Result<Registrations, AllocError>
         requires few { length registration.now.lines.items ≤ MOST_SHARES }
-        requires paired { length registration.now.lines.items ≡ length registration.now.shares.items }
         ensures { IfOk result (λ registrations. registrations ≡ self ++ whole registration.now ∷ []) }
     {
         let Registrations {
-            mut shares,
             mut lines,
             mut extents,
         } = self;
         let extent = Extent {
             first: lines.len(),
             count: registration.lines.len() as u16,
+            shares: Snapshot::of(&registration.shares),
         };
-        shares.extend_from_slice(registration.shares.as_slice())?;
         lines.extend_from_slice(registration.lines.as_slice())?;
         extents.push(extent)?;
-        Ok(Registrations {
-            shares,
-            lines,
-            extents,
-        })
+        Ok(Registrations { lines, extents })
     }
 
     /// The lines of the one at a place.
@@ -90,7 +84,7 @@ impl Registrations {
         requires { place < length self.now }
         ensures { (d : Kept) → result.now ≡ (slice_index_or self.now place d).lines }
     {
-        let extent = self.extents[place];
+        let extent = &self.extents[place];
         &self.lines.as_slice()[extent.first..extent.first + extent.count as usize]
     }
 }

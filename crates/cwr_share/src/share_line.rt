@@ -7,15 +7,14 @@ ghost use Rattle.cwr_share.specs.Fields.{HasShares, IsFilled, IsMark, IsShare, f
 ghost use Rattle.cwr_share.specs.Registrations.{share_line_of};
 ghost use Rattle.cwr_share.specs.ClaimsOn.{is_alike, share_for};
 ghost use Rattle.cwr_share.specs.Filed.{recorded_share};
-ghost use Rattle.cwr_share.specs.Compiled.{claim_line, line_by};
+ghost use Rattle.cwr_share.specs.Compiled.{line_by};
 ghost use Rattle.cwr_share.specs.declared.numbers.TheConstants.{MOST_PARTY_BYTES};
 
-use crate::claim_line::ClaimLine;
 use crate::fields::ShareFields;
 use crate::numbers::{PartyNumber, in_place};
 use crate::{CwrFault, MOST_SHARES};
 use csv_table::forms::{code, number_up_to};
-use line_split::{Account, FULL_SHARE, Right};
+use line_split::{FULL_SHARE, Right};
 use std::marker::Model;
 use tis_tree::Code;
 
@@ -50,13 +49,6 @@ pub(crate) struct CollectionShares {
     pub(crate) mechanical: u16,
     pub(crate) synchronisation: u16,
 }
-
-/// No share under any right.
-const NO_SHARES: CollectionShares = CollectionShares {
-    performing: 0,
-    mechanical: 0,
-    synchronisation: 0,
-};
 
 impl Model for ShareRecord {
     ghost use Rattle.cwr_share.specs.Registrations.{ShareLine};
@@ -184,24 +176,6 @@ impl ShareRecord {
             shares: self.shares,
             includes: self.includes,
             territory: self.territory,
-        }
-    }
-}
-
-impl RegisteredShare {
-    /// The line in the form that claims are worked out from, where its party has this account.
-    pub(crate) fn claim_line(&self, account: Account, begins: bool) -> ClaimLine
-        ensures { result ≡ claim_line account begins (line_by [] self.now) }
-    {
-        ClaimLine {
-            account,
-            shares: if self.includes {
-                self.shares
-            } else {
-                NO_SHARES
-            },
-            territory: self.territory,
-            begins,
         }
     }
 }

@@ -9,7 +9,6 @@ pub mod Division
 pub mod FirstPlaces
 pub mod ByAccount
 pub mod Over
-mod LineFeeds
 mod UsageRows
 pub mod UsageReadings
 pub mod OneTable
@@ -19,3 +18,4 @@ pub mod Signs
 pub mod IntSums
 pub mod FairSigns
 pub mod ByRank
+mod WithoutFeeds

@@ -2,8 +2,9 @@
 use Rattle.std.proofs.Common.{◌≡◌, ◌<◌, ◌+◌, ℕ, List, ◌∷◌, ◌++◌, length, All, ap, refl, subst, inl, inr, arith, length-append}
 use Rattle.std.proofs.Math.Seq.{get_or-append_seam}
 use Rattle.std.proofs.lemmas.List.{length-map}
+use Rattle.csv_table.specs.FirstFault.{IsFirstFault}
 use Rattle.line_split.specs.UsageLine.{UsageLine, line_of}
-use Rattle.line_split.specs.UsageTable.{IsFaultOf, IsFaultOfRow, IsFirstFault, IsLine, IsTableOf}
+use Rattle.line_split.specs.UsageTable.{IsFaultOf, IsFaultOfRow, IsLine, IsRefused, IsTableOf, header}
 use Rattle.line_split.specs.declared.usage.TheConstants.{MOST_LINES}
 use Rattle.line_split.specs.declared.line_fault.LineFault.{LineFault}
 use Rattle.line_split.specs.declared.line_fault.LineFault.TheVariants.{Csv, Fields, Territory, Right, Amount, Lines, Memory}
@@ -31,8 +32,9 @@ row_between before row after sound =
     rw get_or-append_seam at (sound (length before) row within)
 
 -- no row of a table is the first that is refused, but for lack of memory
-no_first_fault : (rows : List (List (List ℕ))) (lines : List UsageLine) (fault : LineFault) → IsTableOf rows lines → IsFirstFault rows fault → fault ≡ Memory
-no_first_fault rows lines fault is first =
+no_first_fault : (rows : List (List (List ℕ))) (lines : List UsageLine) (fault : LineFault) (below : List (List (List ℕ))) → IsTableOf rows lines → rows ≡ header ∷ below
+    → IsFirstFault (All IsLine) IsRefused below fault → fault ≡ Memory
+no_first_fault rows lines fault below is headed first =
     let same : is.rows_below ≡ first.before ++ first.row ∷ first.after = cc in
     sound_row first.row (length first.before) (length first.before + 1) fault
     (row_between first.before first.row first.after (subst (All IsLine) same is.sound))
@@ -41,11 +43,6 @@ no_first_fault rows lines fault is first =
 
 -- rows that are a table are refused for nothing but lack of memory
 pub no_fault : (rows : List (List (List ℕ))) (lines : List UsageLine) (fault : LineFault) → IsTableOf rows lines → IsFaultOf rows fault → fault ≡ Memory
-no_fault rows lines (Csv n) is (inl (first, none)) = absurd (none is.rows_below is.headed)
-no_fault rows lines (Csv n) is (inr first) = no_first_fault rows lines (Csv n) is first
-no_fault rows lines (Fields n) is first = no_first_fault rows lines (Fields n) is first
-no_fault rows lines (Territory n) is first = no_first_fault rows lines (Territory n) is first
-no_fault rows lines (Right n) is first = no_first_fault rows lines (Right n) is first
-no_fault rows lines (Amount n) is first = no_first_fault rows lines (Amount n) is first
-no_fault rows lines Lines is first = no_first_fault rows lines Lines is first
-no_fault rows lines Memory is fault = refl
+no_fault rows lines fault is (inl memory) = memory
+no_fault rows lines fault is (inr (inl (first, none))) = absurd (none is.rows_below is.headed)
+no_fault rows lines fault is (inr (inr (below, headed, first))) = no_first_fault rows lines fault below is headed first

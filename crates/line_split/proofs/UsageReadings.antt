@@ -59,5 +59,5 @@ read_up_to_a_fault rows row fault more lines is = elim is.headed [
   | inr (headless, first) ↦
       let head : (row, fault) ≡ ([], Csv 0) = cc first in
       let same : fault ≡ Csv 0 = ap (λ (p : List (List ℕ) × LineFault). p.1) head in
-      rw same (inl (refl, headless))
+      inr (inl (same, headless))
 ]

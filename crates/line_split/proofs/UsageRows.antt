@@ -5,15 +5,16 @@ use Rattle.std.proofs.lemmas.List.{append-nil, length-append, length-map, length
 use Rattle.std.proofs.lemmas.List.Elements.{All-append, All-map, All-nil, All-push, All-take}
 use Rattle.std.specs.Prelude.{Err, IfErr, IfOk, Ok, Result, if◌then◌else◌, take}
 use Rattle.std.proofs.lemmas.Int.{ints}
+use Rattle.csv_table.specs.FirstFault.{IsFirstFault}
 use Rattle.csv_table.specs.Forms.{IsSignedNumber, has_minus, number_of, signed_number_of, without_minus}
 use Rattle.csv_table.proofs.Codes.{code_small}
 use Rattle.csv_table.specs.Table.{HaveNoLineFeed}
-use Rattle.line_split.proofs.LineFeeds.{in_lines, in_table}
+use Rattle.line_split.proofs.WithoutFeeds.{in_lines, in_table}
 use Rattle.line_split.specs.declared.TheConstants.{MOST_AMOUNT}
 use Rattle.line_split.specs.UsageLine.{HasAmount, HasRight, HasTerritory, HasTexts, UsageLine, amount_of, line_of}
 use Rattle.line_split.specs.UsageLines.{AreUsageLines, IsUsageLine}
-use Rattle.line_split.specs.UsageParts.{AreLinesOf, IsBehind, IsFaultIn, IsFirstFaultIn, IsMoved}
-use Rattle.line_split.specs.UsageTable.{IsFaultOf, IsFaultOfRow, IsFirstFault, IsLine, IsTableOf, header}
+use Rattle.line_split.specs.UsageParts.{AreLinesOf, IsBehind, IsFaultIn, IsMoved}
+use Rattle.line_split.specs.UsageTable.{IsFaultOf, IsFaultOfRow, IsLine, IsRefused, IsTableOf, header}
 use Rattle.line_split.specs.declared.line_fault.LineFault.{LineFault}
 use Rattle.line_split.specs.declared.line_fault.LineFault.TheVariants.{Csv, Fields, Territory, Right, Amount, Lines, Memory}
 use Rattle.line_split.specs.declared.usage.TheConstants.{MOST_LINES}
@@ -81,7 +82,7 @@ walked_fault rows left row number lines fault walked refused = inr record {
 }
 
 -- a fault that is not memory's is a row's
-row_fault : (rows : List (List (List ℕ))) (fault : LineFault) → IsFaultIn rows fault → ¬ (fault ≡ Memory) → IsFirstFaultIn rows fault
+row_fault : (rows : List (List (List ℕ))) (fault : LineFault) → IsFaultIn rows fault → ¬ (fault ≡ Memory) → IsFirstFault (All IsLine) IsRefused rows fault
 row_fault rows fault is other = elim is [
   | inl memory ↦ absurd (other memory)
   | inr first ↦ first
@@ -100,24 +101,9 @@ row_at (suc n) (first ∷ rows) some =
 pub headed_table : (rows below : List (List (List ℕ))) (lines : List UsageLine) → rows ≡ header ∷ below → AreLinesOf below lines → IsTableOf rows lines
 headed_table rows below lines headed are = record { few = are.few; rows_below = below; headed = headed; sound = are.sound; same = are.same }
 
-first_fault : (rows below : List (List (List ℕ))) (fault : LineFault) → rows ≡ header ∷ below → IsFirstFaultIn below fault → IsFirstFault rows fault
-first_fault rows below fault headed is = record {
-  before = is.before;
-  row = is.row;
-  after = is.after;
-  split = headed ∙ ap (λ (l : List (List (List ℕ))). header ∷ l) is.split;
-  sound = is.sound;
-  refused = is.refused;
-}
-
 pub headed_fault : (rows below : List (List (List ℕ))) (fault : LineFault) → rows ≡ header ∷ below → IsFaultIn below fault → IsFaultOf rows fault
-headed_fault rows below Memory headed is = tt
-headed_fault rows below (Csv n) headed is = inr (first_fault rows below (Csv n) headed (row_fault below (Csv n) is (λ e. cc e)))
-headed_fault rows below (Fields n) headed is = first_fault rows below (Fields n) headed (row_fault below (Fields n) is (λ e. cc e))
-headed_fault rows below (Territory n) headed is = first_fault rows below (Territory n) headed (row_fault below (Territory n) is (λ e. cc e))
-headed_fault rows below (Right n) headed is = first_fault rows below (Right n) headed (row_fault below (Right n) is (λ e. cc e))
-headed_fault rows below (Amount n) headed is = first_fault rows below (Amount n) headed (row_fault below (Amount n) is (λ e. cc e))
-headed_fault rows below Lines headed is = first_fault rows below Lines headed (row_fault below Lines is (λ e. cc e))
+headed_fault rows below fault headed (inl memory) = inl memory
+headed_fault rows below fault headed (inr first) = inr (inr (below, headed, first))
 
 pub headed_faults : {T : Type 0} (rows below : List (List (List ℕ))) (result : Result T LineFault) → rows ≡ header ∷ below → IfErr result (IsFaultIn below) → IfErr result (IsFaultOf rows)
 headed_faults rows below (Ok lines) headed is = tt
@@ -175,9 +161,9 @@ module _ (rows : List (List (List ℕ))) (lines : List UsageLine) (are : AreLine
       }
 
   -- a fault of the rows behind
-  module _ (fault : LineFault) (is : IsFirstFaultIn more fault) where
+  module _ (fault : LineFault) (is : IsFirstFault (All IsLine) IsRefused more fault) where
     -- its row, among all
-    among : (moved : LineFault) → IsFaultOfRow (length rows + length is.before) (length rows + length is.before + 1) is.row moved → IsFirstFaultIn (rows ++ more) moved
+    among : (moved : LineFault) → IsFaultOfRow (length rows + length is.before) (length rows + length is.before + 1) is.row moved → IsFirstFault (All IsLine) IsRefused (rows ++ more) moved
     among moved refused = record {
       before = rows ++ is.before;
       row = is.row;
@@ -191,15 +177,15 @@ module _ (rows : List (List (List ℕ))) (lines : List UsageLine) (are : AreLine
     moves : (make : ℕ → LineFault) (Q : Type 0) (row : ℕ) (moved : LineFault) → ((k earlier : ℕ) → earlier < MOST_LINES → Q → IsFaultOfRow earlier k is.row (make k)) → row ≡ length is.before + 1 → Q
         → IsMoved (length lines) row make moved → IsFaultIn (rows ++ more) moved
     moves make Q row moved refuses row_is q goes = elim (cases_lt MOST_LINES (length lines + row)) [
-      | inr few ↦ inr (subst (IsFirstFaultIn (rows ++ more)) (sym (goes.0 few)) (among (make (length lines + row)) (subst (λ (k : ℕ). IsFaultOfRow (length rows + length is.before) k is.row (make (length lines + row))) (omega (arith, as_many, row_is)) (refuses (length lines + row) (length rows + length is.before) (omega (arith, few, as_many, row_is)) q))))
-      | inl many ↦ inr (subst (IsFirstFaultIn (rows ++ more)) (sym (goes.1 many)) (among Lines (omega (arith, many, as_many, row_is))))
+      | inr few ↦ inr (subst (IsFirstFault (All IsLine) IsRefused (rows ++ more)) (sym (goes.0 few)) (among (make (length lines + row)) (subst (λ (k : ℕ). IsFaultOfRow (length rows + length is.before) k is.row (make (length lines + row))) (omega (arith, as_many, row_is)) (refuses (length lines + row) (length rows + length is.before) (omega (arith, few, as_many, row_is)) q))))
+      | inl many ↦ inr (subst (IsFirstFault (All IsLine) IsRefused (rows ++ more)) (sym (goes.1 many)) (among Lines (omega (arith, many, as_many, row_is))))
     ]
 
   pub fault_behind : (fault moved : LineFault) → IsBehind (length lines) fault moved → IsFaultIn more fault → IsFaultIn (rows ++ more) moved
   fault_behind Memory moved goes is = inl goes
   fault_behind Lines moved goes is =
       let first = row_fault more Lines is (λ e. cc e) in
-      inr (subst (IsFirstFaultIn (rows ++ more)) (sym goes) (among Lines first Lines (omega (arith, first.refused))))
+      inr (subst (IsFirstFault (All IsLine) IsRefused (rows ++ more)) (sym goes) (among Lines first Lines (omega (arith, first.refused))))
   fault_behind (Csv n) moved goes is =
       let first = row_fault more (Csv n) is (λ e. cc e) in
       moves (Csv n) first Csv _ n moved (λ k earlier few q. (refl, few, q)) first.refused.0 first.refused.2 goes

@@ -1,7 +1,8 @@
 -- Rows of the table of usage lines below its header, or some of them. The first counts as 1.
-use Rattle.std.specs.Prelude.{ℕ, ◌≡◌, ◌≤◌, ◌<◌, ◌+◌, ◌⊎◌, ◌∷◌, ◌++◌, List, All, length, map}
+use Rattle.std.specs.Prelude.{ℕ, ◌≡◌, ◌≤◌, ◌<◌, ◌+◌, ◌⊎◌, List, All, length, map}
+use Rattle.csv_table.specs.FirstFault.{IsFirstFault}
 use Rattle.line_split.specs.UsageLine.{UsageLine, line_of}
-use Rattle.line_split.specs.UsageTable.{IsFaultOfRow, IsLine}
+use Rattle.line_split.specs.UsageTable.{IsLine, IsRefused}
 use Rattle.line_split.specs.declared.usage.TheConstants.{MOST_LINES}
 use Rattle.line_split.specs.declared.line_fault.LineFault.{LineFault}
 use Rattle.line_split.specs.declared.line_fault.LineFault.TheVariants.{Csv, Fields, Territory, Right, Amount, Lines, Memory}
@@ -12,18 +13,9 @@ pub record AreLinesOf (rows : List (List (List ℕ))) (lines : List UsageLine) :
   pub sound : All IsLine rows
   pub same : lines ≡ map line_of rows
 
--- a row that is refused stands behind rows that are lines
-pub record IsFirstFaultIn (rows : List (List (List ℕ))) (fault : LineFault) : Type 0 where
-  pub before : List (List (List ℕ))
-  pub row : List (List ℕ)
-  pub after : List (List (List ℕ))
-  pub split : rows ≡ before ++ row ∷ after
-  pub sound : All IsLine before
-  pub refused : IsFaultOfRow (length before) (length before + 1) row fault
-
 -- what they are refused for: memory, or else the first row that is no line
 abbrev pub IsFaultIn : List (List (List ℕ)) → LineFault → Type 0
-IsFaultIn rows fault = (fault ≡ Memory) ⊎ IsFirstFaultIn rows fault
+IsFaultIn rows fault = (fault ≡ Memory) ⊎ IsFirstFault (All IsLine) IsRefused rows fault
 
 -- a fault of a row, by its number, where so many rows stand before the first
 abbrev pub IsMoved : ℕ → ℕ → (ℕ → LineFault) → LineFault → Type 0

@@ -1,5 +1,6 @@
 -- The table of usage lines: a header, and a row for each line. Rows count from 0, the header's.
-use Rattle.std.specs.Prelude.{ℕ, ◌≡◌, ◌≤◌, ◌<◌, ◌+◌, ◌⊎◌, ◌∷◌, ◌++◌, [], List, All, length, map, codes, Option, Some, None, ⊤}
+use Rattle.std.specs.Prelude.{ℕ, ◌≡◌, ◌≤◌, ◌<◌, ◌⊎◌, ◌∷◌, [], List, All, length, map, codes, Option, Some, None}
+use Rattle.csv_table.specs.FirstFault.{IsFaultOfTable}
 use Rattle.line_split.specs.UsageLine.{HasAmount, HasRight, HasTerritory, HasTexts, UsageLine, line_of}
 use Rattle.line_split.specs.declared.usage.TheConstants.{MOST_LINES}
 use Rattle.line_split.specs.declared.line_fault.LineFault.{LineFault}
@@ -36,28 +37,13 @@ IsFaultOfRow earlier number row (Amount n) =
     (n ≡ number) × (earlier < MOST_LINES) × (length row ≡ length header) × HasTexts row × HasTerritory row × HasRight row × (¬ HasAmount row)
 IsFaultOfRow earlier number row Memory = (earlier < MOST_LINES) × IsLine row
 
--- a row that is refused stands below a header and rows that are lines
-pub record IsFirstFault (rows : List (List (List ℕ))) (fault : LineFault) : Type 0 where
-  pub before : List (List (List ℕ))
-  pub row : List (List ℕ)
-  pub after : List (List (List ℕ))
-  pub split : rows ≡ header ∷ (before ++ row ∷ after)
-  pub sound : All IsLine before
-  pub refused : IsFaultOfRow (length before) (length before + 1) row fault
-
--- the first row is not the header, or there is none
-abbrev pub HasNoHeader : List (List (List ℕ)) → Type 0
-HasNoHeader rows = (rows_below : List (List (List ℕ))) → ¬ (rows ≡ header ∷ rows_below)
+-- the same by the rows before it
+abbrev pub IsRefused : (before : List (List (List ℕ))) → (number : ℕ) → List (List ℕ) → LineFault → Type 0
+IsRefused before number row fault = IsFaultOfRow (length before) number row fault
 
 -- What a table is refused for: its header, or else the first row that is no line. Memory may run out at any row, the header's too.
 abbrev pub IsFaultOf : List (List (List ℕ)) → LineFault → Type 0
-IsFaultOf rows Memory = ⊤
-IsFaultOf rows Lines = IsFirstFault rows Lines
-IsFaultOf rows (Csv n) = ((n ≡ 0) × HasNoHeader rows) ⊎ IsFirstFault rows (Csv n)
-IsFaultOf rows (Fields n) = IsFirstFault rows (Fields n)
-IsFaultOf rows (Territory n) = IsFirstFault rows (Territory n)
-IsFaultOf rows (Right n) = IsFirstFault rows (Right n)
-IsFaultOf rows (Amount n) = IsFirstFault rows (Amount n)
+IsFaultOf rows fault = (fault ≡ Memory) ⊎ IsFaultOfTable header (Csv 0) (All IsLine) IsRefused rows fault
 
 -- the fault's number
 abbrev pub number_of : LineFault → ℕ

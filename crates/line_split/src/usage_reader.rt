@@ -3,7 +3,8 @@
 ghost use Rattle.std.specs.Prelude.{◌≡◌, ◌∷◌, [], false, true, IfNone, IfOk, IfSome, drop};
 ghost use Rattle.csv_table.specs.Table.{rows_of};
 ghost use Rattle.line_split.specs.UsageReading.{HasReadOn};
-ghost use Rattle.line_split.specs.UsageTable.{HasNoHeader, header};
+ghost use Rattle.csv_table.specs.FirstFault.{HasNoHeader};
+ghost use Rattle.line_split.specs.UsageTable.{header};
 
 use crate::usage::{HEADER, room_for};
 use crate::{LineFault, MOST_LINES, Usage};
@@ -39,7 +40,7 @@ impl<'a> UsageReader<'a> {
     pub fn of(alloc: Global, bytes: &'a [u8]) -> Result<UsageReader<'a>, AllocError>
         ensures begun { IfOk result (λ reader. (reader.lines ≡ []) × (reader.number ≡ 1) × (reader.left ≡ drop 1 (rows_of bytes.now))) }
         ensures headed { IfOk result (λ reader. reader.is_headed ≡ true → rows_of bytes.now ≡ header ∷ reader.left) }
-        ensures headless { IfOk result (λ reader. reader.is_headed ≡ false → HasNoHeader (rows_of bytes.now)) }
+        ensures headless { IfOk result (λ reader. reader.is_headed ≡ false → HasNoHeader header (rows_of bytes.now)) }
     {
         let mut rows = Rows::of(alloc, bytes);
         let is_headed = rows.next()? && rows.is(&HEADER);

@@ -1,8 +1,9 @@
 -- Rows are a table of territories in one way only, and a table has no fault but lack of memory.
-use Rattle.std.proofs.Common.{◌≡◌, ◌<◌, ◌+◌, ℕ, List, ◌∷◌, ◌++◌, length, map, ap, refl, subst, inl, inr, arith, length-append}
+use Rattle.std.proofs.Common.{◌≡◌, ◌<◌, ◌+◌, ℕ, List, ◌∷◌, ◌++◌, length, map, ap, refl, inl, inr, arith, length-append}
 use Rattle.std.proofs.lemmas.List.{length-map}
-use Rattle.std.proofs.Math.Seq.{get_or-append_seam, take-append_seam}
-use Rattle.tis_tree.specs.TisRows.{AreRows, IsFaultOf, IsFaultOfRow, IsFirstFault, IsTableOf, IsTerritory, territory_of}
+use Rattle.csv_table.specs.FirstFault.{IsFirstFault}
+use Rattle.csv_table.proofs.InTurn.{sound_at}
+use Rattle.tis_tree.specs.TisRows.{AreRows, IsFaultOf, IsFaultOfRow, IsTableOf, IsTerritory, header, territory_of}
 use Rattle.tis_tree.specs.declared.TheConstants.{MOST_ROWS}
 use Rattle.tis_tree.specs.declared.tis_fault.TisFault.{TisFault}
 use Rattle.tis_tree.specs.declared.tis_fault.TisFault.TheVariants.{Csv, Code, Twice, Group, Rows, Memory}
@@ -23,28 +24,18 @@ sound_row earlier row number (Group n) good few refused = absurd (refused.5 good
 sound_row earlier row number Rows good few refused = absurd (omega arith)
 sound_row earlier row number Memory good few refused = refl
 
--- among rows that are territories, one stands below those before it
-row_between : (before : List (List (List ℕ))) (row : List (List ℕ)) (after : List (List (List ℕ)))
-    → AreRows (before ++ row ∷ after) → IsTerritory (map territory_of before) row
-row_between before row after sound =
-    let within : length before < length (before ++ row ∷ after) = omega (arith, length-append before (row ∷ after)) in
-    rw (take-append_seam, get_or-append_seam) at (sound (length before) within)
-
 -- no row of a table is the first that is refused, but for lack of memory
-no_first_fault : (rows : List (List (List ℕ))) (table : List (ℕ × List ℕ)) (fault : TisFault) → IsTableOf rows table → IsFirstFault rows fault → fault ≡ Memory
-no_first_fault rows table fault is first =
+no_first_fault : (rows : List (List (List ℕ))) (table : List (ℕ × List ℕ)) (fault : TisFault) (below : List (List (List ℕ))) → IsTableOf rows table → rows ≡ header ∷ below
+    → IsFirstFault AreRows (λ before. IsFaultOfRow (map territory_of before)) below fault → fault ≡ Memory
+no_first_fault rows table fault below is headed first =
     let same : is.below ≡ first.before ++ first.row ∷ first.after = cc in
     sound_row (map territory_of first.before) first.row (length first.before + 1) fault
-    (row_between first.before first.row first.after (subst AreRows same is.sound))
+    (sound_at (λ before. IsTerritory (map territory_of before)) is.below first.before first.row first.after same is.sound)
     (omega (arith, is.few, ap length same, length-append first.before (first.row ∷ first.after), length-map first.before territory_of))
     first.refused
 
 -- rows that are a table are refused for nothing but lack of memory
 pub no_fault : (rows : List (List (List ℕ))) (table : List (ℕ × List ℕ)) (fault : TisFault) → IsTableOf rows table → IsFaultOf rows fault → fault ≡ Memory
-no_fault rows table (Csv n) is (inl (first, none)) = absurd (none is.below is.headed)
-no_fault rows table (Csv n) is (inr first) = no_first_fault rows table (Csv n) is first
-no_fault rows table (Code n) is first = no_first_fault rows table (Code n) is first
-no_fault rows table (Twice n) is first = no_first_fault rows table (Twice n) is first
-no_fault rows table (Group n) is first = no_first_fault rows table (Group n) is first
-no_fault rows table Rows is first = no_first_fault rows table Rows is first
-no_fault rows table Memory is fault = refl
+no_fault rows table fault is (inl memory) = memory
+no_fault rows table fault is (inr (inl (first, none))) = absurd (none is.below is.headed)
+no_fault rows table fault is (inr (inr (below, headed, first))) = no_first_fault rows table fault below is headed first

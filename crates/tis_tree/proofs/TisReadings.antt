@@ -23,5 +23,5 @@ read_up_to_a_fault rows row fault more table is = elim is.headed [
   | inr (headless, first) ↦
       let head : (row, fault) ≡ ([], Csv 0) = cc first in
       let same : fault ≡ Csv 0 = ap (λ (p : List (List ℕ) × TisFault). p.1) head in
-      rw same (inl (refl, headless))
+      inr (inl (same, headless))
 ]

@@ -1,17 +1,16 @@
 -- How the rows of a table of territories are read one by one.
-use Rattle.std.proofs.Common.{◌≡◌, ◌≤◌, ◌<◌, ◌+◌, ◌⊎◌, ℕ, List, [], ◌∷◌, ◌++◌, length, map, take, is_some, true, Some, slice_index_or, ap, sym, refl, ◌∙◌, append_assoc, inl, inr, arith}
-use Rattle.std.proofs.Math.Seq.{take-append_seam}
-use Rattle.std.proofs.lemmas.List.{append-nil, get_or_append_left, get_or_push, length_push, length-map, map-append, take-append-le}
+use Rattle.std.proofs.Common.{◌≡◌, ◌≤◌, ◌<◌, ◌+◌, ◌⊎◌, ℕ, List, [], ◌∷◌, ◌++◌, length, map, is_some, true, Some, ap, sym, refl, ◌∙◌, append_assoc, inl, inr, arith}
+use Rattle.std.proofs.lemmas.List.{append-nil, length_push, length-map, map-append}
 use Rattle.csv_table.specs.Forms.{number_of}
 use Rattle.tis_tree.specs.Territories.{IsKnown}
 use Rattle.csv_table.specs.ReadOn.{ReadsOn}
 use Rattle.csv_table.specs.ReadOn.ReadsOn.{here, read, left_out, stopped}
+use Rattle.csv_table.proofs.InTurn.{sound_push}
 use Rattle.tis_tree.specs.TisReading.{Reads, Refuses, Stops}
-use Rattle.tis_tree.specs.TisRows.{AreRows, HasCode, HasGroups, IsFaultOf, IsFaultOfRow, IsFirstFault, IsTableOf, IsTerritory, code_field, header, place_of_fault, territory_of}
+use Rattle.tis_tree.specs.TisRows.{AreRows, HasCode, HasGroups, IsFaultOf, IsFaultOfRow, IsTableOf, IsTerritory, code_field, header, place_of_fault, territory_of}
 use Rattle.tis_tree.specs.declared.TheConstants.{MOST_ROWS}
 use Rattle.tis_tree.specs.declared.tis_fault.TisFault.{TisFault}
-use Rattle.tis_tree.specs.declared.tis_fault.TisFault.TheVariants.{Csv, Code, Twice, Group, Rows, Memory}
-use Rattle.tis_tree.proofs.Compiling.{last_or}
+use Rattle.tis_tree.specs.declared.tis_fault.TisFault.TheVariants.{Group, Rows, Memory}
 
 -- the rows below the header that were read so far are this table
 pub record Walked (rows left : List (List (List ℕ))) (number : ℕ) (table : List (ℕ × List ℕ)) : Type 0 where
@@ -27,14 +26,6 @@ pub walked_start : (rows left : List (List (List ℕ))) (number : ℕ) (table : 
 walked_start rows left number table is (none, first) =
     record { below = []; split = is; few = omega arith; sound = λ place within. absurd (omega arith); same = none; count = sym first }
 
--- rows that are territories, and one more below them
-rows_push : (below : List (List (List ℕ))) (row : List (List ℕ)) → AreRows below → IsTerritory (map territory_of below) row → AreRows (below ++ row ∷ [])
-rows_push below row sound good = λ place within. by place (last_or (length below) place (rw length_push at within))
-  where
-    by : (place : ℕ) → (place < length below) ⊎ (place ≡ length below) → IsTerritory (map territory_of (take place (below ++ row ∷ []))) (slice_index_or (below ++ row ∷ []) place [])
-    by place (inl before) = rw (take-append-le place below (row ∷ []) (omega arith), get_or_append_left below (row ∷ []) [] place before) (sound place before)
-    by place (inr last) = rw (last, take-append_seam below (row ∷ []), get_or_push below row [] (length below) refl) good
-
 -- a row that is a territory adds it to the table
 pub walked_more : (rows left : List (List (List ℕ))) (row : List (List ℕ)) (number : ℕ) (table grown : List (ℕ × List ℕ))
     → Walked rows (row ∷ left) number table → length table < MOST_ROWS → IsTerritory table row → grown ≡ table ++ territory_of row ∷ [] → Walked rows left (number + 1) grown
@@ -42,7 +33,7 @@ walked_more rows left row number table grown walked few good is = record {
   below = walked.below ++ row ∷ [];
   split = walked.split ∙ ap (λ (l : List (List (List ℕ))). header ∷ l) (sym (append_assoc walked.below (row ∷ []) left));
   few = omega (arith, few, ap length walked.same, length-map walked.below territory_of, length_push walked.below row);
-  sound = rows_push walked.below row walked.sound (rw walked.same at good);
+  sound = sound_push (λ before. IsTerritory (map territory_of before)) walked.below row walked.sound (rw walked.same at good);
   same = rw (is, walked.same) (sym (map-append territory_of walked.below (row ∷ [])));
   count = rw (length_push walked.below row, walked.count) refl;
 }
@@ -57,27 +48,22 @@ walked_table rows number table walked = record {
   same = walked.same;
 }
 
--- the row at hand is the first that is refused
-first_fault : (rows left : List (List (List ℕ))) (row : List (List ℕ)) (number : ℕ) (table : List (ℕ × List ℕ)) (fault : TisFault)
-    → Walked rows (row ∷ left) number table → IsFaultOfRow table number row fault → IsFirstFault rows fault
-first_fault rows left row number table fault walked refused = record {
-  before = walked.below;
-  row = row;
-  after = left;
-  split = walked.split;
-  sound = walked.sound;
-  refused = rw walked.count (rw walked.same at refused);
-}
-
--- the table is refused for the row at hand
+-- the table is refused for the row at hand, which is the first that is refused
 pub walked_fault : (rows left : List (List (List ℕ))) (row : List (List ℕ)) (number : ℕ) (table : List (ℕ × List ℕ)) (fault : TisFault)
     → Walked rows (row ∷ left) number table → IsFaultOfRow table number row fault → IsFaultOf rows fault
-walked_fault rows left row number table (Csv n) walked refused = inr (first_fault rows left row number table (Csv n) walked refused)
-walked_fault rows left row number table (Code n) walked refused = first_fault rows left row number table (Code n) walked refused
-walked_fault rows left row number table (Twice n) walked refused = first_fault rows left row number table (Twice n) walked refused
-walked_fault rows left row number table (Group n) walked refused = first_fault rows left row number table (Group n) walked refused
-walked_fault rows left row number table Rows walked refused = first_fault rows left row number table Rows walked refused
-walked_fault rows left row number table Memory walked refused = tt
+walked_fault rows left row number table fault walked refused =
+    inr (inr (
+      walked.below ++ row ∷ left,
+      walked.split,
+      record {
+        before = walked.below;
+        row = row;
+        after = left;
+        split = refl;
+        sound = walked.sound;
+        refused = rw walked.count (rw walked.same at refused);
+      },
+    ))
 
 -- a row that is refused for what is in it is left out
 pub left_out_row : (table after : List (ℕ × List ℕ)) (row : List (List ℕ)) (number : ℕ) (fault : TisFault) → IsFaultOfRow table number row fault

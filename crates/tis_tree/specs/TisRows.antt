@@ -1,6 +1,7 @@
 -- The table of territories as CSV: a header, and a row for each code. Rows count from 0, the header's.
-use Rattle.std.specs.Prelude.{ℕ, ◌≡◌, ◌≤◌, ◌<◌, ◌+◌, ◌⊎◌, ◌==◌, ◌∷◌, ◌++◌, [], List, All, length, map, not, codes, take, slice_index_or, if◌then◌else◌, Option, Some, None, ⊤}
+use Rattle.std.specs.Prelude.{ℕ, ◌≡◌, ◌≤◌, ◌<◌, ◌⊎◌, ◌==◌, ◌∷◌, [], List, All, length, map, not, codes, slice_index_or, if◌then◌else◌, Option, Some, None, ⊤}
 use Rattle.std.specs.List.{filter}
+use Rattle.csv_table.specs.FirstFault.{AreInTurn, IsFaultOfTable}
 use Rattle.csv_table.specs.Forms.{IsCode, number_of}
 use Rattle.tis_tree.specs.Territories.{IsKnown}
 use Rattle.tis_tree.specs.declared.TheConstants.{MOST_ROWS}
@@ -51,7 +52,7 @@ pub record IsTerritory (earlier : List (ℕ × List ℕ)) (row : List (List ℕ)
 
 -- rows below the header that are territories, each below those before it
 abbrev pub AreRows : List (List (List ℕ)) → Type 0
-AreRows rows = (place : ℕ) → place < length rows → IsTerritory (map territory_of (take place rows)) (slice_index_or rows place [])
+AreRows rows = AreInTurn (λ before. IsTerritory (map territory_of before)) rows
 
 -- the rows are this table
 pub record IsTableOf (rows : List (List (List ℕ))) (table : List (ℕ × List ℕ)) : Type 0 where
@@ -73,27 +74,9 @@ IsFaultOfRow earlier number row (Group n) =
     × (¬ HasGroups earlier row)
 IsFaultOfRow earlier number row Memory = ⊤
 
--- a row that is refused stands below a header and rows that are territories
-pub record IsFirstFault (rows : List (List (List ℕ))) (fault : TisFault) : Type 0 where
-  pub before : List (List (List ℕ))
-  pub row : List (List ℕ)
-  pub after : List (List (List ℕ))
-  pub split : rows ≡ header ∷ (before ++ row ∷ after)
-  pub sound : AreRows before
-  pub refused : IsFaultOfRow (map territory_of before) (length before + 1) row fault
-
--- the first row is not the header, or there is none
-abbrev pub HasNoHeader : List (List (List ℕ)) → Type 0
-HasNoHeader rows = (below : List (List (List ℕ))) → ¬ (rows ≡ header ∷ below)
-
 -- What a table is refused for: its header, or else the first row that is no territory. Memory may run out at any row, the header's too.
 abbrev pub IsFaultOf : List (List (List ℕ)) → TisFault → Type 0
-IsFaultOf rows Memory = ⊤
-IsFaultOf rows Rows = IsFirstFault rows Rows
-IsFaultOf rows (Csv n) = ((n ≡ 0) × HasNoHeader rows) ⊎ IsFirstFault rows (Csv n)
-IsFaultOf rows (Code n) = IsFirstFault rows (Code n)
-IsFaultOf rows (Twice n) = IsFirstFault rows (Twice n)
-IsFaultOf rows (Group n) = IsFirstFault rows (Group n)
+IsFaultOf rows fault = (fault ≡ Memory) ⊎ IsFaultOfTable header (Csv 0) AreRows (λ before. IsFaultOfRow (map territory_of before)) rows fault
 
 -- the fault's number
 abbrev pub number_of_fault : TisFault → ℕ

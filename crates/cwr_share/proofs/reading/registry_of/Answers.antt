@@ -41,8 +41,8 @@ compile-requires-clause-known c =
     rw c.as_slice-in-loop-shares.ensures.value
     (known_in c.args.payees.now c.args.lists.items (entries c) (payees c) c.shares-item.result (c.loop-shares.shares-index, within, sym is) (are_accounts c))
 
-pub and-requires-clause-few : goal.and-requires-clause-few
-and-requires-clause-few c =
+pub followed_by-requires : goal.followed_by-requires
+followed_by-requires c =
     let parties = names_of c.in_ok-parties.parties.accounts.entries in
     let registration = whole c.compile.new.self in
     let same : kept_lines parties registration ≡ c.shares-item.result.items = rw c.as_slice-in-loop-shares.ensures.value at c.in_ok-compile.ensures.shares in

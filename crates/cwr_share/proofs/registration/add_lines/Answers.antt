@@ -17,7 +17,7 @@ loop-entry-preserved c =
     let n = c.loop-entry.entry-index in
     let d : Placed = record { party = 0; place = 0 } in
     let account = account_at c.args.accounts.now.entries c.index-shares-entry.result.party c.index.result.now (sym c.index.ensures) in
-    rw (c.in_ok-push.ensures.items, c.claim_line.ensures, c.ne.ensures, account)
+    rw (c.in_ok-push.ensures.items, c.of.ensures, c.ne.ensures, account)
     (lines_next (λ party. get_or (accounts_of c.args.accounts.now.entries) party 0) c.args.shares.now order n d c.index-shares-entry.result c.loop-entry.later c.loop-entry.lines.items c.loop-entry-test.true
     (c.requires.within n d c.loop-entry-test.true) c.index-shares-entry.is (c.requires.own n d c.loop-entry-test.true)
     ∙ c.loop-entry.invariant)

@@ -15,7 +15,7 @@ use Rattle.cwr_share.proofs.reading.Reading.add_share.Goals as goal
 -- what the share line is refused for
 refused : (line : List ℕ) (number earlier : ℕ) (fields : ShareFields) (reading : Reading) (registration : Open) (fault : CwrFault)
     → reading.open ≡ Some registration → is_share_line line ≡ true → fields ≡ share_fields line → earlier ≡ length registration.shares.items
-    → IsFaultOfShare earlier fields line number fault → (before : List (List ℕ)) → IsReadTo before reading → IsFaultOfLine before line number fault
+    → IsFaultOfShare earlier fields line number fault → (before : List (List ℕ)) → IsReadTo before reading → IsFaultOfLine before number line fault
 refused line number earlier fields reading registration fault was is same count wrong = λ before read.
     fault_of_share before line number reading registration fault was is
     (subst (λ (n : ℕ). IsFaultOfShare n (share_fields line) line number fault) count (subst (λ (f : ShareFields). IsFaultOfShare earlier f line number fault) same wrong)) read

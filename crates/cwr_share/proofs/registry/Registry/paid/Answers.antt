@@ -1,9 +1,10 @@
 use Rattle.std.proofs.Common.{[], sym}
 use Rattle.std.proofs.lemmas.Result.{IfErr-weaker, IfOk-weaker}
-use Rattle.cwr_share.specs.CwrFile.{IsFaultOf, IsFileOf}
+use Rattle.csv_table.proofs.InTurn.{sound_none}
+use Rattle.cwr_share.specs.CwrFile.{IsFaultOf, IsFileOf, IsSound}
 use Rattle.cwr_share.specs.Lines.{lines_of}
 use Rattle.cwr_share.proofs.CwrReadings.{fault_of_first, first_left_out, whole_read}
-use Rattle.cwr_share.proofs.FileLemmas.{payees_fault, sound_none}
+use Rattle.cwr_share.proofs.FileLemmas.{payees_fault}
 use Rattle.cwr_share.proofs.registry.Registry.paid.Goals as goal
 
 pub returns-in-Some-clause-fault : goal.returns-in-Some-clause-fault
@@ -13,7 +14,7 @@ returns-in-Some-clause-fault c =
     let begun = c.of-reader.ensures.begun in
     let on = rw c.in-Some.is at c.in_ok-fault.ensures.fault in
     let (lines, read, way) = on [] c.of-reader.ensures.none_read in
-    let (first, placed) = first_left_out (lines_of c.args.bytes.now) [] from.lines to.lines to.line.now c.in-Some.fault [] from.number to.number lines (sym begun.1) sound_none (sym begun.0) way in
+    let (first, placed) = first_left_out (lines_of c.args.bytes.now) [] from.lines to.lines to.line.now c.in-Some.fault [] from.number to.number lines (sym begun.1) (sound_none IsSound) (sym begun.0) way in
     fault_of_first c.args.payees.now (lines_of c.args.bytes.now) c.in-Some.fault first placed
 
 pub returns-in-None-clause-registrations : goal.returns-in-None-clause-registrations
