@@ -4,7 +4,7 @@ use crate::merge_tests::text_of;
 use explain_line::explain;
 use line_split::LineFault;
 use run_inputs::Fault;
-use small_run::{B_PAID_TO_A, TERRITORIES, THREE_PARTIES, TWO_PARTIES, USES};
+use small_run::{B_PAID_TO_A, TERRITORIES, THREE_PARTIES, TWO_PARTIES, USES, assert_told};
 use std::alloc::Global;
 use std::test::Fail;
 
@@ -43,8 +43,9 @@ fn explained(
 #[test]
 fn explains_each_line(rt: HostRuntime) -> Result<(), Fail> {
     let alloc = rt.alloc();
-    assert_eq!(rt;
-        explained(alloc, None, TWO_PARTIES, USES, 1)?.as_str(),
+    assert_told(
+        &rt,
+        explained(alloc, None, TWO_PARTIES, USES, 1),
         "\
 U,1,u1,W1,276,P,100
 N,1,
@@ -57,10 +58,11 @@ B,10000,0,0
 P,1,A,6000,60,0,1,60
 P,2,B,4000,40,0,2,40
 P,0,,0,0,0,3,0
-"
-    );
-    assert_eq!(rt;
-        explained(alloc, None, TWO_PARTIES, USES, 2)?.as_str(),
+",
+    )?;
+    assert_told(
+        &rt,
+        explained(alloc, None, TWO_PARTIES, USES, 2),
         "\
 U,2,u2,W1,840,P,50
 N,1,
@@ -71,17 +73,18 @@ A,2,B,4000
 B,10000,6000,0
 P,2,B,4000,20,0,1,20
 P,0,,6000,30,0,2,30
-"
-    );
-    assert_eq!(rt;
-        explained(alloc, None, TWO_PARTIES, USES, 3)?.as_str(),
+",
+    )?;
+    assert_told(
+        &rt,
+        explained(alloc, None, TWO_PARTIES, USES, 3),
         "\
 U,3,u3,W9,276,P,7
 N,,WORK
 B,10000,10000,0
 P,0,,10000,7,0,1,7
-"
-    );
+",
+    )?;
     Ok(())
 }
 
@@ -132,8 +135,9 @@ fn explains_a_revision(rt: HostRuntime) -> Result<(), Fail> {
     let alloc = rt.alloc();
     let uses =
         "usage,work,territory,right,amount\nu,W1,276,P,9\nu,W1,840,P,9\nu,W1,840,M,9\nu,W1,999,P,9\n";
-    assert_eq!(rt;
-        explained(alloc, None, REVISED, uses, 1)?.as_str(),
+    assert_told(
+        &rt,
+        explained(alloc, None, REVISED, uses, 1),
         "\
 U,1,u,W1,276,P,9
 N,7,
@@ -143,10 +147,11 @@ A,1,A,6000
 B,10000,4000,1
 P,1,A,6000,5,4000,2,5
 P,0,,4000,3,6000,1,4
-"
-    );
-    assert_eq!(rt;
-        explained(alloc, None, REVISED, uses, 2)?.as_str(),
+",
+    )?;
+    assert_told(
+        &rt,
+        explained(alloc, None, REVISED, uses, 2),
         "\
 U,2,u,W1,840,P,9
 N,7,OVER
@@ -156,10 +161,11 @@ A,1,A,6000
 A,2,B,6000
 B,10000,10000,0
 P,0,,10000,9,0,1,9
-"
-    );
-    assert_eq!(rt;
-        explained(alloc, None, REVISED, uses, 3)?.as_str(),
+",
+    )?;
+    assert_told(
+        &rt,
+        explained(alloc, None, REVISED, uses, 3),
         "\
 U,3,u,W1,840,M,9
 N,7,
@@ -167,10 +173,11 @@ C,8,0,A,A,0,I,2136,yes,yes
 C,11,2,B,B,0,I,840,yes,yes
 B,10000,10000,0
 P,0,,10000,9,0,1,9
-"
-    );
-    assert_eq!(rt;
-        explained(alloc, None, REVISED, uses, 4)?.as_str(),
+",
+    )?;
+    assert_told(
+        &rt,
+        explained(alloc, None, REVISED, uses, 4),
         "\
 U,4,u,W1,999,P,9
 N,7,LAND
@@ -178,26 +185,29 @@ C,8,0,A,A,6000,I,2136,no,no
 C,11,2,B,B,6000,I,840,no,no
 B,10000,10000,0
 P,0,,10000,9,0,1,9
-"
-    );
+",
+    )?;
     Ok(())
 }
 
 #[test]
 fn has_no_row_beyond_the_list(rt: HostRuntime) -> Result<(), Fail> {
     let alloc = rt.alloc();
-    assert_eq!(rt;
-        explained(alloc, None, TWO_PARTIES, USES, 0)?.as_str(),
-        "no such row"
-    );
-    assert_eq!(rt;
-        explained(alloc, None, TWO_PARTIES, USES, 4)?.as_str(),
-        "no such row"
-    );
-    assert_eq!(rt;
-        explained(alloc, None, TWO_PARTIES, USES, u64::MAX)?.as_str(),
-        "no such row"
-    );
+    assert_told(
+        &rt,
+        explained(alloc, None, TWO_PARTIES, USES, 0),
+        "no such row",
+    )?;
+    assert_told(
+        &rt,
+        explained(alloc, None, TWO_PARTIES, USES, 4),
+        "no such row",
+    )?;
+    assert_told(
+        &rt,
+        explained(alloc, None, TWO_PARTIES, USES, u64::MAX),
+        "no such row",
+    )?;
     let bad = "usage,work,territory,right,amount\nu,W1,276,X,1\n";
     let tis = TERRITORIES.as_bytes();
     let answer = explain(alloc, tis, None, TWO_PARTIES.as_bytes(), bad.as_bytes(), 9);

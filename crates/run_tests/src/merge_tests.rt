@@ -2,8 +2,10 @@
 
 use merge_statements::amount::{amount_of, count_of};
 use merge_statements::{ReadFault, Refusal, Row, RowReader, RowRoom, TextRefusal, check, merge};
+use small_run::assert_told;
 use std::alloc::Global;
 use std::io::{self, ErrorKind, Read};
+use std::process::Abort;
 use std::test::Fail;
 
 /// The text that bytes are, or a question mark.
@@ -49,8 +51,8 @@ fn rows_stand_as_a_run_writes_them(rt: HostRuntime) -> Result<(), Fail> {
         ("L,\"Apex, Anna\",u1,5,", "none"),
         ("", "none"),
     ];
-    for (line, want) in rows {
-        assert_eq!(rt; told_row(rt.alloc(), line)?.as_str(), want, "at {line}");
+    for (line, want) in &rows {
+        assert_told(&rt, told_row(rt.alloc(), line), want)?;
     }
     Ok(())
 }
@@ -161,17 +163,16 @@ fn told_of(
 fn lines_come_byte_by_byte(rt: HostRuntime) -> Result<(), Fail> {
     let (alloc, text) = (rt.alloc(), "L,A,u,1\n\nS,A,1,1\n");
     let reset = ErrorKind::ConnectionReset;
-    let whole = told_of(alloc, text, None, reset, 5)?;
-    assert_eq!(rt; whole.as_str(), "[L,A,u,1][][S,A,1,1]endend");
-    let unended = told_of(alloc, "L,A,u,1\nS,A,1,1", None, reset, 3)?;
-    assert_eq!(rt; unended.as_str(), "[L,A,u,1]unendedunended");
-    let refused = told_of(alloc, text, Some(5), reset, 5)?;
-    assert_eq!(rt; refused.as_str(), "[L,A,u,1][]ConnectionReset[S,A,1,1]end");
-    let at_end = told_of(alloc, text, Some(0), reset, 5)?;
-    assert_eq!(rt; at_end.as_str(), "[L,A,u,1][][S,A,1,1]ConnectionResetend");
-    let interrupted = told_of(alloc, text, Some(5), ErrorKind::Interrupted, 4)?;
-    assert_eq!(rt; interrupted.as_str(), "[L,A,u,1][][S,A,1,1]end");
-    Ok(())
+    let whole = "[L,A,u,1][][S,A,1,1]endend";
+    assert_told(&rt, told_of(alloc, text, None, reset, 5), whole)?;
+    let unended = told_of(alloc, "L,A,u,1\nS,A,1,1", None, reset, 3);
+    assert_told(&rt, unended, "[L,A,u,1]unendedunended")?;
+    let refused = "[L,A,u,1][]ConnectionReset[S,A,1,1]end";
+    assert_told(&rt, told_of(alloc, text, Some(5), reset, 5), refused)?;
+    let at_end = "[L,A,u,1][][S,A,1,1]ConnectionResetend";
+    assert_told(&rt, told_of(alloc, text, Some(0), reset, 5), at_end)?;
+    let interrupted = told_of(alloc, text, Some(5), ErrorKind::Interrupted, 4);
+    assert_told(&rt, interrupted, "[L,A,u,1][][S,A,1,1]end")
 }
 
 /// A text of so many bytes, a line feed and another line.
@@ -205,11 +206,11 @@ fn told_sizes(alloc: Global, size: usize) -> Result<String, Fail> {
 #[test]
 fn lines_cross_the_border_of_the_buffer(rt: HostRuntime) -> Result<(), Fail> {
     let alloc = rt.alloc();
-    assert_eq!(rt; told_sizes(alloc, 32767)?.as_str(), "32767 6 end ");
-    assert_eq!(rt; told_sizes(alloc, 32764)?.as_str(), "32764 6 end ");
+    assert_told(&rt, told_sizes(alloc, 32767), "32767 6 end ")?;
+    assert_told(&rt, told_sizes(alloc, 32764), "32764 6 end ")?;
     let fault = "a line has more than 32767 bytes";
     let three = format!(in alloc; "{fault}{fault}{fault}")?;
-    assert_eq!(rt; told_sizes(alloc, 32768)?.as_str(), three.as_str());
+    assert_told(&rt, told_sizes(alloc, 32768), three.as_str())?;
     Ok(())
 }
 
@@ -251,12 +252,20 @@ fn texts_are_merged_payee_by_payee(rt: HostRuntime) -> Result<(), Fail> {
     let turned =
         "L,A,u1,60\nS,A,1,60\nL,\"A,\"\"1\",u3,7\nS,\"A,\"\"1\",1,7\nL,B,u2,20\nL,B,u1,40\nS,B,2,60\nM,OPEN,u2,30\nT,,1,30\nR,,3,157\n";
     let alloc = rt.alloc();
-    assert_eq!(rt; told_merge(alloc, &[FIRST, SECOND])?.as_str(), both);
-    assert_eq!(rt; told_merge(alloc, &[SECOND, FIRST])?.as_str(), turned);
-    assert_eq!(rt; told_merge(alloc, &[SECOND])?.as_str(), SECOND);
-    assert_eq!(rt; told_merge(alloc, &[both])?.as_str(), both);
-    assert_eq!(rt; told_merge(alloc, &[])?.as_str(), "T,,0,0\nR,,0,0\n");
+    assert_told(&rt, told_merge(alloc, &[FIRST, SECOND]), both)?;
+    assert_told(&rt, told_merge(alloc, &[SECOND, FIRST]), turned)?;
+    assert_told(&rt, told_merge(alloc, &[SECOND]), SECOND)?;
+    assert_told(&rt, told_merge(alloc, &[both]), both)?;
+    assert_told(&rt, told_merge(alloc, &[]), "T,,0,0\nR,,0,0\n")?;
     Ok(())
+}
+
+/// Asserts the fault of a text, and that it is refused for it beside another too.
+fn assert_refused(rt: &impl Abort, alloc: Global, text: &str, want: &str) -> Result<(), Fail> {
+    assert_told(rt, told_check(alloc, text), want)?;
+    let (_, why) = want.split_once(": ").unwrap_or(("", ""));
+    let second = format!(in alloc; "text 1: {why}")?;
+    assert_told(rt, told_merge(alloc, &[FIRST, text]), second.as_str())
 }
 
 #[test]
@@ -321,15 +330,8 @@ fn a_text_that_is_no_statement_text_is_refused(rt: HostRuntime) -> Result<(), Fa
             "fault 5 at row 1: row 1 has no amount in range, or another total than its rows",
         ),
     ];
-    for (text, want) in texts {
-        assert_eq!(rt; told_check(rt.alloc(), text)?.as_str(), want, "at {text}");
-        let told = told_merge(rt.alloc(), &[FIRST, text])?;
-        let (_, why) = want.split_once(": ").unwrap_or(("", ""));
-        assert_eq!(rt;
-            told.as_str().split_once("text 1: "),
-            Some(("", why)),
-            "at {text}"
-        );
+    for (text, want) in &texts {
+        assert_refused(&rt, rt.alloc(), text, want)?;
     }
     Ok(())
 }
@@ -341,7 +343,7 @@ fn a_statement_text_is_read_through(rt: HostRuntime) -> Result<(), Fail> {
         (SECOND, "2 lines"),
         ("T,,0,0\nR,,0,0\n", "0 lines"),
     ] {
-        assert_eq!(rt; told_check(rt.alloc(), text)?.as_str(), want);
+        assert_told(&rt, told_check(rt.alloc(), text), want)?;
     }
     Ok(())
 }

@@ -6,6 +6,7 @@
 use crate::rows::{Ask, assert_rows, in_brackets, text_of};
 use csv_table::forms::{code, is_printable, number_up_to};
 use csv_table::{RowWriter, Rows, cut_in_two};
+use small_run::assert_told;
 use std::alloc::Global;
 use std::test::Fail;
 
@@ -313,21 +314,15 @@ fn knows_the_forms_of_fields(rt: HostRuntime) -> Result<(), Fail> {
 fn cuts_a_text_in_two(rt: HostRuntime) -> Result<(), Fail> {
     let alloc = rt.alloc();
     // behind the first line feed from the middle on, whatever stands before it
-    assert_eq!(rt; told_parts(alloc, "a\nb\nc\n")?.as_str(), "[a]/[b]/^[c]/");
-    assert_eq!(rt;
-        told_parts(alloc, "a,b\r\nc,d")?.as_str(),
-        "[a][b]/^[c][d]/"
-    );
-    assert_eq!(rt;
-        told_parts(alloc, "a\rb\n\r\n\nc")?.as_str(),
-        "[a]/[b]/^[c]/"
-    );
-    assert_eq!(rt; told_parts(alloc, "a,\n,b")?.as_str(), "[a][]/^[][b]/");
-    assert_eq!(rt; told_parts(alloc, "\n")?.as_str(), "^");
+    assert_told(&rt, told_parts(alloc, "a\nb\nc\n"), "[a]/[b]/^[c]/")?;
+    assert_told(&rt, told_parts(alloc, "a,b\r\nc,d"), "[a][b]/^[c][d]/")?;
+    assert_told(&rt, told_parts(alloc, "a\rb\n\r\n\nc"), "[a]/[b]/^[c]/")?;
+    assert_told(&rt, told_parts(alloc, "a,\n,b"), "[a][]/^[][b]/")?;
+    assert_told(&rt, told_parts(alloc, "\n"), "^")?;
     // no line feed, and a byte order mark behind it
-    assert_eq!(rt; told_parts(alloc, "a\nbcd")?.as_str(), "not cut");
-    assert_eq!(rt; told_parts(alloc, "")?.as_str(), "not cut");
-    assert_eq!(rt; told_parts(alloc, "abcd\n\u{FEFF}e")?.as_str(), "not cut");
+    assert_told(&rt, told_parts(alloc, "a\nbcd"), "not cut")?;
+    assert_told(&rt, told_parts(alloc, ""), "not cut")?;
+    assert_told(&rt, told_parts(alloc, "abcd\n\u{FEFF}e"), "not cut")?;
     Ok(())
 }
 
@@ -335,32 +330,26 @@ fn cuts_a_text_in_two(rt: HostRuntime) -> Result<(), Fail> {
 fn cuts_a_text_with_quotes_in_two(rt: HostRuntime) -> Result<(), Fail> {
     let alloc = rt.alloc();
     // before, at and behind the cut
-    assert_eq!(rt;
-        told_parts(alloc, "\"a\"\n\"b\"\n\"c\"")?.as_str(),
-        "[a]/[b]/^[c]/"
-    );
-    assert_eq!(rt;
-        told_parts(alloc, "aa\nbb\n\"c\"")?.as_str(),
-        "[aa]/[bb]/^[c]/"
-    );
+    assert_told(
+        &rt,
+        told_parts(alloc, "\"a\"\n\"b\"\n\"c\""),
+        "[a]/[b]/^[c]/",
+    )?;
+    assert_told(&rt, told_parts(alloc, "aa\nbb\n\"c\""), "[aa]/[bb]/^[c]/")?;
     // two for one, and one that opens no field
-    assert_eq!(rt;
-        told_parts(alloc, "\"a\"\"\"\nb\"\nc")?.as_str(),
-        "[a\"]/^[b\"]/[c]/"
-    );
+    assert_told(
+        &rt,
+        told_parts(alloc, "\"a\"\"\"\nb\"\nc"),
+        "[a\"]/^[b\"]/[c]/",
+    )?;
     // a line feed within quotes before the cut
-    assert_eq!(rt;
-        told_parts(alloc, "\"a\nb\"\nc\nd")?.as_str(),
-        "[a\nb]/^[c]/[d]/"
-    );
+    assert_told(&rt, told_parts(alloc, "\"a\nb\"\nc\nd"), "[a\nb]/^[c]/[d]/")?;
     // at the cut, so that the parts have other rows than the text: [a]/[b]/[c\nd]/, and one that is never closed
-    assert_eq!(rt;
-        told_parts(alloc, "a\nb\n\"c\nd\"")?.as_str(),
-        "[a]/[b]/[c\n]/^[d\"]/"
-    );
-    assert_eq!(rt;
-        told_parts(alloc, "a,\"b\nc\nd")?.as_str(),
-        "[a][b\n]/^[c]/[d]/"
-    );
+    assert_told(
+        &rt,
+        told_parts(alloc, "a\nb\n\"c\nd\""),
+        "[a]/[b]/[c\n]/^[d\"]/",
+    )?;
+    assert_told(&rt, told_parts(alloc, "a,\"b\nc\nd"), "[a][b\n]/^[c]/[d]/")?;
     Ok(())
 }

@@ -10,6 +10,7 @@ use line_split::{
     Account, ClaimFault, Claims, MOST_AMOUNT, MOST_CLAIMED, MOST_CLAIMS, Portions, portion_by_rank,
     split,
 };
+use small_run::assert_told;
 use std::alloc::Global;
 use std::test::Fail;
 
@@ -280,7 +281,7 @@ fn filled(alloc: Global) -> Result<usize, Fail> {
 fn takes_claims_into_their_room(rt: HostRuntime) -> Result<(), Fail> {
     let alloc = rt.alloc();
     let want = "3 []\n3 [(1, 5000), (4, 10006)]\n3 []\n";
-    assert_eq!(rt; filled_and_cleared(alloc)?.as_str(), want);
+    assert_told(&rt, filled_and_cleared(alloc), want)?;
     assert_eq!(rt; room_of(alloc, &[(2, 7), (1, 5)])?, 2);
     assert_eq!(rt; filled(alloc)?, 256);
     Ok(())
@@ -295,19 +296,12 @@ fn described(alloc: Global, fault: ClaimFault) -> Result<String, Fail> {
 #[test]
 fn says_what_is_wrong(rt: HostRuntime) -> Result<(), Fail> {
     let alloc = rt.alloc();
-    for (fault, want) in [
-        (
-            ClaimFault::Share(3),
-            "1 Some(3) claim 3 is over 100.00 per cent",
-        ),
-        (
-            ClaimFault::Twice(2),
-            "2 Some(2) the account of claim 2 has a claim already",
-        ),
-        (ClaimFault::Many, "3 None there are more than 256 claims"),
-        (ClaimFault::Memory, "4 None memory ran out"),
-    ] {
-        assert_eq!(rt; described(alloc, fault)?.as_str(), want);
-    }
-    Ok(())
+    let share = "1 Some(3) claim 3 is over 100.00 per cent";
+    assert_told(&rt, described(alloc, ClaimFault::Share(3)), share)?;
+    let twice = "2 Some(2) the account of claim 2 has a claim already";
+    assert_told(&rt, described(alloc, ClaimFault::Twice(2)), twice)?;
+    let many = "3 None there are more than 256 claims";
+    assert_told(&rt, described(alloc, ClaimFault::Many), many)?;
+    let memory = "4 None memory ran out";
+    assert_told(&rt, described(alloc, ClaimFault::Memory), memory)
 }

@@ -6,7 +6,9 @@
 
 use crate::rows::{Ask, assert_rows, lines_of};
 use cwr_share::{MOST_NAME_BYTES, MOST_PAYEES, PayeeFault, Payees};
+use small_run::assert_told;
 use std::alloc::Global;
+use std::process::Abort;
 use std::test::Fail;
 
 /// What a table is refused for, or whom it pays.
@@ -127,51 +129,66 @@ A,B: 1 Some(0)
     Ok(())
 }
 
+/// How many rows a table of this row has, and whether it pays the party to the payee; or what it is refused for.
+fn paid_by_row(alloc: Global, party: &[u8], payee: &[u8]) -> Result<String, Fail> {
+    let table = table_of_row(alloc, party, payee)?;
+    match Payees::read(alloc, table.as_slice()) {
+        Ok(payees) => {
+            let is_paid = payees.payee_of(party) == payee;
+            Ok(format!(in alloc; "{} {is_paid}", payees.len())?)
+        }
+        Err(fault) => Ok(format!(in alloc; "{} {:?}", fault.number(), fault.place())?),
+    }
+}
+
+/// A table of one row, with spaces beside its comma.
+fn table_of_row(alloc: Global, party: &[u8], payee: &[u8]) -> Result<Vec<u8>, Fail> {
+    let mut table = Vec::from_slice(alloc, b"party,payee\n")?;
+    table.extend_from_slice(party)?;
+    table.extend_from_slice(b" , ")?;
+    table.extend_from_slice(payee)?;
+    Ok(table)
+}
+
+/// Asserts what comes of a party, and of a payee, with a name of so many bytes. A table without rows pays it to itself.
+fn assert_names(rt: &impl Abort, alloc: Global, bytes: usize, want: &str) -> Result<(), Fail> {
+    let name = vec![in alloc; b'N'; bytes]?;
+    let name = name.as_slice();
+    assert_told(rt, paid_by_row(alloc, name, b"B"), want)?;
+    assert_told(rt, paid_by_row(alloc, b"A", name), want)?;
+    assert!(rt; Payees::none(alloc).payee_of(name) == name);
+    Ok(())
+}
+
 #[test]
 fn names_have_sixty_four_bytes_at_most(rt: HostRuntime) -> Result<(), Fail> {
     let alloc = rt.alloc();
-    for (bytes, fault) in [
-        (MOST_NAME_BYTES, None),
-        (MOST_NAME_BYTES + 1, Some(PayeeFault::Fields(1))),
-    ] {
-        let mut name = Vec::new(alloc);
-        for _ in 0..bytes {
-            name.push(b'N')?;
-        }
-        for is_party in [true, false] {
-            let mut table = Vec::from_slice(alloc, b"party,payee\n")?;
-            table.extend_from_slice(if is_party { name.as_slice() } else { b"A" })?;
-            table.extend_from_slice(b" , ")?;
-            table.extend_from_slice(if is_party { b"B" } else { name.as_slice() })?;
-            match Payees::read(alloc, table.as_slice()) {
-                Ok(payees) => {
-                    assert_eq!(rt; fault, None);
-                    let party = if is_party { name.as_slice() } else { b"A" };
-                    let payee = if is_party { b"B" } else { name.as_slice() };
-                    assert!(rt; payees.payee_of(party) == payee);
-                    assert_eq!(rt; payees.len(), 1);
-                }
-                Err(found) => assert_eq!(rt; fault, Some(found)),
-            }
-        }
-        assert!(rt; Payees::none(alloc).payee_of(name.as_slice()) == name.as_slice());
-    }
-    Ok(())
+    assert_names(&rt, alloc, MOST_NAME_BYTES, "1 true")?;
+    assert_names(&rt, alloc, MOST_NAME_BYTES + 1, "2 Some(1)")
+}
+
+/// What a table is refused for whose second row has this byte.
+fn refusal_with(alloc: Global, byte: u8) -> Result<Option<PayeeFault>, Fail> {
+    let mut table = Vec::from_slice(alloc, b"party,payee\nA,B\nC")?;
+    table.push(byte)?;
+    table.extend_from_slice(b"C,D\n")?;
+    Ok(Payees::read(alloc, table.as_slice()).err())
 }
 
 #[test]
 fn bytes_that_cannot_be_printed_are_refused(rt: HostRuntime) -> Result<(), Fail> {
     let alloc = rt.alloc();
     for byte in [9_u8, 31, 127, 128, 255] {
-        let mut table = Vec::from_slice(alloc, b"party,payee\nA,B\nC")?;
-        table.push(byte)?;
-        table.extend_from_slice(b"C,D\n")?;
-        assert_eq!(rt;
-            Payees::read(alloc, table.as_slice()).err(),
-            Some(PayeeFault::Fields(2))
-        );
+        assert_eq!(rt; refusal_with(alloc, byte)?, Some(PayeeFault::Fields(2)));
     }
     Ok(())
+}
+
+/// Asserts that the parties from 0 to 65535 have rows, and no other.
+fn assert_most(rt: &impl Abort, payees: &Payees) {
+    assert_eq!(rt; payees.len(), MOST_PAYEES);
+    assert!(rt; payees.payee_of(b"65535") == b"A".as_slice());
+    assert!(rt; payees.payee_of(b"65536") == b"65536".as_slice());
 }
 
 #[test]
@@ -179,9 +196,7 @@ fn a_table_has_the_most_rows_and_no_more(rt: HostRuntime) -> Result<(), Fail> {
     let alloc = rt.alloc();
     let table = table_of(alloc, MOST_PAYEES)?;
     let payees = Payees::read(alloc, table.as_slice())?;
-    assert_eq!(rt; payees.len(), MOST_PAYEES);
-    assert!(rt; payees.payee_of(b"65535") == b"A".as_slice());
-    assert!(rt; payees.payee_of(b"65536") == b"65536".as_slice());
+    assert_most(&rt, &payees);
     let mut longer = table;
     longer.extend_from_slice(b"\n,\n")?;
     assert_eq!(rt;

@@ -6,6 +6,7 @@
 
 use crate::rows::{Ask, assert_rows, lines_of, text_of};
 use line_split::{Line, LineFault, MOST_LINES, Usage};
+use small_run::assert_told;
 use std::alloc::Global;
 use std::test::Fail;
 
@@ -73,10 +74,9 @@ u3|W|1|P|0
 u3|W|1|P|-7
 u3|W|1|P|-1000000000000
 ";
-    assert_eq!(rt; told_table(rt.alloc(), table)?.as_str(), want);
-    let none = told_table(rt.alloc(), "usage,work,territory,right,amount")?;
-    assert_eq!(rt; none.as_str(), "0 lines\n");
-    Ok(())
+    assert_told(&rt, told_table(rt.alloc(), table), want)?;
+    let none = "usage,work,territory,right,amount";
+    assert_told(&rt, told_table(rt.alloc(), none), "0 lines\n")
 }
 
 #[test]
@@ -224,10 +224,8 @@ fn keeps_texts_of_any_length(rt: HostRuntime) -> Result<(), Fail> {
         "0123456789abcdefghij",
         "0123456789abcdefghijklmnopqrstuvwxyzABCDEFGHIJKLMNOPQRSTUVWXYZ-+",
     ] {
-        assert_eq!(rt;
-            texts_kept(alloc, text)?.as_str(),
-            format!(in alloc; "{text} {text}")?.as_str()
-        );
+        let want = format!(in alloc; "{text} {text}")?;
+        assert_told(&rt, texts_kept(alloc, text), want.as_str())?;
     }
     Ok(())
 }
