@@ -4,8 +4,8 @@ ghost use Rattle.std.specs.Prelude.{◌≡◌, [], IfOk, map, replicate};
 
 use std::alloc::{AllocError, Global};
 
-/// What a usage line gives an account: the line's number, from 0, and an amount in minor units, below 0
-/// where money is taken back.
+/// What a usage line gives an account: the line's number, from 0, and an amount in minor units, which
+/// is below 0 where money is taken back.
 pub type Posting = (u64, i64);
 
 /// For each of so many accounts a list with no postings.

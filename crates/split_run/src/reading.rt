@@ -179,8 +179,8 @@ impl<B: Mailboxes> Reader<B> {
         took
     }
 
-    /// Takes what the mailbox of an account has, where there is one with this number, up to as many items as a worker may have in it.
-    /// False: it had none.
+    /// Takes what the mailbox of an account has, where there is one with this number, up to as many
+    /// items as a worker may have in it. False: it had none.
     fn take_at<R: Wait>(&mut self, rt: &R, account: usize) -> bool
         requires taken { HasKept B.receiver self.old }
         ensures taken { HasKept B.receiver self.new }

@@ -1,4 +1,5 @@
-//! A gate, mailboxes and a pool that hold one thread until others come: so a test sees whether two are at work at once.
+//! A gate, mailboxes and a pool that hold one thread until others come: so a test sees whether two
+//! are at work at once.
 
 use crate::doubles::watched::{WatchedMail, WatchedPool, Watcher};
 use crate::gate::Gate;
@@ -9,7 +10,8 @@ use std::thread;
 /// The most turns that the first take of all waits for another.
 const MOST_TURNS: u32 = 1_000_000;
 
-/// Holds the first that comes until others, of another party, have come so many times, or it has waited so many turns.
+/// Holds the first that comes until others, of another party, have come so many times, or it has
+/// waited so many turns.
 #[derive(Drop)]
 pub struct Meeting {
     /// How often others have to come.
@@ -67,15 +69,16 @@ impl Meeting {
     }
 }
 
-/// A gate that holds the first worker until other workers have come to it so many times, or it has waited so many turns.
+/// A gate that holds the first worker until other workers have come to it so many times, or it has
+/// waited so many turns.
 #[derive(Drop)]
 pub struct MeetingGate {
     meeting: Meeting,
 }
 
 impl MeetingGate {
-    /// A gate that nobody has passed. It lets the first worker go once others have come to it so many times, and at the latest
-    /// after so many turns.
+    /// A gate that nobody has passed. It lets the first worker go once others have come to it so many
+    /// times, and at the latest after so many turns.
     pub fn after(times: u64, most_turns: u32) -> MeetingGate {
         MeetingGate {
             meeting: Meeting::after(times, most_turns),
@@ -102,7 +105,8 @@ impl Watcher for Meeting {
     fn after_item(&self) {}
 }
 
-/// Mailboxes of another kind that hold the first take of all until one of a mailbox of the other parity.
+/// Mailboxes of another kind that hold the first take of all until one of a mailbox of the other
+/// parity.
 pub type MeetingMail<M> = WatchedMail<M, Meeting>;
 
 impl<M: Drop> WatchedMail<M, Meeting> {
@@ -117,7 +121,8 @@ impl<M: Drop> WatchedMail<M, Meeting> {
     }
 }
 
-/// A pool of another kind that holds the first take of all until one of a mailbox of the other parity.
+/// A pool of another kind that holds the first take of all until one of a mailbox of the other
+/// parity.
 pub type MeetingPool<P> = WatchedPool<P, Meeting>;
 
 impl<P: Drop> WatchedPool<P, Meeting> {
