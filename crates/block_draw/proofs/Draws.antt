@@ -18,7 +18,7 @@ use Rattle.block_draw.specs.declared.seats.Shape.{Shape}
 use Rattle.block_draw.specs.Drawn.{times_drawn}
 use Rattle.block_draw.specs.Seats.{IsDrawer, IsGatherer, IsOther, done_in, draws_in, drawn_by, times_in}
 use Rattle.block_draw.specs.Rule.{KeepsDraw}
-use Rattle.block_draw.specs.Steps.{after_draw, tells_draw}
+use Rattle.block_draw.specs.Steps.{after_draw, out_of_blocks, tells_draw, with_drawn}
 use Rattle.block_draw.proofs.Counts.{all_below, below_or_here, done_few, drawn_more, sum_changed}
 use Rattle.block_draw.proofs.Openings.{at_drawer}
 
@@ -100,19 +100,17 @@ module _ {S : Type 0} (shape : Shape) (s : State S Known) (kept : KeepsDraw shap
   one_added going words views words_are views_are =
       let blocks : d.shape.blocks ≡ shape.blocks = ap (λ (o : Shape). o.blocks) own.shape_is in
       let going_is : ◌≡◌ {A = ℕ} (cond d.is_done 1 0) 0 = ap (λ b. cond b 1 0) going in
-      let with_block : DrawerSeat = record { shape = d.shape; number = d.number; drawn = d.drawn ++ kept.counter ∷ []; is_done = d.is_done } in
-      let finished : DrawerSeat = record { shape = d.shape; number = d.number; drawn = d.drawn; is_done = true } in
       ⊎_elim
       (λ (left : kept.counter < shape.blocks).
       let test : nat_lt kept.counter d.shape.blocks ≡ true = ap (nat_lt kept.counter) blocks ∙ grind (arith, nat_tests) in
-      let is : after_draw kept.counter d ≡ with_block = ap (λ b. if b then with_block else finished) test in
-      counter_raised with_block refl refl (λ yes. absurd (not_both going yes)) (next_drew left) (omega (arith, left, going_is)) words views words_are
+      let is : after_draw kept.counter d ≡ with_drawn d kept.counter = ap (λ b. if b then with_drawn d kept.counter else out_of_blocks d) test in
+      counter_raised (with_drawn d kept.counter) refl refl (λ yes. absurd (not_both going yes)) (next_drew left) (omega (arith, left, going_is)) words views words_are
       (views_are ∙ ap (λ x. Gathers kept.gatherer ∷ set kept.others k (Draws x)) is))
       (λ (past : shape.blocks ≤ kept.counter).
       let test : nat_lt kept.counter d.shape.blocks ≡ false = ap (nat_lt kept.counter) blocks ∙ grind (arith, nat_tests) in
-      let is : after_draw kept.counter d ≡ finished = ap (λ b. if b then with_block else finished) test in
+      let is : after_draw kept.counter d ≡ out_of_blocks d = ap (λ b. if b then with_drawn d kept.counter else out_of_blocks d) test in
       let over = kept.past in
-      counter_raised finished refl refl (λ yes. omega (arith, past)) (none_drew past) (omega (arith, over, going_is)) words views words_are
+      counter_raised (out_of_blocks d) refl refl (λ yes. omega (arith, past)) (none_drew past) (omega (arith, over, going_is)) words views words_are
       (views_are ∙ ap (λ x. Gathers kept.gatherer ∷ set kept.others k (Draws x)) is))
       (cases_lt kept.counter shape.blocks)
     where

@@ -36,9 +36,17 @@ dealt known = let g : GathererSeat = gatherer_in known in Draws (new_drawer g.sh
 
 -- ---- one is added to the counter
 
+-- a drawer with one block more
+abbrev pub with_drawn : DrawerSeat → ℕ → DrawerSeat
+with_drawn d block = record { shape = d.shape; number = d.number; drawn = d.drawn ++ block ∷ []; is_done = d.is_done }
+
+-- one that has found that no block is left
+abbrev pub out_of_blocks : DrawerSeat → DrawerSeat
+out_of_blocks d = record { shape = d.shape; number = d.number; drawn = d.drawn; is_done = true }
+
 -- a drawer that found this number there
 abbrev pub after_draw : ℕ → DrawerSeat → DrawerSeat
-after_draw n d = if nat_lt n d.shape.blocks then record { shape = d.shape; number = d.number; drawn = d.drawn ++ n ∷ []; is_done = d.is_done } else record { shape = d.shape; number = d.number; drawn = d.drawn; is_done = true }
+after_draw n d = if nat_lt n d.shape.blocks then with_drawn d n else out_of_blocks d
 
 module _ {S : Type 0} where
   -- it has that block, which is above all that it drew before; or it has found that none is left

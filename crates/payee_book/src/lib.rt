@@ -4,11 +4,13 @@
 mod book;
 mod journal;
 pub mod laws;
+mod postings;
 mod sheets;
 mod text;
 
 pub use book::Book;
 pub use journal::Journal;
+pub use postings::Posting;
 pub use sheets::{Sheet, blank_sheets};
 
 /// The most accounts that a book has, the residue's included.

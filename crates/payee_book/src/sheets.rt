@@ -9,8 +9,8 @@ ghost use Rattle.payee_book.specs.Text.{payee_rows, payees_rows, rows_of_book};
 ghost use Rattle.payee_book.specs.Waves.{ArePayees, AreShares, between, start_of};
 ghost use Rattle.payee_book.specs.declared.sheets.TheConstants.{MOST_ON_SHEET, MOST_ROWS};
 
-use crate::Book;
 use crate::text::{LOOKED_UP_AT_ONCE, write_postings, write_residue, write_run, write_total};
+use crate::{Book, Posting};
 use csv_table::RowWriter;
 use line_split::{RESIDUE, Reason, Usage};
 use std::alloc::{AllocError, Global};
@@ -155,7 +155,7 @@ fn payees_row_count(book: &Book) -> u128
 }
 
 /// How many rows the statement of a payee has.
-fn row_count(statement: &[(u64, i64)]) -> u128
+fn row_count(statement: &[Posting]) -> u128
     ensures count { (usage : List UsageLine) (party : List ℕ) → result ≡ length (payee_rows usage party statement.now) }
     ensures bound { result ≤ length statement.now + 1 }
 {
@@ -242,7 +242,7 @@ fn write_part(
     rows: &mut RowWriter,
     usage: &Usage,
     party: &[u8],
-    statement: &[(u64, i64)],
+    statement: &[Posting],
     first: usize,
     last: usize,
 ) -> Result<(), AllocError>

@@ -10,6 +10,6 @@ pub mod OpeningLemmas
 pub mod RunningLemmas
 pub mod PooledLemmas
 pub mod SeparateLemmas
-pub mod SharingLemmas
+pub mod WatchedLemmas
 pub mod AddsUp
 mod Reversals

@@ -6,7 +6,7 @@ use Rattle.mail_box.specs.Mails.{ReceiverView}
 use Rattle.block_draw.specs.Drawn.{sum_below}
 use Rattle.split_run.specs.Taken.{HasTaken}
 use Rattle.split_run.specs.declared.reading.Reader.{Reader}
-use Rattle.split_run.specs.declared.reading.Served.{Served}
+use Rattle.split_run.specs.declared.reading.ReaderResult.{ReaderResult}
 
 -- how many end marks there are among items
 abbrev pub ends_among : List Item → ℕ
@@ -56,5 +56,5 @@ module _ {B Sender Receiver Kept Gathered Name : Type 0} where
   HasKeptAll receiver reader = AreServed reader.workers (inboxes_by receiver reader.opened.value.items) (inboxes_by receiver reader.inboxes.items) reader.journal
 
   -- and this is what it gave back
-  abbrev pub HasServed : (Receiver → ReceiverView Name) → Reader B Sender Receiver Kept Gathered → Served B Sender Receiver Kept Gathered → Type 0
+  abbrev pub HasServed : (Receiver → ReceiverView Name) → Reader B Sender Receiver Kept Gathered → ReaderResult B Sender Receiver Kept Gathered → Type 0
   HasServed receiver reader served = AreServed reader.workers (inboxes_by receiver reader.opened.value.items) (inboxes_by receiver served.inboxes.items) served.book

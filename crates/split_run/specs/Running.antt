@@ -1,5 +1,5 @@
 -- What a run opens, and what its threads give back.
-use Rattle.std.specs.Prelude.{Bool, ℕ, ℤ, ◌≡◌, ◌+◌, ◌<◌, ◌≤◌, ◌%◌, ◌==◌, ◌++◌, ◌∷◌, [], List, None, Option, Some, cond, length, nat_lt, slice_index_or, true}
+use Rattle.std.specs.Prelude.{Bool, IfSome, ℕ, ℤ, ◌≡◌, ◌+◌, ◌<◌, ◌≤◌, ◌%◌, ◌==◌, ◌++◌, ◌∷◌, [], List, None, Option, Some, cond, length, nat_lt, slice_index_or, true}
 use Rattle.line_split.specs.UsageLine.{UsageLine}
 use Rattle.line_split.specs.declared.TheConstants.{MOST_CLAIMS}
 use Rattle.block_draw.specs.Views.{DrawView, DrawerView, drawer_of}
@@ -7,8 +7,17 @@ use Rattle.split_run.specs.Blocks.{blocks_of, list_of, postings_of}
 use Rattle.split_run.specs.Sending.{AreFresh, AreReadyFor, HaveEnded}
 use Rattle.split_run.specs.Reading.{AreServed, IsServed}
 use Rattle.split_run.specs.declared.opening.Worker.{Worker}
-use Rattle.split_run.specs.declared.starting.Worked.{Worked}
-use Rattle.mail_box.specs.Mails.{Begins, ReceiverView, SenderView, opened_receiver, opened_sender}
+use Rattle.split_run.specs.declared.starting.WorkerResult.{WorkerResult}
+use Rattle.mail_box.specs.Mails.{Begins, ReceiverView, SenderView, opened_receiver, opened_sender, with_sender}
+
+-- What was given back for each of these: where there is something, it is as this says of the one at its place.
+abbrev pub AreGivenFor : {A B : Type 0} → (A → B → Type 0) → List A → List (Option B) → Type 0
+AreGivenFor says all given = (length given ≡ length all)
+    × ((number : ℕ) (d : _) (e : _) → number < length all → IfSome (slice_index_or given number d) (says (slice_index_or all number e)))
+
+-- a drawer of the same draw, with the same number
+abbrev pub IsSameDrawer : (old new : DrawerView) → Type 0
+IsSameDrawer old new = (new.draw ≡ old.draw) × (new.number ≡ old.number) × (new.blocks ≡ old.blocks)
 
 -- a drawer of the blocks of so many lines that has drawn none yet
 abbrev pub IsFresh : ℕ → DrawerView → Type 0
@@ -45,7 +54,7 @@ module _ {B Sender Receiver Kept Gathered Name : Type 0} where
     pub room : HasRoom worker
 
   -- A worker is done: its drawer has found that no block is left, and its senders have sent what the blocks come to that it drew, and have ended.
-  pub record HasWorked (is_shared : Bool) (senders_of : List Sender → List (SenderView Name)) (division : UsageLine → List (ℕ × ℤ)) (usage : List UsageLine) (worker : Worker B Sender Receiver Kept Gathered) (worked : Worked B Sender Receiver Kept Gathered) : Type 0 where
+  pub record HasWorked (is_shared : Bool) (senders_of : List Sender → List (SenderView Name)) (division : UsageLine → List (ℕ × ℤ)) (usage : List UsageLine) (worker : Worker B Sender Receiver Kept Gathered) (worked : WorkerResult B Sender Receiver Kept Gathered) : Type 0 where
     pub sent : HaveEnded is_shared (senders_of worker.senders.items) (senders_of worked.senders.items) (λ account. postings_of division usage account (drawer_of worked.drawer).drawn)
     pub same : ((drawer_of worked.drawer).draw ≡ (drawer_of worker.drawer).draw) × ((drawer_of worked.drawer).number ≡ (drawer_of worker.drawer).number)
     pub done : (drawer_of worked.drawer).is_done ≡ true
@@ -90,12 +99,24 @@ module _ {Name : Type 0} where
     pub same : (drawer.draw ≡ draw.draw) × (drawer.number ≡ worker)
     pub done : drawer.is_done ≡ true
 
+  -- Each mailbox may take in the sender of its account: it is of this mailbox, and has ended.
+  abbrev pub MayTakeIn : (inboxes : List (Option (ReceiverView Name))) → (senders : List (SenderView Name)) → Type 0
+  MayTakeIn inboxes senders = (account : ℕ) (s : SenderView Name) → account < length inboxes → (r : ReceiverView Name)
+      × (slice_index_or inboxes account None ≡ Some r)
+      × ((slice_index_or senders account s).mailbox ≡ r.mailbox)
+      × ((slice_index_or senders account s).is_ended ≡ true)
+
+  -- Each mailbox has taken in the sender of its account: it is known what this sender sent, and that what was received of it is how that begins.
+  abbrev pub HaveTakenInEach : (before : List (Option (ReceiverView Name))) → (senders : List (SenderView Name)) → (after : List (Option (ReceiverView Name))) → Type 0
+  HaveTakenInEach before senders after = (account : ℕ) (s : SenderView Name) (r : ReceiverView Name) → account < length before → slice_index_or before account None ≡ Some r
+      → (slice_index_or after account None ≡ Some (with_sender r (slice_index_or senders account s)))
+      × Begins (with_sender r (slice_index_or senders account s))
+
   -- What a worker gave back may be taken in: its senders have ended, each at the mailbox of its account, and its drawer is one of this draw and has found that no block is left.
   pub record MayBeTakenIn (draw : DrawView) (drawer : DrawerView) (inboxes : List (Option (ReceiverView Name))) (senders : List (SenderView Name)) : Type 0 where
     pub some : 0 < length inboxes
     pub count : length senders ≡ length inboxes
-    pub ended : (account : ℕ) (s : SenderView Name) → account < length inboxes → (r : ReceiverView Name) × (slice_index_or inboxes account None ≡ Some r)
-        × ((slice_index_or senders account s).mailbox ≡ r.mailbox) × ((slice_index_or senders account s).is_ended ≡ true)
+    pub ended : MayTakeIn inboxes senders
     pub same : drawer.draw ≡ draw.draw
     pub done : drawer.is_done ≡ true
 

@@ -2,12 +2,11 @@
 #![tactic(auto)]
 
 mod bells;
-mod counting;
+mod doubles;
 mod fault;
 mod gate;
 pub mod laws;
 mod mailboxes;
-mod meeting;
 mod opening;
 mod plan;
 mod pooled;
@@ -15,18 +14,18 @@ mod reading;
 mod running;
 mod sending;
 mod separate;
-mod sharing;
 mod starting;
 mod working;
 
 pub use block_draw::{Draw, Drawer};
-pub use counting::{CountingMail, CountingPool, CountingReceiver};
+pub use doubles::{
+    Counter, CountingMail, CountingPool, Meeting, MeetingGate, MeetingMail, MeetingPool,
+    WatchedMail, WatchedPool, WatchedReceiver, Watcher,
+};
 pub use fault::RunFault;
 pub use gate::{Gate, NoGate};
-pub use meeting::{MeetingGate, MeetingMail, MeetingPool, MeetingReceiver};
 pub use plan::Plan;
 pub use running::{run, run_cut, run_pool, run_pool_cut};
-pub use sharing::Sharing;
 pub use working::{work, work_pool};
 
 /// The most workers, and the most readers, of a run.

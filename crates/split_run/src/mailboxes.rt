@@ -3,9 +3,9 @@
 ghost use Rattle.std.specs.Prelude.{unsigned_abs, ◌≡◌, ◌<◌, ◌≤◌, ◌∷◌, [], ℕ, false, true, Bool, IfOk, List, MatchBool, MatchOption, None, Option, Some, length, map, slice_index_or};
 ghost use Rattle.queue_core.specs.declared.item.Item.{Item};
 ghost use Rattle.queue_core.specs.Matches.{MatchPosted};
-ghost use Rattle.mail_box.specs.Mails.{Begins, HasReceived, ReceiverView, SenderView, with_sender};
+ghost use Rattle.mail_box.specs.Mails.{HasReceived, ReceiverView, SenderView};
 ghost use Rattle.split_run.specs.Reading.{inboxes_by, with_got};
-ghost use Rattle.split_run.specs.Running.{AreMailboxes};
+ghost use Rattle.split_run.specs.Running.{AreMailboxes, HaveTakenInEach, MayTakeIn};
 ghost use Rattle.split_run.specs.Sending.{HasEndedAt, HasSpent, HaveSent, postings_to, room_of};
 
 use queue_core::{Item, Posted};
@@ -103,7 +103,7 @@ pub(crate) trait Mailboxes: Sync {
     fn take_in<R: Wait>(rt: &R, all: &mut Self::Gathered, own: Vec<Self::Sender>)
         requires some { 0 < length (gathered all.old) }
         requires count { length (senders own.items) ≡ length (gathered all.old) }
-        requires ended { (account : ℕ) (s : SenderView Name) → account < length (gathered all.old) → (inbox : ReceiverView Name) × (slice_index_or (gathered all.old) account None ≡ Some inbox) × ((slice_index_or (senders own.items) account s).mailbox ≡ inbox.mailbox) × ((slice_index_or (senders own.items) account s).is_ended ≡ true) }
+        requires ended { MayTakeIn (gathered all.old) (senders own.items) }
         ensures count { length (gathered all.new) ≡ length (gathered all.old) }
-        ensures each { (account : ℕ) (s : SenderView Name) (inbox : ReceiverView Name) → account < length (gathered all.old) → slice_index_or (gathered all.old) account None ≡ Some inbox → (slice_index_or (gathered all.new) account None ≡ Some (with_sender inbox (slice_index_or (senders own.items) account s))) × Begins (with_sender inbox (slice_index_or (senders own.items) account s)) };
+        ensures each { HaveTakenInEach (gathered all.old) (senders own.items) (gathered all.new) };
 }

@@ -1,9 +1,10 @@
 //! The mailboxes of one pool, one for each account.
 
 ghost use Rattle.std.specs.Prelude.{◌≡◌, ◌<◌, ◌∷◌, [], ℕ, IfOk, None, Some, length, map, slice_index_or, true};
-ghost use Rattle.mail_box.specs.Mails.{Begins, ReceiverView, SenderView, with_sender};
+ghost use Rattle.mail_box.specs.Mails.{ReceiverView};
 ghost use Rattle.split_run.specs.PoolSeen.{belongs_to, gathered_in, inbox_of, senders_of};
 ghost use Rattle.split_run.specs.Reading.{inboxes_by};
+ghost use Rattle.split_run.specs.Running.{HaveTakenInEach, MayTakeIn};
 
 use crate::MOST_POSTINGS;
 use crate::mailboxes::Mailboxes;
@@ -122,9 +123,9 @@ impl<P: Pool> Mailboxes for Pooled<'_, P> {
     fn take_in<R: Wait>(_rt: &R, all: &mut GatheredPool<P>, own: Vec<P::Sender>)
         requires some { 0 < length (gathered_in (P.tally all.old.tally) all.old.accounts all.old.workers) }
         requires count { length (senders_of P.sender own.items) ≡ length (gathered_in (P.tally all.old.tally) all.old.accounts all.old.workers) }
-        requires ended { (account : ℕ) (s : SenderView _) → account < length (gathered_in (P.tally all.old.tally) all.old.accounts all.old.workers) → (inbox : ReceiverView _) × (slice_index_or (gathered_in (P.tally all.old.tally) all.old.accounts all.old.workers) account None ≡ Some inbox) × ((slice_index_or (senders_of P.sender own.items) account s).mailbox ≡ inbox.mailbox) × ((slice_index_or (senders_of P.sender own.items) account s).is_ended ≡ true) }
+        requires ended { MayTakeIn (gathered_in (P.tally all.old.tally) all.old.accounts all.old.workers) (senders_of P.sender own.items) }
         ensures count { length (gathered_in (P.tally all.new.tally) all.new.accounts all.new.workers) ≡ length (gathered_in (P.tally all.old.tally) all.old.accounts all.old.workers) }
-        ensures each { (account : ℕ) (s : SenderView _) (inbox : ReceiverView _) → account < length (gathered_in (P.tally all.old.tally) all.old.accounts all.old.workers) → slice_index_or (gathered_in (P.tally all.old.tally) all.old.accounts all.old.workers) account None ≡ Some inbox → (slice_index_or (gathered_in (P.tally all.new.tally) all.new.accounts all.new.workers) account None ≡ Some (with_sender inbox (slice_index_or (senders_of P.sender own.items) account s))) × Begins (with_sender inbox (slice_index_or (senders_of P.sender own.items) account s)) }
+        ensures each { HaveTakenInEach (gathered_in (P.tally all.old.tally) all.old.accounts all.old.workers) (senders_of P.sender own.items) (gathered_in (P.tally all.new.tally) all.new.accounts all.new.workers) }
     {
         let mut own = own;
         if let Some(sender) = own.pop() {

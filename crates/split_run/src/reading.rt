@@ -41,7 +41,7 @@ pub(crate) struct Reader<B: Mailboxes> {
 
 /// What a reader gives back: its mailboxes, and the statements of their accounts.
 #[derive(Drop)]
-pub(crate) struct Served<B: Mailboxes> {
+pub(crate) struct ReaderResult<B: Mailboxes> {
     pub inboxes: Vec<Option<B::Receiver>>,
     pub book: Book,
 }
@@ -107,11 +107,11 @@ impl<B: Mailboxes> Reader<B> {
     }
 
     /// The mailboxes, and the statements of what was taken.
-    pub fn into_served(self) -> Served<B>
+    pub fn into_result(self) -> ReaderResult<B>
         requires { HasKeptAll B.receiver self }
         ensures { HasServed B.receiver self result }
     {
-        Served {
+        ReaderResult {
             inboxes: self.inboxes,
             book: self.journal.into_book(),
         }
@@ -179,25 +179,19 @@ impl<B: Mailboxes> Reader<B> {
         took
     }
 
-    /// Takes what the mailbox of an account has, where there is one with this number. False: it had nothing.
+    /// Takes what the mailbox of an account has, where there is one with this number, up to as many
+    /// items as a worker may have in it. False: it had none.
     fn take_at<R: Wait>(&mut self, rt: &R, account: usize) -> bool
         requires taken { HasKept B.receiver self.old }
         ensures taken { HasKept B.receiver self.new }
         ensures opened { (self.new.opened.value ≡ self.old.opened.value) × (self.new.workers ≡ self.old.workers) × (length self.new.journal ≡ length self.old.journal) }
     {
-        account < self.journal.accounts() as usize && self.take_some(rt, account as Account)
-    }
-
-    /// Takes what the mailbox of an account has, up to as many items as a worker may have in it. False: it had none.
-    fn take_some<R: Wait>(&mut self, rt: &R, account: Account) -> bool
-        requires account { account < length self.old.journal }
-        requires taken { HasKept B.receiver self.old }
-        ensures taken { HasKept B.receiver self.new }
-        ensures opened { (self.new.opened.value ≡ self.old.opened.value) × (self.new.workers ≡ self.old.workers) × (length self.new.journal ≡ length self.old.journal) }
-    {
+        if account >= self.journal.accounts() as usize {
+            return false;
+        }
         let mut took = false;
         for _ in 0..MOST_NODES {
-            if !self.take_from(rt, account) {
+            if !self.take_from(rt, account as Account) {
                 break;
             }
             took = true;

@@ -2,7 +2,7 @@
 
 ghost use Rattle.std.specs.Prelude.{◌≡◌, ◌+◌, ◌<◌, ◌≤◌, ℕ, All, IfOk, IfSome, List, None, OnOk, Some, length, map, replicate, slice_index_or, true, vec_items};
 ghost use Rattle.line_split.specs.Signs.{int_sum_by};
-ghost use Rattle.mail_box.specs.Mails.{Begins, ReceiverView, SenderView, with_sender};
+ghost use Rattle.mail_box.specs.Mails.{ReceiverView};
 ghost use Rattle.queue_core.specs.declared.item.Item.{Item};
 ghost use Rattle.payee_book.specs.Run.{IsBookOf};
 ghost use Rattle.payee_book.specs.Statement.{total_of};
@@ -12,16 +12,16 @@ ghost use Rattle.block_draw.specs.Drawn.{AreDrawnOnce};
 ghost use Rattle.block_draw.specs.Views.{draw_of, drawer_of, opened_draw, opened_drawer, with_drawer};
 ghost use Rattle.split_run.specs.Blocks.{blocks_of};
 ghost use Rattle.split_run.specs.Sending.{room_of};
-ghost use Rattle.split_run.specs.Running.{AreDealt, AreMailboxes, AreMerged, AreTakenIn, IsGivenBack, IsReady, IsWorkOf, MayBeTakenIn, or_else};
+ghost use Rattle.split_run.specs.Running.{AreDealt, AreMailboxes, AreMerged, AreTakenIn, HaveTakenInEach, IsGivenBack, IsReady, IsWorkOf, MayBeTakenIn, or_else};
 
 use crate::bells::Bells;
 use crate::gate::Gate;
 use crate::mailboxes::Mailboxes;
 use crate::opening::{Worker, readers_of, workers_of};
 use crate::pooled::Pooled;
-use crate::reading::{Reader, Served};
+use crate::reading::{Reader, ReaderResult};
 use crate::separate::Separate;
-use crate::starting::{Worked, at_once};
+use crate::starting::{WorkerResult, run_threads};
 use crate::working::Inputs;
 use crate::{LINES_IN_BLOCK, Plan, RunFault};
 use block_draw::Draw;
@@ -150,10 +150,9 @@ fn run_on<B: Mailboxes, G: Gate, R: Threads + Wait + Sync>(
         plan.readers,
         plan.nodes,
     )?;
-    let Some((worked, read)) = at_once(
+    let Some((worked, read)) = run_threads(
         rt,
         alloc,
-        mailboxes,
         inputs,
         gate,
         jobs,
@@ -229,7 +228,7 @@ fn merge_all<B: Mailboxes>(
     workers: u64,
     readers: u64,
     opened: Snapshot<Vec<Option<B::Receiver>>>,
-    read: Vec<Option<Served<B>>>,
+    read: Vec<Option<ReaderResult<B>>>,
 ) -> Result<(Vec<Option<B::Receiver>>, Book), RunFault>
     requires some { (0 < accounts) × (0 < readers) }
     requires count { (length opened.value.items ≡ accounts) × (length read.items ≡ readers) }
@@ -270,13 +269,13 @@ fn merge<B: Mailboxes>(inboxes: &mut Vec<Option<B::Receiver>>, more: Vec<Option<
 {
     let mut account = 0;
     for inbox in more {
-        put_if(inbox, &mut inboxes[account]);
+        replace_if_some(inbox, &mut inboxes[account]);
         account += 1;
     }
 }
 
 /// Puts something in a place, if there is something.
-fn put_if<T: Drop>(something: Option<T>, place: &mut Option<T>)
+fn replace_if_some<T: Drop>(something: Option<T>, place: &mut Option<T>)
     ensures { place.new ≡ or_else something place.old }
 {
     if something.is_some() {
@@ -291,7 +290,7 @@ fn take_in_all<B: Mailboxes, R: Wait>(
     inputs: Inputs<'_>,
     draw: &mut Draw,
     inboxes: &mut B::Gathered,
-    worked: Vec<Option<Worked<B>>>,
+    worked: Vec<Option<WorkerResult<B>>>,
 ) -> Result<(), RunFault>
     requires some { (0 < length worked.items) × (0 < length (B.gathered inboxes.old)) }
     requires opened { draw_of draw.old ≡ opened_draw (draw_of draw.old).draw (blocks_of (length inputs.usage.now)) (length worked.items) }
@@ -313,10 +312,10 @@ fn take_in_worker<B: Mailboxes, R: Wait>(
     rt: &R,
     draw: &mut Draw,
     inboxes: &mut B::Gathered,
-    worker: Worked<B>,
+    worker: WorkerResult<B>,
 )
     requires ended { MayBeTakenIn (draw_of draw.old) (drawer_of worker.drawer) (B.gathered inboxes.old) (B.senders worker.senders.items) }
-    ensures each { (account : ℕ) (s : SenderView _) (r : ReceiverView _) → account < length (B.gathered inboxes.old) → slice_index_or (B.gathered inboxes.old) account None ≡ Some r → (slice_index_or (B.gathered inboxes.new) account None ≡ Some (with_sender r (slice_index_or (B.senders worker.senders.items) account s))) × Begins (with_sender r (slice_index_or (B.senders worker.senders.items) account s)) }
+    ensures each { HaveTakenInEach (B.gathered inboxes.old) (B.senders worker.senders.items) (B.gathered inboxes.new) }
     ensures count { length (B.gathered inboxes.new) ≡ length (B.gathered inboxes.old) }
     ensures gathered { draw_of draw.new ≡ with_drawer (draw_of draw.old) (drawer_of worker.drawer) }
     ensures whole { (draw_of draw.new).gathered ≡ (draw_of draw.new).drawers → AreDrawnOnce (draw_of draw.new).drawers (draw_of draw.new).drawn (draw_of draw.new).blocks }

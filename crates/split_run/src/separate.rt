@@ -1,9 +1,8 @@
 //! A mailbox by itself for each account.
 
 ghost use Rattle.std.specs.Prelude.{◌≡◌, ◌<◌, [], ℕ, IfOk, None, OnOk, Some, length, map, replicate, slice_index_or, true, vec_items};
-ghost use Rattle.mail_box.specs.Mails.{Begins, ReceiverView, SenderView, with_sender};
 ghost use Rattle.split_run.specs.Reading.{inboxes_by};
-ghost use Rattle.split_run.specs.Running.{HaveOneMore};
+ghost use Rattle.split_run.specs.Running.{HaveOneMore, HaveTakenInEach, MayTakeIn};
 
 use crate::mailboxes::Mailboxes;
 use mail_box::{Item, Mail, Posted, Took};
@@ -89,9 +88,9 @@ impl<M: Mail> Mailboxes for Separate<'_, M> {
 
     fn take_in<R: Wait>(rt: &R, all: &mut Vec<Option<M::Receiver>>, own: Vec<M::Sender>)
         requires count { length (map M.sender own.items) ≡ length (inboxes_by M.receiver (vec_items all.old)) }
-        requires ended { (account : ℕ) (s : SenderView _) → account < length (inboxes_by M.receiver (vec_items all.old)) → (inbox : ReceiverView _) × (slice_index_or (inboxes_by M.receiver (vec_items all.old)) account None ≡ Some inbox) × ((slice_index_or (map M.sender own.items) account s).mailbox ≡ inbox.mailbox) × ((slice_index_or (map M.sender own.items) account s).is_ended ≡ true) }
+        requires ended { MayTakeIn (inboxes_by M.receiver (vec_items all.old)) (map M.sender own.items) }
         ensures count { length (inboxes_by M.receiver (vec_items all.new)) ≡ length (inboxes_by M.receiver (vec_items all.old)) }
-        ensures each { (account : ℕ) (s : SenderView _) (inbox : ReceiverView _) → account < length (inboxes_by M.receiver (vec_items all.old)) → slice_index_or (inboxes_by M.receiver (vec_items all.old)) account None ≡ Some inbox → (slice_index_or (inboxes_by M.receiver (vec_items all.new)) account None ≡ Some (with_sender inbox (slice_index_or (map M.sender own.items) account s))) × Begins (with_sender inbox (slice_index_or (map M.sender own.items) account s)) }
+        ensures each { HaveTakenInEach (inboxes_by M.receiver (vec_items all.old)) (map M.sender own.items) (inboxes_by M.receiver (vec_items all.new)) }
     {
         let mut account = 0;
         for sender in own {

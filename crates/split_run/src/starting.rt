@@ -3,13 +3,13 @@
 ghost use Rattle.std.specs.Prelude.{◌≡◌, ◌+◌, ◌<◌, ◌≤◌, ℕ, All, IfSome, length, slice_index_or, vec_len};
 ghost use Rattle.split_run.specs.Divisions.{division_by};
 ghost use Rattle.split_run.specs.Reading.{HasKept, HasServed};
-ghost use Rattle.split_run.specs.Running.{HasWorked, IsReady};
+ghost use Rattle.split_run.specs.Running.{AreGivenFor, HasWorked, IsReady};
 
 use crate::bells::Bells;
 use crate::gate::Gate;
 use crate::mailboxes::Mailboxes;
 use crate::opening::Worker;
-use crate::reading::{Reader, Served};
+use crate::reading::{Reader, ReaderResult};
 use crate::working::{Inputs, work_on};
 use block_draw::Drawer;
 use cwr_share::Registry;
@@ -24,7 +24,7 @@ use tis_tree::TisTable;
 
 /// What a worker gives back: its senders, and its drawer.
 #[derive(Drop)]
-pub(crate) struct Worked<B: Mailboxes> {
+pub(crate) struct WorkerResult<B: Mailboxes> {
     pub senders: Vec<B::Sender>,
     pub drawer: Drawer,
 }
@@ -32,14 +32,14 @@ pub(crate) struct Worked<B: Mailboxes> {
 /// What is promised of what a worker's thread gives back: no block is left, and its senders have sent all that the blocks come
 /// to that it drew, and have ended.
 #[derive(Drop)]
-pub(crate) struct WorkDone<B: Mailboxes> {
+pub(crate) struct WorkerPromise<B: Mailboxes> {
     tis: Snapshot<TisTable>,
     registry: Snapshot<Registry>,
     usage: Snapshot<Usage>,
     worker: Snapshot<Worker<B>>,
 }
 
-impl<B: Mailboxes> Promise<Option<Worked<B>>> for WorkDone<B> {
+impl<B: Mailboxes> Promise<Option<WorkerResult<B>>> for WorkerPromise<B> {
     ghost use Rattle.std.specs.Prelude.{IfSome};
     ghost use Rattle.split_run.specs.Divisions.{division_by};
     ghost use Rattle.split_run.specs.Running.{HasWorked};
@@ -49,73 +49,70 @@ impl<B: Mailboxes> Promise<Option<Worked<B>>> for WorkDone<B> {
 
 /// What a reader's thread gives back: its mailboxes, which have ended, and the statements of their accounts.
 #[derive(Drop)]
-pub(crate) struct ReadingDone<B: Mailboxes> {
+pub(crate) struct ReaderPromise<B: Mailboxes> {
     reader: Snapshot<Reader<B>>,
 }
 
-impl<B: Mailboxes> Promise<Option<Served<B>>> for ReadingDone<B> {
+impl<B: Mailboxes> Promise<Option<ReaderResult<B>>> for ReaderPromise<B> {
     ghost use Rattle.std.specs.Prelude.{IfSome};
     ghost use Rattle.split_run.specs.Reading.{HasServed};
 
     ghost kept_by = { λ p r. IfSome r (HasServed B.receiver p.reader.value) };
 }
 
-/// What a reader's thread does. The mailboxes are lent to it since they outlive it. None: the run was stopped, or memory was refused.
-fn read_all<B: Mailboxes, R: Wait>(
+/// What a reader's thread does. None: the run was stopped, or memory was refused.
+fn read_in_thread<B: Mailboxes, R: Wait>(
     rt: &R,
-    _mailboxes: &B,
     reader: Reader<B>,
     stop: &AtomicBool,
     bells: Option<&Bells>,
-) -> Option<Served<B>>
+) -> Option<ReaderResult<B>>
     requires taken { HasKept B.receiver reader }
     ensures { IfSome result (HasServed B.receiver reader) }
 {
     let mut reader = reader;
     if reader.serve(rt, stop, bells) {
-        Some(reader.into_served())
+        Some(reader.into_result())
     } else {
         None
     }
 }
 
 /// Starts a reader, if a thread can be made.
-fn start_reader<'s, E, B: Mailboxes, R: Threads + Wait + Sync>(
+fn start_reader<'s, E, B: Mailboxes + 's, R: Threads + Wait + Sync>(
     scope: &Scope<'s, E>,
     rt: &'s R,
-    mailboxes: &'s B,
     reader: Reader<B>,
     stop: &'s AtomicBool,
     bells: Option<&'s Bells>,
-) -> Option<PromisedHandle<Option<Served<B>>, ReadingDone<B>>>
+) -> Option<PromisedHandle<Option<ReaderResult<B>>, ReaderPromise<B>>>
     requires taken { HasKept B.receiver reader }
     ensures { IfSome result (λ h. h.promise.reader.value ≡ reader) }
 {
-    let promise: ReadingDone<B> = ReadingDone {
+    let promise: ReaderPromise<B> = ReaderPromise {
         reader: Snapshot::of(&reader),
     };
     scope
         .spawn_with(
             promise,
-            move || -> Option<Served<B>>
+            move || -> Option<ReaderResult<B>>
                 requires { HasKept B.receiver reader }
                 ensures { IfSome result (HasServed B.receiver reader) }
-            { read_all::<B, R>(rt, mailboxes, reader, stop, bells) },
+            { read_in_thread::<B, R>(rt, reader, stop, bells) },
         )
         .ok()
 }
 
-/// What a worker's thread does. The mailboxes are lent to it since they outlive it. None: the run was stopped.
-fn work_all<B: Mailboxes, G: Gate, R: Wait>(
+/// What a worker's thread does. None: the run was stopped.
+fn work_in_thread<B: Mailboxes, G: Gate, R: Wait>(
     rt: &R,
-    _mailboxes: &B,
     inputs: Inputs<'_>,
     gate: &G,
     worker: Worker<B>,
     number: u64,
     stop: &AtomicBool,
     bells: Option<&Bells>,
-) -> Option<Worked<B>>
+) -> Option<WorkerResult<B>>
     requires { IsReady B.is_shared B.senders (length inputs.registry.now.parties) (length inputs.usage.now) worker }
     ensures { IfSome result (HasWorked B.is_shared B.senders (division_by inputs.entry.tis.now inputs.entry.registry.now) inputs.entry.usage.now worker) }
 {
@@ -133,7 +130,7 @@ fn work_all<B: Mailboxes, G: Gate, R: Wait>(
         bells,
     );
     if done {
-        Some(Worked {
+        Some(WorkerResult {
             senders: worker.senders,
             drawer: worker.drawer,
         })
@@ -143,22 +140,21 @@ fn work_all<B: Mailboxes, G: Gate, R: Wait>(
 }
 
 /// Starts a worker, if a thread can be made.
-fn start_worker<'s, E, B: Mailboxes, G: Gate, R: Threads + Wait + Sync>(
+fn start_worker<'s, E, B: Mailboxes + 's, G: Gate, R: Threads + Wait + Sync>(
     scope: &Scope<'s, E>,
     rt: &'s R,
-    mailboxes: &'s B,
     inputs: Inputs<'s>,
     gate: &'s G,
     worker: Worker<B>,
     number: u64,
     stop: &'s AtomicBool,
     bells: Option<&'s Bells>,
-) -> Option<PromisedHandle<Option<Worked<B>>, WorkDone<B>>>
+) -> Option<PromisedHandle<Option<WorkerResult<B>>, WorkerPromise<B>>>
     requires { IsReady B.is_shared B.senders (length inputs.registry.now.parties) (length inputs.usage.now) worker }
     ensures inputs { IfSome result (λ h. (h.promise.tis.value ≡ inputs.entry.tis.now) × (h.promise.registry.value ≡ inputs.entry.registry.now) × (h.promise.usage.value ≡ inputs.entry.usage.now)) }
     ensures worker { IfSome result (λ h. h.promise.worker.value ≡ worker) }
 {
-    let promise: WorkDone<B> = WorkDone {
+    let promise: WorkerPromise<B> = WorkerPromise {
         tis: Snapshot::of(inputs.tis),
         registry: Snapshot::of(inputs.registry),
         usage: Snapshot::of(inputs.usage),
@@ -167,25 +163,24 @@ fn start_worker<'s, E, B: Mailboxes, G: Gate, R: Threads + Wait + Sync>(
     scope
         .spawn_with(
             promise,
-            move || -> Option<Worked<B>>
+            move || -> Option<WorkerResult<B>>
                 requires { IsReady B.is_shared B.senders (length inputs.registry.now.parties) (length inputs.usage.now) worker }
                 ensures { IfSome result (HasWorked B.is_shared B.senders (division_by inputs.entry.tis.now inputs.entry.registry.now) inputs.entry.usage.now worker) }
-            { work_all::<B, G, R>(rt, mailboxes, inputs, gate, worker, number, stop, bells) },
+            { work_in_thread::<B, G, R>(rt, inputs, gate, worker, number, stop, bells) },
         )
         .ok()
 }
 
 /// Starts all readers. None: a thread was refused, as the one with the number `cut` is, from 0.
-fn start_readers<'s, E, B: Mailboxes, R: Threads + Wait + Sync>(
+fn start_readers<'s, E, B: Mailboxes + 's, R: Threads + Wait + Sync>(
     scope: &Scope<'s, E>,
     rt: &'s R,
-    mailboxes: &'s B,
     readers: Vec<Reader<B>>,
     cut: u64,
     stop: &'s AtomicBool,
     bells: Option<&'s Bells>,
-    room: Vec<PromisedHandle<Option<Served<B>>, ReadingDone<B>>>,
-) -> Option<Vec<PromisedHandle<Option<Served<B>>, ReadingDone<B>>>>
+    room: Vec<PromisedHandle<Option<ReaderResult<B>>, ReaderPromise<B>>>,
+) -> Option<Vec<PromisedHandle<Option<ReaderResult<B>>, ReaderPromise<B>>>>
     requires room { vec_len room ≡ 0 }
     requires taken { All (λ reader. HasKept B.receiver reader) readers.items }
     ensures cut { IfSome result (λ _. vec_len readers ≤ cut) }
@@ -196,25 +191,24 @@ fn start_readers<'s, E, B: Mailboxes, R: Threads + Wait + Sync>(
         if started.len() as u64 == cut {
             return None;
         }
-        let handle = start_reader::<E, B, R>(scope, rt, mailboxes, reader, stop, bells)?;
+        let handle = start_reader::<E, B, R>(scope, rt, reader, stop, bells)?;
         started.push(handle).ok()?;
     }
     Some(started)
 }
 
 /// Starts all workers. None: a thread was refused, as the one with the number `cut` is, from 0.
-fn start_workers<'s, E, B: Mailboxes, G: Gate, R: Threads + Wait + Sync>(
+fn start_workers<'s, E, B: Mailboxes + 's, G: Gate, R: Threads + Wait + Sync>(
     scope: &Scope<'s, E>,
     rt: &'s R,
-    mailboxes: &'s B,
     inputs: Inputs<'s>,
     gate: &'s G,
     jobs: Vec<Worker<B>>,
     cut: u64,
     stop: &'s AtomicBool,
     bells: Option<&'s Bells>,
-    room: Vec<PromisedHandle<Option<Worked<B>>, WorkDone<B>>>,
-) -> Option<Vec<PromisedHandle<Option<Worked<B>>, WorkDone<B>>>>
+    room: Vec<PromisedHandle<Option<WorkerResult<B>>, WorkerPromise<B>>>,
+) -> Option<Vec<PromisedHandle<Option<WorkerResult<B>>, WorkerPromise<B>>>>
     requires room { vec_len room ≡ 0 }
     requires few { length jobs.items ≤ 8 }
     requires ready { All (IsReady B.is_shared B.senders (length inputs.registry.now.parties) (length inputs.usage.now)) jobs.items }
@@ -229,9 +223,7 @@ fn start_workers<'s, E, B: Mailboxes, G: Gate, R: Threads + Wait + Sync>(
         if number == cut {
             return None;
         }
-        let handle = start_worker::<E, B, G, R>(
-            scope, rt, mailboxes, inputs, gate, job, number, stop, bells,
-        )?;
+        let handle = start_worker::<E, B, G, R>(scope, rt, inputs, gate, job, number, stop, bells)?;
         started.push(handle).ok()?;
         number += 1;
     }
@@ -240,23 +232,22 @@ fn start_workers<'s, E, B: Mailboxes, G: Gate, R: Threads + Wait + Sync>(
 
 /// Lets all readers and workers run at once, and answers what each gave back. None: memory or a thread was refused, as the one
 /// with the number `cut` is, readers first; then those that were started have stopped.
-pub(crate) fn at_once<B: Mailboxes, G: Gate, R: Threads + Wait + Sync>(
+pub(crate) fn run_threads<B: Mailboxes, G: Gate, R: Threads + Wait + Sync>(
     rt: &R,
     alloc: Global,
-    mailboxes: &B,
     inputs: Inputs<'_>,
     gate: &G,
     workers: Vec<Worker<B>>,
     readers: Vec<Reader<B>>,
     cut: u64,
     bells: Option<&Bells>,
-) -> Option<(Vec<Option<Worked<B>>>, Vec<Option<Served<B>>>)>
+) -> Option<(Vec<Option<WorkerResult<B>>>, Vec<Option<ReaderResult<B>>>)>
     requires few { length workers.items ≤ 8 }
     requires ready { All (IsReady B.is_shared B.senders (length inputs.registry.now.parties) (length inputs.usage.now)) workers.items }
     requires taken { All (λ reader. (reader.workers ≡ length workers.items) × HasKept B.receiver reader) readers.items }
     ensures cut { IfSome result (λ _. length readers.items + length workers.items ≤ cut) }
-    ensures worked { IfSome result (λ r. (length r.0.items ≡ length workers.items) × ((number : ℕ) (d : _) (e : _) → number < length workers.items → IfSome (slice_index_or r.0.items number d) (HasWorked B.is_shared B.senders (division_by inputs.entry.tis.now inputs.entry.registry.now) inputs.entry.usage.now (slice_index_or workers.items number e)))) }
-    ensures read { IfSome result (λ r. (length r.1.items ≡ length readers.items) × ((number : ℕ) (d : _) (e : _) → number < length readers.items → IfSome (slice_index_or r.1.items number d) (HasServed B.receiver (slice_index_or readers.items number e)))) }
+    ensures worked { IfSome result (λ r. AreGivenFor (HasWorked B.is_shared B.senders (division_by inputs.entry.tis.now inputs.entry.registry.now) inputs.entry.usage.now) workers.items r.0.items) }
+    ensures read { IfSome result (λ r. AreGivenFor (HasServed B.receiver) readers.items r.1.items) }
 {
     let working_room = Vec::with_capacity(alloc, workers.len()).ok()?;
     let reading_room = Vec::with_capacity(alloc, readers.len()).ok()?;
@@ -265,20 +256,19 @@ pub(crate) fn at_once<B: Mailboxes, G: Gate, R: Threads + Wait + Sync>(
     thread::scope(
         thread::scope_env(),
         rt,
-        move |scope| -> Option<(Vec<Option<Worked<B>>>, Vec<Option<Served<B>>>)>
+        move |scope| -> Option<(Vec<Option<WorkerResult<B>>>, Vec<Option<ReaderResult<B>>>)>
             requires few { length workers.items ≤ 8 }
             requires rooms { (vec_len working_room ≡ 0) × (vec_len reading_room ≡ 0) }
             requires ready { All (IsReady B.is_shared B.senders (length inputs.registry.now.parties) (length inputs.usage.now)) workers.items }
             requires taken { All (λ reader. (reader.workers ≡ length workers.items) × HasKept B.receiver reader) readers.items }
             ensures cut { IfSome result (λ _. length readers.items + length workers.items ≤ cut) }
-            ensures worked { IfSome result (λ r. (length r.0.items ≡ length workers.items) × ((number : ℕ) (d : _) (e : _) → number < length workers.items → IfSome (slice_index_or r.0.items number d) (HasWorked B.is_shared B.senders (division_by inputs.entry.tis.now inputs.entry.registry.now) inputs.entry.usage.now (slice_index_or workers.items number e)))) }
-            ensures read { IfSome result (λ r. (length r.1.items ≡ length readers.items) × ((number : ℕ) (d : _) (e : _) → number < length readers.items → IfSome (slice_index_or r.1.items number d) (HasServed B.receiver (slice_index_or readers.items number e)))) }
+            ensures worked { IfSome result (λ r. AreGivenFor (HasWorked B.is_shared B.senders (division_by inputs.entry.tis.now inputs.entry.registry.now) inputs.entry.usage.now) workers.items r.0.items) }
+            ensures read { IfSome result (λ r. AreGivenFor (HasServed B.receiver) readers.items r.1.items) }
         {
             let count = readers.len() as u64;
             let Some(reading) = start_readers::<_, B, R>(
                 scope,
                 rt,
-                mailboxes,
                 readers,
                 cut,
                 stop,
@@ -291,7 +281,6 @@ pub(crate) fn at_once<B: Mailboxes, G: Gate, R: Threads + Wait + Sync>(
             let Some(working) = start_workers::<_, B, G, R>(
                 scope,
                 rt,
-                mailboxes,
                 inputs,
                 gate,
                 workers,

@@ -10,7 +10,7 @@ ghost use Rattle.payee_book.specs.Run.{portion_of, posting_of};
 ghost use Rattle.block_draw.specs.Views.{drawer_of};
 ghost use Rattle.split_run.specs.Blocks.{list_of, postings_in, postings_of};
 ghost use Rattle.split_run.specs.Divisions.{division_by};
-ghost use Rattle.split_run.specs.Running.{IsFresh};
+ghost use Rattle.split_run.specs.Running.{IsFresh, IsSameDrawer};
 ghost use Rattle.pool_box.specs.Pools.{HasEndedEverywhere};
 ghost use Rattle.split_run.specs.Sending.{AreFresh, AreReadyFor, HasSpent, HaveEnded, HaveSent};
 
@@ -64,7 +64,7 @@ pub fn work<M: Mail, G: Gate, R: Wait>(
     ensures sent { result ≡ true → (account : ℕ) (s : _) → account < length senders.old → (slice_index_or (map M.sender senders.new) account s).sent ≡ list_of (division_by tis.now registry.now) usage.now account (drawer_of drawer.new).drawn }
     ensures ended { result ≡ true → HaveEnded false (map M.sender senders.old) (map M.sender senders.new) (λ account. postings_of (division_by tis.now registry.now) usage.now account (drawer_of drawer.new).drawn) }
     ensures drawn { result ≡ true → (drawer_of drawer.new).is_done ≡ true }
-    ensures drawer { ((drawer_of drawer.new).draw ≡ (drawer_of drawer.old).draw) × ((drawer_of drawer.new).number ≡ (drawer_of drawer.old).number) × ((drawer_of drawer.new).blocks ≡ (drawer_of drawer.old).blocks) }
+    ensures drawer { IsSameDrawer (drawer_of drawer.old) (drawer_of drawer.new) }
 {
     let inputs = Inputs {
         tis,
@@ -102,7 +102,7 @@ pub fn work_pool<P: Pool, G: Gate, R: Wait>(
     ensures ended { result ≡ true → HasEndedEverywhere (P.sender sender.new) }
     ensures same { result ≡ true → ((P.sender sender.new).pool ≡ (P.sender sender.old).pool) × ((P.sender sender.new).mailboxes ≡ (P.sender sender.old).mailboxes) × ((P.sender sender.new).number ≡ (P.sender sender.old).number) }
     ensures drawn { result ≡ true → (drawer_of drawer.new).is_done ≡ true }
-    ensures drawer { ((drawer_of drawer.new).draw ≡ (drawer_of drawer.old).draw) × ((drawer_of drawer.new).number ≡ (drawer_of drawer.old).number) × ((drawer_of drawer.new).blocks ≡ (drawer_of drawer.old).blocks) }
+    ensures drawer { IsSameDrawer (drawer_of drawer.old) (drawer_of drawer.new) }
 {
     let inputs = Inputs {
         tis,
@@ -136,7 +136,7 @@ pub(crate) fn work_on<B: Mailboxes, G: Gate, R: Wait>(
     requires portions { MOST_CLAIMS + 1 ≤ portions.old.room }
     ensures ended { result ≡ true → HaveEnded B.is_shared (B.senders senders.old) (B.senders senders.new) (λ account. postings_of (division_by inputs.entry.tis.now inputs.entry.registry.now) inputs.entry.usage.now account (drawer_of drawer.new).drawn) }
     ensures drawn { result ≡ true → (drawer_of drawer.new).is_done ≡ true }
-    ensures drawer { ((drawer_of drawer.new).draw ≡ (drawer_of drawer.old).draw) × ((drawer_of drawer.new).number ≡ (drawer_of drawer.old).number) × ((drawer_of drawer.new).blocks ≡ (drawer_of drawer.old).blocks) }
+    ensures drawer { IsSameDrawer (drawer_of drawer.old) (drawer_of drawer.new) }
 {
     let accounts = inputs.registry.accounts();
     prove!(accounts >= 1, "there is the residue's account");

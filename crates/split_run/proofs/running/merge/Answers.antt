@@ -19,12 +19,12 @@ loop-inbox-preserved g c =
     let low : account < length all = grind (arith, rules) in
     let whole : length all ≡ length old = grind (arith, rules) in
     let within : account < length items = omega (arith, low, whole, was.0, length-map items (option_map g.B.Mailboxes.receiver), length-map old (option_map g.B.Mailboxes.receiver)) in
-    let count : length (inboxes_by g.B.Mailboxes.receiver (set items account c.put_if.new.place)) ≡ length (inboxes_by g.B.Mailboxes.receiver items) =
-    length-map (set items account c.put_if.new.place) (option_map g.B.Mailboxes.receiver) ∙ length-set items account c.put_if.new.place ∙ sym (length-map items (option_map g.B.Mailboxes.receiver)) in
+    let count : length (inboxes_by g.B.Mailboxes.receiver (set items account c.replace_if_some.new.place)) ≡ length (inboxes_by g.B.Mailboxes.receiver items) =
+    length-map (set items account c.replace_if_some.new.place) (option_map g.B.Mailboxes.receiver) ∙ length-set items account c.replace_if_some.new.place ∙ sym (length-map items (option_map g.B.Mailboxes.receiver)) in
     let more =
-    put_more (inboxes_by g.B.Mailboxes.receiver old) (inboxes_by g.B.Mailboxes.receiver all) (inboxes_by g.B.Mailboxes.receiver items) (inboxes_by g.B.Mailboxes.receiver (set items account c.put_if.new.place)) account was.0
+    put_more (inboxes_by g.B.Mailboxes.receiver old) (inboxes_by g.B.Mailboxes.receiver all) (inboxes_by g.B.Mailboxes.receiver items) (inboxes_by g.B.Mailboxes.receiver (set items account c.replace_if_some.new.place)) account was.0
     (omega (arith, low, whole, length-map old (option_map g.B.Mailboxes.receiver)))
-    (put_at_place g.B.Mailboxes.receiver items account inbox place c.put_if.new.place all within low c.index_mut.ensures.value is c.put_if.ensures)
+    (put_at_place g.B.Mailboxes.receiver items account inbox place c.replace_if_some.new.place all within low c.index_mut.ensures.value is c.replace_if_some.ensures)
     was.3 was.4 in (
       count ∙ was.0,
       search rules,

@@ -17,8 +17,8 @@ use Rattle.split_run.proofs.RunningLemmas.{given_back, given_there, is_book}
 use Rattle.split_run.proofs.WorkingLemmas.{line_here}
 use Rattle.split_run.proofs.running.run_on.Goals as goal
 
-pub at_once-requires-clause-taken : goal.at_once-requires-clause-taken
-at_once-requires-clause-taken g c κs within = λ k d low.
+pub run_threads-requires-clause-taken : goal.run_threads-requires-clause-taken
+run_threads-requires-clause-taken g c κs within = λ k d low.
     let taken = c.in_ok-draw.ensures.taken.1 k d low in
     (taken.0 ∙ sym c.in_ok-draw.ensures.ready.0, taken.1)
 

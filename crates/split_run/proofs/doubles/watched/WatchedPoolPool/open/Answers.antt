@@ -1,7 +1,7 @@
 use Rattle.std.proofs.Common.{arith, length, ◌≡◌}
 use Rattle.pool_box.specs.Pools.{opened_receiver}
-use Rattle.split_run.proofs.SharingLemmas.{holds_of_mapped}
-use Rattle.split_run.proofs.meeting.MeetingPoolPool.open.Goals as goal
+use Rattle.split_run.proofs.WatchedLemmas.{holds_of_mapped}
+use Rattle.split_run.proofs.doubles.watched.WatchedPoolPool.open.Goals as goal
 
 pub returns-clause-receivers : goal.returns-clause-receivers
 returns-clause-receivers g c = λ b lt.

@@ -1,6 +1,6 @@
 use Rattle.std.specs.Prelude.{◌≡◌, length}
 use Rattle.split_run.specs.Reading.{AreTaken, inboxes_by}
-use Rattle.split_run.proofs.reading.Reader.take_some.Given as goal
+use Rattle.split_run.proofs.reading.Reader.take_at.Given as goal
 
 abbrev pub invariant-loop : goal.invariant-loop
 invariant-loop g l = record {

@@ -1,4 +1,4 @@
--- The receivers of a pool are seen through what they share.
+-- The receivers of a pool are seen through what watches them.
 use Rattle.std.proofs.Common.{arith, ◌≡◌, ◌∙◌, ◌<◌, ℕ, List, ap, get_or, length, map, subst, sym}
 use Rattle.std.specs.List.{HoldsAt}
 use Rattle.std.proofs.lemmas.List.{get_or-map, length-map}

@@ -1,6 +1,6 @@
 use Rattle.split_run.specs.Reading.{inboxes_by}
 use Rattle.split_run.proofs.ReadingLemmas.{served_in_order}
-use Rattle.split_run.proofs.reading.Reader.into_served.Goals as goal
+use Rattle.split_run.proofs.reading.Reader.into_result.Goals as goal
 
 pub returns : goal.returns
 returns g c =

@@ -1,6 +1,6 @@
 use Rattle.std.specs.Prelude.{◌≡◌, ◌++◌, map, vec_items}
 use Rattle.std.specs.Vec.Iter.{into_iter_items}
-use Rattle.split_run.proofs.sharing.all_sharing.Given as goal
+use Rattle.split_run.proofs.doubles.watched.all_watched.Given as goal
 
 -- the receivers so far are there, and with those that are left they are all
 abbrev pub invariant-loop-receiver : goal.invariant-loop-receiver

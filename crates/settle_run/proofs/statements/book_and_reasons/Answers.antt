@@ -6,7 +6,7 @@ use Rattle.split_run.specs.Divisions.{division_by}
 use Rattle.settle_run.proofs.BookLemmas.{book_lines_below}
 use Rattle.settle_run.proofs.SettleLemmas.{book_rows_same}
 use Rattle.split_run.proofs.DivisionLemmas.{some_accounts}
-use Rattle.settle_run.proofs.statements.settled.Goals as goal
+use Rattle.settle_run.proofs.statements.book_and_reasons.Goals as goal
 
 pub reasons_of-requires : goal.reasons_of-requires
 reasons_of-requires g c =
