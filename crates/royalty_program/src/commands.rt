@@ -30,14 +30,14 @@ const HELP: &str = "\
 how the files are checked, `royalty_run explain --help` how one usage line is explained, and
 `royalty_run split --help` how an amount is divided.
 
-A refusal has a number and a place: `royalty_run check` says all of them in words, and the table of
-faults in docs/FORMATS.md what to mend.
+A refusal has a number and a place. `royalty_run check` says what is wrong with the files of a run in
+words, and the table of faults in docs/FORMATS.md what to mend, in statements and in pairs too.
 
 Exit status:
   0  the answer was printed, or help, or the version
   1  an input file is refused for what is in it, or a check tells of a fault
   2  the words are refused
-  3  memory was refused
+  3  memory, or a thread, was refused
   4  a file cannot be read or written, or the output refused a write";
 
 /// What the words of the command line ask for.

@@ -30,7 +30,8 @@ Each file may be read twice, to look for what is wrong in it before anything is 
 be a file and no pipe. Where a text is refused, nothing is printed but the fault and its row, as
   royalty_run: statement fault 1 at row 3 of february.csv
 With `--output F` the statements go to a new file beside F, which takes the name F once it is whole;
-whatever fails, F stays as it was.
+whatever fails before that, F stays as it was. Only where its folder cannot be brought to the disk
+behind the new name does status 4 leave F whole and new.
 
 Example:
   royalty_run merge --output year.csv january.csv february.csv march.csv";

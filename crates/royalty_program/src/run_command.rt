@@ -30,10 +30,12 @@ LAND, OVER or OPEN, then T,,count,total; last R,,lines,amount.
 The numbers of workers, readers and nodes have no bearing on it. A row M,WORK is a usage line whose
 work has no registration: many of them say that the wrong file, or half of one, went in.
 With `--output F` the statements go to a new file beside F, which takes the name F once it is whole;
-whatever fails, F stays as it was.
+whatever fails before that, F stays as it was. Only where its folder cannot be brought to the disk
+behind the new name does status 4 leave F whole and new.
 
-A refusal has a number and a place. `royalty_run check` with the same files says all of them in words,
-and what the lines come to by reason; the table of faults in docs/FORMATS.md says what to mend.
+A refusal has a number and a place. `royalty_run check` with the same files says what is wrong with
+them in words, and what the lines come to by reason; the table of faults in docs/FORMATS.md says
+what to mend.
 
 Example:
   royalty_run run --tis territories.csv --cwr works.cwr --usage usage.csv \\
