@@ -10,8 +10,9 @@ ghost use Rattle.royalty_program.specs.RunCommand.{run_app};
 ghost use Rattle.royalty_program.specs.Answered.{IsCheckAsked, IsDivisionOf, IsExplanationAsked, IsInRange, IsMergeAsked, IsNamedBy, IsRunInOrder, IsRunOf};
 ghost use Rattle.pair_split.specs.Pair.{word_at};
 
-use crate::check_command::{CheckWords, check_command, read_check};
+use crate::check_command::{check_command, read_check};
 use crate::explain_command::{ExplainWords, explain_command, read_explain};
+use crate::inputs::Inputs;
 use crate::merge_command::{MergeWords, merge_command, read_merge};
 use crate::run_command::{RunWords, read_run, run_command};
 use crate::split_command::{SplitWords, read_split, split_command};
@@ -20,7 +21,8 @@ use clap::{Command, Error};
 use pair_split::word;
 use std::alloc::{AllocError, Global};
 
-/// What `--version` says below the name: the version, and the checker and libraries that the program is proved with, by their checksum.
+/// What `--version` says below the name: the version, and the checker and libraries that the
+/// program is proved with, by their checksum.
 const VERSION: &str = "0.1.0\nlogic dac8208d650f15bf";
 
 /// What stands below the help of the whole program.
@@ -50,7 +52,7 @@ pub enum Asked {
     /// The explanation of a usage line.
     Explanation(ExplainWords),
     /// A report on the files of a run.
-    Check(CheckWords),
+    Check(Inputs),
     /// The statements of several runs in one text.
     Merge(MergeWords),
 }
