@@ -127,8 +127,8 @@ fn tells_what_the_words_are(rt: HostRuntime) -> Result<(), Fail> {
         "\
 r --help [  1  an input file is refused for what is in it, or a check tells of a fault|] -> 0 out
 r --help [  2  the words are refused|] -> 0 out
-r --help [  3  memory was refused|] -> 0 out
-r --help [`royalty_run check` says all of them in words] -> 0 out
+r --help [  3  memory, or a thread, was refused|] -> 0 out
+r --help [`royalty_run check` says what is wrong with the files of a run in|words] -> 0 out
 r help check [Usage: royalty_run check] -> 0 out
 r --version [royalty_run 0.1.0|logic ] -> 0 out
 r help split [Usage: royalty_run split] -> 0 out

@@ -4,6 +4,7 @@ pub mod NoHelp
 pub mod SplitLemmas
 pub mod Walked
 pub mod OptionLemmas
+pub mod InputLemmas
 pub mod RunLemmas
 pub mod CheckLemmas
 pub mod ExplainLemmas

@@ -14,9 +14,8 @@ use Rattle.clap.specs.declared.parser.matches.ArgMatches.{ArgMatches}
 use Rattle.clap.proofs.WalkLemmas.{first_value-rows, raw_values-rows}
 use Rattle.royalty_program.specs.Asked.{AreAccepted, IsErrorOf, IsMergeError, paths_given}
 use Rattle.royalty_program.specs.MergeCommand.{AreWrongPaths, IsMergeCommand, IsPathError, merge_app, statements_rule}
-use Rattle.royalty_program.specs.RequiredArg.{IsOptionalArg, IsRequiredArg}
-use Rattle.royalty_program.specs.RunCommand.{optional_rule}
-use Rattle.royalty_program.proofs.OptionLemmas.{HasArgs, HasOptions, as_optional, has_more, has_value, optional_same}
+use Rattle.royalty_program.specs.Args.{HasArgs, IsOptionalArg, IsRequiredArg, optional_rule}
+use Rattle.royalty_program.proofs.OptionLemmas.{HasOptions, as_optional, has_more, has_value, optional_same, options_of}
 use Rattle.royalty_program.proofs.SplitLemmas.{required_same, some_of_map}
 
 -- a new command with the two arguments is the command of a merge
@@ -24,17 +23,12 @@ pub adds_both : (c0 c1 c2 : Command) (output statements : Arg) → HasArgs c0 []
     → IsOptionalArg (codes "output") output → IsRequiredArg (codes "statements") statements → rule_of output ≡ optional_rule (codes "output") → rule_of statements ≡ statements_rule
     → IsMergeCommand c2
 adds_both c0 c1 c2 output statements has a1 a2 n1 n2 r1 r2 =
-    let h1 = has_more c0 c1 output _ _ _ _ has a1 n1 r1 in
-    let h2 = has_more c1 c2 statements _ _ _ _ h1 a2 (as_optional _ statements n2) r2 in record {
+    let h1 = has_more c0 c1 output _ _ _ _ has a1 n1 r1 in record {
       output = a1.arg;
       statements = a2.arg;
-      args = h2.list;
       may_have_output = optional_same _ output a1.arg a1.rules n1;
       needs_statements = required_same _ statements a2.arg a2.rules n2;
-      plain = h2.plain;
-      globals = h2.globals;
-      negates = h2.negates;
-      shape = h2.shape;
+      has = has_more c1 c2 statements _ _ _ _ h1 a2 (as_optional _ statements n2) r2;
     }
 
 pub merge_simple : is_simple merge_app ≡ true
@@ -48,17 +42,10 @@ abbrev pub merge_names : List Text
 merge_names = codes "output" ∷ codes "statements" ∷ []
 
 pub merge_options : (c : Command) → IsMergeCommand c → HasOptions c merge_names merge_app
-merge_options c s = record {
-  ids = rw (s.args, s.may_have_output.id, s.needs_statements.id) refl;
-  are = refl;
-  plain = s.plain;
-  globals = s.globals;
-  negates = s.negates;
-  shape = s.shape;
-}
+merge_options c s = options_of c (s.output ∷ s.statements ∷ []) merge_names merge_app s.has (rw (s.may_have_output.id, s.needs_statements.id) refl) refl
 
 has_statements : (c : Command) (m : ArgMatches) → IsMergeCommand c → IsParsedFrom c m → is_some (first_value (found_of m) (codes "statements")) ≡ true
-has_statements c m s p = has_value c merge_names merge_app m (codes "statements") s.statements 1 (merge_options c s) p s.needs_statements (rw s.args refl) (omega arith)
+has_statements c m s p = has_value c merge_names merge_app m (codes "statements") s.statements 1 (merge_options c s) p s.needs_statements (rw s.has.list refl) (omega arith)
 
 -- what leads to something is something
 led_to : {X Y : Type 0} (f : X → Option Y) (o : Option X) → is_some (option_and_then f o) ≡ true → is_some o ≡ true
@@ -99,7 +86,7 @@ statements_some c m words s p are = some_values (find (λ (r : Row). bytes_eq r.
 -- words whose parse does not fail are accepted
 pub accepted_is : (c : Command) (words : List Text) → IsMergeCommand c → (is_simple_and_free (app_of c) ≡ true → fault_of (app_of c) words ≡ []) → AreAccepted merge_app words
 unfolding AreAccepted
-accepted_is c words s passes = subst (λ (a : App). fault_of a words ≡ []) s.shape (passes (ap is_simple_and_free s.shape ∙ merge_free))
+accepted_is c words s passes = subst (λ (a : App). fault_of a words ≡ []) s.has.shape (passes (ap is_simple_and_free s.has.shape ∙ merge_free))
 
 -- lack of memory may come at any words
 pub memory_of_merge : {T : Type 0} (words : List Text) (r : Result T Error) → IsErrAnd r (λ e. kind_of e ≡ kinds.OutOfMemory) → IfErr r (IsMergeError words)

@@ -25,18 +25,10 @@ use Rattle.clap.proofs.BuiltLemmas.{plain_same}
 use Rattle.clap.proofs.CallerReads.{required_reads}
 use Rattle.clap.proofs.WalkLemmas.{first_value-rows, one_text-rows}
 use Rattle.royalty_program.specs.Asked.{AreAccepted, AskForHelp, IsErrorOf, number_given, number_in, path_given, path_if_given}
-use Rattle.royalty_program.specs.RequiredArg.{IsOptionalArg, IsRequiredArg}
+use Rattle.royalty_program.specs.Args.{HasArgs, IsOptionalArg, IsRequiredArg}
 use Rattle.royalty_program.proofs.SplitLemmas.{ReadsU64, unsigned_reads}
 
 -- ---- the command
-
--- the command has these arguments, and nothing that changes how words are read
-pub record HasArgs (c : Command) (args : List Arg) (app : App) : Type 0 where
-  pub list : args_of c ≡ args
-  pub plain : IsPlain c
-  pub globals : (fields_of c).has_globals ≡ false
-  pub negates : (fields_of c).subcommand_negates_reqs ≡ false
-  pub shape : app_of c ≡ app
 
 -- a new command has none
 pub has_none : (start : Command) (app : App) → args_of start ≡ [] → groups_of start ≡ []
@@ -140,6 +132,16 @@ pub record HasOptions (c : Command) (names : List Text) (app : App) : Type 0 whe
   pub globals : (fields_of c).has_globals ≡ false
   pub negates : (fields_of c).subcommand_negates_reqs ≡ false
   pub shape : app_of c ≡ app
+
+pub options_of : (c : Command) (args : List Arg) (names : List Text) (app : App) → HasArgs c args app → map (λ a. a.id.now) args ≡ names → are_names names ≡ true → HasOptions c names app
+options_of c args names app has ids are = record {
+  ids = ap (map (λ (a : Arg). a.id.now)) has.list ∙ ids;
+  are = are;
+  plain = has.plain;
+  globals = has.globals;
+  negates = has.negates;
+  shape = has.shape;
+}
 
 id_at : (c : Command) (names : List Text) (app : App) (k : ℕ) (d : Arg) → HasOptions c names app → k < length (args_of c) → (slice_index_or (args_of c) k d).id.now ≡ get_or names k []
 id_at c names app k d has low = sym (get_or-map (λ (a : Arg). a.id.now) (args_of c) k d [] low) ∙ ap (λ (l : List Text). get_or l k []) has.ids

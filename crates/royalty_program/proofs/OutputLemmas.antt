@@ -1,5 +1,5 @@
 -- Where a text went: to standard output, or into the file that the words name.
-use Rattle.std.proofs.Common.{◌≡◌, ◌≢◌, ◌∙◌, ℕ, List, Option, None, Some, codes, drop, inl, inr, subst, sym}
+use Rattle.std.proofs.Common.{◌≡◌, ◌≢◌, ◌∙◌, ℕ, List, Option, None, Some, codes, drop, inl, inr, refl, subst, sym}
 use Rattle.std.specs.Io.KnownBytes.{Appends, Keeps}
 use Rattle.std.specs.Option.{IfNone, IfSome, option_map}
 use Rattle.std.specs.Prelude.{String, string_bytes}
@@ -15,7 +15,7 @@ use Rattle.royalty_program.specs.RunCommand.{run_app}
 use Rattle.royalty_program.specs.Status.{IsOfMerge}
 use Rattle.royalty_program.specs.Targets.{IsLeftOrHas, IsPut}
 use Rattle.royalty_program.specs.declared.failure.Failure.TheVariants.{Words}
-use Rattle.royalty_program.proofs.CommandNames.{run_not_merge, check_not_run, check_not_merge, merge_not_run}
+use Rattle.royalty_program.proofs.CommandNames.{differ}
 use Rattle.royalty_program.proofs.EndLemmas.{sent_on}
 use Rattle.royalty_program.proofs.OptionLemmas.{accepted_is_memory, no_help_given}
 
@@ -42,16 +42,16 @@ module _ (keeps : List ℕ → Option (List ℕ) → Type 0) (words : List (List
   -- a text stays where it went as the output is seen through
   pub delivered_on : (old mid new : Option (List ℕ)) (text : List ℕ) → IsDelivered keeps words old mid text → Keeps mid new → IsDelivered keeps words old new text
   delivered_on old mid new text went kept = record {
-    either = elim went.either [
+    printed_or_kept = elim went.printed_or_kept [
       | inl added ↦ inl (sent_on old mid new text added kept)
       | inr (path, named, has, same) ↦ inr (path, named, has, kept_on old mid new same kept)
     ];
-    kept = λ path asks. ((went.kept path asks).0, kept_on old mid new (went.kept path asks).1 kept);
+    kept_if_named = λ path asks. ((went.kept_if_named path asks).0, kept_on old mid new (went.kept_if_named path asks).1 kept);
   }
 
   -- words that ask for no output file are answered on standard output
   pub delivered_out : (old new : Option (List ℕ)) (text : List ℕ) → ((path : List ℕ) → ¬ AskForOutput words path) → Appends old new text → IsDelivered keeps words old new text
-  delivered_out old new text none added = record { either = inl added; kept = λ path asks. absurd (none path asks) }
+  delivered_out old new text none added = record { printed_or_kept = inl added; kept_if_named = λ path asks. absurd (none path asks) }
 
   -- no other words do
   pub no_output : ¬ (word_at words 1 ≡ codes "run") → ¬ (word_at words 1 ≡ codes "merge") → (path : List ℕ) → ¬ AskForOutput words path
@@ -70,13 +70,13 @@ module _ (keeps : List ℕ → Option (List ℕ) → Type 0) (words : List (List
   pub delivered_run : (output : Option (List ℕ)) (old new : Option (List ℕ)) (text : List ℕ) → word_at words 1 ≡ codes "run" → output ≡ path_if_given run_app (codes "output") (drop 1 words)
       → IsPut output keeps old new text → IsDelivered keeps words old new text
   delivered_run None old new text command is put = delivered_out old new text
-      (λ path asks. elim asks [ inl (run, named) ↦ cc | inr (merge, named) ↦ absurd (run_not_merge (sym command ∙ merge.command)) ])
+      (λ path asks. elim asks [ inl (run, named) ↦ cc | inr (merge, named) ↦ absurd (differ (sym command ∙ merge.command) refl) ])
       put
   delivered_run (Some output) old new text command is put = record {
-    either = inr (output, inl (command, sym is), put.0, put.1);
-    kept = λ path asks. elim asks [
+    printed_or_kept = inr (output, inl (command, sym is), put.0, put.1);
+    kept_if_named = λ path asks. elim asks [
       | inl (run, named) ↦ let same : output ≡ path = cc in (subst (λ (p : List ℕ). keeps p (Some text)) same put.0, put.1)
-      | inr (merge, named) ↦ absurd (run_not_merge (sym command ∙ merge.command))
+      | inr (merge, named) ↦ absurd (differ (sym command ∙ merge.command) refl)
     ];
   }
 
@@ -84,12 +84,12 @@ module _ (keeps : List ℕ → Option (List ℕ) → Type 0) (words : List (List
   pub delivered_merge : (output : Option (List ℕ)) (old new : Option (List ℕ)) (text : List ℕ) → word_at words 1 ≡ codes "merge" → output ≡ path_if_given merge_app (codes "output") (drop 1 words)
       → IsPut output keeps old new text → IsDelivered keeps words old new text
   delivered_merge None old new text command is put = delivered_out old new text
-      (λ path asks. elim asks [ inl (run, named) ↦ absurd (merge_not_run (sym command ∙ run.command)) | inr (merge, named) ↦ cc ])
+      (λ path asks. elim asks [ inl (run, named) ↦ absurd (differ (sym command ∙ run.command) refl) | inr (merge, named) ↦ cc ])
       put
   delivered_merge (Some output) old new text command is put = record {
-    either = inr (output, inr (command, sym is), put.0, put.1);
-    kept = λ path asks. elim asks [
-      | inl (run, named) ↦ absurd (merge_not_run (sym command ∙ run.command))
+    printed_or_kept = inr (output, inr (command, sym is), put.0, put.1);
+    kept_if_named = λ path asks. elim asks [
+      | inl (run, named) ↦ absurd (differ (sym command ∙ run.command) refl)
       | inr (merge, named) ↦ let same : output ≡ path = cc in (subst (λ (p : List ℕ). keeps p (Some text)) same put.0, put.1)
     ];
   }
@@ -97,11 +97,11 @@ module _ (keeps : List ℕ → Option (List ℕ) → Type 0) (words : List (List
   -- a report goes to standard output
   pub printed_check : (old new : Option (List ℕ)) (Answers : List ℕ → Type 0) → word_at words 1 ≡ codes "check" → (text : List ℕ) × IsDelivered keeps words old new text × Answers text
       → (text : List ℕ) × Appends old new text × Answers text
-  printed_check old new Answers command (text, went, answers) = elim went.either [
+  printed_check old new Answers command (text, went, answers) = elim went.printed_or_kept [
     | inl added ↦ (text, added, answers)
     | inr (path, named, has, same) ↦ elim named [
-      | inl (run, is) ↦ absurd (check_not_run (sym command ∙ run))
-      | inr (merge, is) ↦ absurd (check_not_merge (sym command ∙ merge))
+      | inl (run, is) ↦ absurd (differ (sym command ∙ run) refl)
+      | inr (merge, is) ↦ absurd (differ (sym command ∙ merge) refl)
     ]
   ]
 
@@ -123,14 +123,14 @@ module _ (old new : List ℕ → Option (List ℕ) → Type 0) (words : List (Li
       → IfSome output (λ value. IsLeftOrHas (old (string_bytes value)) (new (string_bytes value)) P) → (path : List ℕ) → NameOutput words path → IsLeftOrHas (old path) (new path) Q
   left_run command is weaker left path named = elim named [
     | inl (run, there) ↦ left_named old new output (path_if_given run_app (codes "output") (drop 1 words)) path P Q is there weaker left
-    | inr (merge, there) ↦ absurd (run_not_merge (sym command ∙ merge))
+    | inr (merge, there) ↦ absurd (differ (sym command ∙ merge) refl)
   ]
 
   -- and so has that of a merge
   pub left_merge : word_at words 1 ≡ codes "merge" → option_map string_bytes output ≡ path_if_given merge_app (codes "output") (drop 1 words) → ((text : List ℕ) → P text → Q text)
       → IfSome output (λ value. IsLeftOrHas (old (string_bytes value)) (new (string_bytes value)) P) → (path : List ℕ) → NameOutput words path → IsLeftOrHas (old path) (new path) Q
   left_merge command is weaker left path named = elim named [
-    | inl (run, there) ↦ absurd (merge_not_run (sym command ∙ run))
+    | inl (run, there) ↦ absurd (differ (sym command ∙ run) refl)
     | inr (merge, there) ↦ left_named old new output (path_if_given merge_app (codes "output") (drop 1 words)) path P Q is there weaker left
   ]
 

@@ -10,55 +10,39 @@ use Rattle.royalty_program.specs.Answered.{AreCheckedFrom, AreExplainedFrom, Are
 use Rattle.royalty_program.specs.MergeCommand.{merge_app}
 use Rattle.royalty_program.specs.MergeFiles.{IsMergeOver}
 use Rattle.royalty_program.specs.declared.merge_command.MergeWords.{MergeWords}
-use Rattle.royalty_program.specs.Asked.{AreRunWords, IsDivision, number_given, path_given, path_if_given, paths_given}
+use Rattle.royalty_program.specs.Asked.{AreRunWords, IsDivision, inputs_given, number_given, paths_given, paths_in_order}
 use Rattle.royalty_program.specs.CheckCommand.{check_app}
 use Rattle.royalty_program.specs.ExplainCommand.{explain_app}
 use Rattle.royalty_program.specs.Files.{AreStatementsOver, IsExplanationOver, IsReportOver}
 use Rattle.royalty_program.specs.Status.{FailFor, IsOfCheck, IsOfDivision, IsOfExplanation, IsOfMerge, IsOfNoInput, IsOfOutput, IsOfPaths, IsOfTexts, IsOfRun, IsRefusal, IsUnexplained, status_of}
 use Rattle.royalty_program.specs.declared.failure.Failure.{Failure}
 use Rattle.royalty_program.specs.declared.failure.Failure.TheVariants.{Words, NotText, Pairs, Input, Row, Room, File, Output, Target, Statement, Many, Changed}
-use Rattle.royalty_program.specs.declared.check_command.CheckWords.{CheckWords}
+use Rattle.royalty_program.specs.InputPaths.{InputPaths, paths_in}
+use Rattle.royalty_program.specs.declared.inputs.Inputs.{Inputs}
 use Rattle.royalty_program.specs.declared.explain_command.ExplainWords.{ExplainWords}
 use Rattle.royalty_program.specs.declared.run_command.RunWords.{RunWords}
 use Rattle.royalty_program.proofs.EndLemmas.{IsThrough}
-use Rattle.royalty_program.proofs.RunLemmas.{cwr_in_order, payees_in_order, tis_in_order, usage_in_order}
+use Rattle.royalty_program.proofs.RunLemmas.{inputs_in_order}
 
--- statements stay those of paths that are the same
-at_paths : (holds : List ℕ → List ℕ → Type 0) (text tis tis' : List ℕ) (payees payees' : Option (List ℕ)) (cwr cwr' usage usage' : List ℕ) → tis ≡ tis' → payees ≡ payees' → cwr ≡ cwr' → usage ≡ usage'
-    → AreStatementsOver holds tis payees cwr usage text → AreStatementsOver holds tis' payees' cwr' usage' text
-at_paths holds text tis tis' payees payees' cwr cwr' usage usage' same_tis same_payees same_cwr same_usage over =
-    subst (λ (u : List ℕ). AreStatementsOver holds tis' payees' cwr' u text) same_usage
-    (subst (λ (c : List ℕ). AreStatementsOver holds tis' payees' c usage text) same_cwr
-    (subst (λ (p : Option (List ℕ)). AreStatementsOver holds tis' p cwr usage text) same_payees
-    (subst (λ (t : List ℕ). AreStatementsOver holds t payees cwr usage text) same_tis over)))
-
--- by the paths that the options are given
+-- statements are those of the paths that the options are given
 pub over_given : (holds : List ℕ → List ℕ → Type 0) (words : List (List ℕ)) (asked : RunWords) (text : List ℕ) → AreReadFrom words asked
-    → AreStatementsOver holds (string_bytes asked.tis) (option_map string_bytes asked.payees) (string_bytes asked.cwr) (string_bytes asked.usage) text
-    → AreStatementsOver holds (path_given run_app (codes "tis") words) (path_if_given run_app (codes "payees") words) (path_given run_app (codes "cwr") words) (path_given run_app (codes "usage") words) text
-over_given holds words asked text read over = at_paths holds text _ _ _ _ _ _ _ _ read.tis read.payees read.cwr read.usage over
+    → AreStatementsOver holds (paths_in asked.inputs) text → AreStatementsOver holds (inputs_given run_app words) text
+over_given holds words asked text read over = subst (λ (paths : InputPaths). AreStatementsOver holds paths text) read.inputs over
 
--- and in the plain form by the values after the options
+-- and in the plain form of the values after the options
 pub over_in_order : (holds : List ℕ → List ℕ → Type 0) (words : List (List ℕ)) (asked : RunWords) (text : List ℕ) (r : AreRunWords words) → AreReadFrom words asked
-    → AreStatementsOver holds (string_bytes asked.tis) (option_map string_bytes asked.payees) (string_bytes asked.cwr) (string_bytes asked.usage) text
-    → AreStatementsOver holds r.tis r.payees r.cwr r.usage text
-over_in_order holds words asked text r read over = at_paths holds text _ _ _ _ _ _ _ _
-    (read.tis ∙ tis_in_order words r) (read.payees ∙ payees_in_order words r) (read.cwr ∙ cwr_in_order words r) (read.usage ∙ usage_in_order words r) over
+    → AreStatementsOver holds (paths_in asked.inputs) text → AreStatementsOver holds (paths_in_order r) text
+over_in_order holds words asked text r read over = subst (λ (paths : InputPaths). AreStatementsOver holds paths text) (read.inputs ∙ inputs_in_order words r) over
 
 -- a run fails for the files that its options name, and for that of its output
 pub fails_given : (holds : List ℕ → List ℕ → Type 0) (refuses : List ℕ → ErrorKind → Type 0) (words : List (List ℕ)) (asked : RunWords) → AreReadFrom words asked → (failure : Failure)
-    → IsOfOutput asked.output (IsOfPaths holds refuses (string_bytes asked.tis) (option_map string_bytes asked.payees) (string_bytes asked.cwr) (string_bytes asked.usage)) failure → IsOfRun holds refuses words failure
+    → IsOfOutput asked.output (IsOfPaths holds refuses (paths_in asked.inputs)) failure → IsOfRun holds refuses words failure
 fails_given holds refuses words asked read failure is = as_run failure is
   where
-    given : (failure : Failure) → IsOfPaths holds refuses (string_bytes asked.tis) (option_map string_bytes asked.payees) (string_bytes asked.cwr) (string_bytes asked.usage) failure
-        → IsOfPaths holds refuses (path_given run_app (codes "tis") words) (path_if_given run_app (codes "payees") words) (path_given run_app (codes "cwr") words) (path_given run_app (codes "usage") words) failure
-    given failure is =
-        subst (λ (u : List ℕ). IsOfPaths holds refuses (path_given run_app (codes "tis") words) (path_if_given run_app (codes "payees") words) (path_given run_app (codes "cwr") words) u failure) read.usage
-        (subst (λ (c : List ℕ). IsOfPaths holds refuses (path_given run_app (codes "tis") words) (path_if_given run_app (codes "payees") words) c (string_bytes asked.usage) failure) read.cwr
-        (subst (λ (p : Option (List ℕ)). IsOfPaths holds refuses (path_given run_app (codes "tis") words) p (string_bytes asked.cwr) (string_bytes asked.usage) failure) read.payees
-        (subst (λ (t : List ℕ). IsOfPaths holds refuses t (option_map string_bytes asked.payees) (string_bytes asked.cwr) (string_bytes asked.usage) failure) read.tis is)))
+    given : (failure : Failure) → IsOfPaths holds refuses (paths_in asked.inputs) failure → IsOfPaths holds refuses (inputs_given run_app words) failure
+    given failure is = subst (λ (paths : InputPaths). IsOfPaths holds refuses paths failure) read.inputs is
 
-    as_run : (failure : Failure) → IsOfOutput asked.output (IsOfPaths holds refuses (string_bytes asked.tis) (option_map string_bytes asked.payees) (string_bytes asked.cwr) (string_bytes asked.usage)) failure
+    as_run : (failure : Failure) → IsOfOutput asked.output (IsOfPaths holds refuses (paths_in asked.inputs)) failure
         → IsOfRun holds refuses words failure
     as_run (Words error) none = absurd none
     as_run NotText none = none
@@ -102,35 +86,37 @@ merged_given gives words asked text read over = subst (λ (paths : List (List �
 
 -- an explanation is that of the paths and the row that the options are given
 pub explained_given : (holds : List ℕ → List ℕ → Type 0) (words : List (List ℕ)) (asked : ExplainWords) (text : List ℕ) → AreExplainedFrom words asked
-    → IsExplanationOver holds (string_bytes asked.tis) (option_map string_bytes asked.payees) (string_bytes asked.cwr) (string_bytes asked.usage) asked.row text
-    → IsExplanationOver holds (path_given explain_app (codes "tis") words) (path_if_given explain_app (codes "payees") words) (path_given explain_app (codes "cwr") words) (path_given explain_app (codes "usage") words)
-    (number_given explain_app (codes "row") words) text
-explained_given holds words asked text read over = rw (sym read.tis, sym read.payees, sym read.cwr, sym read.usage, sym read.row) over
+    → IsExplanationOver holds (paths_in asked.inputs) asked.row text
+    → IsExplanationOver holds (inputs_given explain_app words) (number_given explain_app (codes "row") words) text
+explained_given holds words asked text read over =
+    subst (λ (row : ℕ). IsExplanationOver holds (inputs_given explain_app words) row text) read.row
+    (subst (λ (paths : InputPaths). IsExplanationOver holds paths asked.row text) read.inputs over)
 
 -- what files fail for is why a line of theirs is not explained
-pub as_unexplained : (holds : List ℕ → List ℕ → Type 0) (refuses : List ℕ → ErrorKind → Type 0) (tis : List ℕ) (payees : Option (List ℕ)) (cwr usage : List ℕ) (row : ℕ) (failure : Failure)
-    → IsOfPaths holds refuses tis payees cwr usage failure → IsUnexplained holds refuses tis payees cwr usage row failure
-as_unexplained holds refuses tis payees cwr usage row (Words error) none = none
-as_unexplained holds refuses tis payees cwr usage row NotText none = none
-as_unexplained holds refuses tis payees cwr usage row (Pairs fault) none = none
-as_unexplained holds refuses tis payees cwr usage row (Row beyond) none = absurd none
-as_unexplained holds refuses tis payees cwr usage row (Input fault) over = over
-as_unexplained holds refuses tis payees cwr usage row Room any = any
-as_unexplained holds refuses tis payees cwr usage row (File name) named = named
-as_unexplained holds refuses tis payees cwr usage row Output none = none
-as_unexplained holds refuses tis payees cwr usage row (Target path) none = none
-as_unexplained holds refuses tis payees cwr usage row (Statement fault path) none = none
-as_unexplained holds refuses tis payees cwr usage row Many none = none
-as_unexplained holds refuses tis payees cwr usage row (Changed path) none = none
+pub as_unexplained : (holds : List ℕ → List ℕ → Type 0) (refuses : List ℕ → ErrorKind → Type 0) (paths : InputPaths) (row : ℕ) (failure : Failure)
+    → IsOfPaths holds refuses paths failure → IsUnexplained holds refuses paths row failure
+as_unexplained holds refuses paths row (Words error) none = none
+as_unexplained holds refuses paths row NotText none = none
+as_unexplained holds refuses paths row (Pairs fault) none = none
+as_unexplained holds refuses paths row (Row beyond) none = absurd none
+as_unexplained holds refuses paths row (Input fault) over = over
+as_unexplained holds refuses paths row Room any = any
+as_unexplained holds refuses paths row (File name) named = named
+as_unexplained holds refuses paths row Output none = none
+as_unexplained holds refuses paths row (Target path) none = none
+as_unexplained holds refuses paths row (Statement fault path) none = none
+as_unexplained holds refuses paths row Many none = none
+as_unexplained holds refuses paths row (Changed path) none = none
 
 -- and its words fail for that
 pub unexplained_given : (holds : List ℕ → List ℕ → Type 0) (refuses : List ℕ → ErrorKind → Type 0) (words : List (List ℕ)) (asked : ExplainWords) → AreExplainedFrom words asked → (failure : Failure)
-    → IsUnexplained holds refuses (string_bytes asked.tis) (option_map string_bytes asked.payees) (string_bytes asked.cwr) (string_bytes asked.usage) asked.row failure → IsOfExplanation holds refuses words failure
+    → IsUnexplained holds refuses (paths_in asked.inputs) asked.row failure → IsOfExplanation holds refuses words failure
 unexplained_given holds refuses words asked read failure is =
-    as_asked failure (rw (read.tis, read.payees, read.cwr, read.usage, read.row) at is)
+    as_asked failure (subst (λ (row : ℕ). IsUnexplained holds refuses (inputs_given explain_app words) row failure) read.row
+    (subst (λ (paths : InputPaths). IsUnexplained holds refuses paths asked.row failure) read.inputs is))
   where
     as_asked : (failure : Failure)
-        → IsUnexplained holds refuses (path_given explain_app (codes "tis") words) (path_if_given explain_app (codes "payees") words) (path_given explain_app (codes "cwr") words) (path_given explain_app (codes "usage") words) (number_given explain_app (codes "row") words) failure
+        → IsUnexplained holds refuses (inputs_given explain_app words) (number_given explain_app (codes "row") words) failure
         → IsOfExplanation holds refuses words failure
     as_asked (Words error) none = absurd none
     as_asked NotText none = none
@@ -146,19 +132,19 @@ unexplained_given holds refuses words asked read failure is =
     as_asked (Changed path) none = none
 
 -- a check reports on the paths that the options are given
-pub reported_given : (holds : List ℕ → List ℕ → Type 0) (words : List (List ℕ)) (asked : CheckWords) (sound : Bool) (text : List ℕ) → AreCheckedFrom words asked
-    → IsReportOver holds (string_bytes asked.tis) (option_map string_bytes asked.payees) (string_bytes asked.cwr) (string_bytes asked.usage) sound text
-    → IsReportOver holds (path_given check_app (codes "tis") words) (path_if_given check_app (codes "payees") words) (path_given check_app (codes "cwr") words) (path_given check_app (codes "usage") words) sound text
-reported_given holds words asked sound text read over = rw (sym read.tis, sym read.payees, sym read.cwr, sym read.usage) over
+pub reported_given : (holds : List ℕ → List ℕ → Type 0) (words : List (List ℕ)) (inputs : Inputs) (sound : Bool) (text : List ℕ) → AreCheckedFrom words inputs
+    → IsReportOver holds (paths_in inputs) sound text
+    → IsReportOver holds (inputs_given check_app words) sound text
+reported_given holds words inputs sound text read over = subst (λ (paths : InputPaths). IsReportOver holds paths sound text) read over
 
 -- and fails for what is not read of them
-pub unchecked_given : (holds : List ℕ → List ℕ → Type 0) (refuses : List ℕ → ErrorKind → Type 0) (words : List (List ℕ)) (asked : CheckWords) → AreCheckedFrom words asked → (failure : Failure)
-    → IsOfPaths holds refuses (string_bytes asked.tis) (option_map string_bytes asked.payees) (string_bytes asked.cwr) (string_bytes asked.usage) failure → IsOfNoInput failure → IsOfCheck holds refuses words failure
-unchecked_given holds refuses words asked read failure is none =
-    as_asked failure (rw (read.tis, read.payees, read.cwr, read.usage) at is) none
+pub unchecked_given : (holds : List ℕ → List ℕ → Type 0) (refuses : List ℕ → ErrorKind → Type 0) (words : List (List ℕ)) (inputs : Inputs) → AreCheckedFrom words inputs → (failure : Failure)
+    → IsOfPaths holds refuses (paths_in inputs) failure → IsOfNoInput failure → IsOfCheck holds refuses words failure
+unchecked_given holds refuses words inputs read failure is none =
+    as_asked failure (subst (λ (paths : InputPaths). IsOfPaths holds refuses paths failure) read is) none
   where
     as_asked : (failure : Failure)
-        → IsOfPaths holds refuses (path_given check_app (codes "tis") words) (path_if_given check_app (codes "payees") words) (path_given check_app (codes "cwr") words) (path_given check_app (codes "usage") words) failure
+        → IsOfPaths holds refuses (inputs_given check_app words) failure
         → IsOfNoInput failure → IsOfCheck holds refuses words failure
     as_asked (Words error) never none = absurd never
     as_asked NotText is none = (is, none)

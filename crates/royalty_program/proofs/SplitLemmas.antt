@@ -1,5 +1,5 @@
 -- What a parse of the words of a division gives.
-use Rattle.std.proofs.Common.{◌≡◌, ◌≢◌, ◌∙◌, ◌≤◌, ◌<◌, All, map, take, drop, sym, subst, ◌+◌, ◌++◌, zero, suc, ap, ap₂, ℕ, true, false, List, [], ◌∷◌, length, is_some, Option, Some, None, refl, inl, inr, arith, codes}
+use Rattle.std.proofs.Common.{◌≡◌, ◌≢◌, ◌∙◌, ◌≤◌, ◌<◌, All, map, take, drop, sym, subst, ◌+◌, ◌++◌, zero, suc, ap, ap₂, ℕ, true, List, [], ◌∷◌, length, is_some, Option, Some, None, refl, inl, inr, arith, codes}
 use Rattle.std.specs.List.{slice_index_or}
 use Rattle.std.specs.Option.{IfSome, IsSome, option_map}
 use Rattle.std.specs.Str.{bytes_eq}
@@ -7,14 +7,12 @@ use Rattle.std.specs.Str.Parse.{ExplainsUnsignedError, HasUnsignedDigitsIfOk, Pa
 use Rattle.std.specs.Borrow.{Bor}
 use Rattle.std.proofs.Math.Seq.{take-suc}
 use Rattle.std.proofs.lemmas.List.{map-append, take-map}
-use Rattle.std.proofs.lemmas.List.Elements.{All-nil}
 use Rattle.std.proofs.lemmas.Slice.Eq.{bytes_eq-Decides}
-use Rattle.clap.specs.Words.{AddsArg, IsParsedFrom, IsPlain, IsPlainArg, IsUnsignedIn, ReadsOne, SameRules, args_of, found_of, groups_of, matched_of, new_app, one_text, raw_values, app_of, rule_of, with_rule}
+use Rattle.clap.specs.Words.{AddsArg, IsParsedFrom, IsUnsignedIn, ReadsOne, SameRules, args_of, found_of, matched_of, new_app, one_text, raw_values, app_of, rule_of, with_rule}
 use Rattle.clap.specs.Words.{HasKind, HasMatchesOf, all_of, fault_of, is_simple, is_simple_and_free, kind_of, matches_of, one_of, rows_of}
 use Rattle.clap.specs.declared.builder.action.ArgAction.TheVariants.{Set}
 use Rattle.clap.specs.declared.builder.arg.Arg.{Arg}
 use Rattle.clap.specs.declared.builder.command.Command.{Command}
-use Rattle.clap.specs.declared.builder.command.Command.TheViews.{out-Command as fields_of}
 use Rattle.clap.specs.declared.builder.value_parser.ValueParser.TheVariants as vp
 use Rattle.clap.specs.declared.error.Error.{Error}
 use Rattle.clap.specs.declared.error.kind.ErrorKind.TheVariants as kinds
@@ -25,7 +23,7 @@ use Rattle.clap.proofs.CallerReads.{required_reads}
 use Rattle.clap.proofs.WalkLemmas.{one_text-rows, raw_values-rows}
 use Rattle.royalty_program.specs.Asked.{IsValue, number_in}
 use Rattle.pair_split.specs.Pair.{word_at}
-use Rattle.royalty_program.specs.RequiredArg.{IsRequiredArg}
+use Rattle.royalty_program.specs.Args.{HasArgs, IsRequiredArg}
 use Rattle.royalty_program.specs.SplitCommand.{IsSplitCommand, amount_rule, pairs_rule, split_app}
 use Rattle.royalty_program.proofs.Walked.{amount_is, kinds_no_help, pairs_are, split_free, split_simple}
 use Rattle.line_split.specs.declared.TheConstants.{MOST_AMOUNT}
@@ -45,25 +43,23 @@ required_same name a b same needed = record {
 }
 
 -- a new command with the two arguments is the command of a division
-pub adds_two : (start mid c : Command) (a b : Arg) → args_of start ≡ [] → groups_of start ≡ []
-    → (fields_of start).has_globals ≡ false → (fields_of start).subcommand_negates_reqs ≡ false
-    → AddsArg start a mid → AddsArg mid b c
+pub adds_two : (start mid c : Command) (a b : Arg) → HasArgs start [] (new_app (codes "split")) → AddsArg start a mid → AddsArg mid b c
     → IsRequiredArg (codes "AMOUNT") a → a.value_parser ≡ Some (vp.Unsigned 0 MOST_AMOUNT)
-    → IsRequiredArg (codes "PARTY=SHARE") b
-    → app_of start ≡ new_app (codes "split") → rule_of a ≡ amount_rule → rule_of b ≡ pairs_rule → IsSplitCommand c
-adds_two start mid c a b args groups globals negates first second amount parser pairs app amount_is pairs_are =
-    let start_plain : IsPlain start = (rw args (All-nil IsPlainArg), groups) in
-    let mid_plain = added_plain start mid a first start_plain amount.plain in record {
+    → IsRequiredArg (codes "PARTY=SHARE") b → rule_of a ≡ amount_rule → rule_of b ≡ pairs_rule → IsSplitCommand c
+adds_two start mid c a b begun first second amount parser pairs amount_is pairs_are =
+    let mid_plain = added_plain start mid a first begun.plain amount.plain in record {
       amount = first.arg;
       pairs = second.arg;
-      args = cc;
       needs_amount = required_same _ a first.arg first.rules amount;
       in_range = first.rules.parser _ parser;
       needs_pairs = required_same _ b second.arg second.rules pairs;
-      plain = added_plain mid c b second mid_plain pairs.plain;
-      globals = rw (second.globals, first.globals, globals, amount.local, pairs.local) refl;
-      negates = cc;
-      shape = second.shape pairs.local ∙ ap₂ with_rule (first.shape amount.local ∙ ap₂ with_rule app amount_is) pairs_are;
+      has = record {
+        list = second.args ∙ ap (λ l. l ++ second.arg ∷ []) (first.args ∙ ap (λ l. l ++ first.arg ∷ []) begun.list);
+        plain = added_plain mid c b second mid_plain pairs.plain;
+        globals = rw (second.globals, first.globals, begun.globals, amount.local, pairs.local) refl;
+        negates = second.negates ∙ first.negates ∙ begun.negates;
+        shape = second.shape pairs.local ∙ ap₂ with_rule (first.shape amount.local ∙ ap₂ with_rule begun.shape amount_is) pairs_are;
+      };
     }
 
 -- how `get_one::<u64>` reads a text
@@ -92,11 +88,11 @@ amount_text : (c : Command) (m : ArgMatches) → IsSplitCommand c → IsParsedFr
     → (t : List ℕ) × (one_text (found_of m) (codes "AMOUNT") ≡ Some t) × IsUnsignedIn 0 MOST_AMOUNT t
 amount_text c m s p =
     let value = s.needs_amount.value in
-    let first : slice_index_or (args_of c) 0 s.amount ≡ s.amount = rw s.args refl in
+    let first : slice_index_or (args_of c) 0 s.amount ≡ s.amount = rw s.has.list refl in
     let id : (slice_index_or (args_of c) 0 s.amount).id.now ≡ codes "AMOUNT" = rw first s.needs_amount.id in
-    let got = required_reads c m p s.plain s.globals s.negates 0 s.amount (rw s.args (omega arith))
+    let got = required_reads c m p s.has.plain s.has.globals s.has.negates 0 s.amount (rw s.has.list (omega arith))
     (rw first value.0) (rw first value.1) (rw first value.2) (rw first value.3)
-    (λ j e. only_amount (args_of c) s.amount s.pairs j e s.args s.needs_amount.id s.needs_pairs.id)
+    (λ j e. only_amount (args_of c) s.amount s.pairs j e s.has.list s.needs_amount.id s.needs_pairs.id)
     (λ empty. cc)
     (λ auto. elim auto [ inl h ↦ cc | inr h ↦ cc ])
     (vp.Unsigned 0 MOST_AMOUNT) (rw first s.in_range) in
@@ -123,16 +119,16 @@ pub pairs_read : {X : Type 0} (f : X → List (List ℕ)) (c : Command) (m : Arg
     → IsSplitCommand c → IsParsedFrom c m
     → option_map f r ≡ option_map raw_values (matched_of (found_of m) (codes "PARTY=SHARE")) → IsSome r
 pairs_read f c m r s p same =
-    let second : slice_index_or (args_of c) 1 s.pairs ≡ s.pairs = rw s.args refl in
+    let second : slice_index_or (args_of c) 1 s.pairs ≡ s.pairs = rw s.has.list refl in
     let id : (slice_index_or (args_of c) 1 s.pairs).id.now ≡ codes "PARTY=SHARE" = rw second s.needs_pairs.id in
-    let used = required_present c m p s.plain s.globals s.negates 1 s.pairs (rw s.args (omega arith))
+    let used = required_present c m p s.has.plain s.has.globals s.has.negates 1 s.pairs (rw s.has.list (omega arith))
     (rw second s.needs_pairs.value.0) in
     some_of_map f raw_values r _ same (present_has_entry (found_of m) _ (rw id at used))
 
 -- what a parse finds of the words, where none is an option
 rows_are : (c : Command) (m : ArgMatches) (words : List (List ℕ)) → IsSplitCommand c → HasMatchesOf (app_of c) words m
     → rows_of (found_of m) ≡ matches_of split_app words
-rows_are c m words s found = (found (ap is_simple s.shape ∙ split_simple)).0 ∙ ap (λ a. matches_of a words) s.shape
+rows_are c m words s found = (found (ap is_simple s.has.shape ∙ split_simple)).0 ∙ ap (λ a. matches_of a words) s.has.shape
 
 -- then the amount is the number of the second word
 pub amount_given : (c : Command) (m : ArgMatches) (words : List (List ℕ)) (r : Option ℕ) (n : ℕ) → IsSplitCommand c → IsParsedFrom c m
@@ -160,7 +156,7 @@ pub error_given : (c : Command) (words : List (List ℕ)) (e : Error) → IsSpli
     → (is_simple_and_free (app_of c) ≡ true → HasKind (fault_of (app_of c) words) e) → All IsValue (drop 1 words)
     → (kind_of e ≢ kinds.DisplayHelp) × (kind_of e ≢ kinds.DisplayVersion)
 error_given c words e s fails are =
-    kinds_no_help words (kind_of e) are (subst (λ a. HasKind (fault_of a words) e) s.shape (fails (ap is_simple_and_free s.shape ∙ split_free)))
+    kinds_no_help words (kind_of e) are (subst (λ a. HasKind (fault_of a words) e) s.has.shape (fails (ap is_simple_and_free s.has.shape ∙ split_free)))
 
 -- one more word of those that a parse gives is copied
 pub copied_more : {S : Type 0} (bytes : S → List ℕ) (words : List (Bor (List ℕ))) (copies more : List S) (i : ℕ) (copy : S) (d : Bor (List ℕ)) → i < length words

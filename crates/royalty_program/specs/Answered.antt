@@ -4,7 +4,7 @@ use Rattle.std.specs.Option.{option_map}
 use Rattle.std.specs.Io.KnownBytes.{Appends, Keeps}
 use Rattle.line_split.specs.declared.TheConstants.{MOST_AMOUNT}
 use Rattle.royalty_program.specs.RunCommand.{run_app}
-use Rattle.royalty_program.specs.Asked.{AreRunWords, AreAccepted, AskForCheck, AskForExplanation, AskForMerge, AskForRun, IsDivision, IsRun, amount_of, number_given, number_in, pairs_of, path_given, path_if_given, paths_given}
+use Rattle.royalty_program.specs.Asked.{AreRunWords, AreAccepted, AskForCheck, AskForExplanation, AskForMerge, AskForRun, IsDivision, IsRun, amount_of, inputs_given, number_given, number_in, pairs_of, path_if_given, paths_given, paths_in_order}
 use Rattle.pair_split.specs.PairFault.{AreSound}
 use Rattle.pair_split.specs.Pair.{word_at}
 use Rattle.pair_split.specs.Rows.{split_text}
@@ -12,11 +12,12 @@ use Rattle.royalty_program.specs.CheckCommand.{check_app}
 use Rattle.royalty_program.specs.ExplainCommand.{explain_app}
 use Rattle.royalty_program.specs.MergeCommand.{AreFewAndDifferent, merge_app}
 use Rattle.royalty_program.specs.MergeFiles.{IsMergeOver}
+use Rattle.royalty_program.specs.InputPaths.{paths_in}
 use Rattle.royalty_program.specs.Files.{AreStatementsOver, IsExplanationOver, IsReportOver}
-use Rattle.royalty_program.specs.declared.check_command.CheckWords.{CheckWords}
 use Rattle.royalty_program.specs.declared.commands.Asked.{Asked}
 use Rattle.royalty_program.specs.declared.commands.Asked.TheVariants.{Check, Division, Explanation, Merge, Run}
 use Rattle.royalty_program.specs.declared.explain_command.ExplainWords.{ExplainWords}
+use Rattle.royalty_program.specs.declared.inputs.Inputs.{Inputs}
 use Rattle.royalty_program.specs.declared.merge_command.MergeWords.{MergeWords}
 use Rattle.royalty_program.specs.declared.run_command.RunWords.{RunWords}
 
@@ -46,10 +47,7 @@ IsDivisionOf words (Merge asked) = ⊥
 
 -- the paths and the numbers are those that the options of a run are given
 pub record AreReadFrom (words : List (List ℕ)) (asked : RunWords) : Type 0 where
-  pub tis : string_bytes asked.tis ≡ path_given run_app (codes "tis") words
-  pub payees : option_map string_bytes asked.payees ≡ path_if_given run_app (codes "payees") words
-  pub cwr : string_bytes asked.cwr ≡ path_given run_app (codes "cwr") words
-  pub usage : string_bytes asked.usage ≡ path_given run_app (codes "usage") words
+  pub inputs : paths_in asked.inputs ≡ inputs_given run_app words
   pub plan : asked.plan ≡ record {
     workers = number_given run_app (codes "workers") words;
     readers = number_given run_app (codes "readers") words;
@@ -59,10 +57,7 @@ pub record AreReadFrom (words : List (List ℕ)) (asked : RunWords) : Type 0 whe
 
 -- and in the plain form they are the values after the options, with no path of an output
 pub record AreReadInOrder (words : List (List ℕ)) (run : AreRunWords words) (asked : RunWords) : Type 0 where
-  pub tis : string_bytes asked.tis ≡ run.tis
-  pub payees : option_map string_bytes asked.payees ≡ run.payees
-  pub cwr : string_bytes asked.cwr ≡ run.cwr
-  pub usage : string_bytes asked.usage ≡ run.usage
+  pub inputs : paths_in asked.inputs ≡ paths_in_order run
   pub plan : asked.plan ≡ record {
     workers = number_in run.workers;
     readers = number_in run.readers;
@@ -86,10 +81,7 @@ IsRunInOrder words run (Merge asked) = ⊥
 
 -- the paths and the row are those that the options of an explanation are given
 pub record AreExplainedFrom (words : List (List ℕ)) (asked : ExplainWords) : Type 0 where
-  pub tis : string_bytes asked.tis ≡ path_given explain_app (codes "tis") words
-  pub payees : option_map string_bytes asked.payees ≡ path_if_given explain_app (codes "payees") words
-  pub cwr : string_bytes asked.cwr ≡ path_given explain_app (codes "cwr") words
-  pub usage : string_bytes asked.usage ≡ path_given explain_app (codes "usage") words
+  pub inputs : paths_in asked.inputs ≡ inputs_given explain_app words
   pub row : asked.row ≡ number_given explain_app (codes "row") words
 
 abbrev pub IsExplanationAsked : List (List ℕ) → Asked → Type 0
@@ -97,14 +89,11 @@ IsExplanationAsked words (Explanation asked) = AreExplainedFrom (drop 1 words) a
 IsExplanationAsked words _ = ⊥
 
 -- the paths are those that the options of a check are given
-pub record AreCheckedFrom (words : List (List ℕ)) (asked : CheckWords) : Type 0 where
-  pub tis : string_bytes asked.tis ≡ path_given check_app (codes "tis") words
-  pub payees : option_map string_bytes asked.payees ≡ path_if_given check_app (codes "payees") words
-  pub cwr : string_bytes asked.cwr ≡ path_given check_app (codes "cwr") words
-  pub usage : string_bytes asked.usage ≡ path_given check_app (codes "usage") words
+abbrev pub AreCheckedFrom : List (List ℕ) → Inputs → Type 0
+AreCheckedFrom words inputs = paths_in inputs ≡ inputs_given check_app words
 
 abbrev pub IsCheckAsked : List (List ℕ) → Asked → Type 0
-IsCheckAsked words (Check asked) = AreCheckedFrom (drop 1 words) asked
+IsCheckAsked words (Check inputs) = AreCheckedFrom (drop 1 words) inputs
 IsCheckAsked words _ = ⊥
 
 -- The paths are those that a merge is given, all of them in their order: they are one or more, no more than are merged at once, and each stands once.
@@ -129,14 +118,14 @@ pub record IsAnswerTo (words : List (List ℕ)) (text : List ℕ) : Type 0 where
 pub record IsAnswered (holds gives : List ℕ → List ℕ → Type 0) (words : List (List ℕ)) (sound : Bool) (text : List ℕ) : Type 0 where
   pub division : IsDivision words → IsAnswerTo words text
   pub run : AskForRun words
-      → AreStatementsOver holds (path_given run_app (codes "tis") (drop 1 words)) (path_if_given run_app (codes "payees") (drop 1 words)) (path_given run_app (codes "cwr") (drop 1 words)) (path_given run_app (codes "usage") (drop 1 words)) text
+      → AreStatementsOver holds (inputs_given run_app (drop 1 words)) text
   pub explained : AskForExplanation words
-      → IsExplanationOver holds (path_given explain_app (codes "tis") (drop 1 words)) (path_if_given explain_app (codes "payees") (drop 1 words)) (path_given explain_app (codes "cwr") (drop 1 words)) (path_given explain_app (codes "usage") (drop 1 words)) (number_given explain_app (codes "row") (drop 1 words)) text
+      → IsExplanationOver holds (inputs_given explain_app (drop 1 words)) (number_given explain_app (codes "row") (drop 1 words)) text
   pub checked : AskForCheck words
-      → IsReportOver holds (path_given check_app (codes "tis") (drop 1 words)) (path_if_given check_app (codes "payees") (drop 1 words)) (path_given check_app (codes "cwr") (drop 1 words)) (path_given check_app (codes "usage") (drop 1 words)) sound text
+      → IsReportOver holds (inputs_given check_app (drop 1 words)) sound text
   pub merged : AskForMerge words → IsMergeOver gives (paths_given merge_app (codes "statements") (drop 1 words)) text
   pub others : ¬ (word_at words 1 ≡ codes "check") → sound ≡ true
-  pub in_order : (asked : IsRun words) → AreStatementsOver holds asked.options.tis asked.options.payees asked.options.cwr asked.options.usage text
+  pub in_order : (asked : IsRun words) → AreStatementsOver holds (paths_in_order asked.options) text
 
 -- the words of a run or of a merge name a file for the text
 abbrev pub NameOutput : List (List ℕ) → (path : List ℕ) → Type 0
@@ -152,5 +141,5 @@ AskForOutput words path =
 
 -- The text went to standard output, or it is kept in the file that the words name, and then nothing was printed. Only help is printed although words name a file.
 pub record IsDelivered (keeps : List ℕ → Option (List ℕ) → Type 0) (words : List (List ℕ)) (before after : Option (List ℕ)) (text : List ℕ) : Type 0 where
-  pub either : Appends before after text ⊎ ((path : List ℕ) × NameOutput words path × keeps path (Some text) × Keeps before after)
-  pub kept : (path : List ℕ) → AskForOutput words path → keeps path (Some text) × Keeps before after
+  pub printed_or_kept : Appends before after text ⊎ ((path : List ℕ) × NameOutput words path × keeps path (Some text) × Keeps before after)
+  pub kept_if_named : (path : List ℕ) → AskForOutput words path → keeps path (Some text) × Keeps before after

@@ -7,6 +7,7 @@ use Rattle.clap.specs.declared.error.kind.ErrorKind.TheVariants as kinds
 use Rattle.pair_split.specs.Pair.{word_at}
 use Rattle.royalty_program.specs.CheckCommand.{check_app}
 use Rattle.royalty_program.specs.ExplainCommand.{explain_app}
+use Rattle.royalty_program.specs.InputPaths.{InputPaths}
 use Rattle.royalty_program.specs.MergeCommand.{AreWrongPaths, merge_app}
 use Rattle.royalty_program.specs.RunCommand.{run_app}
 
@@ -37,6 +38,15 @@ path_given app name words = unwrap_or (first_of name (matches_of app words)) []
 -- the path of an option that need not be there
 unfoldable pub path_if_given : App → (name : List ℕ) → List (List ℕ) → Option (List ℕ)
 path_if_given app name words = first_of name (matches_of app words)
+
+-- the paths of the files of a run
+abbrev pub inputs_given : App → List (List ℕ) → InputPaths
+inputs_given app words = record {
+  tis = path_given app (codes "tis") words;
+  payees = path_if_given app (codes "payees") words;
+  cwr = path_given app (codes "cwr") words;
+  usage = path_given app (codes "usage") words;
+}
 
 -- all the paths of an argument that takes several, in the order in which they stand
 unfoldable pub paths_given : App → (name : List ℕ) → List (List ℕ) → List (List ℕ)
@@ -116,3 +126,7 @@ pub record AreRunWords (words : List (List ℕ)) : Type 0 where
 pub record IsRun (words : List (List ℕ)) : Type 0 where
   pub command : word_at words 1 ≡ codes "run"
   pub options : AreRunWords (drop 1 words)
+
+-- the paths of its files
+abbrev pub paths_in_order : {words : List (List ℕ)} → AreRunWords words → InputPaths
+paths_in_order run = record { tis = run.tis; payees = run.payees; cwr = run.cwr; usage = run.usage }

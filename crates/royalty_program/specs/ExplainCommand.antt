@@ -1,37 +1,20 @@
 -- What the command of an explanation asks of its words.
-use Rattle.std.specs.Prelude.{◌≡◌, ◌∷◌, [], Some, false, codes}
-use Rattle.clap.specs.Words.{App, IsPlain, app_of, args_of, new_app}
-use Rattle.clap.specs.Words.{with_rule}
+use Rattle.std.specs.Prelude.{◌≡◌, ◌∷◌, [], Some, codes}
+use Rattle.clap.specs.Words.{App, new_app, with_rule}
 use Rattle.clap.specs.declared.builder.arg.Arg.{Arg}
 use Rattle.clap.specs.declared.builder.command.Command.{Command}
-use Rattle.clap.specs.declared.builder.command.Command.TheViews.{out-Command as fields_of}
 use Rattle.clap.specs.declared.builder.value_parser.ValueParser.TheVariants as vp
 use Rattle.line_split.specs.declared.usage.TheConstants.{MOST_LINES}
-use Rattle.royalty_program.specs.RequiredArg.{IsOptionalArg, IsRequiredArg}
-use Rattle.royalty_program.specs.RunCommand.{file_rule, number_rule, optional_rule}
+use Rattle.royalty_program.specs.Args.{IsRequiredArg, number_rule}
+use Rattle.royalty_program.specs.InputCommand.{HasInputArgs, with_inputs}
 
 -- what a parse reads of the command
 abbrev pub explain_app : App
-explain_app =
-    with_rule (with_rule (with_rule (with_rule (with_rule (new_app (codes "explain"))
-    (file_rule (codes "tis"))) (optional_rule (codes "payees"))) (file_rule (codes "cwr"))) (file_rule (codes "usage")))
-    (number_rule (codes "row") MOST_LINES)
+explain_app = with_rule (with_inputs (new_app (codes "explain"))) (number_rule (codes "row") MOST_LINES)
 
 -- the command has five options: four paths, one of which need not be there, and the number of a row
 pub record IsExplainCommand (c : Command) : Type 0 where
-  pub tis : Arg
-  pub payees : Arg
-  pub cwr : Arg
-  pub usage : Arg
   pub row : Arg
-  pub args : args_of c ≡ tis ∷ payees ∷ cwr ∷ usage ∷ row ∷ []
-  pub needs_tis : IsRequiredArg (codes "tis") tis
-  pub may_have_payees : IsOptionalArg (codes "payees") payees
-  pub needs_cwr : IsRequiredArg (codes "cwr") cwr
-  pub needs_usage : IsRequiredArg (codes "usage") usage
   pub needs_row : IsRequiredArg (codes "row") row
   pub few_rows : row.value_parser ≡ Some (vp.Unsigned 1 MOST_LINES)
-  pub plain : IsPlain c
-  pub globals : (fields_of c).has_globals ≡ false
-  pub negates : (fields_of c).subcommand_negates_reqs ≡ false
-  pub shape : app_of c ≡ explain_app
+  pub inputs : HasInputArgs c (row ∷ []) explain_app

@@ -1,11 +1,13 @@
 pub mod Answered
+pub mod Args
 pub mod Asked
 pub mod CheckCommand
 pub mod ExplainCommand
 pub mod Files
+pub mod InputCommand
+pub mod InputPaths
 pub mod MergeCommand
 pub mod MergeFiles
-pub mod RequiredArg
 pub mod RunCommand
 pub mod SplitCommand
 pub mod Status

@@ -1,17 +1,14 @@
 -- What the command of a merge asks of its words.
-use Rattle.std.specs.Prelude.{ℕ, ◌≡◌, ◌<◌, ◌≤◌, ◌⊎◌, ◌∷◌, List, [], Some, false, true, codes, length}
-use Rattle.clap.specs.Words.{App, IsPlain, Rule, app_of, args_of, kind_of, new_app, new_rule}
-use Rattle.clap.specs.Words.{with_rule}
+use Rattle.std.specs.Prelude.{ℕ, ◌≡◌, ◌<◌, ◌≤◌, ◌⊎◌, ◌∷◌, List, [], Some, true, codes, length}
+use Rattle.clap.specs.Words.{App, Rule, kind_of, new_app, new_rule, with_rule}
 use Rattle.clap.specs.Lexer.{usize_max}
 use Rattle.clap.specs.declared.builder.action.ArgAction.TheVariants.{Set}
 use Rattle.clap.specs.declared.builder.arg.Arg.{Arg}
 use Rattle.clap.specs.declared.builder.command.Command.{Command}
-use Rattle.clap.specs.declared.builder.command.Command.TheViews.{out-Command as fields_of}
 use Rattle.clap.specs.declared.error.Error.{Error}
 use Rattle.clap.specs.declared.error.kind.ErrorKind.TheVariants as kinds
 use Rattle.pair_split.specs.Pair.{word_at}
-use Rattle.royalty_program.specs.RequiredArg.{IsOptionalArg, IsRequiredArg}
-use Rattle.royalty_program.specs.RunCommand.{optional_rule}
+use Rattle.royalty_program.specs.Args.{HasArgs, IsOptionalArg, IsRequiredArg, optional_rule}
 
 -- what a parse reads of the paths of the statements, and of the command
 abbrev pub statements_rule : Rule
@@ -29,13 +26,9 @@ merge_app = with_rule (with_rule (new_app (codes "merge")) (optional_rule (codes
 pub record IsMergeCommand (c : Command) : Type 0 where
   pub output : Arg
   pub statements : Arg
-  pub args : args_of c ≡ output ∷ statements ∷ []
   pub may_have_output : IsOptionalArg (codes "output") output
   pub needs_statements : IsRequiredArg (codes "statements") statements
-  pub plain : IsPlain c
-  pub globals : (fields_of c).has_globals ≡ false
-  pub negates : (fields_of c).subcommand_negates_reqs ≡ false
-  pub shape : app_of c ≡ merge_app
+  pub has : HasArgs c (output ∷ statements ∷ []) merge_app
 
 -- the path at i stands before it too
 abbrev pub IsNamedBefore : List (List ℕ) → ℕ → Type 0

@@ -1,15 +1,13 @@
 -- What the command of a division asks of its words.
-use Rattle.std.specs.Prelude.{◌≡◌, ◌∷◌, [], Some, false, true, codes}
-use Rattle.clap.specs.Words.{App, IsPlain, Rule, app_of, args_of, new_app, new_rule}
-use Rattle.clap.specs.Words.{with_rule}
+use Rattle.std.specs.Prelude.{◌≡◌, ◌∷◌, [], Some, true, codes}
+use Rattle.clap.specs.Words.{App, Rule, new_app, new_rule, with_rule}
 use Rattle.clap.specs.Lexer.{usize_max}
 use Rattle.clap.specs.declared.builder.action.ArgAction.TheVariants.{Set}
 use Rattle.clap.specs.declared.builder.arg.Arg.{Arg}
 use Rattle.clap.specs.declared.builder.command.Command.{Command}
-use Rattle.clap.specs.declared.builder.command.Command.TheViews.{out-Command as fields_of}
 use Rattle.clap.specs.declared.builder.value_parser.ValueParser.TheVariants as vp
 use Rattle.line_split.specs.declared.TheConstants.{MOST_AMOUNT}
-use Rattle.royalty_program.specs.RequiredArg.{IsRequiredArg}
+use Rattle.royalty_program.specs.Args.{HasArgs, IsRequiredArg}
 
 -- what a parse reads of the two arguments, and of the command
 abbrev pub amount_rule : Rule
@@ -33,11 +31,7 @@ split_app = with_rule (with_rule (new_app (codes "split")) amount_rule) pairs_ru
 pub record IsSplitCommand (c : Command) : Type 0 where
   pub amount : Arg
   pub pairs : Arg
-  pub args : args_of c ≡ amount ∷ pairs ∷ []
   pub needs_amount : IsRequiredArg (codes "AMOUNT") amount
   pub in_range : amount.value_parser ≡ Some (vp.Unsigned 0 MOST_AMOUNT)
   pub needs_pairs : IsRequiredArg (codes "PARTY=SHARE") pairs
-  pub plain : IsPlain c
-  pub globals : (fields_of c).has_globals ≡ false
-  pub negates : (fields_of c).subcommand_negates_reqs ≡ false
-  pub shape : app_of c ≡ split_app
+  pub has : HasArgs c (amount ∷ pairs ∷ []) split_app

@@ -7,7 +7,7 @@ use Rattle.std.specs.declared.io.ErrorKind as io
 use Rattle.std.specs.declared.io.ErrorKind.TheVariants as io_kind
 use Rattle.pair_split.specs.Pair.{word_at}
 use Rattle.royalty_program.specs.RunCommand.{run_app}
-use Rattle.royalty_program.specs.Asked.{AreAccepted, IsDivision, NameWrongPaths, number_given, pairs_of, path_given, path_if_given, paths_given}
+use Rattle.royalty_program.specs.Asked.{AreAccepted, IsDivision, NameWrongPaths, inputs_given, number_given, pairs_of, path_if_given, paths_given}
 use Rattle.pair_split.specs.PairFault.{IsFaultOf}
 use Rattle.pair_split.specs.PairFault as pair
 use Rattle.tis_tree.specs.TisRows as tis
@@ -21,6 +21,7 @@ use Rattle.merge_statements.specs.declared.refusal.Refusal.TheVariants as refusa
 use Rattle.royalty_program.specs.CheckCommand.{check_app}
 use Rattle.royalty_program.specs.ExplainCommand.{explain_app}
 use Rattle.royalty_program.specs.Files.{HasNoRowOver, IsFaultOver}
+use Rattle.royalty_program.specs.InputPaths.{InputPaths}
 use Rattle.royalty_program.specs.MergeCommand.{merge_app}
 use Rattle.royalty_program.specs.MergeFiles.{AreTooMany, HoldsOf, IsFaultAt, IsFirstRefused, IsOneOfSound}
 use Rattle.royalty_program.specs.declared.failure.Failure.{Failure}
@@ -114,23 +115,24 @@ abbrev pub IsUnread : (refuses : List ℕ → io.ErrorKind → Type 0) → List 
 IsUnread refuses path = (kind : io.ErrorKind) × refuses path kind × (kind ≢ io_kind.OutOfMemory)
 
 -- it is the first of those of a run, in their order, where those before it were read
-abbrev pub IsFirst : (holds : List ℕ → List ℕ → Type 0) → (tis : List ℕ) → (payees : Option (List ℕ)) → (cwr usage path : List ℕ) → Type 0
-IsFirst holds tis payees cwr usage path =
-    (path ≡ tis)
-    ⊎ (((payees ≡ Some path) × IsRead holds tis)
-    ⊎ (((path ≡ cwr) × IsRead holds tis × IsReadIfGiven holds payees) ⊎ ((path ≡ usage) × IsRead holds tis × IsReadIfGiven holds payees × IsRead holds cwr)))
+abbrev pub IsFirst : (holds : List ℕ → List ℕ → Type 0) → InputPaths → (path : List ℕ) → Type 0
+IsFirst holds paths path =
+    (path ≡ paths.tis)
+    ⊎ (((paths.payees ≡ Some path) × IsRead holds paths.tis)
+    ⊎ (((path ≡ paths.cwr) × IsRead holds paths.tis × IsReadIfGiven holds paths.payees)
+    ⊎ ((path ≡ paths.usage) × IsRead holds paths.tis × IsReadIfGiven holds paths.payees × IsRead holds paths.cwr)))
 
 -- and it cannot be read
-pub record IsFirstUnread (holds : List ℕ → List ℕ → Type 0) (refuses : List ℕ → io.ErrorKind → Type 0) (tis : List ℕ) (payees : Option (List ℕ)) (cwr usage path : List ℕ) : Type 0 where
+pub record IsFirstUnread (holds : List ℕ → List ℕ → Type 0) (refuses : List ℕ → io.ErrorKind → Type 0) (paths : InputPaths) (path : List ℕ) : Type 0 where
   pub unread : IsUnread refuses path
-  pub first : IsFirst holds tis payees cwr usage path
+  pub first : IsFirst holds paths path
 
 -- a run over the files of these paths fails for the first fault of the first of them that has one, for lack of memory, or for the first that cannot be read
-abbrev pub IsOfPaths : (holds : List ℕ → List ℕ → Type 0) (refuses : List ℕ → io.ErrorKind → Type 0) (tis : List ℕ) (payees : Option (List ℕ)) (cwr usage : List ℕ) → Failure → Type 0
-IsOfPaths holds refuses tis payees cwr usage (Input fault) = IsFaultOver holds tis payees cwr usage fault
-IsOfPaths holds refuses tis payees cwr usage Room = ⊤
-IsOfPaths holds refuses tis payees cwr usage (File name) = IsFirstUnread holds refuses tis payees cwr usage (string_bytes name)
-IsOfPaths holds refuses tis payees cwr usage _ = ⊥
+abbrev pub IsOfPaths : (holds : List ℕ → List ℕ → Type 0) (refuses : List ℕ → io.ErrorKind → Type 0) (paths : InputPaths) → Failure → Type 0
+IsOfPaths holds refuses paths (Input fault) = IsFaultOver holds paths fault
+IsOfPaths holds refuses paths Room = ⊤
+IsOfPaths holds refuses paths (File name) = IsFirstUnread holds refuses paths (string_bytes name)
+IsOfPaths holds refuses paths _ = ⊥
 
 -- What is written to a file fails for that, or since the file cannot be written. The option that names a file may be left out.
 abbrev pub IsOfOutput : (output : Option (String Global)) → (Failure → Type 0) → Failure → Type 0
@@ -142,19 +144,18 @@ abbrev pub IsOfRun : (holds : List ℕ → List ℕ → Type 0) (refuses : List 
 IsOfRun holds refuses words (Words error) = ¬ AreAccepted run_app words
 IsOfRun holds refuses words (Target path) = path_if_given run_app (codes "output") words ≡ Some (string_bytes path)
 IsOfRun holds refuses words failure =
-    IsOfPaths holds refuses (path_given run_app (codes "tis") words) (path_if_given run_app (codes "payees") words) (path_given run_app (codes "cwr") words) (path_given run_app (codes "usage") words) failure
+    IsOfPaths holds refuses (inputs_given run_app words) failure
 
 -- an explanation over the files of these paths fails for what a run over them fails for, or since the usage list has no such row
-abbrev pub IsUnexplained : (holds : List ℕ → List ℕ → Type 0) (refuses : List ℕ → io.ErrorKind → Type 0) (tis : List ℕ) (payees : Option (List ℕ)) (cwr usage : List ℕ) (row : ℕ) → Failure → Type 0
-IsUnexplained holds refuses tis payees cwr usage row (Row beyond) = (beyond ≡ row) × HasNoRowOver holds tis payees cwr usage row
-IsUnexplained holds refuses tis payees cwr usage row failure = IsOfPaths holds refuses tis payees cwr usage failure
+abbrev pub IsUnexplained : (holds : List ℕ → List ℕ → Type 0) (refuses : List ℕ → io.ErrorKind → Type 0) (paths : InputPaths) (row : ℕ) → Failure → Type 0
+IsUnexplained holds refuses paths row (Row beyond) = (beyond ≡ row) × HasNoRowOver holds paths row
+IsUnexplained holds refuses paths row failure = IsOfPaths holds refuses paths failure
 
 -- and its words for that, or for themselves where clap does not accept them
 abbrev pub IsOfExplanation : (holds : List ℕ → List ℕ → Type 0) (refuses : List ℕ → io.ErrorKind → Type 0) → List (List ℕ) → Failure → Type 0
 IsOfExplanation holds refuses words (Words error) = ¬ AreAccepted explain_app words
 IsOfExplanation holds refuses words failure =
-    IsUnexplained holds refuses (path_given explain_app (codes "tis") words) (path_if_given explain_app (codes "payees") words) (path_given explain_app (codes "cwr") words) (path_given explain_app (codes "usage") words)
-    (number_given explain_app (codes "row") words) failure
+    IsUnexplained holds refuses (inputs_given explain_app words) (number_given explain_app (codes "row") words) failure
 
 -- A merge of the texts of these paths fails for the first fault of the first that has one, since they are of too many usage lines, for lack of memory, for one that cannot be read, or since one changed after all were found to be sound.
 abbrev pub IsOfTexts : (gives : List ℕ → List ℕ → Type 0) → List (List ℕ) → Failure → Type 0
@@ -207,7 +208,7 @@ IsOfNoInput _ = ⊤
 abbrev pub IsOfCheck : (holds : List ℕ → List ℕ → Type 0) (refuses : List ℕ → io.ErrorKind → Type 0) → List (List ℕ) → Failure → Type 0
 IsOfCheck holds refuses words (Words error) = ¬ AreAccepted check_app words
 IsOfCheck holds refuses words failure =
-    IsOfPaths holds refuses (path_given check_app (codes "tis") words) (path_if_given check_app (codes "payees") words) (path_given check_app (codes "cwr") words) (path_given check_app (codes "usage") words) failure
+    IsOfPaths holds refuses (inputs_given check_app words) failure
     × IsOfNoInput failure
 
 -- a division fails for its pairs, which then have that fault, for other words, or for lack of memory

@@ -28,8 +28,8 @@ use std::rt::Files;
 use std::sync::Wait;
 use std::thread::Threads;
 
-/// The words of the command line in one list, the first of which is the program's own name, or why there are
-/// none.
+/// The words of the command line in one list, the first of which is the program's own name, or why
+/// there are none.
 pub fn words_of(alloc: Global, words: io::Result<Args<Global>>) -> Result<Vec<String>, Failure>
     ensures all { IfOk words (λ given. IfOk result (λ all. all.items ≡ into_iter_items given)) }
     ensures memory { OnOk words (IfErr result (λ failure. failure ≡ Room)) }
@@ -52,9 +52,10 @@ fn no_words(kind: io::ErrorKind) -> Failure
 }
 
 /// Does what the words ask for, of which the first is the program's own name. The answer goes to
-/// `out`, or into the file that the words name, and what went wrong to `err`. The status is 0 where the answer was printed or kept, or help was
-/// asked for, 1 where an input file is refused for what is in it or a report tells of a fault, 2 where the words are refused, 3 for
-/// lack of memory, and 4 where a file cannot be read or written, or `out` refused a write.
+/// `out`, or into the file that the words name, and what went wrong to `err`. The status is 0 where
+/// the answer was printed or kept, or help was asked for, 1 where an input file is refused for what
+/// is in it or a report tells of a fault, 2 where the words are refused, 3 where memory or a thread
+/// was, and 4 where a file cannot be read or written, or `out` refused a write.
 pub fn program<R: Files + Threads + Wait + Sync, W: Write, E: Write>(
     rt: &R,
     alloc: Global,
@@ -95,8 +96,9 @@ fn end<W: Write, E: Write>(
     }
 }
 
-/// Prints the rows of a division, the statements of a run, merged statements, the explanation of a usage line or a report over these files, or
-/// help; or keeps statements in the file that the words name. Answers whether no report tells of a fault.
+/// Prints the rows of a division, the statements of a run, merged statements, the explanation of a
+/// usage line or a report over these files, or help; or keeps statements in the file that the words
+/// name. Answers whether no report tells of a fault.
 fn answer<R: Threads + Wait + Sync, S: Source, T: Target, W: Write>(
     rt: &R,
     alloc: Global,
@@ -130,8 +132,8 @@ fn answer<R: Threads + Wait + Sync, S: Source, T: Target, W: Write>(
             let text = explain_files(alloc, files, asked)?;
             Ok((out.write_all(text.as_slice()), true))
         }
-        Ok(Asked::Check(asked)) => {
-            let checked = check_files(alloc, files, asked)?;
+        Ok(Asked::Check(inputs)) => {
+            let checked = check_files(alloc, files, inputs)?;
             Ok((out.write_all(checked.text.as_slice()), checked.is_sound))
         }
         Ok(Asked::Merge(asked)) => Ok((merge_out(alloc, files, target, asked, out)?, true)),

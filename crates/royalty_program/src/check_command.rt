@@ -5,7 +5,7 @@ ghost use Rattle.royalty_program.specs.Answered.{AreCheckedFrom};
 ghost use Rattle.royalty_program.specs.Asked.{IsErrorOf};
 ghost use Rattle.royalty_program.specs.CheckCommand.{IsCheckCommand, check_app};
 
-use crate::options::{file_arg, kept, optional_file_arg};
+use crate::inputs::{Inputs, input_command, read_inputs};
 use clap::{Command, Error};
 use std::alloc::{AllocError, Global};
 
@@ -24,50 +24,23 @@ one for which a run refuses the files. Status 0: no file has a fault; 1: one has
 Example:
   royalty_run check --tis territories.csv --cwr works.cwr --usage usage.csv";
 
-/// The words of a check: the paths of the files.
-#[derive(Debug, Drop)]
-pub struct CheckWords {
-    /// The table of territories.
-    pub tis: String,
-    /// The table of payees, where there is one.
-    pub payees: Option<String>,
-    /// The registrations.
-    pub cwr: String,
-    /// The table of usage lines.
-    pub usage: String,
-}
-
 /// Reads the words of a check, the first of which is `check`.
-pub fn read_check(alloc: Global, words: &[String]) -> Result<CheckWords, Error>
+pub fn read_check(alloc: Global, words: &[String]) -> Result<Inputs, Error>
     ensures read { IfOk result (AreCheckedFrom (map string_bytes words.now)) }
     ensures error { IfErr result (IsErrorOf check_app (map string_bytes words.now)) }
 {
     let matches = check_command(alloc)?.try_get_matches_from(words)?;
-    let tis = String::from_str(alloc, matches.get_str("tis").unwrap())?;
-    let payees = kept(alloc, matches.get_str("payees"))?;
-    let cwr = String::from_str(alloc, matches.get_str("cwr").unwrap())?;
-    let usage = String::from_str(alloc, matches.get_str("usage").unwrap())?;
-    Ok(CheckWords {
-        tis,
-        payees,
-        cwr,
-        usage,
-    })
+    Ok(read_inputs(alloc, &matches)?)
 }
 
 pub fn check_command<'a>(alloc: Global) -> Result<Command<'a>, AllocError>
     ensures { IfOk result IsCheckCommand }
 {
-    Command::new(alloc, "check")
-        .bin_name("royalty_run check")?
-        .about("Say what is wrong with the files of a run, and what is in them")
-        .after_help(CHECK_HELP)
-        .arg(file_arg(alloc, "tis", "The table of territories"))?
-        .arg(optional_file_arg(
-            alloc,
-            "payees",
-            "The table of payees, where parties are paid to other accounts",
-        ))?
-        .arg(file_arg(alloc, "cwr", "The registrations of works"))?
-        .arg(file_arg(alloc, "usage", "The usage lines"))
+    input_command(
+        alloc,
+        "check",
+        "royalty_run check",
+        "Say what is wrong with the files of a run, and what is in them",
+        CHECK_HELP,
+    )
 }

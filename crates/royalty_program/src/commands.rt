@@ -10,8 +10,9 @@ ghost use Rattle.royalty_program.specs.RunCommand.{run_app};
 ghost use Rattle.royalty_program.specs.Answered.{IsCheckAsked, IsDivisionOf, IsExplanationAsked, IsInRange, IsMergeAsked, IsNamedBy, IsRunInOrder, IsRunOf};
 ghost use Rattle.pair_split.specs.Pair.{word_at};
 
-use crate::check_command::{CheckWords, check_command, read_check};
+use crate::check_command::{check_command, read_check};
 use crate::explain_command::{ExplainWords, explain_command, read_explain};
+use crate::inputs::Inputs;
 use crate::merge_command::{MergeWords, merge_command, read_merge};
 use crate::run_command::{RunWords, read_run, run_command};
 use crate::split_command::{SplitWords, read_split, split_command};
@@ -20,7 +21,8 @@ use clap::{Command, Error};
 use pair_split::word;
 use std::alloc::{AllocError, Global};
 
-/// What `--version` says below the name: the version, and the checker and libraries that the program is proved with, by their checksum.
+/// What `--version` says below the name: the version, and the checker and libraries that the
+/// program is proved with, by their checksum.
 const VERSION: &str = "0.1.0\nlogic dac8208d650f15bf";
 
 /// What stands below the help of the whole program.
@@ -30,14 +32,14 @@ const HELP: &str = "\
 how the files are checked, `royalty_run explain --help` how one usage line is explained, and
 `royalty_run split --help` how an amount is divided.
 
-A refusal has a number and a place: `royalty_run check` says all of them in words, and the table of
-faults in docs/FORMATS.md what to mend.
+A refusal has a number and a place. `royalty_run check` says what is wrong with the files of a run in
+words, and the table of faults in docs/FORMATS.md what to mend, in statements and in pairs too.
 
 Exit status:
   0  the answer was printed, or help, or the version
   1  an input file is refused for what is in it, or a check tells of a fault
   2  the words are refused
-  3  memory was refused
+  3  memory, or a thread, was refused
   4  a file cannot be read or written, or the output refused a write";
 
 /// What the words of the command line ask for.
@@ -50,7 +52,7 @@ pub enum Asked {
     /// The explanation of a usage line.
     Explanation(ExplainWords),
     /// A report on the files of a run.
-    Check(CheckWords),
+    Check(Inputs),
     /// The statements of several runs in one text.
     Merge(MergeWords),
 }

@@ -5,7 +5,8 @@ ghost use Rattle.royalty_program.specs.Answered.{AreExplainedFrom};
 ghost use Rattle.royalty_program.specs.Asked.{IsErrorOf};
 ghost use Rattle.royalty_program.specs.ExplainCommand.{IsExplainCommand, explain_app};
 
-use crate::options::{file_arg, kept, number_arg, optional_file_arg};
+use crate::inputs::{Inputs, input_command, read_inputs};
+use crate::options::number_arg;
 use clap::{Command, Error, value_parser};
 use std::alloc::{AllocError, Global};
 
@@ -37,14 +38,7 @@ Example:
 /// The words of an explanation: the paths of the files, and the row of the usage line.
 #[derive(Debug, Drop)]
 pub struct ExplainWords {
-    /// The table of territories.
-    pub tis: String,
-    /// The table of payees, where there is one.
-    pub payees: Option<String>,
-    /// The registrations.
-    pub cwr: String,
-    /// The table of usage lines.
-    pub usage: String,
+    pub inputs: Inputs,
     /// The row below its header, from 1.
     pub row: u64,
 }
@@ -55,39 +49,25 @@ pub fn read_explain(alloc: Global, words: &[String]) -> Result<ExplainWords, Err
     ensures error { IfErr result (IsErrorOf explain_app (map string_bytes words.now)) }
 {
     let matches = explain_command(alloc)?.try_get_matches_from(words)?;
-    let tis = String::from_str(alloc, matches.get_str("tis").unwrap())?;
-    let payees = kept(alloc, matches.get_str("payees"))?;
-    let cwr = String::from_str(alloc, matches.get_str("cwr").unwrap())?;
-    let usage = String::from_str(alloc, matches.get_str("usage").unwrap())?;
+    let inputs = read_inputs(alloc, &matches)?;
     let row = matches.get_one::<u64>("row").unwrap();
-    Ok(ExplainWords {
-        tis,
-        payees,
-        cwr,
-        usage,
-        row,
-    })
+    Ok(ExplainWords { inputs, row })
 }
 
 pub fn explain_command<'a>(alloc: Global) -> Result<Command<'a>, AllocError>
     ensures { IfOk result IsExplainCommand }
 {
-    Command::new(alloc, "explain")
-        .bin_name("royalty_run explain")?
-        .about("Say why a usage line pays what it pays")
-        .after_help(EXPLAIN_HELP)
-        .arg(file_arg(alloc, "tis", "The table of territories"))?
-        .arg(optional_file_arg(
-            alloc,
-            "payees",
-            "The table of payees, where parties are paid to other accounts",
-        ))?
-        .arg(file_arg(alloc, "cwr", "The registrations of works"))?
-        .arg(file_arg(alloc, "usage", "The usage lines"))?
-        .arg(number_arg(
-            alloc,
-            "row",
-            value_parser!(u64).range(1..=1_000_000),
-            "Which usage line: its row below the header, from 1",
-        ))
+    input_command(
+        alloc,
+        "explain",
+        "royalty_run explain",
+        "Say why a usage line pays what it pays",
+        EXPLAIN_HELP,
+    )?
+    .arg(number_arg(
+        alloc,
+        "row",
+        value_parser!(u64).range(1..=1_000_000),
+        "Which usage line: its row below the header, from 1",
+    ))
 }

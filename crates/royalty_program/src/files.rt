@@ -7,14 +7,15 @@ ghost use Rattle.std.specs.Option.{option_map};
 ghost use Rattle.std.specs.declared.io.ErrorKind.{ErrorKind};
 ghost use Rattle.check_inputs.specs.Checked.{IsReportOn, files_of, path_if_given, paths_of};
 ghost use Rattle.royalty_program.specs.Files.{AreRead, AreStatementsOver, HaveNoFaultOver, HoldsIfGiven, IsExplanationOver, IsReportOver, for_any_error, on_disk};
+ghost use Rattle.royalty_program.specs.InputPaths.{paths_in};
 ghost use Rattle.royalty_program.specs.declared.failure.Failure.TheVariants.{Room};
 ghost use Rattle.royalty_program.specs.Status.{IsOfFile, IsOfNoInput, IsOfOutput, IsOfPaths, IsRefusal, IsUnexplained, failure_of_file};
 ghost use Rattle.royalty_program.specs.MergeFiles.{Gives, any_text};
 ghost use Rattle.royalty_program.specs.Targets.{IsLeftOrHas, IsPut};
 
-use crate::check_command::CheckWords;
 use crate::explain_command::ExplainWords;
 use crate::failure::Failure;
+use crate::inputs::Inputs;
 use crate::run_command::RunWords;
 use crate::targets::{Target, finish, unkept};
 use check_inputs::{Checked, File, check};
@@ -89,8 +90,9 @@ fn is_too_large(size: u64) -> bool
     size > MOST_BYTES
 }
 
-/// All that a reader has to give, where that is no more than the most bytes. A pipe does not say its size, and a
-/// file may grow meanwhile, so a byte more is asked for, which tells that nothing was cut off.
+/// All that a reader has to give, where that is no more than the most bytes. A pipe does not say
+/// its size, and a file may grow meanwhile, so a byte more is asked for, which tells that nothing
+/// was cut off.
 pub fn read_whole<S: Read + Drop>(alloc: Global, from: S, room: usize) -> io::Result<Vec<u8>>
     ensures whole { IfOk result (λ bytes. IfSome (S.remaining from) (λ all. bytes.items ≡ all)) }
     ensures few { IfOk result (λ bytes. length bytes.items ≤ 268435456) }
@@ -103,8 +105,8 @@ pub fn read_whole<S: Read + Drop>(alloc: Global, from: S, room: usize) -> io::Re
     Ok(bytes)
 }
 
-/// Prints the statements of a run over its files. All are read, in the order of the fields, before any is
-/// parsed.
+/// Prints the statements of a run over its files. All are read, in the order of `Inputs`, before
+/// any is parsed.
 pub fn settle_files<R: Threads + Wait + Sync, S: Source, W: Write>(
     rt: &R,
     alloc: Global,
@@ -113,22 +115,14 @@ pub fn settle_files<R: Threads + Wait + Sync, S: Source, W: Write>(
     out: &mut W,
 ) -> Result<io::Result<()>, Failure>
     ensures statements { IfOk result (λ printed. OnOk printed ((text : List ℕ) × Appends (W.contents out.old) (W.contents out.new) text
-        × AreStatementsOver (S.holds files.now) (string_bytes asked.tis) (option_map string_bytes asked.payees) (string_bytes asked.cwr) (string_bytes asked.usage) text)) }
-    ensures read { IfOk result (λ _. HaveNoFaultOver (S.holds files.now) (string_bytes asked.tis) (option_map string_bytes asked.payees) (string_bytes asked.cwr) (string_bytes asked.usage)) }
+        × AreStatementsOver (S.holds files.now) (paths_in asked.inputs) text)) }
+    ensures read { IfOk result (λ _. HaveNoFaultOver (S.holds files.now) (paths_in asked.inputs)) }
     ensures failure { IfErr result IsRefusal }
-    ensures files { IfErr result (IsOfPaths (S.holds files.now) (S.refuses files.now) (string_bytes asked.tis) (option_map string_bytes asked.payees) (string_bytes asked.cwr) (string_bytes asked.usage)) }
+    ensures files { IfErr result (IsOfPaths (S.holds files.now) (S.refuses files.now) (paths_in asked.inputs)) }
     ensures silent { IfErr result (λ _. out.new ≡ out.old) }
 {
-    let RunWords {
-        tis,
-        payees,
-        cwr,
-        usage,
-        plan,
-        output: _,
-    } = asked;
-    let (tis, payees, cwr, usage) = read_all(files, alloc, tis, payees, cwr, usage)?;
-    match settle_to(rt, alloc, tis, payees, cwr, usage, plan, out) {
+    let (tis, payees, cwr, usage) = read_all(files, alloc, asked.inputs)?;
+    match settle_to(rt, alloc, tis, payees, cwr, usage, asked.plan, out) {
         Ok(printed) => Ok(printed),
         Err(fault) => Err(Failure::from(fault)),
     }
@@ -144,11 +138,11 @@ fn settle_kept<R: Threads + Wait + Sync, S: Source, T: Target>(
     path: String,
 ) -> Result<(), Failure>
     ensures statements { IfOk result (λ _. (text : List ℕ) × T.keeps target.new (string_bytes path) (Some text)
-        × AreStatementsOver (S.holds files.now) (string_bytes asked.tis) (option_map string_bytes asked.payees) (string_bytes asked.cwr) (string_bytes asked.usage) text) }
+        × AreStatementsOver (S.holds files.now) (paths_in asked.inputs) text) }
     ensures failure { IfErr result IsRefusal }
-    ensures files { IfErr result (IsOfOutput (Some path) (IsOfPaths (S.holds files.now) (S.refuses files.now) (string_bytes asked.tis) (option_map string_bytes asked.payees) (string_bytes asked.cwr) (string_bytes asked.usage))) }
+    ensures files { IfErr result (IsOfOutput (Some path) (IsOfPaths (S.holds files.now) (S.refuses files.now) (paths_in asked.inputs))) }
     ensures left { OnErr result (IsLeftOrHas (T.keeps target.old (string_bytes path)) (T.keeps target.new (string_bytes path))
-        (AreStatementsOver (S.holds files.now) (string_bytes asked.tis) (option_map string_bytes asked.payees) (string_bytes asked.cwr) (string_bytes asked.usage))) }
+        (AreStatementsOver (S.holds files.now) (paths_in asked.inputs))) }
 {
     let mut draft = match target.begin(alloc, path.as_str()) {
         Ok(draft) => draft,
@@ -168,12 +162,12 @@ pub fn settle_out<R: Threads + Wait + Sync, S: Source, T: Target, W: Write>(
     out: &mut W,
 ) -> Result<io::Result<()>, Failure>
     ensures statements { IfOk result (λ printed. OnOk printed ((text : List ℕ) × IsPut (option_map string_bytes asked.output) (T.keeps target.new) (W.contents out.old) (W.contents out.new) text
-        × AreStatementsOver (S.holds files.now) (string_bytes asked.tis) (option_map string_bytes asked.payees) (string_bytes asked.cwr) (string_bytes asked.usage) text)) }
+        × AreStatementsOver (S.holds files.now) (paths_in asked.inputs) text)) }
     ensures failure { IfErr result IsRefusal }
-    ensures files { IfErr result (IsOfOutput asked.output (IsOfPaths (S.holds files.now) (S.refuses files.now) (string_bytes asked.tis) (option_map string_bytes asked.payees) (string_bytes asked.cwr) (string_bytes asked.usage))) }
+    ensures files { IfErr result (IsOfOutput asked.output (IsOfPaths (S.holds files.now) (S.refuses files.now) (paths_in asked.inputs))) }
     ensures silent { IfErr result (λ _. out.new ≡ out.old) }
     ensures left { IfSome asked.output (λ path. IsLeftOrHas (T.keeps target.old (string_bytes path)) (T.keeps target.new (string_bytes path))
-        (AreStatementsOver (S.holds files.now) (string_bytes asked.tis) (option_map string_bytes asked.payees) (string_bytes asked.cwr) (string_bytes asked.usage))) }
+        (AreStatementsOver (S.holds files.now) (paths_in asked.inputs))) }
     ensures unused { IfNone asked.output (target.new ≡ target.old) }
 {
     match asked.output.take() {
@@ -185,24 +179,19 @@ pub fn settle_out<R: Threads + Wait + Sync, S: Source, T: Target, W: Write>(
     }
 }
 
-/// The explanation of a usage line over the files of a run. All are read, in the order of the fields, before any is parsed.
+/// The explanation of a usage line over the files of a run. All are read, in the order of
+/// `Inputs`, before any is parsed.
 pub fn explain_files<S: Source>(
     alloc: Global,
     files: &S,
     asked: ExplainWords,
 ) -> Result<Vec<u8>, Failure>
-    ensures explanation { IfOk result (λ text. IsExplanationOver (S.holds files.now) (string_bytes asked.tis) (option_map string_bytes asked.payees) (string_bytes asked.cwr) (string_bytes asked.usage) asked.row text.items) }
+    ensures explanation { IfOk result (λ text. IsExplanationOver (S.holds files.now) (paths_in asked.inputs) asked.row text.items) }
     ensures failure { IfErr result IsRefusal }
-    ensures files { IfErr result (IsUnexplained (S.holds files.now) (S.refuses files.now) (string_bytes asked.tis) (option_map string_bytes asked.payees) (string_bytes asked.cwr) (string_bytes asked.usage) asked.row) }
+    ensures files { IfErr result (IsUnexplained (S.holds files.now) (S.refuses files.now) (paths_in asked.inputs) asked.row) }
 {
-    let ExplainWords {
-        tis,
-        payees,
-        cwr,
-        usage,
-        row,
-    } = asked;
-    let (tis, payees, cwr, usage) = read_all(files, alloc, tis, payees, cwr, usage)?;
+    let ExplainWords { inputs, row } = asked;
+    let (tis, payees, cwr, usage) = read_all(files, alloc, inputs)?;
     match explain(
         alloc,
         tis.as_slice(),
@@ -217,23 +206,20 @@ pub fn explain_files<S: Source>(
     }
 }
 
-/// The report on the files of a run. All are read, in the order of the fields, before any is parsed.
-pub fn check_files<S: Source>(
-    alloc: Global,
-    files: &S,
-    asked: CheckWords,
-) -> Result<Checked, Failure>
-    ensures report { IfOk result (λ checked. IsReportOver (S.holds files.now) (string_bytes asked.tis) (option_map string_bytes asked.payees) (string_bytes asked.cwr) (string_bytes asked.usage) checked.is_sound checked.text.items) }
+/// The report on the files of a run. All are read, in the order of `Inputs`, before any is
+/// parsed.
+pub fn check_files<S: Source>(alloc: Global, files: &S, inputs: Inputs) -> Result<Checked, Failure>
+    ensures report { IfOk result (λ checked. IsReportOver (S.holds files.now) (paths_in inputs) checked.is_sound checked.text.items) }
     ensures failure { IfErr result IsRefusal }
-    ensures files { IfErr result (IsOfPaths (S.holds files.now) (S.refuses files.now) (string_bytes asked.tis) (option_map string_bytes asked.payees) (string_bytes asked.cwr) (string_bytes asked.usage)) }
+    ensures files { IfErr result (IsOfPaths (S.holds files.now) (S.refuses files.now) (paths_in inputs)) }
     ensures no_input { IfErr result IsOfNoInput }
 {
-    let CheckWords {
+    let Inputs {
         tis,
         payees,
         cwr,
         usage,
-    } = asked;
+    } = inputs;
     let tis = file_of(files, alloc, tis)?;
     let payees = file_if_given(files, alloc, payees)?;
     let cwr = file_of(files, alloc, cwr)?;
@@ -301,15 +287,18 @@ fn lent(file: &Option<Vec<u8>>) -> Option<&[u8]>
 fn read_all<S: Source>(
     files: &S,
     alloc: Global,
-    tis: String,
-    payees: Option<String>,
-    cwr: String,
-    usage: String,
+    inputs: Inputs,
 ) -> Result<(Vec<u8>, Option<Vec<u8>>, Vec<u8>, Vec<u8>), Failure>
-    ensures read { IfOk result (λ bytes. AreRead (S.holds files.now) (string_bytes tis) (option_map string_bytes payees) (string_bytes cwr) (string_bytes usage) bytes.0.items (option_map (λ file. file.items) bytes.1) bytes.2.items bytes.3.items) }
+    ensures read { IfOk result (λ bytes. AreRead (S.holds files.now) (paths_in inputs) (record { territories = bytes.0.items; payees = option_map (λ file. file.items) bytes.1; registrations = bytes.2.items; usage = bytes.3.items })) }
     ensures failure { IfErr result IsRefusal }
-    ensures files { IfErr result (IsOfPaths (S.holds files.now) (S.refuses files.now) (string_bytes tis) (option_map string_bytes payees) (string_bytes cwr) (string_bytes usage)) }
+    ensures files { IfErr result (IsOfPaths (S.holds files.now) (S.refuses files.now) (paths_in inputs)) }
 {
+    let Inputs {
+        tis,
+        payees,
+        cwr,
+        usage,
+    } = inputs;
     let tis = read_file(files, alloc, tis)?;
     let payees = read_if_given(files, alloc, payees)?;
     let cwr = read_file(files, alloc, cwr)?;

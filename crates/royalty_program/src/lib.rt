@@ -7,6 +7,7 @@ mod commands;
 mod explain_command;
 mod failure;
 mod files;
+mod inputs;
 mod merge_command;
 mod merge_files;
 mod options;

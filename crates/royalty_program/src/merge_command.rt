@@ -6,9 +6,9 @@ ghost use Rattle.clap.specs.declared.error.kind.ErrorKind.TheVariants as kinds;
 ghost use Rattle.royalty_program.specs.Answered.{AreMergeFrom};
 ghost use Rattle.royalty_program.specs.Asked.{IsMergeError};
 ghost use Rattle.royalty_program.specs.MergeCommand.{AreFewAndDifferent, IsMergeCommand, IsNamedBefore, IsPathError, statements_rule};
-ghost use Rattle.royalty_program.specs.RequiredArg.{IsRequiredArg};
+ghost use Rattle.royalty_program.specs.Args.{IsRequiredArg};
 
-use crate::options::{kept, kept_all, optional_file_arg};
+use crate::options::{new_command, optional_file_arg, owned, owned_all};
 use clap::error::ErrorKind;
 use clap::{Arg, ArgAction, Command, Error};
 use pair_split::word;
@@ -30,7 +30,8 @@ Each file may be read twice, to look for what is wrong in it before anything is 
 be a file and no pipe. Where a text is refused, nothing is printed but the fault and its row, as
   royalty_run: statement fault 1 at row 3 of february.csv
 With `--output F` the statements go to a new file beside F, which takes the name F once it is whole;
-whatever fails, F stays as it was.
+whatever fails before that, F stays as it was. Only where its folder cannot be brought to the disk
+behind the new name does status 4 leave F whole and new.
 
 Example:
   royalty_run merge --output year.csv january.csv february.csv march.csv";
@@ -44,15 +45,15 @@ pub struct MergeWords {
     pub statements: Vec<String>,
 }
 
-/// Reads the words of a merge, the first of which is `merge`. More than 1,024 files are refused, and a path that stands
-/// twice among them.
+/// Reads the words of a merge, the first of which is `merge`. More than 1,024 files are refused,
+/// and a path that stands twice among them.
 pub fn read_merge(alloc: Global, words: &[String]) -> Result<MergeWords, Error>
     ensures read { IfOk result (AreMergeFrom (map string_bytes words.now)) }
     ensures error { IfErr result (IsMergeError (map string_bytes words.now)) }
 {
     let matches = merge_command(alloc)?.try_get_matches_from(words)?;
-    let output = kept(alloc, matches.get_str("output"))?;
-    let statements = kept_all(alloc, matches.get_strs("statements").unwrap())?;
+    let output = owned(alloc, matches.get_str("output"))?;
+    let statements = owned_all(alloc, matches.get_strs("statements").unwrap())?;
     look_at(alloc, statements.as_slice())?;
     Ok(MergeWords { output, statements })
 }
@@ -115,16 +116,19 @@ fn refusal(alloc: Global, message: &str) -> Result<Error, AllocError>
 pub fn merge_command<'a>(alloc: Global) -> Result<Command<'a>, AllocError>
     ensures { IfOk result IsMergeCommand }
 {
-    Command::new(alloc, "merge")
-        .bin_name("royalty_run merge")?
-        .about("Merge the statements of several runs into one text")
-        .after_help(MERGE_HELP)
-        .arg(optional_file_arg(
-            alloc,
-            "output",
-            "A file for the merged statements, in place of standard output",
-        ))?
-        .arg(statements_arg(alloc))
+    new_command(
+        alloc,
+        "merge",
+        "royalty_run merge",
+        "Merge the statements of several runs into one text",
+        MERGE_HELP,
+    )?
+    .arg(optional_file_arg(
+        alloc,
+        "output",
+        "A file for the merged statements, in place of standard output",
+    ))?
+    .arg(statements_arg(alloc))
 }
 
 /// The files of the statements, one or more.

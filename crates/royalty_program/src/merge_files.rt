@@ -12,14 +12,13 @@ use crate::failure::Failure;
 use crate::files::{Source, unread};
 use crate::merge_command::MergeWords;
 use crate::targets::{Target, finish, unkept};
+use merge_statements::amount::MOST_COUNT;
 use merge_statements::{Refusal, TextRefusal, check, merge};
 use std::alloc::Global;
 use std::io::{self, ErrorKind, Write};
 
-/// The most usage lines that texts are of together.
-const MOST_USAGE_LINES: u64 = 1_000_000_000_000_000_000;
-
-/// Prints what the texts of statements in the files of these paths merge to, in their order. All are read through before anything is printed.
+/// Prints what the texts of statements in the files of these paths merge to, in their order. All
+/// are read through before anything is printed.
 pub fn merge_files<S: Source, W: Write>(
     alloc: Global,
     files: &S,
@@ -36,7 +35,8 @@ pub fn merge_files<S: Source, W: Write>(
     merge_opened(alloc, files, paths, out)
 }
 
-/// The same of texts that are read once, for an output that may have a beginning where one is refused. Only then are they read through, to tell which is the first.
+/// The same of texts that are read once, for an output that may have a beginning where one is
+/// refused. Only then are they read through, to tell which is the first.
 fn merge_once<S: Source, W: Write>(
     alloc: Global,
     files: &S,
@@ -167,7 +167,7 @@ fn more_lines(lines: u64, more: u64) -> Result<u64, Failure>
     ensures many { IfErr result (λ _. 10 ^ 18 < lines + more) }
 {
     match lines.checked_add(more) {
-        Some(all) if all <= MOST_USAGE_LINES => Ok(all),
+        Some(all) if all <= MOST_COUNT => Ok(all),
         _ => Err(Failure::Many),
     }
 }
@@ -223,7 +223,8 @@ fn refused(alloc: Global, refusal: Refusal, path: &str) -> Failure
     }
 }
 
-/// Why texts that were read through cannot be merged, where the one in a place is refused: it changed, or cannot be read any more.
+/// Why texts that were read through cannot be merged, where the one in a place is refused: it
+/// changed, or cannot be read any more.
 fn changed(alloc: Global, paths: &[String], place: u64, refusal: Refusal) -> Failure
     ensures failure { IsRefusal result }
     ensures one { IsOfOne (map string_bytes paths.now) result }

@@ -1,14 +1,27 @@
-//! Options that several commands have.
+//! What several commands have: the form of a command, and of its options.
 
 ghost use Rattle.std.specs.Option.{option_map};
-ghost use Rattle.std.specs.Prelude.{◌≡◌, IfOk, Some, map, string_bytes};
-ghost use Rattle.clap.specs.Words.{rule_of};
-ghost use Rattle.royalty_program.specs.RequiredArg.{IsOptionalArg, IsRequiredArg};
-ghost use Rattle.royalty_program.specs.RunCommand.{file_rule, optional_rule};
+ghost use Rattle.std.specs.Prelude.{◌≡◌, [], IfOk, Some, map, string_bytes};
+ghost use Rattle.clap.specs.Words.{new_app, rule_of};
+ghost use Rattle.royalty_program.specs.Args.{HasArgs, IsOptionalArg, IsRequiredArg, file_rule, optional_rule};
 
 use clap::builder::ValueParser;
-use clap::{Arg, ArgAction};
+use clap::{Arg, ArgAction, Command};
 use std::alloc::{AllocError, Global};
+
+/// A command with no argument yet.
+pub(crate) fn new_command<'a>(
+    alloc: Global,
+    name: &'a str,
+    bin_name: &str,
+    about: &'a str,
+    help: &'a str,
+) -> Result<Command<'a>, AllocError>
+    ensures { IfOk result (λ command. HasArgs command [] (new_app name.entry.now)) }
+{
+    let command = Command::new(alloc, name).bin_name(bin_name)?;
+    Ok(command.about(about).after_help(help))
+}
 
 /// A required option whose value is the path of a file.
 pub(crate) fn file_arg<'a>(alloc: Global, name: &'a str, help: &'a str) -> Arg<'a>
@@ -56,8 +69,8 @@ pub(crate) fn number_arg<'a>(
 }
 
 /// A text of its own, where there is one.
-pub(crate) fn kept(alloc: Global, text: Option<&str>) -> Result<Option<String>, AllocError>
-    ensures { IfOk result (λ kept. option_map string_bytes kept ≡ option_map (λ text. text.now) text.entry) }
+pub(crate) fn owned(alloc: Global, text: Option<&str>) -> Result<Option<String>, AllocError>
+    ensures { IfOk result (λ owned. option_map string_bytes owned ≡ option_map (λ text. text.now) text.entry) }
 {
     match text {
         Some(text) => Ok(Some(String::from_str(alloc, text)?)),
@@ -66,12 +79,12 @@ pub(crate) fn kept(alloc: Global, text: Option<&str>) -> Result<Option<String>, 
 }
 
 /// Texts of one's own, in the order of these.
-pub(crate) fn kept_all(alloc: Global, texts: &[&str]) -> Result<Vec<String>, AllocError>
-    ensures { IfOk result (λ kept. map string_bytes kept.items ≡ map (λ text. text.now) texts.now) }
+pub(crate) fn owned_all(alloc: Global, texts: &[&str]) -> Result<Vec<String>, AllocError>
+    ensures { IfOk result (λ owned. map string_bytes owned.items ≡ map (λ text. text.now) texts.now) }
 {
-    let mut kept = Vec::new(alloc);
+    let mut own = Vec::new(alloc);
     for text in texts {
-        kept.push(String::from_str(alloc, text)?)?;
+        own.push(String::from_str(alloc, text)?)?;
     }
-    Ok(kept)
+    Ok(own)
 }

@@ -5,7 +5,8 @@ ghost use Rattle.royalty_program.specs.Asked.{IsErrorOf};
 ghost use Rattle.royalty_program.specs.Answered.{AreReadFrom};
 ghost use Rattle.royalty_program.specs.RunCommand.{IsRunCommand, run_app};
 
-use crate::options::{file_arg, kept, number_arg, optional_file_arg};
+use crate::inputs::{Inputs, input_command, read_inputs};
+use crate::options::{number_arg, optional_file_arg, owned};
 use clap::{Command, Error, value_parser};
 use split_run::Plan;
 use std::alloc::{AllocError, Global};
@@ -30,10 +31,12 @@ LAND, OVER or OPEN, then T,,count,total; last R,,lines,amount.
 The numbers of workers, readers and nodes have no bearing on it. A row M,WORK is a usage line whose
 work has no registration: many of them say that the wrong file, or half of one, went in.
 With `--output F` the statements go to a new file beside F, which takes the name F once it is whole;
-whatever fails, F stays as it was.
+whatever fails before that, F stays as it was. Only where its folder cannot be brought to the disk
+behind the new name does status 4 leave F whole and new.
 
-A refusal has a number and a place. `royalty_run check` with the same files says all of them in words,
-and what the lines come to by reason; the table of faults in docs/FORMATS.md says what to mend.
+A refusal has a number and a place. `royalty_run check` with the same files says what is wrong with
+them in words, and what the lines come to by reason; the table of faults in docs/FORMATS.md says
+what to mend.
 
 Example:
   royalty_run run --tis territories.csv --cwr works.cwr --usage usage.csv \\
@@ -42,40 +45,27 @@ Example:
 /// The words of a run: the paths of its files, and its plan.
 #[derive(Debug, Drop)]
 pub struct RunWords {
-    /// The table of territories.
-    pub tis: String,
-    /// The table of payees, where there is one.
-    pub payees: Option<String>,
-    /// The registrations.
-    pub cwr: String,
-    /// The table of usage lines.
-    pub usage: String,
+    pub inputs: Inputs,
     pub plan: Plan,
     /// The file that the statements go to, where it is not standard output.
     pub output: Option<String>,
 }
 
-/// Reads the words of a run, the first of which is `run`. They are a command of their own, as those of a
-/// division are.
+/// Reads the words of a run, the first of which is `run`. They are a command of their own, as those
+/// of a division are.
 pub fn read_run(alloc: Global, words: &[String]) -> Result<RunWords, Error>
     ensures read { IfOk result (AreReadFrom (map string_bytes words.now)) }
     ensures error { IfErr result (IsErrorOf run_app (map string_bytes words.now)) }
 {
     let matches = run_command(alloc)?.try_get_matches_from(words)?;
-    let tis = String::from_str(alloc, matches.get_str("tis").unwrap())?;
-    let payees = kept(alloc, matches.get_str("payees"))?;
-    let cwr = String::from_str(alloc, matches.get_str("cwr").unwrap())?;
-    let usage = String::from_str(alloc, matches.get_str("usage").unwrap())?;
-    let output = kept(alloc, matches.get_str("output"))?;
+    let inputs = read_inputs(alloc, &matches)?;
+    let output = owned(alloc, matches.get_str("output"))?;
     let workers = matches.get_one::<u64>("workers").unwrap();
     let readers = matches.get_one::<u64>("readers").unwrap();
     let nodes = matches.get_one::<u64>("nodes").unwrap();
     let plan = Plan::new(workers, readers, nodes).unwrap();
     Ok(RunWords {
-        tis,
-        payees,
-        cwr,
-        usage,
+        inputs,
         plan,
         output,
     })
@@ -84,39 +74,34 @@ pub fn read_run(alloc: Global, words: &[String]) -> Result<RunWords, Error>
 pub fn run_command<'a>(alloc: Global) -> Result<Command<'a>, AllocError>
     ensures { IfOk result IsRunCommand }
 {
-    Command::new(alloc, "run")
-        .bin_name("royalty_run run")?
-        .about("Make the statements of all payees from three files or four")
-        .after_help(RUN_HELP)
-        .arg(file_arg(alloc, "tis", "The table of territories"))?
-        .arg(optional_file_arg(
-            alloc,
-            "payees",
-            "The table of payees, where parties are paid to other accounts",
-        ))?
-        .arg(file_arg(alloc, "cwr", "The registrations of works"))?
-        .arg(file_arg(alloc, "usage", "The usage lines"))?
-        .arg(number_arg(
-            alloc,
-            "workers",
-            value_parser!(u64).range(1..=8),
-            "How many threads divide usage lines: 1 to 8",
-        ))?
-        .arg(number_arg(
-            alloc,
-            "readers",
-            value_parser!(u64).range(1..=8),
-            "How many threads keep statements: 1 to 8",
-        ))?
-        .arg(number_arg(
-            alloc,
-            "nodes",
-            value_parser!(u64).range(1..=64),
-            "How many postings a worker has under way to an account at most: 1 to 64",
-        ))?
-        .arg(optional_file_arg(
-            alloc,
-            "output",
-            "A file for the statements, in place of standard output",
-        ))
+    input_command(
+        alloc,
+        "run",
+        "royalty_run run",
+        "Make the statements of all payees from three files or four",
+        RUN_HELP,
+    )?
+    .arg(number_arg(
+        alloc,
+        "workers",
+        value_parser!(u64).range(1..=8),
+        "How many threads divide usage lines: 1 to 8",
+    ))?
+    .arg(number_arg(
+        alloc,
+        "readers",
+        value_parser!(u64).range(1..=8),
+        "How many threads keep statements: 1 to 8",
+    ))?
+    .arg(number_arg(
+        alloc,
+        "nodes",
+        value_parser!(u64).range(1..=64),
+        "How many postings a worker has under way to an account at most: 1 to 64",
+    ))?
+    .arg(optional_file_arg(
+        alloc,
+        "output",
+        "A file for the statements, in place of standard output",
+    ))
 }

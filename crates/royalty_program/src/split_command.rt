@@ -6,10 +6,11 @@ ghost use Rattle.clap.specs.declared.error.kind.ErrorKind.TheVariants as kinds;
 ghost use Rattle.clap.specs.declared.builder.value_parser.ValueParser.TheVariants as vp;
 ghost use Rattle.royalty_program.specs.Asked.{IsValue, number_in};
 ghost use Rattle.pair_split.specs.Pair.{word_at};
-ghost use Rattle.royalty_program.specs.RequiredArg.{IsRequiredArg};
+ghost use Rattle.royalty_program.specs.Args.{IsRequiredArg};
 ghost use Rattle.royalty_program.specs.SplitCommand.{IsSplitCommand, amount_rule, pairs_rule};
 ghost use Rattle.line_split.specs.declared.TheConstants.{MOST_AMOUNT};
 
+use crate::options::{new_command, owned_all};
 use clap::{Arg, ArgAction, Command, Error, value_parser};
 use std::alloc::{AllocError, Global};
 
@@ -44,22 +45,22 @@ pub fn read_split(alloc: Global, words: &[String]) -> Result<SplitWords, Error>
 {
     let matches = split_command(alloc)?.try_get_matches_from(words)?;
     let amount = matches.get_one::<u64>("AMOUNT").unwrap();
-    let mut pairs = Vec::new(alloc);
-    for word in matches.get_strs("PARTY=SHARE").unwrap() {
-        pairs.push(String::from_str(alloc, word)?)?;
-    }
+    let pairs = owned_all(alloc, matches.get_strs("PARTY=SHARE").unwrap())?;
     Ok(SplitWords { amount, pairs })
 }
 
 pub fn split_command<'a>(alloc: Global) -> Result<Command<'a>, AllocError>
     ensures { IfOk result IsSplitCommand }
 {
-    Command::new(alloc, "split")
-        .bin_name("royalty_run split")?
-        .about("Divide an amount among parties by their shares")
-        .after_help(SPLIT_HELP)
-        .arg(amount_arg(alloc))?
-        .arg(pairs_arg(alloc))
+    new_command(
+        alloc,
+        "split",
+        "royalty_run split",
+        "Divide an amount among parties by their shares",
+        SPLIT_HELP,
+    )?
+    .arg(amount_arg(alloc))?
+    .arg(pairs_arg(alloc))
 }
 
 /// The amount, whose range clap checks as it parses.

@@ -32,7 +32,8 @@ pub trait Target {
         ensures blank { IfOk result (λ draft. Self.Draft.contents draft ≡ blank) }
         ensures left { IsLeft (keeps self.old path.now) (keeps self.new path.now) };
 
-    /// Puts a draft under its path, in place of what may be there. Where that cannot be done, the path has what it had, or the whole draft.
+    /// Puts a draft under its path, in place of what may be there. Where that cannot be done, the
+    /// path has what it had, or the whole draft.
     fn keep(&mut self, draft: Self::Draft, path: &str) -> io::Result<()>
         ensures kept { OnOk result ((text : List ℕ) → Appends blank (Self.Draft.contents draft) text → keeps self.new path.now (Some text)) }
         ensures left { OnErr result ((text : List ℕ) → Appends blank (Self.Draft.contents draft) text → IsLeft (keeps self.old path.now) (keeps self.new path.now) ⊎ keeps self.new path.now (Some text)) };
@@ -138,7 +139,8 @@ impl<'a, R: Files> Target for Disk<'a, R> {
     }
 }
 
-/// The permissions of the file under a path, where there is one. Nothing but a file is replaced: no directory, device or symbolic link.
+/// The permissions of the file under a path, where there is one. Nothing but a file is replaced: no
+/// directory, device or symbolic link.
 fn replaced<R: Files>(rt: &R, path: &str) -> io::Result<Option<Permissions>> {
     match fs::symlink_metadata(rt, path) {
         Ok(found) if found.is_file() => Ok(Some(found.permissions())),

@@ -1,6 +1,4 @@
 use Rattle.std.proofs.Common.{◌≡◌, ◌++◌, ◌∷◌, ◌∙◌, ◌⊎◌, [], inl, inr, arith, refl}
-use Rattle.cwr_share.specs.CwrReading.{Reads, Refuses, Stops}
-use Rattle.cwr_share.specs.Lines.{lines_of}
 use Rattle.cwr_share.specs.declared.cwr_fault.CwrFault.{CwrFault}
 use Rattle.cwr_share.specs.declared.cwr_fault.CwrFault.TheVariants.{Accounts, Memory}
 use Rattle.cwr_share.proofs.LineLemmas.{lines_count}
@@ -16,34 +14,21 @@ too_many fault P is (inr (same, holds)) = holds
 
 pub loop-reader-init : goal.loop-reader-init
 loop-reader-init c =
-    let path = c.args.path.now in
-    let from = c.of-reader.result in
-    let begun = c.of-reader.ensures.begun in
-    let now = c.none-told.result in (
+    let begun = c.of-reader.ensures.begun in (
       c.of-reader.ensures.stands,
-      (
-        [],
-        c.of-reader.ensures.none_read,
-        goes_start Reads Refuses Stops (cwr_line path) [] [] (lines_of c.args.bytes.now) from.lines [] now.text.items now.count from.number (none_told (cwr_line path) now.text.items now.count c.none-told.ensures.none) refl begun.0 begun.1,
-      ),
+      ([], c.of-reader.ensures.none_read, goes_start (none_told (cwr_line c.args.path.now) c.none-told.ensures.none) (refl, begun.0, begun.1)),
       c.none-told.ensures.path,
     )
 
 pub loop-reader-smaller : goal.loop-reader-smaller
 loop-reader-smaller c =
-    let at = c.loop-reader.reader in
-    let to = c.next_fault.new.self in
     let (kept, read, goes) = c.loop-reader.invariant.1 in
     let on = rw c.in-Some.is at c.in_ok-fault.ensures.fault in
     let (more, done, way) = on kept read in
-    omega (arith, out_few Reads Refuses Stops kept more at.number to.number at.lines to.lines ((to.line.now, c.in-Some.fault) ∷ []) way)
+    omega (arith, out_few way)
 
 pub loop-reader-preserved : goal.loop-reader-preserved
 loop-reader-preserved c =
-    let at = c.loop-reader.reader in
-    let to = c.next_fault.new.self in
-    let told = c.loop-reader.told in
-    let now = c.cwr.new.self in
     let (kept, read, goes) = c.loop-reader.invariant.1 in
     let on = rw c.in-Some.is at c.in_ok-fault.ensures.fault in
     let (more, done, way) = on kept read in
@@ -52,33 +37,30 @@ loop-reader-preserved c =
       (
         more,
         done,
-        goes_on Reads Refuses Stops (cwr_line c.args.path.now) [] kept more (lines_of c.args.bytes.now) at.lines to.lines [] told.text.items now.text.items told.count now.count at.number to.number (to.line.now, c.in-Some.fault) goes way tells,
+        goes_on goes way tells,
       ),
       c.cwr.ensures.path ∙ c.loop-reader.invariant.2,
     )
 
 pub cwr-requires : goal.cwr-requires
 cwr-requires c =
-    let at = c.loop-reader.reader in
     let (kept, read, goes) = c.loop-reader.invariant.1 in
-    omega (arith, lines_count c.args.bytes.now, goes_few Reads Refuses Stops (cwr_line c.args.path.now) [] kept (lines_of c.args.bytes.now) at.lines [] c.loop-reader.told.text.items c.loop-reader.told.count at.number goes)
+    omega (arith, lines_count c.args.bytes.now, goes_few goes)
 
 pub cwr-requires-in-Err-Accounts : goal.cwr-requires-in-Err-Accounts
 cwr-requires-in-Err-Accounts c =
-    let at = c.loop-reader.reader in
     let (kept, read, goes) = c.loop-reader.invariant.1 in
-    omega (arith, lines_count c.args.bytes.now, goes_few Reads Refuses Stops (cwr_line c.args.path.now) [] kept (lines_of c.args.bytes.now) at.lines [] c.loop-reader.told.text.items c.loop-reader.told.count at.number goes)
+    omega (arith, lines_count c.args.bytes.now, goes_few goes)
 
 pub returns-in-Ok : goal.returns-in-Ok
 returns-in-Ok c =
     let path = c.args.path.now in
-    let at = c.loop-reader.reader in
     let to = c.next_fault.new.self in
     let told = c.loop-reader.told in
     let (kept, read, goes) = c.loop-reader.invariant.1 in
     let (on, none) = rw c.in_default.is at c.in_ok-fault.ensures.none in
     let (last, done, way) = on kept read in
-    let all = goes_whole Reads Refuses Stops (cwr_line path) [] kept last (lines_of c.args.bytes.now) at.lines to.lines [] told.text.items told.count at.number to.number goes way none in (
+    let all = goes_whole goes way none in (
       all.below,
       (record { kept = last; end = to.number; read = all.way; file = c.in-Ok.ensures.registrations last done }, c.in-Ok.ensures.sound),
       told_whole (cwr_line path) path told.text.items c.close.new.self.text.items told.count all.below all.told (rw c.loop-reader.invariant.2 at c.in_ok-close-in-Ok.ensures.text),
@@ -88,14 +70,12 @@ returns-in-Ok c =
 pub returns-in-Err-Accounts : goal.returns-in-Err-Accounts
 returns-in-Err-Accounts c =
     let path = c.args.path.now in
-    let at = c.loop-reader.reader in
     let to = c.next_fault.new.self in
-    let told = c.loop-reader.told in
     let now = c.cwr-in-Err-Accounts.new.self in
     let (kept, read, goes) = c.loop-reader.invariant.1 in
     let (on, none) = rw c.in_default.is at c.in_ok-fault.ensures.none in
     let (last, done, way) = on kept read in
-    let all = goes_whole Reads Refuses Stops (cwr_line path) [] kept last (lines_of c.args.bytes.now) at.lines to.lines [] told.text.items told.count at.number to.number goes way none in
+    let all = goes_whole goes way none in
     let tells = rw c.loop-reader.invariant.2 at c.in_ok-cwr-in-Err-Accounts.ensures.told in
     let many = too_many c.in-Err-Accounts.field-0 _ c.in-Err-Accounts.field-0-is c.in-Err-Accounts.ensures.fault in (
       all.below ++ ([], Accounts) ∷ [],

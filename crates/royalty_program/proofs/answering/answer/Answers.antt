@@ -17,11 +17,12 @@ use Rattle.royalty_program.specs.Files.{AreStatementsOver, IsExplanationOver, Is
 use Rattle.royalty_program.specs.MergeCommand.{merge_app}
 use Rattle.royalty_program.specs.MergeFiles.{IsMergeOver}
 use Rattle.royalty_program.specs.Status.{IsOfDivision, failure_of_fault}
-use Rattle.royalty_program.specs.declared.check_command.CheckWords.{CheckWords}
+use Rattle.royalty_program.specs.InputPaths.{paths_in}
+use Rattle.royalty_program.specs.declared.inputs.Inputs.{Inputs}
 use Rattle.royalty_program.specs.declared.explain_command.ExplainWords.{ExplainWords}
 use Rattle.royalty_program.specs.declared.merge_command.MergeWords.{MergeWords}
 use Rattle.royalty_program.specs.declared.run_command.RunWords.{RunWords}
-use Rattle.royalty_program.proofs.CommandNames.{split_not_run, split_not_explain, split_not_check, split_not_merge, run_not_split, run_not_explain, run_not_check, run_not_merge, explain_not_split, explain_not_run, explain_not_check, explain_not_merge, check_not_split, check_not_run, check_not_explain, check_not_merge, merge_not_split, merge_not_run, merge_not_explain, merge_not_check}
+use Rattle.royalty_program.proofs.CommandNames.{differ}
 use Rattle.royalty_program.proofs.OutputLemmas.{delivered_merge, delivered_out, delivered_run, left_merge, left_run, no_merge_help_given, no_output, unmerged_words, unused_merge, unused_run}
 use Rattle.royalty_program.proofs.OverLemmas.{explained_given, merged_given, over_given, over_in_order, reported_given}
 use Rattle.royalty_program.proofs.OptionLemmas.{accepted_is_memory, no_help_given}
@@ -43,28 +44,27 @@ returns-in-Ok-Division-clause-pairs g c asked =
     let of_words : IsFaultOf (pairs_of (map string_bytes c.args.words.now)) c.in-Err-split_words.fault = rw pairs at of_list in
     rw c.from.ensures (fault_stands (map string_bytes c.args.words.now) c.in-Err-split_words.fault of_words)
 
--- words that ask for a division ask for no other
-no_other : {holds gives : List ℕ → List ℕ → Type 0} (words : List (List ℕ)) (text : List ℕ) → ¬ (word_at words 1 ≡ codes "run") → ¬ (word_at words 1 ≡ codes "explain") → ¬ (word_at words 1 ≡ codes "check") → ¬ (word_at words 1 ≡ codes "merge") → (IsDivision words → IsAnswerTo words text)
-    → IsAnswered holds gives words true text
-no_other words text no_run no_explanation no_check no_merge division = record {
+-- words that ask for a division are answered by its rows
+answers_division : {holds gives : List ℕ → List ℕ → Type 0} (words : List (List ℕ)) (text : List ℕ) → word_at words 1 ≡ codes "split" → (IsDivision words → IsAnswerTo words text) → IsAnswered holds gives words true text
+answers_division words text command division = record {
   division = division;
-  run = λ asked. absurd (no_run asked.command);
-  explained = λ asked. absurd (no_explanation asked.command);
-  checked = λ asked. absurd (no_check asked.command);
-  merged = λ asked. absurd (no_merge asked.command);
+  run = λ run. absurd (differ (sym command ∙ run.command) refl);
+  explained = λ explain. absurd (differ (sym command ∙ explain.command) refl);
+  checked = λ check. absurd (differ (sym command ∙ check.command) refl);
+  merged = λ merge. absurd (differ (sym command ∙ merge.command) refl);
   others = λ other. refl;
-  in_order = λ asked. absurd (no_run asked.command);
+  in_order = λ run. absurd (differ (sym command ∙ run.command) refl);
 }
 
--- those that ask for a run are answered by its statements
+-- those that ask for a run by its statements
 answers_run : (holds gives : List ℕ → List ℕ → Type 0) (words : List (List ℕ)) (asked : RunWords) (text : List ℕ) → word_at words 1 ≡ codes "run" → AreReadFrom (drop 1 words) asked
-    → AreStatementsOver holds (string_bytes asked.tis) (option_map string_bytes asked.payees) (string_bytes asked.cwr) (string_bytes asked.usage) text → IsAnswered holds gives words true text
+    → AreStatementsOver holds (paths_in asked.inputs) text → IsAnswered holds gives words true text
 answers_run holds gives words asked text command read over = record {
-  division = λ division. absurd (run_not_split (sym command ∙ division.command));
+  division = λ division. absurd (differ (sym command ∙ division.command) refl);
   run = λ run. over_given holds (drop 1 words) asked text read over;
-  explained = λ explain. absurd (run_not_explain (sym command ∙ explain.command));
-  checked = λ check. absurd (run_not_check (sym command ∙ check.command));
-  merged = λ merge. absurd (run_not_merge (sym command ∙ merge.command));
+  explained = λ explain. absurd (differ (sym command ∙ explain.command) refl);
+  checked = λ check. absurd (differ (sym command ∙ check.command) refl);
+  merged = λ merge. absurd (differ (sym command ∙ merge.command) refl);
   others = λ other. refl;
   in_order = λ run. over_in_order holds (drop 1 words) asked text run.options read over;
 }
@@ -73,56 +73,50 @@ answers_run holds gives words asked text command read over = record {
 answers_merge : (holds gives : List ℕ → List ℕ → Type 0) (words : List (List ℕ)) (asked : MergeWords) (text : List ℕ) → word_at words 1 ≡ codes "merge" → AreMergeFrom (drop 1 words) asked
     → IsMergeOver gives (map string_bytes asked.statements.items) text → IsAnswered holds gives words true text
 answers_merge holds gives words asked text command read over = record {
-  division = λ division. absurd (merge_not_split (sym command ∙ division.command));
-  run = λ run. absurd (merge_not_run (sym command ∙ run.command));
-  explained = λ explain. absurd (merge_not_explain (sym command ∙ explain.command));
-  checked = λ check. absurd (merge_not_check (sym command ∙ check.command));
+  division = λ division. absurd (differ (sym command ∙ division.command) refl);
+  run = λ run. absurd (differ (sym command ∙ run.command) refl);
+  explained = λ explain. absurd (differ (sym command ∙ explain.command) refl);
+  checked = λ check. absurd (differ (sym command ∙ check.command) refl);
   merged = λ merge. merged_given gives (drop 1 words) asked text read over;
   others = λ other. refl;
-  in_order = λ run. absurd (merge_not_run (sym command ∙ run.command));
+  in_order = λ run. absurd (differ (sym command ∙ run.command) refl);
 }
 
 -- and those that ask for an explanation by it
 answers_explanation : (holds gives : List ℕ → List ℕ → Type 0) (words : List (List ℕ)) (asked : ExplainWords) (text : List ℕ) → word_at words 1 ≡ codes "explain" → AreExplainedFrom (drop 1 words) asked
-    → IsExplanationOver holds (string_bytes asked.tis) (option_map string_bytes asked.payees) (string_bytes asked.cwr) (string_bytes asked.usage) asked.row text → IsAnswered holds gives words true text
+    → IsExplanationOver holds (paths_in asked.inputs) asked.row text → IsAnswered holds gives words true text
 answers_explanation holds gives words asked text command read over = record {
-  division = λ division. absurd (explain_not_split (sym command ∙ division.command));
-  run = λ run. absurd (explain_not_run (sym command ∙ run.command));
+  division = λ division. absurd (differ (sym command ∙ division.command) refl);
+  run = λ run. absurd (differ (sym command ∙ run.command) refl);
   explained = λ explain. explained_given holds (drop 1 words) asked text read over;
-  checked = λ check. absurd (explain_not_check (sym command ∙ check.command));
-  merged = λ merge. absurd (explain_not_merge (sym command ∙ merge.command));
+  checked = λ check. absurd (differ (sym command ∙ check.command) refl);
+  merged = λ merge. absurd (differ (sym command ∙ merge.command) refl);
   others = λ other. refl;
-  in_order = λ run. absurd (explain_not_run (sym command ∙ run.command));
+  in_order = λ run. absurd (differ (sym command ∙ run.command) refl);
 }
 
 -- and those that ask for a check by its report
-answers_check : (holds gives : List ℕ → List ℕ → Type 0) (words : List (List ℕ)) (asked : CheckWords) (sound : Bool) (text : List ℕ) → word_at words 1 ≡ codes "check" → AreCheckedFrom (drop 1 words) asked
-    → IsReportOver holds (string_bytes asked.tis) (option_map string_bytes asked.payees) (string_bytes asked.cwr) (string_bytes asked.usage) sound text → IsAnswered holds gives words sound text
-answers_check holds gives words asked sound text command read over = record {
-  division = λ division. absurd (check_not_split (sym command ∙ division.command));
-  run = λ run. absurd (check_not_run (sym command ∙ run.command));
-  explained = λ explain. absurd (check_not_explain (sym command ∙ explain.command));
-  checked = λ check. reported_given holds (drop 1 words) asked sound text read over;
-  merged = λ merge. absurd (check_not_merge (sym command ∙ merge.command));
+answers_check : (holds gives : List ℕ → List ℕ → Type 0) (words : List (List ℕ)) (inputs : Inputs) (sound : Bool) (text : List ℕ) → word_at words 1 ≡ codes "check" → AreCheckedFrom (drop 1 words) inputs
+    → IsReportOver holds (paths_in inputs) sound text → IsAnswered holds gives words sound text
+answers_check holds gives words inputs sound text command read over = record {
+  division = λ division. absurd (differ (sym command ∙ division.command) refl);
+  run = λ run. absurd (differ (sym command ∙ run.command) refl);
+  explained = λ explain. absurd (differ (sym command ∙ explain.command) refl);
+  checked = λ check. reported_given holds (drop 1 words) inputs sound text read over;
+  merged = λ merge. absurd (differ (sym command ∙ merge.command) refl);
   others = λ other. absurd (other command);
-  in_order = λ run. absurd (check_not_run (sym command ∙ run.command));
+  in_order = λ run. absurd (differ (sym command ∙ run.command) refl);
 }
-
--- two words that differ are not both the command
-other_command : (words : List (List ℕ)) (own other : List ℕ) → word_at words 1 ≡ own → ¬ (own ≡ other) → ¬ (word_at words 1 ≡ other)
-other_command words own other is differ same = differ (sym is ∙ same)
 
 pub returns-in-Ok-clause-answered : goal.returns-in-Ok-clause-answered
 returns-in-Ok-clause-answered g c =
     let words = map string_bytes c.args.words.now in
     let text = c.as_slice-in-Ok.result.now in
     let command : word_at words 1 ≡ codes "split" = rw (c.in-Ok-Division.is, c.in-Ok-Division.field-0-is) at c.read_words.ensures.named in
-    let no_run : ¬ (word_at words 1 ≡ codes "run") = other_command words (codes "split") (codes "run") command split_not_run in
-    let no_merge : ¬ (word_at words 1 ≡ codes "merge") = other_command words (codes "split") (codes "merge") command split_not_merge in
+    let no_file = no_output (g.T.Target.keeps c.args.target.now) words (λ run. differ (sym command ∙ run) refl) (λ merge. differ (sym command ∙ merge) refl) in
     let rows : IsDivision words → IsAnswerTo words text = search rules in
-    let answered : IsAnswered (g.S.Source.holds c.args.files.now) (g.S.Source.gives c.args.files.now) words true text =
-    no_other words text no_run (other_command words (codes "split") (codes "explain") command split_not_explain) (other_command words (codes "split") (codes "check") command split_not_check) no_merge rows in
-    on_ok_weaker c.write_all.result (λ wrote. (text, delivered_out _ words _ _ text (no_output (g.T.Target.keeps c.args.target.now) words no_run no_merge) wrote, answered)) c.write_all.ensures.bytes
+    let answered : IsAnswered (g.S.Source.holds c.args.files.now) (g.S.Source.gives c.args.files.now) words true text = answers_division words text command rows in
+    on_ok_weaker c.write_all.result (λ wrote. (text, delivered_out _ words _ _ text no_file wrote, answered)) c.write_all.ensures.bytes
 
 pub returns-in-Ok-Run-clause-answered : goal.returns-in-Ok-Run-clause-answered
 returns-in-Ok-Run-clause-answered g c =
@@ -214,7 +208,7 @@ returns-in-Ok-Explanation-clause-answered g c =
     let text = c.in_ok-text-in-Ok-Explanation.text.items in
     let command : word_at words 1 ≡ codes "explain" = rw (c.in-Ok-Explanation.is, c.in-Ok-Explanation.field-0-is) at c.read_words.ensures.named in
     let read : AreExplainedFrom (drop 1 words) asked = rw (c.in-Ok-Explanation.is, c.in-Ok-Explanation.field-0-is) at (c.read_words.ensures.explanation command) in
-    let no_file = no_output (g.T.Target.keeps c.args.target.now) words (other_command words (codes "explain") (codes "run") command explain_not_run) (other_command words (codes "explain") (codes "merge") command explain_not_merge) in
+    let no_file = no_output (g.T.Target.keeps c.args.target.now) words (λ run. differ (sym command ∙ run) refl) (λ merge. differ (sym command ∙ merge) refl) in
     let answered : IsAnswered holds gives words true text = answers_explanation holds gives words asked text command read c.in_ok-text-in-Ok-Explanation.ensures.explanation in
     on_ok_weaker c.write_all-in-Ok-Explanation.result (λ wrote. (text, delivered_out (g.T.Target.keeps c.args.target.now) words _ _ text no_file wrote, answered)) (rw c.as_slice-in-Ok-Explanation.ensures.value at c.write_all-in-Ok-Explanation.ensures.bytes)
 
@@ -223,12 +217,12 @@ returns-in-Ok-Check-clause-answered g c =
     let words = map string_bytes c.args.words.now in
     let holds = g.S.Source.holds c.args.files.now in
     let gives = g.S.Source.gives c.args.files.now in
-    let asked = c.in-Ok-Check.asked in
+    let inputs = c.in-Ok-Check.inputs in
     let checked = c.in_ok-checked-in-Ok-Check.checked in
     let command : word_at words 1 ≡ codes "check" = rw (c.in-Ok-Check.is, c.in-Ok-Check.field-0-is) at c.read_words.ensures.named in
-    let read : AreCheckedFrom (drop 1 words) asked = rw (c.in-Ok-Check.is, c.in-Ok-Check.field-0-is) at (c.read_words.ensures.checked command) in
-    let no_file = no_output (g.T.Target.keeps c.args.target.now) words (other_command words (codes "check") (codes "run") command check_not_run) (other_command words (codes "check") (codes "merge") command check_not_merge) in
-    let answered : IsAnswered holds gives words checked.is_sound checked.text.items = answers_check holds gives words asked checked.is_sound checked.text.items command read c.in_ok-checked-in-Ok-Check.ensures.report in
+    let read : AreCheckedFrom (drop 1 words) inputs = rw (c.in-Ok-Check.is, c.in-Ok-Check.field-0-is) at (c.read_words.ensures.checked command) in
+    let no_file = no_output (g.T.Target.keeps c.args.target.now) words (λ run. differ (sym command ∙ run) refl) (λ merge. differ (sym command ∙ merge) refl) in
+    let answered : IsAnswered holds gives words checked.is_sound checked.text.items = answers_check holds gives words inputs checked.is_sound checked.text.items command read c.in_ok-checked-in-Ok-Check.ensures.report in
     on_ok_weaker c.write_all-in-Ok-Check.result (λ wrote. (checked.text.items, delivered_out (g.T.Target.keeps c.args.target.now) words _ _ checked.text.items no_file wrote, answered)) (rw c.as_slice-in-Ok-Check.ensures.value at c.write_all-in-Ok-Check.ensures.bytes)
 
 pub returns-in_err-settle_out-in-Ok-Run-clause-left : goal.returns-in_err-settle_out-in-Ok-Run-clause-left

@@ -1,42 +1,15 @@
-use Rattle.std.proofs.Common.{codes, ◌≡◌, ◌∙◌, [], ap}
 use Rattle.std.proofs.lemmas.Result.{IfOk-weaker}
-use Rattle.clap.specs.Simple.{app_of_fields}
-use Rattle.clap.specs.Words.{new_app}
-use Rattle.clap.specs.declared.builder.command.Command.{Command}
-use Rattle.clap.specs.declared.builder.command.Command.TheOpen.{Command-F}
-use Rattle.clap.specs.declared.builder.value_parser.ValueParser.TheVariants as vp
 use Rattle.line_split.specs.declared.usage.TheConstants.{MOST_LINES}
 use Rattle.royalty_program.specs.ExplainCommand.{IsExplainCommand}
-use Rattle.royalty_program.proofs.OptionLemmas.{HasArgs, has_none, narrowed}
-use Rattle.royalty_program.proofs.ExplainLemmas.{adds_five}
+use Rattle.royalty_program.proofs.OptionLemmas.{narrowed}
+use Rattle.royalty_program.proofs.ExplainLemmas.{adds_row}
 use Rattle.royalty_program.proofs.explain_command.explain_command.Goals as goal
-
--- the command has no argument at first
-starts : (c : goal.After-arg-5) → HasArgs c.after_help.result [] (new_app (codes "explain"))
-starts c =
-    let new = c.new.ensures in
-    let named = c.in_ok-bin_name.ensures.0 in
-    let about = c.about.ensures in
-    let helped = c.after_help.ensures in
-    has_none c.after_help.result (new_app (codes "explain"))
-    (ap (λ (f : Command-F Command). f.args.items) helped ∙ ap (λ (f : Command-F Command). f.args.items) about ∙ ap (λ (f : Command-F Command). f.args.items) named ∙ new.empty.0)
-    (ap (λ (f : Command-F Command). f.groups.items) helped ∙ ap (λ (f : Command-F Command). f.groups.items) about ∙ ap (λ (f : Command-F Command). f.groups.items) named ∙ new.empty.1)
-    (ap (λ (f : Command-F Command). f.has_globals) helped ∙ ap (λ (f : Command-F Command). f.has_globals) about ∙ ap (λ (f : Command-F Command). f.has_globals) named ∙ new.local)
-    (ap (λ (f : Command-F Command). f.subcommand_negates_reqs) helped ∙ ap (λ (f : Command-F Command). f.subcommand_negates_reqs) about ∙ ap (λ (f : Command-F Command). f.subcommand_negates_reqs) named ∙ new.negates)
-    (ap app_of_fields helped ∙ ap app_of_fields about ∙ ap app_of_fields named ∙ new.app)
-
--- the range of the number
-row_in : (c : goal.After-arg-5) → c.range.result ≡ vp.Unsigned 1 MOST_LINES
-row_in c = narrowed c.value_parser.result c.range.result _ _ MOST_LINES c.value_parser.ensures c.range.ensures c.new-2.ensures.start c.new-2.ensures.end
 
 pub returns : goal.returns
 returns c =
-    let row = row_in c in
-    IfOk-weaker c.arg-5.result _ IsExplainCommand (λ command added.
-    adds_five c.after_help.result c.in_ok-arg.field-0 c.in_ok-arg-2.field-0 c.in_ok-arg-3.field-0 c.in_ok-arg-4.field-0 command
-    c.file_arg.result c.optional_file_arg.result c.file_arg-2.result c.file_arg-3.result c.number_arg.result
-    (starts c) c.in_ok-arg.ensures c.in_ok-arg-2.ensures c.in_ok-arg-3.ensures c.in_ok-arg-4.ensures added
-    c.file_arg.ensures.needed c.optional_file_arg.ensures.optional c.file_arg-2.ensures.needed c.file_arg-3.ensures.needed c.number_arg.ensures.needed
-    c.file_arg.ensures.rule c.optional_file_arg.ensures.rule c.file_arg-2.ensures.rule c.file_arg-3.ensures.rule
+    let row = narrowed c.value_parser.result c.range.result _ _ MOST_LINES c.value_parser.ensures c.range.ensures c.new.ensures.start c.new.ensures.end in
+    IfOk-weaker c.arg.result _ IsExplainCommand (λ command added.
+    adds_row c.in_ok-input_command.field-0 command c.number_arg.result
+    c.in_ok-input_command.ensures added c.number_arg.ensures.needed
     (rw row at c.number_arg.ensures.rule) (rw row at c.number_arg.ensures.in_range))
-    c.arg-5.ensures
+    c.arg.ensures

@@ -1,5 +1,4 @@
-use Rattle.std.specs.Option.{option_map}
-use Rattle.std.specs.Prelude.{string_bytes}
+use Rattle.royalty_program.specs.InputPaths.{paths_in}
 use Rattle.royalty_program.specs.Status.{IsOfPaths}
 use Rattle.royalty_program.proofs.FileLemmas.{cwr_unread, payees_unread, read_if_given, tis_unread, usage_unread}
 use Rattle.clap.proofs.TakesLemmas.{passed_up}
@@ -7,39 +6,37 @@ use Rattle.royalty_program.proofs.files.read_all.Goals as goal
 
 pub returns-in_err-tis-clause-files : goal.returns-in_err-tis-clause-files
 returns-in_err-tis-clause-files g c =
-    let asked = c.args in
+    let inputs = c.args.inputs in
     let holds = g.S.Source.holds c.args.files.now in
     let refuses = g.S.Source.refuses c.args.files.now in
-    passed_up c.from_residual.result c.in_err-tis.field-0.0 (IsOfPaths holds refuses (string_bytes asked.tis) (option_map string_bytes asked.payees) (string_bytes asked.cwr) (string_bytes asked.usage))
-    c.from_residual.ensures.1
-    (tis_unread holds refuses (option_map string_bytes asked.payees) (string_bytes asked.cwr) (string_bytes asked.usage) asked.tis c.in_err-tis.field-0.0 c.in_err-tis.ensures.failure)
+    let failure = c.in_err-tis.field-0.0 in
+    passed_up c.from_residual.result failure (IsOfPaths holds refuses (paths_in inputs)) c.from_residual.ensures.1
+    (tis_unread holds refuses inputs failure c.in_err-tis.ensures.failure)
 
 pub returns-in_err-payees-clause-files : goal.returns-in_err-payees-clause-files
 returns-in_err-payees-clause-files g c =
-    let asked = c.args in
+    let inputs = c.args.inputs in
     let holds = g.S.Source.holds c.args.files.now in
     let refuses = g.S.Source.refuses c.args.files.now in
-    passed_up c.from_residual-in_err-payees.result c.in_err-payees.field-0.0 (IsOfPaths holds refuses (string_bytes asked.tis) (option_map string_bytes asked.payees) (string_bytes asked.cwr) (string_bytes asked.usage))
-    c.from_residual-in_err-payees.ensures.1
-    (payees_unread holds refuses (string_bytes asked.tis) (string_bytes asked.cwr) (string_bytes asked.usage) asked.payees c.in_err-payees.field-0.0 (c.in_ok-tis.tis.items, c.in_ok-tis.ensures.bytes)
-    c.in_err-payees.ensures.given c.in_err-payees.ensures.failure)
+    let failure = c.in_err-payees.field-0.0 in
+    passed_up c.from_residual-in_err-payees.result failure (IsOfPaths holds refuses (paths_in inputs)) c.from_residual-in_err-payees.ensures.1
+    (payees_unread holds refuses inputs failure (c.in_ok-tis.tis.items, c.in_ok-tis.ensures.bytes) c.in_err-payees.ensures.given c.in_err-payees.ensures.failure)
 
 pub returns-in_err-cwr-clause-files : goal.returns-in_err-cwr-clause-files
 returns-in_err-cwr-clause-files g c =
-    let asked = c.args in
+    let inputs = c.args.inputs in
     let holds = g.S.Source.holds c.args.files.now in
     let refuses = g.S.Source.refuses c.args.files.now in
-    passed_up c.from_residual-in_err-cwr.result c.in_err-cwr.field-0.0 (IsOfPaths holds refuses (string_bytes asked.tis) (option_map string_bytes asked.payees) (string_bytes asked.cwr) (string_bytes asked.usage))
-    c.from_residual-in_err-cwr.ensures.1
-    (cwr_unread holds refuses (string_bytes asked.tis) (option_map string_bytes asked.payees) (string_bytes asked.usage) asked.cwr c.in_err-cwr.field-0.0 (c.in_ok-tis.tis.items, c.in_ok-tis.ensures.bytes)
-    (read_if_given holds _ _ c.in_ok-payees.ensures.bytes) c.in_err-cwr.ensures.failure)
+    let failure = c.in_err-cwr.field-0.0 in
+    passed_up c.from_residual-in_err-cwr.result failure (IsOfPaths holds refuses (paths_in inputs)) c.from_residual-in_err-cwr.ensures.1
+    (cwr_unread holds refuses inputs failure (c.in_ok-tis.tis.items, c.in_ok-tis.ensures.bytes) (read_if_given holds _ _ c.in_ok-payees.ensures.bytes) c.in_err-cwr.ensures.failure)
 
 pub returns-in_err-usage-clause-files : goal.returns-in_err-usage-clause-files
 returns-in_err-usage-clause-files g c =
-    let asked = c.args in
+    let inputs = c.args.inputs in
     let holds = g.S.Source.holds c.args.files.now in
     let refuses = g.S.Source.refuses c.args.files.now in
-    passed_up c.from_residual-in_err-usage.result c.in_err-usage.field-0.0 (IsOfPaths holds refuses (string_bytes asked.tis) (option_map string_bytes asked.payees) (string_bytes asked.cwr) (string_bytes asked.usage))
-    c.from_residual-in_err-usage.ensures.1
-    (usage_unread holds refuses (string_bytes asked.tis) (option_map string_bytes asked.payees) (string_bytes asked.cwr) asked.usage c.in_err-usage.field-0.0 (c.in_ok-tis.tis.items, c.in_ok-tis.ensures.bytes)
-    (read_if_given holds _ _ c.in_ok-payees.ensures.bytes) (c.in_ok-cwr.cwr.items, c.in_ok-cwr.ensures.bytes) c.in_err-usage.ensures.failure)
+    let failure = c.in_err-usage.field-0.0 in
+    passed_up c.from_residual-in_err-usage.result failure (IsOfPaths holds refuses (paths_in inputs)) c.from_residual-in_err-usage.ensures.1
+    (usage_unread holds refuses inputs failure (c.in_ok-tis.tis.items, c.in_ok-tis.ensures.bytes) (read_if_given holds _ _ c.in_ok-payees.ensures.bytes) (c.in_ok-cwr.cwr.items, c.in_ok-cwr.ensures.bytes)
+    c.in_err-usage.ensures.failure)

@@ -1,46 +1,32 @@
 use Rattle.std.proofs.Common.{◌∙◌, codes, map}
 use Rattle.std.specs.Prelude.{string_bytes}
 use Rattle.clap.proofs.TakesLemmas.{passed_up}
-use Rattle.clap.proofs.CallerLemmas.{some_of_text}
-use Rattle.royalty_program.specs.RunCommand.{run_app}
 use Rattle.royalty_program.specs.Asked.{IsErrorOf}
-use Rattle.royalty_program.proofs.OptionLemmas.{error_is, memory_is, path_if_is, path_is, rows_are, some_by}
-use Rattle.royalty_program.proofs.RunLemmas.{has_cwr, has_tis, has_usage, nodes_are, nodes_read, readers_are, readers_read, run_names, run_options, same_plan, workers_are, workers_read}
+use Rattle.royalty_program.specs.RunCommand.{run_app}
+use Rattle.royalty_program.proofs.InputLemmas.{finds_inputs}
+use Rattle.royalty_program.proofs.OptionLemmas.{error_is, memory_is, path_if_is, rows_are, some_by}
+use Rattle.royalty_program.proofs.RunLemmas.{nodes_are, nodes_read, readers_are, readers_read, run_names, run_options, same_plan, workers_are, workers_read}
 use Rattle.royalty_program.proofs.RunWalked.{run_free, run_simple}
 use Rattle.royalty_program.proofs.run_command.read_run.Goals as goal
 
 pub returns-in_err-matches-clause-error : goal.returns-in_err-matches-clause-error
 returns-in_err-matches-clause-error c =
     let words = map string_bytes c.args.words.now in
-    let is = error_is c.in_ok-run_command.field-0 run_names run_app words c.in_err-matches.field-0.0 (run_options c.in_ok-run_command.field-0 c.in_ok-run_command.ensures) run_free c.in_err-matches.ensures.kinds in
+    let command = c.in_ok-run_command.field-0 in
+    let is = error_is command run_names run_app words c.in_err-matches.field-0.0 (run_options command c.in_ok-run_command.ensures) run_free c.in_err-matches.ensures.kinds in
     passed_up c.from_residual-in_err-matches.result c.in_err-matches.field-0.0 (IsErrorOf run_app words) c.from_residual-in_err-matches.ensures.1 is
 
-pub unwrap-requires : goal.unwrap-requires
-unwrap-requires c = some_of_text _ c.get_str.result _ c.get_str.ensures
-    (has_tis c.in_ok-run_command.field-0 c.in_ok-matches.matches c.in_ok-run_command.ensures c.in_ok-matches.ensures.parsed)
-
-pub unwrap-requires-2 : goal.unwrap-requires-2
-unwrap-requires-2 c = some_of_text _ c.get_str-3.result _ c.get_str-3.ensures
-    (has_cwr c.in_ok-run_command.field-0 c.in_ok-matches.matches c.in_ok-run_command.ensures c.in_ok-matches.ensures.parsed)
-
-pub unwrap-requires-3 : goal.unwrap-requires-3
-unwrap-requires-3 c = some_of_text _ c.get_str-4.result _ c.get_str-4.ensures
-    (has_usage c.in_ok-run_command.field-0 c.in_ok-matches.matches c.in_ok-run_command.ensures c.in_ok-matches.ensures.parsed)
+pub read_inputs-requires : goal.read_inputs-requires
+read_inputs-requires c =
+    let command = c.in_ok-run_command.field-0 in
+    let s = c.in_ok-run_command.ensures in
+    finds_inputs command c.in_ok-matches.matches _ _ run_app s.inputs (run_options command s) c.in_ok-matches.ensures.parsed
 
 pub returns-in_err-run_command-clause-error : goal.returns-in_err-run_command-clause-error
 returns-in_err-run_command-clause-error c = memory_is run_app (map string_bytes c.args.words.now) c.from_residual.result c.from_residual.ensures.1
 
-pub returns-in_err-tis-clause-error : goal.returns-in_err-tis-clause-error
-returns-in_err-tis-clause-error c = memory_is run_app (map string_bytes c.args.words.now) c.from_residual-in_err-tis.result c.from_residual-in_err-tis.ensures.1
-
-pub returns-in_err-payees-clause-error : goal.returns-in_err-payees-clause-error
-returns-in_err-payees-clause-error c = memory_is run_app (map string_bytes c.args.words.now) c.from_residual-in_err-payees.result c.from_residual-in_err-payees.ensures.1
-
-pub returns-in_err-cwr-clause-error : goal.returns-in_err-cwr-clause-error
-returns-in_err-cwr-clause-error c = memory_is run_app (map string_bytes c.args.words.now) c.from_residual-in_err-cwr.result c.from_residual-in_err-cwr.ensures.1
-
-pub returns-in_err-usage-clause-error : goal.returns-in_err-usage-clause-error
-returns-in_err-usage-clause-error c = memory_is run_app (map string_bytes c.args.words.now) c.from_residual-in_err-usage.result c.from_residual-in_err-usage.ensures.1
+pub returns-in_err-inputs-clause-error : goal.returns-in_err-inputs-clause-error
+returns-in_err-inputs-clause-error c = memory_is run_app (map string_bytes c.args.words.now) c.from_residual-in_err-inputs.result c.from_residual-in_err-inputs.ensures.1
 
 pub returns-in_err-output-clause-error : goal.returns-in_err-output-clause-error
 returns-in_err-output-clause-error c = memory_is run_app (map string_bytes c.args.words.now) c.from_residual-in_err-output.result c.from_residual-in_err-output.ensures.1
@@ -85,10 +71,7 @@ returns-clause-read c =
     let nodes = nodes_are command m words c.get_one-3.result c.unwrap-nodes.result s p rows c.get_one-3.ensures.value c.unwrap-nodes.ensures in
     let plan = (rw c.unwrap-plan.ensures at c.new.ensures.some).0 in
     record {
-      tis = c.in_ok-tis.ensures.ok ∙ path_is run_app m words (codes "tis") c.get_str.result c.unwrap.result rows c.get_str.ensures c.unwrap.ensures;
-      payees = c.in_ok-payees.ensures ∙ path_if_is run_app m words (codes "payees") c.get_str-2.result rows c.get_str-2.ensures;
-      cwr = c.in_ok-cwr.ensures.ok ∙ path_is run_app m words (codes "cwr") c.get_str-3.result c.unwrap-2.result rows c.get_str-3.ensures c.unwrap-2.ensures;
-      usage = c.in_ok-usage.ensures.ok ∙ path_is run_app m words (codes "usage") c.get_str-4.result c.unwrap-3.result rows c.get_str-4.ensures c.unwrap-3.ensures;
+      inputs = c.in_ok-inputs.ensures run_app words rows;
       plan = same_plan c.unwrap-plan.result _ _ _ _ _ _ plan workers readers nodes;
-      output = c.in_ok-output.ensures ∙ path_if_is run_app m words (codes "output") c.get_str-5.result rows c.get_str-5.ensures;
+      output = c.in_ok-output.ensures ∙ path_if_is run_app m words (codes "output") c.get_str.result rows c.get_str.ensures;
     }

@@ -1,17 +1,16 @@
-use Rattle.std.proofs.Common.{◌≢◌, ◌∙◌, map, string_bytes, arith}
-use Rattle.std.proofs.lemmas.List.{length-map, take_all}
+use Rattle.std.proofs.Common.{◌≢◌, ◌∙◌}
 use Rattle.clap.specs.Words.{kind_of}
 use Rattle.clap.specs.declared.error.kind.ErrorKind.TheVariants as kinds
 use Rattle.clap.proofs.TakesLemmas.{passed_up}
-use Rattle.royalty_program.proofs.SplitLemmas.{amount_given, amount_read, copied_more, error_given, pairs_given, pairs_read}
+use Rattle.royalty_program.proofs.SplitLemmas.{amount_given, amount_read, error_given, pairs_given, pairs_read}
 use Rattle.royalty_program.proofs.split_command.read_split.Goals as goal
 
 pub unwrap-amount-requires : goal.unwrap-amount-requires
 unwrap-amount-requires c = (amount_read c.in_ok-split_command.field-0 c.in_ok-matches.matches c.get_one.result
     c.in_ok-split_command.ensures c.in_ok-matches.ensures.parsed c.get_one.ensures.value).0
 
-pub unwrap-word-items-requires : goal.unwrap-word-items-requires
-unwrap-word-items-requires c = pairs_read _ c.in_ok-split_command.field-0 c.in_ok-matches.matches c.get_strs.result
+pub unwrap-requires : goal.unwrap-requires
+unwrap-requires c = pairs_read _ c.in_ok-split_command.field-0 c.in_ok-matches.matches c.get_strs.result
     c.in_ok-split_command.ensures c.in_ok-matches.ensures.parsed c.get_strs.ensures
 
 pub returns-clause-in_range : goal.returns-clause-in_range
@@ -25,16 +24,8 @@ returns-clause-amount c are = amount_given c.in_ok-split_command.field-0 c.in_ok
     c.in_ok-split_command.ensures c.in_ok-matches.ensures.parsed c.in_ok-matches.ensures.matches are c.get_one.ensures.value c.unwrap-amount.ensures
 
 pub returns-clause-pairs : goal.returns-clause-pairs
-returns-clause-pairs c are =
-    let given = pairs_given _ c.in_ok-split_command.field-0 c.in_ok-matches.matches _ c.get_strs.result _
-    c.in_ok-split_command.ensures c.in_ok-matches.ensures.matches are c.get_strs.ensures c.unwrap-word-items.ensures in
-    let all = take_all c.loop-word.word-index (map (λ word. word.now) c.unwrap-word-items.result.now)
-    (omega (arith, c.loop-word-test.false, length-map c.unwrap-word-items.result.now (λ word. word.now))) in
-    c.loop-word.invariant ∙ all ∙ given
-
-pub loop-word-preserved : goal.loop-word-preserved
-loop-word-preserved c = copied_more string_bytes c.unwrap-word-items.result.now c.loop-word.pairs.items c.push.new.self.items c.loop-word.word-index
-    c.in_ok-from_str.field-0 _ c.loop-word-test.true c.in_ok-push.ensures.items c.in_ok-from_str.ensures.ok c.loop-word.invariant
+returns-clause-pairs c are = c.in_ok-pairs.ensures ∙ pairs_given _ c.in_ok-split_command.field-0 c.in_ok-matches.matches _ c.get_strs.result _
+    c.in_ok-split_command.ensures c.in_ok-matches.ensures.matches are c.get_strs.ensures c.unwrap.ensures
 
 pub returns-in_err-matches-clause-no_help : goal.returns-in_err-matches-clause-no_help
 returns-in_err-matches-clause-no_help c are =

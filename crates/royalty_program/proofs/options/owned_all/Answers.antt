@@ -1,7 +1,7 @@
 use Rattle.std.proofs.Common.{◌∙◌, map, string_bytes, arith}
 use Rattle.std.proofs.lemmas.List.{length-map, take_all}
 use Rattle.royalty_program.proofs.SplitLemmas.{copied_more}
-use Rattle.royalty_program.proofs.options.kept_all.Goals as goal
+use Rattle.royalty_program.proofs.options.owned_all.Goals as goal
 
 pub returns : goal.returns
 returns c =
@@ -10,5 +10,5 @@ returns c =
     c.loop-text.invariant ∙ all
 
 pub loop-text-preserved : goal.loop-text-preserved
-loop-text-preserved c = copied_more string_bytes c.args.texts.now c.loop-text.kept.items c.push.new.self.items c.loop-text.text-index
+loop-text-preserved c = copied_more string_bytes c.args.texts.now c.loop-text.own.items c.push.new.self.items c.loop-text.text-index
     c.in_ok-from_str.field-0 _ c.loop-text-test.true c.in_ok-push.ensures.items c.in_ok-from_str.ensures.ok c.loop-text.invariant
