@@ -1,5 +1,5 @@
 -- A payee's statement is passed over, portion by portion.
-use Rattle.std.proofs.Common.{Bool, true, false, ◌≡◌, ◌∙◌, ◌+◌, ◌+ℤ◌, ◌++◌, ◌∷◌, ℕ, ℤ, List, [], Option, Some, None, length, map, get_or, ap, sym, refl, subst, append_assoc, arith, codes}
+use Rattle.std.proofs.Common.{Bool, true, false, ◌≡◌, ◌∙◌, ◌+◌, ◌+ℤ◌, ◌++◌, ◌∷◌, inl, inr, ℕ, ℤ, List, [], Option, Some, None, length, map, get_or, ap, sym, refl, subst, append_assoc, arith, codes}
 use Rattle.std.specs.Prelude.{if◌then◌else◌, slice_index_or}
 use Rattle.std.specs.Io.KnownBytes.{Appends, Consumes, Keeps, append_known, prepend_known}
 use Rattle.std.proofs.lemmas.List.{append-nil, length_push, map-append}
@@ -10,10 +10,10 @@ use Rattle.csv.specs.Writing.{read_back}
 use Rattle.csv_table.proofs.ReadBack.{rows_read_back}
 use Rattle.csv_table.specs.Written.{text_of, text_of_row}
 use Rattle.line_split.proofs.IntSums.{int_sum_by-append, none_plus}
-use Rattle.merge_statements.specs.Passed.{HasRests, IsNext, IsRestsSumAt, IsSumAt, IsWithin, IsWithinOne, PassesPortion, PassesRest, PassesSum, WritesRests, WritesStatement, total_of_portions}
+use Rattle.merge_statements.specs.Passed.{CanEnd, HasNext, HasRests, IsNext, IsRestsSumAt, IsSumAt, IsWithin, PassesPortion, PassesRest, PassesSum, WritesRests, WritesStatement, total_of_portions}
 use Rattle.merge_statements.specs.Places.{At, IsCount, IsPayeeAt, count_at, row_of, sum_at}
 use Rattle.merge_statements.specs.Statements.{IsPortion, IsRest, Portion, Rest, Statement, portion_row, rest_row, total_of_rests, total_row}
-use Rattle.merge_statements.specs.Unread.{Unread}
+use Rattle.merge_statements.specs.Unread.{IsLooked, ReadsOn, Unread}
 use Rattle.merge_statements.specs.declared.walk.Place.{Place}
 use Rattle.merge_statements.specs.declared.walk.Place.TheVariants.{Between, Summed, Within}
 
@@ -66,9 +66,10 @@ total_more portions portion =
 
 -- ---- the first portion
 
-pub first_within : (old new : Unread) (before after : Option (List ℕ)) (payee : List ℕ) → old.payee ≡ Some payee → IsNext old.at old.line payee
-    → PassesPortion old new → Appends before after old.line → IsWithin old new before after
-first_within old new before after payee due next passed written =
+pub first_within : (old new : Unread) (before after : Option (List ℕ)) → HasNext old → PassesPortion old new → ReadsOn old new → Appends before after old.line → IsWithin old new before after
+first_within old new before after has passed reads written =
+    let payee = has.payee in
+    let next = has.next in
     let p = passed.portion in
     let same : p.payee ≡ payee =
     sym (ap (λ (row : List (List ℕ)). slice_index_or row 1 []) p.form)
@@ -78,7 +79,7 @@ first_within old new before after payee due next passed written =
     record {
       payee = payee;
       portions = p.portion ∷ [];
-      due = due;
+      due = has.due;
       name = next.name;
       behind = next.after;
       some = omega arith;
@@ -91,19 +92,20 @@ first_within old new before after payee due next passed written =
       });
       consumed = subst (λ (t : List ℕ). Consumes old.left new.left t) text passed.consumed;
       written = subst (λ (t : List ℕ). Appends before after t) (sym passed.line ∙ text) written;
+      reads = reads;
     }
   where
     one_more : count_at old.at.place + 1 ≡ 1
-    one_more = ap (λ (place : Place). count_at place + 1) next.place
+    one_more = ap (λ (place : Place). count_at place + 1) has.next.place
 
     sum : sum_at old.at.place +ℤ passed.portion.portion.amount ≡ total_of_portions (passed.portion.portion ∷ [])
-    sum = ap (λ (place : Place). sum_at place +ℤ passed.portion.portion.amount) next.place
+    sum = ap (λ (place : Place). sum_at place +ℤ passed.portion.portion.amount) has.next.place
 
 -- ---- a further one
 
 pub more_within : (old between new : Unread) (before middle after : Option (List ℕ)) → IsWithin old between before middle
-    → PassesPortion between new → Appends middle after between.line → IsWithin old new before after
-more_within old between new before middle after was passed written =
+    → PassesPortion between new → ReadsOn between new → Appends middle after between.line → IsWithin old new before after
+more_within old between new before middle after was passed reads written =
     let p = passed.portion in
     let same : p.payee ≡ was.payee = subst (λ (at : At). IsPayeeAt at.place at.payee p.payee) was.at p.due in
     let form : passed.row ≡ portion_row was.payee p.portion = p.form ∙ ap (λ (name : List ℕ). portion_row name p.portion) same in
@@ -128,6 +130,7 @@ more_within old between new before middle after was passed written =
       written = subst (λ (t : List ℕ). Appends before after t) text
           (appends_more before middle after (text_of (map (portion_row was.payee) was.portions)) (text_of_row (portion_row was.payee p.portion)) was.written
           (subst (λ (t : List ℕ). Appends middle after t) (sym passed.line ∙ ap text_of_row form) written));
+      reads = λ start read. reads start (was.reads start read);
     }
   where
     count : count_at between.at.place + 1 ≡ length (was.portions ++ passed.portion.portion ∷ [])
@@ -142,11 +145,10 @@ more_within old between new before middle after was passed written =
 -- ---- the end of a statement
 
 pub statement_written : (old between new : Unread) (before after : Option (List ℕ)) (count : ℕ) (total : ℤ) → IsWithin old between before after
-    → (IsWithinOne between.at → PassesSum IsSumAt between new count total) → WritesStatement old new before after count total
-statement_written old between new before after count total was ends =
+    → PassesSum IsSumAt between new count total → ReadsOn between new → IsLooked new → WritesStatement old new before after count total
+statement_written old between new before after count total was end reads looked =
     let statement : Statement = record { payee = was.payee; portions = was.portions } in
     let place : between.at.place ≡ Within (length was.portions) (total_of_portions was.portions) = ap (λ (at : At). at.place) was.at in
-    let end = ends (length was.portions, total_of_portions was.portions, place) in
     let payee : between.at.payee ≡ was.payee = ap (λ (at : At). at.payee) was.at in
     let form : end.row ≡ total_row (codes "S") was.payee (length was.portions) (total_of_portions was.portions) =
     end.sum.form ∙ (λ i. total_row (codes "S") (payee i) (count_at (place i)) (sum_at (place i))) in
@@ -167,6 +169,8 @@ statement_written old between new before after count total was ends =
           total = (was.at i).total +ℤ sum_at (place i);
         });
         few = subst IsCount (sym (ap (λ (at : At). at.portions) end.sum.leads)) end.few;
+        reads = λ start read. reads start (was.reads start read);
+        looked = looked;
       };
       counted = end.counted ∙ ap count_at place;
       sum = end.comes_to ∙ ap sum_at place;
@@ -193,17 +197,19 @@ next_begins at line payee next = ap (λ (text : List ℕ). get_or text 0 0) (sym
 
 -- ---- what nobody gets
 
-pub no_rests : (old : Unread) (before : Option (List ℕ)) → old.at.place ≡ Between → HasRests old old before before
-no_rests old before between = record {
+pub no_rests : (old : Unread) (before : Option (List ℕ)) → CanEnd old → HasRests old old before before
+no_rests old before can = record {
   rests = [];
   sound = All-nil IsRest;
-  count = ap count_at between;
-  sum = ap sum_at between;
+  count = ap count_at can.between;
+  sum = ap sum_at can.between;
   payee = refl;
   portions = omega arith;
   total = refl;
   consumed = nothing_consumed old.left;
   written = nothing_appended before;
+  among = inl can;
+  reads = λ start read. read;
 }
   where
     nothing_consumed : (left : Option (List ℕ)) → Consumes left left []
@@ -222,8 +228,8 @@ rests_total rests rest =
     ap (λ (n : ℤ). total_of_rests rests +ℤ n) (sym (none_plus rest.amount)) ∙ sym (int_sum_by-append (λ (r : Rest). r.amount) rests (rest ∷ []))
 
 pub more_rests : (old between new : Unread) (before middle after : Option (List ℕ)) → HasRests old between before middle
-    → PassesRest between new → Appends middle after between.line → HasRests old new before after
-more_rests old between new before middle after was passed written =
+    → PassesRest between new → ReadsOn between new → Appends middle after between.line → HasRests old new before after
+more_rests old between new before middle after was passed reads written =
     let r = passed.rest in
     let text = rests_text was.rests r.what in
     record {
@@ -240,6 +246,8 @@ more_rests old between new before middle after was passed written =
       written = subst (λ (t : List ℕ). Appends before after t) text
           (appends_more before middle after (text_of (map rest_row was.rests)) (text_of_row (rest_row r.what)) was.written
           (subst (λ (t : List ℕ). Appends middle after t) (sym passed.line ∙ ap text_of_row r.form) written));
+      among = inr (count_at between.at.place + 1, sum_at between.at.place +ℤ r.what.amount, ap (λ (at : At). at.place) r.leads);
+      reads = λ start read. reads start (was.reads start read);
     }
 
 pub rests_written : (old between new : Unread) (before after : Option (List ℕ)) (count : ℕ) (total : ℤ) → HasRests old between before after

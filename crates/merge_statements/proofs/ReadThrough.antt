@@ -11,7 +11,7 @@ use Rattle.merge_statements.specs.Places.{At, Follows, at_first, row_of}
 use Rattle.merge_statements.specs.Reading.{IsFaultOf}
 use Rattle.merge_statements.specs.Refused.{AreRows, BeginsWithWrong, IsFaultFrom, IsRefusedFor, IsRefusedFrom, IsStatementText, refusal_of_field, refusal_of_line}
 use Rattle.merge_statements.specs.Refused.AreRows.{none as no_rows, more as more_rows}
-use Rattle.merge_statements.specs.Unread.{FollowsAs}
+use Rattle.merge_statements.specs.Unread.{FollowsAs, IsReadTo}
 use Rattle.merge_statements.specs.Wrong.{IsWrongAt}
 use Rattle.merge_statements.specs.declared.read_fault.ReadFault.{ReadFault}
 use Rattle.merge_statements.specs.declared.read_fault.ReadFault.TheVariants.{Refused, TooLong, Unended}
@@ -108,14 +108,7 @@ field_refused at number left new line kind whose third fourth wrong.Memory takes
 
 -- ---- row by row
 
--- rows were read from the start of a text on, and the next has this number
-pub record IsReadTo (start : Option (List ℕ)) (at : At) (left : Option (List ℕ)) (number : ℕ) : Type 0 where
-  pub rows : List (List (List ℕ))
-  pub are : AreRows at_first rows at
-  pub consumed : Consumes start left (text_of rows)
-  pub counted : number ≡ length rows + 1
-
-none_consumed : (start : Option (List ℕ)) → Consumes start start []
+pub none_consumed : (start : Option (List ℕ)) → Consumes start start []
 none_consumed None = tt
 none_consumed (Some text) = refl
 

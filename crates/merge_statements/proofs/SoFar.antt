@@ -121,6 +121,8 @@ passed_more start old new done statement was passes =
       });
       consumed = subst (λ (t : List ℕ). Consumes start new.left t) (rows_more done statement)
           (consumes_more start old.left new.left (text_of (flat_map statement_rows done)) (text_of (statement_rows statement)) was.consumed passes.consumed);
+      read = passes.reads start was.read;
+      looked = passes.looked;
     }
   where
     counted : old.at.portions + length statement.portions ≡ sum_by (λ s. length s.portions) (done ++ statement ∷ [])
@@ -349,7 +351,7 @@ none_merged starts parts before open_ = record {
   where
     dones : (starts : List (Option (List ℕ))) (parts : List Unread) → AreOpen starts parts → List (List Statement)
     dones _ _ no_open = []
-    dones _ _ (more_open start part starts parts at left others) = [] ∷ dones starts parts others
+    dones _ _ (more_open start part starts parts at left read looked others) = [] ∷ dones starts parts others
 
     begun : (start left : Option (List ℕ)) → Keeps start left → Consumes start left []
     begun None left keeps = tt
@@ -358,21 +360,21 @@ none_merged starts parts before open_ = record {
 
     passed : (starts : List (Option (List ℕ))) (parts : List Unread) (are : AreOpen starts parts) → HavePassed starts parts (dones starts parts are)
     passed _ _ no_open = no_passed
-    passed _ _ (more_open start part starts parts at left others) =
+    passed _ _ (more_open start part starts parts at left read looked others) =
         more_passed start part [] starts parts (dones starts parts others)
-        record { sound = All-nil IsStatement; rising = tt; at = at; consumed = begun start part.left left } (passed starts parts others)
+        record { sound = All-nil IsStatement; rising = tt; at = at; consumed = begun start part.left left; read = read; looked = looked } (passed starts parts others)
 
     behind : (starts : List (Option (List ℕ))) (parts : List Unread) → AreOpen starts parts → All (IsBehind []) parts
     behind _ _ no_open = All-nil (IsBehind [])
-    behind _ _ (more_open start part starts parts at left others) = All-cons (IsBehind []) part parts (inl (ap (λ (a : At). a.payee) at)) (behind starts parts others)
+    behind _ _ (more_open start part starts parts at left read looked others) = All-cons (IsBehind []) part parts (inl (ap (λ (a : At). a.payee) at)) (behind starts parts others)
 
     nothing : (payee : List ℕ) (starts : List (Option (List ℕ))) (parts : List Unread) (are : AreOpen starts parts) → ◌≡◌ {A = List Portion} [] (flat_map (portions_in payee) (dones starts parts are))
     nothing payee _ _ no_open = refl
-    nothing payee _ _ (more_open start part starts parts at left others) = nothing payee starts parts others
+    nothing payee _ _ (more_open start part starts parts at left read looked others) = nothing payee starts parts others
 
     nought : (starts : List (Option (List ℕ))) (parts : List Unread) (are : AreOpen starts parts) → pos 0 ≡ int_sum_by (λ done. int_sum_by total_of done) (dones starts parts are)
     nought _ _ no_open = refl
-    nought _ _ (more_open start part starts parts at left others) =
+    nought _ _ (more_open start part starts parts at left read looked others) =
         nought starts parts others ∙ (sym (none_plus (int_sum_by (λ done. int_sum_by total_of done) (dones starts parts others))) ∙ sym (int_sum_by-cons (λ (done : List Statement). int_sum_by total_of done) [] (dones starts parts others)))
 
     nothing_more : (known : Option (List ℕ)) → Appends known known []

@@ -1,5 +1,5 @@
 -- What was passed over of a statement text.
-use Rattle.std.specs.Prelude.{ℕ, ℤ, ◌≡◌, ◌<◌, ◌+◌, ◌+ℤ◌, [], List, All, Option, Some, codes, length, map}
+use Rattle.std.specs.Prelude.{ℕ, ℤ, ◌≡◌, ◌<◌, ◌+◌, ◌+ℤ◌, ◌⊎◌, [], List, All, Option, Some, codes, length, map}
 use Rattle.std.specs.Cmp.Lexicographic.{slice_cmp}
 use Rattle.std.specs.Io.KnownBytes.{Appends, Consumes, IsAtEnd}
 use Rattle.std.specs.Ordering.{nat_cmp}
@@ -8,7 +8,7 @@ use Rattle.csv_table.specs.Written.{text_of, text_of_row}
 use Rattle.line_split.specs.Signs.{int_sum_by}
 use Rattle.merge_statements.specs.Places.{At, IsCount, IsPayeeAt, count_at, row_of, sum_at}
 use Rattle.merge_statements.specs.Statements.{IsName, IsPortion, IsRest, IsStatement, Portion, Rest, Statement, portion_row, rest_row, rests_rows, statement_rows, total_of, total_of_rests, total_row}
-use Rattle.merge_statements.specs.Unread.{Unread}
+use Rattle.merge_statements.specs.Unread.{IsLooked, IsOfKind, ReadsOn, Unread}
 use Rattle.merge_statements.specs.declared.walk.Place.TheVariants.{Between, Within, Resting, Summed, Ended}
 
 -- a row is a payee's portion, which can stand there
@@ -66,6 +66,21 @@ pub record IsNext (at : At) (line payee : List ℕ) : Type 0 where
   pub amount : List ℕ
   pub row : text_of_row (row_of (codes "L") payee usage amount) ≡ line
 
+-- a payee comes next
+pub record HasNext (part : Unread) : Type 0 where
+  pub payee : List ℕ
+  pub due : part.payee ≡ Some payee
+  pub next : IsNext part.at part.line payee
+
+-- behind the last payee, or before the first, comes no further one
+pub record CanEnd (part : Unread) : Type 0 where
+  pub between : part.at.place ≡ Between
+  pub no_portion : ¬ IsOfKind part (codes "L")
+
+-- what nobody gets is passed over, or comes next
+abbrev pub IsAmongRests : Unread → Type 0
+IsAmongRests part = CanEnd part ⊎ ((count : ℕ) × (so_far : ℤ) × (part.at.place ≡ Resting count so_far))
+
 -- what portions come to
 abbrev pub total_of_portions : List Portion → ℤ
 total_of_portions portions = int_sum_by (λ portion. portion.amount) portions
@@ -82,6 +97,7 @@ pub record IsWithin (old new : Unread) (before after : Option (List ℕ)) : Type
   pub at : new.at ≡ record { place = Within (length portions) (total_of_portions portions); payee = payee; portions = old.at.portions + length portions; total = old.at.total }
   pub consumed : Consumes old.left new.left (text_of (map (portion_row payee) portions))
   pub written : Appends before after (text_of (map (portion_row payee) portions))
+  pub reads : ReadsOn old new
 
 -- A payee's statement was passed over; the payee is the one that was next, and it comes behind the one before it.
 pub record PassesStatement (old new : Unread) (statement : Statement) : Type 0 where
@@ -91,6 +107,8 @@ pub record PassesStatement (old new : Unread) (statement : Statement) : Type 0 w
   pub consumed : Consumes old.left new.left (text_of (statement_rows statement))
   pub at : new.at ≡ record { place = Between; payee = statement.payee; portions = old.at.portions + length statement.portions; total = old.at.total +ℤ total_of statement }
   pub few : IsCount new.at.portions
+  pub reads : ReadsOn old new
+  pub looked : IsLooked new
 
 -- and its portions were written; there are so many, and they come to this
 pub record WritesStatement (old new : Unread) (before after : Option (List ℕ)) (count : ℕ) (total : ℤ) : Type 0 where
@@ -127,6 +145,8 @@ pub record HasRests (old new : Unread) (before after : Option (List ℕ)) : Type
   pub total : new.at.total ≡ old.at.total
   pub consumed : Consumes old.left new.left (text_of (map rest_row rests))
   pub written : Appends before after (text_of (map rest_row rests))
+  pub among : IsAmongRests new
+  pub reads : ReadsOn old new
 
 -- All that nobody gets was passed over, and written without its sum; there are so many portions, and they come to this.
 pub record WritesRests (old new : Unread) (before after : Option (List ℕ)) (count : ℕ) (total : ℤ) : Type 0 where

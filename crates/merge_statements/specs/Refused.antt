@@ -1,5 +1,5 @@
 -- Why a text is no text of statements: the first row that cannot stand where it does.
-use Rattle.std.specs.Prelude.{ℕ, ◌≡◌, ◌<◌, ◌+◌, ◌++◌, ◌∷◌, [], List, Option, IfSome, false, length, sum_by, ⊤}
+use Rattle.std.specs.Prelude.{ℕ, ◌≡◌, ◌<◌, ◌+◌, ◌++◌, ◌∷◌, [], List, None, Option, IfSome, false, length, slice_index_or, sum_by, ⊤}
 use Rattle.std.specs.List.{list_any}
 use Rattle.csv_table.specs.Written.{text_of, text_of_row}
 use Rattle.merge_statements.specs.Buffered.{is_feed}
@@ -78,10 +78,20 @@ abbrev pub IsRefusedFor : List ℕ → Refusal → Type 0
 IsRefusedFor text (refusal.Fault fault) = IsFaultIn text fault
 IsRefusedFor text _ = ⊤
 
--- the same of the rest of a text, where its bytes are known
+-- Of several texts the one in a place, from 0, is refused for its first fault, where its bytes are known. Nothing is claimed of the same as above, nor of more portions or usage lines than are counted.
+abbrev pub IsRefusalOf : List (Option (List ℕ)) → ℕ → Refusal → Type 0
+IsRefusalOf starts place (refusal.Fault fault) = (place < length starts) × IfSome (slice_index_or starts place None) (λ text. IsFaultIn text fault)
+IsRefusalOf starts place _ = ⊤
+
+-- the same of the rest of one text, where its bytes are known
 abbrev pub IsRefusedFrom : At → ℕ → Option (List ℕ) → Refusal → Type 0
 IsRefusedFrom at number left (refusal.Fault fault) = IfSome left (λ text. IsFaultFrom at number text fault)
 IsRefusedFrom at number left _ = ⊤
+
+-- no fault of a text
+abbrev pub IsNoFault : Refusal → Type 0
+IsNoFault (refusal.Fault fault) = ⊥
+IsNoFault _ = ⊤
 
 -- which refusal a wrong field is
 abbrev pub refusal_of_field : Wrong → ℕ → Refusal

@@ -1,5 +1,5 @@
 -- What the text of a run's statements says, and its rows.
-use Rattle.std.specs.Prelude.{ℕ, ℤ, ◌≡◌, ◌≤◌, ◌<◌, ◌+ℤ◌, ◌^◌, ◌++◌, ◌∷◌, ◌⊎◌, [], List, All, codes, decimal, flat_map, length, map, unsigned_abs}
+use Rattle.std.specs.Prelude.{ℕ, ℤ, ◌≡◌, ◌≤◌, ◌<◌, ◌+ℤ◌, ◌^◌, ◌++◌, ◌∷◌, [], List, All, codes, decimal, flat_map, length, map, unsigned_abs}
 use Rattle.std.specs.Fmt.{signed_decimal}
 use Rattle.std.specs.List.Sorted.{IsStrictlySortedBy}
 use Rattle.std.specs.Cmp.Lexicographic.{slice_cmp}

@@ -13,7 +13,9 @@ use Rattle.merge_statements.specs.Merged.{IsMergeOf}
 use Rattle.merge_statements.specs.Passed.{IsNext, PassesStatement, total_of_portions}
 use Rattle.merge_statements.specs.Places.{IsCount, at_first}
 use Rattle.merge_statements.specs.Statements.{IsPortion, IsRest, IsStatement, Portion, Rest, Statement, portion_row, rest_row, rests_rows, statement_rows, total_of, total_of_rests, total_row}
-use Rattle.merge_statements.specs.Unread.{Unread}
+use Rattle.merge_statements.specs.Refused.{IsRefusalOf}
+use Rattle.merge_statements.specs.Unread.{IsLooked, IsRead, Unread}
+use Rattle.merge_statements.specs.declared.refusal.Refusal.{Refusal}
 use Rattle.merge_statements.specs.declared.walk.Place.TheVariants.{Between}
 
 -- byte order
@@ -105,7 +107,17 @@ pub record EndsEach (olds news : List Unread) (before after : Option (List ℕ))
 pub data AreOpen : List (Option (List ℕ)) → List Unread → Type 0 where
   none : AreOpen [] []
   more : (start : Option (List ℕ)) (part : Unread) (starts : List (Option (List ℕ))) (parts : List Unread)
-      → part.at ≡ at_first → Keeps start part.left → AreOpen starts parts → AreOpen (start ∷ starts) (part ∷ parts)
+      → part.at ≡ at_first → Keeps start part.left → IsRead start part → IsLooked part → AreOpen starts parts → AreOpen (start ∷ starts) (part ∷ parts)
+
+-- so much was read of each
+pub data AreRead : List (Option (List ℕ)) → List Unread → Type 0 where
+  none : AreRead [] []
+  more : (start : Option (List ℕ)) (part : Unread) (starts : List (Option (List ℕ))) (parts : List Unread) → IsRead start part → AreRead starts parts
+      → AreRead (start ∷ starts) (part ∷ parts)
+
+-- so much was read of texts, and one is refused for its first fault
+abbrev pub RefusesOne : List Unread → ℕ → Refusal → Type 0
+RefusesOne parts place why = (starts : List (Option (List ℕ))) → AreRead starts parts → IsRefusalOf starts place why
 
 abbrev pub last_payee : List Statement → List ℕ
 last_payee [] = []
@@ -121,6 +133,8 @@ pub record HasPassed (start : Option (List ℕ)) (part : Unread) (done : List St
   pub rising : IsStrictlySortedBy order (payees_of done)
   pub at : part.at ≡ record { place = Between; payee = last_payee done; portions = sum_by (λ statement. length statement.portions) done; total = int_sum_by total_of done }
   pub consumed : Consumes start part.left (text_of (flat_map statement_rows done))
+  pub read : IsRead start part
+  pub looked : IsLooked part
 
 pub data HavePassed : List (Option (List ℕ)) → List Unread → List (List Statement) → Type 0 where
   none : HavePassed [] [] []
@@ -160,10 +174,6 @@ pub record WritesEnding (old new : Unread) (before after : Option (List ℕ)) (c
   pub sum : total ≡ total_of_rests ending.rests
   pub all_lines : lines ≡ ending.lines
   pub written : Appends before after (text_of (map rest_row ending.rests))
-
--- a reader stands behind the last payee, or before the first
-abbrev pub IsBetween : Unread → Type 0
-IsBetween part = part.at.place ≡ Between
 
 -- these are the texts, where their bytes are known
 pub data AreTexts : List (Option (List ℕ)) → List (List ℕ) → Type 0 where

@@ -257,18 +257,8 @@ impl Progress {
         }
     }
 
-    /// Whether the statement of this payee can begin here.
-    pub(crate) fn can_begin(&self, payee: &[u8]) -> bool
-        ensures { result ≡ true → (self.now.place ≡ Place.Between) × IsName payee.now × (slice_cmp nat_cmp self.now.payee payee.now ≡ Less) }
-    {
-        match self.place {
-            Place::Between => is_name(payee) && is_before(self.payee.as_slice(), payee),
-            Place::Within(_, _) | Place::Resting(_, _) | Place::Summed | Place::Ended(_) => false,
-        }
-    }
-
     /// Whether a portion of this payee can stand here.
-    fn is_payee_here(&self, whose: &[u8]) -> bool
+    pub(crate) fn is_payee_here(&self, whose: &[u8]) -> bool
         ensures { IsTrue result ↔ IsPayeeAt self.now.place self.now.payee whose.now }
     {
         match self.place {

@@ -6,7 +6,8 @@ use Rattle.merge_statements.specs.declared.refusal.Refusal.{Refusal}
 use Rattle.merge_statements.specs.declared.refusal.Refusal.TheVariants as refusal
 use Rattle.merge_statements.specs.declared.refusal.StatementFault.TheVariants.{End}
 use Rattle.merge_statements.specs.declared.walk.Place.TheVariants.{Ended}
-use Rattle.merge_statements.proofs.ReadThrough.{IsReadTo, all_read, end_refused, err_so, more_read, none_read, nothing_claimed, ok_so, rest_refused}
+use Rattle.merge_statements.specs.Unread.{IsReadTo}
+use Rattle.merge_statements.proofs.ReadThrough.{all_read, end_refused, err_so, more_read, none_read, ok_so, rest_refused}
 use Rattle.merge_statements.proofs.checking.check.Goals as goal
 
 pub loop-number-init : goal.loop-number-init

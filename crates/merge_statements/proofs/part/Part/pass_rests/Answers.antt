@@ -8,8 +8,8 @@ loop-init g c = no_rests c.args.self.now (append_known (g.W.Write.contents c.arg
 pub loop-preserved : goal.loop-preserved
 loop-preserved g c =
     let done = c.in_ok-pass_rest.ensures in
-    more_rests c.args.self.now c.loop.self c.pass_rest.new.self (append_known (g.W.Write.contents c.args.out.now) c.args.page.now) (append_known (g.W.Write.contents c.loop.out) c.loop.page) (append_known (g.W.Write.contents c.pass_rest.new.out) c.pass_rest.new.page) c.loop.invariant done.rest done.passed
+    more_rests c.args.self.now c.loop.self c.pass_rest.new.self (append_known (g.W.Write.contents c.args.out.now) c.args.page.now) (append_known (g.W.Write.contents c.loop.out) c.loop.page) (append_known (g.W.Write.contents c.pass_rest.new.out) c.pass_rest.new.page) c.loop.invariant done.rest done.reads done.passed
 
-pub returns-then-not-begins_with : goal.returns-then-not-begins_with
-returns-then-not-begins_with g c =
-    rests_written c.args.self.now c.loop.self c.end_rests.new.self (append_known (g.W.Write.contents c.args.out.now) c.args.page.now) (append_known (g.W.Write.contents c.loop.out) c.loop.page) _ _ c.loop.invariant c.in_ok-sum.ensures
+pub returns-then-not-begins_with-clause-written : goal.returns-then-not-begins_with-clause-written
+returns-then-not-begins_with-clause-written g c =
+    rests_written c.args.self.now c.loop.self c.end_rests.new.self (append_known (g.W.Write.contents c.args.out.now) c.args.page.now) (append_known (g.W.Write.contents c.loop.out) c.loop.page) _ _ c.loop.invariant c.in_ok-sum.ensures.sum
