@@ -9,25 +9,23 @@ use Rattle.std.proofs.lemmas.List.{get_or-map, length-map}
 use Rattle.std.proofs.lemmas.List.Elements.{All-cons, All-head, All-nil, All-tail}
 use Rattle.csv_table.specs.Written.{text_of, text_of_row}
 use Rattle.merge_statements.specs.Buffered.{is_feed}
-use Rattle.merge_statements.specs.Passed.{CanEnd, IsAmongRests, IsWithinOne}
+use Rattle.merge_statements.specs.SoFar.{AreOpen, AreRead, CanEnd, FollowsAs, HavePassed, IsAmongRests, IsOfKind, IsRead, IsReadTo, IsWithinOne, NeedsRow, ReadsOn, RefusesRest, Unread}
 use Rattle.merge_statements.specs.Places.{At, IsPayeeAt, KindFits, at_first, row_of}
 use Rattle.merge_statements.specs.Refused.{IsFaultFrom, IsNoFault, IsRefusalOf, IsRefusedFor, IsRefusedFrom}
 use Rattle.merge_statements.specs.Refused.AreRows.{none as no_rows}
 use Rattle.merge_statements.specs.Statements.{Statement}
-use Rattle.merge_statements.specs.Together.{AreOpen, AreRead, HavePassed}
-use Rattle.merge_statements.specs.Together.AreOpen.{none as no_open, more as more_open}
-use Rattle.merge_statements.specs.Together.AreRead.{none as none_were, more as more_were}
-use Rattle.merge_statements.specs.Together.HavePassed.{none as no_passed, more as more_passed}
-use Rattle.merge_statements.specs.Unread.{FollowsAs, IsOfKind, IsRead, IsReadTo, NeedsRow, ReadsOn, RefusesRest, Unread}
+use Rattle.merge_statements.specs.SoFar.AreOpen.{none as no_open, more as more_open}
+use Rattle.merge_statements.specs.SoFar.AreRead.{none as none_were, more as more_were}
+use Rattle.merge_statements.specs.SoFar.HavePassed.{none as no_passed, more as more_passed}
 use Rattle.merge_statements.specs.declared.refusal.Refusal.{Refusal}
 use Rattle.merge_statements.specs.declared.refusal.Refusal.TheVariants as refusal
 use Rattle.merge_statements.specs.declared.refusal.StatementFault.TheVariants.{End, Kind, Whose}
 use Rattle.merge_statements.specs.declared.walk.Place.{Place}
 use Rattle.merge_statements.specs.declared.walk.Place.TheVariants.{Between, Ended, Summed}
 use Rattle.merge_statements.specs.declared.walk.Wrong.TheVariants as wrong
-use Rattle.merge_statements.proofs.Passing.{opened}
+use Rattle.merge_statements.proofs.Passing.{none_consumed, opened}
 use Rattle.merge_statements.proofs.Chains.{same_row}
-use Rattle.merge_statements.proofs.ReadThrough.{field_refused, more_read, none_consumed, none_read, nothing_claimed, rest_refused}
+use Rattle.merge_statements.proofs.ReadThrough.{field_refused, more_read, none_read, nothing_claimed, rest_refused}
 
 -- ---- one text
 

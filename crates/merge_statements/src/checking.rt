@@ -8,7 +8,7 @@ ghost use Rattle.merge_statements.specs.Buffered.{is_feed};
 ghost use Rattle.merge_statements.specs.Fields.{fields_of};
 ghost use Rattle.merge_statements.specs.Places.{At};
 ghost use Rattle.merge_statements.specs.Refused.{IsRefusedFor, IsRefusedFrom, IsStatementText};
-ghost use Rattle.merge_statements.specs.Unread.{FollowsAs};
+ghost use Rattle.merge_statements.specs.SoFar.{FollowsAs};
 ghost use Rattle.merge_statements.specs.declared.refusal.Refusal.TheVariants as Refusal;
 ghost use Rattle.merge_statements.specs.declared.refusal.StatementFault.TheVariants as StatementFault;
 ghost use Rattle.merge_statements.specs.declared.walk.Place.TheVariants as Place;

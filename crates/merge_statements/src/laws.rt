@@ -2,9 +2,8 @@
 
 ghost use Rattle.std.specs.Prelude.{◌≡◌, ◌∷◌, ◌↔◌, [], ℕ, All, List, None, Option, Some, flat_map, slice_index_or};
 ghost use Rattle.merge_statements.specs.Merged.{AreInLimits, AreMerged, AreMergesOf, IsMergeOf};
-ghost use Rattle.merge_statements.specs.Places.{IsCount};
-ghost use Rattle.merge_statements.specs.Refused.{IsFaultIn, IsRefusalOf, IsStatementText, count_of_portions};
-ghost use Rattle.merge_statements.specs.Statements.{AreStatements, Statements, text_of_statements};
+ghost use Rattle.merge_statements.specs.Statements.{AreStatements, IsCount, Statements, count_of_portions, text_of_statements};
+ghost use Rattle.merge_statements.specs.Refused.{IsFaultIn, IsRefusalOf, IsStatementText};
 ghost use Rattle.merge_statements.specs.declared.refusal.Refusal.TheVariants as Refusal;
 ghost use Rattle.merge_statements.specs.declared.refusal.StatementFault.{StatementFault};
 

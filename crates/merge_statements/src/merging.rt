@@ -3,12 +3,10 @@
 ghost use Rattle.std.specs.Prelude.{◌≡◌, ◌+◌, ◌+ℤ◌, [], ℕ, All, List, None, Option, codes, IfErr, IfOk, OnOk, Some, false, map, true};
 ghost use Rattle.std.specs.Io.KnownBytes.{Appends, append_known};
 ghost use Rattle.csv_table.specs.Written.{text_of_row};
-ghost use Rattle.merge_statements.specs.Passed.{CanEnd, HasNext};
+ghost use Rattle.merge_statements.specs.SoFar.{AreMergedSoFar, AreOpen, CanEnd, EndsEach, HasLeast, HasNext, RefusesOne, RefusesRest, WritesAll, WritesEnding, WritesOne};
 ghost use Rattle.merge_statements.specs.Refused.{IsNoFault, IsRefusalOf};
-ghost use Rattle.merge_statements.specs.Together.{AreMergedSoFar, AreOpen, EndsEach, HasLeast, RefusesOne, WritesAll, WritesEnding, WritesMerge, WritesOne};
-ghost use Rattle.merge_statements.specs.Unread.{RefusesRest};
-ghost use Rattle.merge_statements.specs.Statements.{total_row};
-ghost use Rattle.merge_statements.specs.Places.{IsCount};
+ghost use Rattle.merge_statements.specs.Merged.{WritesMerge};
+ghost use Rattle.merge_statements.specs.Statements.{IsCount, total_row};
 
 use crate::amount::MOST_COUNT;
 use crate::page::Page;

@@ -3,10 +3,9 @@
 ghost use Rattle.std.specs.Io.KnownBytes.{Appends, Keeps, append_known};
 ghost use Rattle.std.specs.Prelude.{◌≡◌, ◌<◌, ◌++◌, ◌∷◌, [], List, ℕ, IfErr, IfOk, IfSome, OnOk, slice_index, true, false};
 ghost use Rattle.std.specs.Option.{option_map};
-ghost use Rattle.merge_statements.specs.Passed.{CanEnd, EndsText, HasNext, IsAmongRests, IsNext, IsRestsSumAt, IsSumAt, IsWithin, IsWithinOne, PassesPortion, PassesRest, PassesSum, WritesRests, WritesStatement};
+ghost use Rattle.merge_statements.specs.SoFar.{CanEnd, EndsText, HasNext, IsAmongRests, IsLooked, IsNext, IsOfKind, IsRead, IsRestsSumAt, IsSumAt, IsWithin, IsWithinOne, NeedsRow, PassesSum, ReadsOn, RefusesRest, Steps, WritesRests, WritesStatement};
 ghost use Rattle.merge_statements.specs.Places.{KindFits, at_first};
 ghost use Rattle.merge_statements.specs.Refused.{IsNoFault, IsRefusedFor};
-ghost use Rattle.merge_statements.specs.Unread.{IsLooked, IsOfKind, IsRead, NeedsRow, ReadsOn, RefusesRest, Steps};
 ghost use Rattle.merge_statements.specs.declared.walk.Place.TheVariants as Place;
 
 use crate::checking::{advance, follow, row_of};
@@ -40,8 +39,7 @@ impl<R: Read> Model for Part<R> {
     ghost use Rattle.std.specs.Io.KnownBytes.{IsAtEnd, prepend_known};
     ghost use Rattle.std.specs.List.{list_any};
     ghost use Rattle.merge_statements.specs.Buffered.{is_feed};
-    ghost use Rattle.merge_statements.specs.Passed.{IsNext};
-    ghost use Rattle.merge_statements.specs.Unread.{Unread};
+    ghost use Rattle.merge_statements.specs.SoFar.{IsNext, Unread};
 
     ghost Value = { Unread };
 
@@ -167,18 +165,6 @@ impl<R: Read + Drop> Part<R> {
         }
     }
 
-    /// Passes over a payee's portion, and adds it to the output.
-    fn pass_portion<W: Write>(&mut self, page: &mut Page, out: &mut W) -> Result<(), Refusal>
-        requires { slice_index self.old.line 0 ≡ 76 }
-        ensures portion { OnOk result (PassesPortion self.old self.new) }
-        ensures passed { OnOk result (Appends (append_known (W.contents out.old) page.old) (append_known (W.contents out.new) page.new) self.old.line) }
-        ensures reads { OnOk result (ReadsOn self.old self.new) }
-        ensures refused { IfErr result (RefusesRest self.old) }
-    {
-        self.pass_row(page, out)?;
-        Ok(())
-    }
-
     /// Passes over the sum of a payee's portions, behind which the next payee comes. Answers how many portions there were and what they come to.
     fn end_statement(&mut self) -> Result<(u64, i128), Refusal>
         requires no_portion { ¬ (slice_index self.old.line 0 ≡ 76) }
@@ -207,27 +193,15 @@ impl<R: Read + Drop> Part<R> {
         ensures looked { IfOk result (λ _. IsLooked self.new) }
         ensures refused { IfErr result (RefusesRest self.old) }
     {
-        self.pass_portion(page, out)?;
+        self.pass_row(page, out)?;
         for _ in 0..u64::MAX {
             if !self.begins_with(b'L') {
                 let sum = self.end_statement()?;
                 return Ok(sum);
             }
-            self.pass_portion(page, out)?;
+            self.pass_row(page, out)?;
         }
         Err(Refusal::Many)
-    }
-
-    /// Passes over a portion that nobody gets, and adds it to the output.
-    fn pass_rest<W: Write>(&mut self, page: &mut Page, out: &mut W) -> Result<(), Refusal>
-        requires { slice_index self.old.line 0 ≡ 77 }
-        ensures rest { OnOk result (PassesRest self.old self.new) }
-        ensures passed { OnOk result (Appends (append_known (W.contents out.old) page.old) (append_known (W.contents out.new) page.new) self.old.line) }
-        ensures reads { OnOk result (ReadsOn self.old self.new) }
-        ensures refused { IfErr result (RefusesRest self.old) }
-    {
-        self.pass_row(page, out)?;
-        Ok(())
     }
 
     /// Passes over what nobody gets in all. Answers how many portions there were and what they come to.
@@ -278,7 +252,7 @@ impl<R: Read + Drop> Part<R> {
                 let sum = self.end_rests()?;
                 return Ok(sum);
             }
-            self.pass_rest(page, out)?;
+            self.pass_row(page, out)?;
         }
         Err(Refusal::Many)
     }

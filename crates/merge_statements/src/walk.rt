@@ -5,8 +5,8 @@ ghost use Rattle.std.specs.Prelude.{◌≡◌, ◌⊎◌, ◌+◌, ◌+ℤ◌, �
 ghost use Rattle.std.specs.Cmp.Lexicographic.{slice_cmp};
 ghost use Rattle.std.specs.Ordering.{nat_cmp};
 ghost use Rattle.std.specs.declared.cmp.Ordering.TheVariants.{Less};
-ghost use Rattle.merge_statements.specs.Places.{Fits, IsCount, IsPayeeAt, KindFits, Leads, at_first, count_at, sum_at};
-ghost use Rattle.merge_statements.specs.Statements.{IsAmount, IsName, IsReason};
+ghost use Rattle.merge_statements.specs.Places.{Fits, IsPayeeAt, KindFits, Leads, at_first, count_at, sum_at};
+ghost use Rattle.merge_statements.specs.Statements.{IsAmount, IsCount, IsName, IsReason};
 ghost use Rattle.merge_statements.specs.declared.walk.Place.TheVariants as Place;
 ghost use Rattle.merge_statements.specs.declared.walk.Wrong.TheVariants as Wrong;
 ghost use Rattle.merge_statements.specs.Wrong.{IsWrongAt};

@@ -9,8 +9,8 @@ use Rattle.std.specs.declared.alloc.Global.{Global}
 use Rattle.std.specs.declared.io.ErrorKind.{ErrorKind}
 use Rattle.std.specs.declared.io.ErrorKind.TheVariants.{OutOfMemory}
 use Rattle.merge_statements.specs.Refused.{IsFaultIn, IsRefusedFor}
-use Rattle.merge_statements.specs.Together.{AreTexts, WritesMerge}
-use Rattle.merge_statements.specs.Together.AreTexts.{none as no_texts, more as more_texts}
+use Rattle.merge_statements.specs.Merged.{AreTexts, WritesMerge}
+use Rattle.merge_statements.specs.Merged.AreTexts.{none as no_texts, more as more_texts}
 use Rattle.merge_statements.specs.declared.refusal.Refusal.{Refusal}
 use Rattle.royalty_program.specs.MergeFiles.{AreOpened, AreSoundTexts, AreTextsAt, Gives, HoldsOf, IsMergeOver, IsSoundText}
 use Rattle.royalty_program.specs.Status.{IsOfOne, IsOfRefusal, IsOfText, IsOfTexts, IsUnopened, failure_of_file}

@@ -1,11 +1,9 @@
 use Rattle.merge_statements.specs.Refused.{IsRefusalOf}
-use Rattle.merge_statements.specs.Unread.{RefusesRest, Unread}
+use Rattle.merge_statements.specs.SoFar.{CanEnd, EndsEach, RefusesRest, Unread}
 use Rattle.merge_statements.proofs.Refusing.{one_refused, placed}
 use Rattle.std.specs.Io.KnownBytes.{append_known}
 use Rattle.std.proofs.Common.{◌<◌, arith, get_or, length, take, subst, sym}
 use Rattle.std.proofs.lemmas.List.{get_or_default}
-use Rattle.merge_statements.specs.Passed.{CanEnd}
-use Rattle.merge_statements.specs.Together.{EndsEach}
 use Rattle.merge_statements.proofs.Endings.{ends_more, no_ends}
 use Rattle.merge_statements.proofs.Taking.{holds_of_all, holds_of_more, holds_of_none}
 use Rattle.merge_statements.proofs.merging.end_all.Goals as goal

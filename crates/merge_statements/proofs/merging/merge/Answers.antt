@@ -1,6 +1,6 @@
 use Rattle.std.proofs.Common.{map, subst, sym}
 use Rattle.std.specs.Io.KnownBytes.{append_known}
-use Rattle.merge_statements.specs.Together.{AreOpen}
+use Rattle.merge_statements.specs.SoFar.{AreOpen}
 use Rattle.merge_statements.proofs.Whole.{merge_passed}
 use Rattle.merge_statements.proofs.merging.merge.Goals as goal
 

@@ -3,7 +3,7 @@ use Rattle.merge_statements.proofs.Refusing.{no_fault_of, passed_read}
 use Rattle.std.proofs.Common.{List, codes, subst, ℕ}
 use Rattle.std.specs.Io.KnownBytes.{Appends, append_known}
 use Rattle.csv_table.specs.Written.{text_of_row}
-use Rattle.merge_statements.specs.Together.{HasLeast, WritesAll}
+use Rattle.merge_statements.specs.SoFar.{HasLeast, WritesAll}
 use Rattle.merge_statements.specs.Statements.{total_row}
 use Rattle.merge_statements.proofs.SoFar.{none_merged, payee_merged}
 use Rattle.merge_statements.proofs.merging.merge_payees.Goals as goal

@@ -4,7 +4,7 @@ use Rattle.std.proofs.lemmas.Iterator.Adapters.{YieldsList-from_vec}
 use Rattle.std.proofs.lemmas.Iterator.Consumers.{YieldsList-turn}
 use Rattle.std.proofs.lemmas.List.{length-map, map-append}
 use Rattle.merge_statements.specs.Refused.{IsRefusalOf}
-use Rattle.merge_statements.specs.Together.{AreOpen}
+use Rattle.merge_statements.specs.SoFar.{AreOpen}
 use Rattle.merge_statements.proofs.Refusing.{opened_length, placed, reader_refused}
 use Rattle.merge_statements.proofs.Whole.{none_open, one_open, open_push}
 use Rattle.merge_statements.proofs.merging.open_all.Goals as goal

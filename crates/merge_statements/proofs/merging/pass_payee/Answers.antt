@@ -1,10 +1,9 @@
 use Rattle.merge_statements.specs.Refused.{IsRefusalOf}
-use Rattle.merge_statements.specs.Unread.{RefusesRest, Unread}
+use Rattle.merge_statements.specs.SoFar.{RefusesRest, Unread, WritesAll}
 use Rattle.merge_statements.proofs.Refusing.{one_refused, placed}
 use Rattle.std.specs.Io.KnownBytes.{append_known}
 use Rattle.std.proofs.Common.{◌<◌, arith, get_or, length, subst, take}
 use Rattle.std.proofs.lemmas.List.{get_or_default}
-use Rattle.merge_statements.specs.Together.{WritesAll}
 use Rattle.merge_statements.proofs.Taking.{holds_of_all, holds_of_more, holds_of_none, no_texts, texts_more}
 use Rattle.merge_statements.proofs.merging.pass_payee.Goals as goal
 

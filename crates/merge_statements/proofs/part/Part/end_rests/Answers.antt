@@ -1,6 +1,7 @@
 use Rattle.std.proofs.Common.{◌∙◌, arith, ap, get_or, subst}
-use Rattle.merge_statements.specs.Places.{IsCount, count_at, sum_at}
-use Rattle.merge_statements.specs.Unread.{Unread}
+use Rattle.merge_statements.specs.Statements.{IsCount}
+use Rattle.merge_statements.specs.Places.{count_at, sum_at}
+use Rattle.merge_statements.specs.SoFar.{Unread}
 use Rattle.merge_statements.proofs.Refusing.{among_needs, letter_needs, no_kind_here}
 use Rattle.merge_statements.proofs.Steps.{rests_sum_passed}
 use Rattle.merge_statements.proofs.part.Part.end_rests.Goals as goal

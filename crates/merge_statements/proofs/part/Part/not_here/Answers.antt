@@ -1,5 +1,5 @@
 use Rattle.std.proofs.Common.{subst, sym}
-use Rattle.merge_statements.specs.Unread.{RefusesRest}
+use Rattle.merge_statements.specs.SoFar.{RefusesRest}
 use Rattle.merge_statements.proofs.Refusing.{kind_refused, with_row_refused}
 use Rattle.merge_statements.proofs.part.Part.not_here.Goals as goal
 use Rattle.merge_statements.proofs.part.Part.not_here.Goals.{in-Ok, in-Err}

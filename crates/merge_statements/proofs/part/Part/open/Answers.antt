@@ -3,7 +3,7 @@ use Rattle.std.specs.Prelude.{if◌then◌else◌}
 use Rattle.std.specs.Io.KnownBytes.{Keeps, prepend_known}
 use Rattle.std.proofs.lemmas.Result.{err_from_is_err_and}
 use Rattle.merge_statements.specs.Places.{at_first}
-use Rattle.merge_statements.specs.Unread.{Unread}
+use Rattle.merge_statements.specs.SoFar.{Unread}
 use Rattle.merge_statements.proofs.Passing.{opened}
 use Rattle.merge_statements.proofs.Refusing.{first_refused, opened_is_read}
 use Rattle.merge_statements.proofs.part.Part.open.Goals as goal
