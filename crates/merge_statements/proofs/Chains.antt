@@ -22,10 +22,10 @@ use Rattle.line_split.specs.declared.reason.Reason.{Reason}
 use Rattle.line_split.specs.declared.reason.Reason.TheVariants.{Work, Land, Over, Open}
 use Rattle.line_split.proofs.IntSums.{size_plus}
 use Rattle.merge_statements.specs.Buffered.{is_feed}
-use Rattle.merge_statements.specs.Places.{At, Follows, IsCount, IsPayeeAt, Leads, at_first, count_at, row_of, sum_at}
-use Rattle.merge_statements.specs.Statements.{IsAmount, IsName, IsReason}
+use Rattle.merge_statements.specs.Places.{At, Follows, IsPayeeAt, Leads, at_first, count_at, row_of, sum_at}
+use Rattle.merge_statements.specs.Statements.{IsAmount, IsCount, IsName, IsReason}
 use Rattle.merge_statements.specs.declared.walk.Place.{Place}
-use Rattle.merge_statements.specs.declared.walk.Place.TheVariants.{Between, Within, Resting, Summed, Ended}
+use Rattle.merge_statements.specs.declared.walk.Place.TheVariants.{Between, Ended, Resting, Summed, Within}
 use Rattle.merge_statements.proofs.FieldLemmas.{or-left, or-right}
 use Rattle.merge_statements.proofs.Numbers.{decimal_back, signed_back}
 use Rattle.merge_statements.proofs.Steps.{IsKind, kind_of}

@@ -1,19 +1,17 @@
 -- Texts are passed over to their ends.
-use Rattle.std.proofs.Common.{◌≡◌, ◌∙◌, ◌+◌, ◌+ℤ◌, ◌++◌, ◌∷◌, ℕ, ℤ, pos, List, [], Option, Some, None, length, map, ap, sym, refl, subst, arith, codes}
+use Rattle.std.proofs.Common.{◌≡◌, ◌∙◌, ◌+◌, ◌+ℤ◌, ◌++◌, ◌∷◌, ℕ, ℤ, pos, List, [], Option, length, map, ap, sym, refl, subst, arith, codes}
 use Rattle.std.specs.Io.KnownBytes.{Appends, Consumes}
 use Rattle.std.proofs.lemmas.List.{append-nil, length-append, map-append}
 use Rattle.std.proofs.lemmas.List.Sums.{sum_by-append}
 use Rattle.std.proofs.lemmas.Grind.{flat_map-append}
 use Rattle.csv_table.specs.Written.{text_of, text_of_row}
 use Rattle.line_split.proofs.IntSums.{int_sum_by-append}
-use Rattle.merge_statements.specs.Together.{Ending, EndsEach, EndsOne, WritesEnding, lines_of, rests_of}
-use Rattle.merge_statements.specs.Together.TakesEach.{none as none_of}
-use Rattle.merge_statements.specs.Passed.{EndsText, WritesRests}
-use Rattle.merge_statements.specs.Places.{At, IsCount}
-use Rattle.merge_statements.specs.Statements.{Rest, rest_row, rests_rows, total_of_rests, total_row}
-use Rattle.merge_statements.specs.Unread.{Unread}
+use Rattle.merge_statements.specs.SoFar.{Ending, EndsEach, EndsOne, EndsText, Unread, WritesEnding, WritesRests, lines_of, rests_of}
+use Rattle.merge_statements.specs.SoFar.TakesEach.{none as none_of}
+use Rattle.merge_statements.specs.Places.{At}
+use Rattle.merge_statements.specs.Statements.{IsCount, Rest, rest_row, rests_rows, total_of_rests, total_row}
 use Rattle.merge_statements.proofs.Taking.{takes_push}
-use Rattle.merge_statements.proofs.Passing.{appends_more, consumes_more}
+use Rattle.merge_statements.proofs.Passing.{appends_more, consumes_more, none_appended}
 
 pub ending_written : (old between new : Unread) (before after : Option (List ℕ)) (count : ℕ) (total : ℤ) (lines : ℕ) → WritesRests old between before after count total
     → EndsText between new lines → WritesEnding old new before after count total lines
@@ -43,10 +41,6 @@ ending_written old between new before after count total lines was end = record {
     text : text_of (rests_rows was.rests) ++ text_of_row last ≡ text_of (rests_rows was.rests ++ last ∷ [])
     text = ap (λ (l : List ℕ). text_of (rests_rows was.rests) ++ l) (sym (append-nil (text_of_row last))) ∙ sym (flat_map-append text_of_row (rests_rows was.rests) (last ∷ []))
 
-nothing : (known : Option (List ℕ)) → Appends known known []
-nothing None = tt
-nothing (Some xs) = sym (append-nil xs)
-
 pub no_ends : (before : Option (List ℕ)) → EndsEach [] [] before before 0 (pos 0) 0
 no_ends before = record {
   endings = [];
@@ -56,7 +50,7 @@ no_ends before = record {
   few = omega arith;
   all_lines = refl;
   few_lines = omega arith;
-  written = nothing before;
+  written = none_appended before;
 }
 
 rests_more : (endings : List Ending) (ending : Ending) → rests_of (endings ++ ending ∷ []) ≡ rests_of endings ++ ending.rests

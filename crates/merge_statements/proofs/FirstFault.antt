@@ -8,7 +8,7 @@ use Rattle.merge_statements.specs.Refused.{AreRows, BeginsWithNoRow, BeginsWithW
 use Rattle.merge_statements.specs.Refused.AreRows.{none as no_rows, more as more_rows}
 use Rattle.merge_statements.specs.Wrong.{IsWrongAt}
 use Rattle.merge_statements.specs.declared.refusal.StatementFault.{StatementFault}
-use Rattle.merge_statements.specs.declared.refusal.StatementFault.TheVariants.{Row, Kind, Whose, Third, Fourth, End}
+use Rattle.merge_statements.specs.declared.refusal.StatementFault.TheVariants.{End, Fourth, Kind, Row, Third, Whose}
 use Rattle.merge_statements.specs.declared.walk.Place.{Place}
 use Rattle.merge_statements.specs.declared.walk.Place.TheVariants.{Ended}
 use Rattle.merge_statements.specs.declared.walk.Wrong.{Wrong}

@@ -10,14 +10,13 @@ use Rattle.std.proofs.lemmas.List.Elements.{All-head, All-tail}
 use Rattle.std.proofs.lemmas.List.Sums.{sum_by-cons}
 use Rattle.line_split.specs.Signs.{int_sum_by}
 use Rattle.line_split.proofs.IntSums.{int_sum_by-cons, none_plus, plus_none}
-use Rattle.merge_statements.specs.Passed.{total_of_portions}
-use Rattle.merge_statements.specs.Places.{At, Fits, Follows, IsCount, IsPayeeAt, KindFits, Leads, at_first, count_at, sum_at}
-use Rattle.merge_statements.specs.Refused.{AreRows, IsStatementText, count_of_portions}
+use Rattle.merge_statements.specs.SoFar.{order, payees_of, total_of_portions}
+use Rattle.merge_statements.specs.Places.{At, Fits, Follows, IsPayeeAt, KindFits, Leads, at_first, count_at, sum_at}
+use Rattle.merge_statements.specs.Statements.{AreStatements, IsAmount, IsCount, IsName, IsPortion, IsReason, IsRest, IsStatement, Portion, Rest, Statement, Statements, count_of_portions, portion_row, rest_row, rests_rows, rows_of_statements, statement_rows, text_of_statements, total_of, total_of_rests, total_row}
+use Rattle.merge_statements.specs.Refused.{AreRows, IsStatementText}
 use Rattle.merge_statements.specs.Refused.AreRows.{none as no_rows, more as more_rows}
-use Rattle.merge_statements.specs.Statements.{AreStatements, IsAmount, IsName, IsPortion, IsReason, IsRest, IsStatement, Portion, Rest, Statement, Statements, portion_row, rest_row, rests_rows, rows_of_statements, statement_rows, text_of_statements, total_of, total_of_rests, total_row}
-use Rattle.merge_statements.specs.Together.{order, payees_of}
 use Rattle.merge_statements.specs.declared.walk.Place.{Place}
-use Rattle.merge_statements.specs.declared.walk.Place.TheVariants.{Between, Within, Resting, Summed, Ended}
+use Rattle.merge_statements.specs.declared.walk.Place.TheVariants.{Between, Ended, Resting, Summed, Within}
 use Rattle.merge_statements.proofs.WalkLemmas.{portion_leads, rest_leads, rests_fit, run_leads, sum_fits}
 use Rattle.merge_statements.proofs.Whole.{count_of}
 

@@ -14,6 +14,7 @@ pub mod SoFar
 pub mod Endings
 pub mod Whole
 pub mod ReadThrough
+pub mod Refusing
 pub mod Chains
 pub mod FirstFault
 pub mod ToStatements

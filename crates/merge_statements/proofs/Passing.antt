@@ -1,5 +1,5 @@
 -- A payee's statement is passed over, portion by portion.
-use Rattle.std.proofs.Common.{Bool, true, false, ◌≡◌, ◌∙◌, ◌+◌, ◌+ℤ◌, ◌++◌, ◌∷◌, ℕ, ℤ, List, [], Option, Some, None, length, map, get_or, ap, sym, refl, subst, append_assoc, arith, codes}
+use Rattle.std.proofs.Common.{Bool, true, false, ◌≡◌, ◌∙◌, ◌+◌, ◌+ℤ◌, ◌++◌, ◌∷◌, inl, inr, ℕ, ℤ, List, [], Option, Some, None, length, map, get_or, ap, sym, refl, subst, append_assoc, arith, codes}
 use Rattle.std.specs.Prelude.{if◌then◌else◌, slice_index_or}
 use Rattle.std.specs.Io.KnownBytes.{Appends, Consumes, Keeps, append_known, prepend_known}
 use Rattle.std.proofs.lemmas.List.{append-nil, length_push, map-append}
@@ -10,12 +10,12 @@ use Rattle.csv.specs.Writing.{read_back}
 use Rattle.csv_table.proofs.ReadBack.{rows_read_back}
 use Rattle.csv_table.specs.Written.{text_of, text_of_row}
 use Rattle.line_split.proofs.IntSums.{int_sum_by-append, none_plus}
-use Rattle.merge_statements.specs.Passed.{HasRests, IsNext, IsRestsSumAt, IsSumAt, IsWithin, IsWithinOne, PassesPortion, PassesRest, PassesSum, WritesRests, WritesStatement, total_of_portions}
-use Rattle.merge_statements.specs.Places.{At, IsCount, IsPayeeAt, count_at, row_of, sum_at}
-use Rattle.merge_statements.specs.Statements.{IsPortion, IsRest, Portion, Rest, Statement, portion_row, rest_row, total_of_rests, total_row}
-use Rattle.merge_statements.specs.Unread.{Unread}
+use Rattle.merge_statements.specs.SoFar.{CanEnd, HasNext, HasRests, IsLooked, IsNext, IsPortionAt, IsRestAt, IsRestsSumAt, IsSumAt, IsWithin, PassesSum, ReadsOn, Steps, Unread, WritesRests, WritesStatement, total_of_portions}
+use Rattle.merge_statements.specs.Places.{At, IsPayeeAt, count_at, row_of, sum_at}
+use Rattle.merge_statements.specs.Statements.{IsCount, IsPortion, IsRest, Portion, Rest, Statement, portion_row, rest_row, total_of_rests, total_row}
 use Rattle.merge_statements.specs.declared.walk.Place.{Place}
 use Rattle.merge_statements.specs.declared.walk.Place.TheVariants.{Between, Summed, Within}
+use Rattle.merge_statements.proofs.Steps.{portion_passed, rest_passed}
 
 -- ---- rows of one text have the same second field
 
@@ -36,6 +36,14 @@ pub second_same : (row other : List (List ℕ)) → text_of_row row ≡ text_of_
 second_same row other same = sym (second_in row) ∙ ap (λ (text : List ℕ). slice_index_or (first_row (records default_config (text ++ []))) 1 []) same ∙ second_in other
 
 -- ---- known bytes
+
+pub none_consumed : (known : Option (List ℕ)) → Consumes known known []
+none_consumed None = tt
+none_consumed (Some xs) = refl
+
+pub none_appended : (known : Option (List ℕ)) → Appends known known []
+none_appended None = tt
+none_appended (Some xs) = sym (append-nil xs)
 
 pub consumes_more : (old between new : Option (List ℕ)) (first more : List ℕ) → Consumes old between first → Consumes between new more → Consumes old new (first ++ more)
 consumes_more None between new first more one two = tt
@@ -66,10 +74,14 @@ total_more portions portion =
 
 -- ---- the first portion
 
-pub first_within : (old new : Unread) (before after : Option (List ℕ)) (payee : List ℕ) → old.payee ≡ Some payee → IsNext old.at old.line payee
-    → PassesPortion old new → Appends before after old.line → IsWithin old new before after
-first_within old new before after payee due next passed written =
-    let p = passed.portion in
+-- a row that begins with the letter of portions
+pub next_begins : (at : At) (line payee : List ℕ) → IsNext at line payee → get_or line 0 0 ≡ 76
+next_begins at line payee next = ap (λ (text : List ℕ). get_or text 0 0) (sym next.row)
+
+pub first_within : (old new : Unread) (before after : Option (List ℕ)) → HasNext old → Steps old new → ReadsOn old new → Appends before after old.line → IsWithin old new before after
+first_within old new before after has passed reads written =
+    let payee = has.payee in
+    let next = has.next in
     let same : p.payee ≡ payee =
     sym (ap (λ (row : List (List ℕ)). slice_index_or row 1 []) p.form)
     ∙ second_same passed.row (row_of (codes "L") payee next.usage next.amount) (passed.line ∙ sym next.row) in
@@ -78,7 +90,7 @@ first_within old new before after payee due next passed written =
     record {
       payee = payee;
       portions = p.portion ∷ [];
-      due = due;
+      due = has.due;
       name = next.name;
       behind = next.after;
       some = omega arith;
@@ -91,20 +103,23 @@ first_within old new before after payee due next passed written =
       });
       consumed = subst (λ (t : List ℕ). Consumes old.left new.left t) text passed.consumed;
       written = subst (λ (t : List ℕ). Appends before after t) (sym passed.line ∙ text) written;
+      reads = reads;
     }
   where
-    one_more : count_at old.at.place + 1 ≡ 1
-    one_more = ap (λ (place : Place). count_at place + 1) next.place
+    p : IsPortionAt old.at passed.row new.at
+    p = portion_passed old.at new.at passed.row passed.follows (ap (λ (text : List ℕ). get_or text 0 0) passed.line ∙ next_begins old.at old.line has.payee has.next)
 
-    sum : sum_at old.at.place +ℤ passed.portion.portion.amount ≡ total_of_portions (passed.portion.portion ∷ [])
-    sum = ap (λ (place : Place). sum_at place +ℤ passed.portion.portion.amount) next.place
+    one_more : count_at old.at.place + 1 ≡ 1
+    one_more = ap (λ (place : Place). count_at place + 1) has.next.place
+
+    sum : sum_at old.at.place +ℤ p.portion.amount ≡ total_of_portions (p.portion ∷ [])
+    sum = ap (λ (place : Place). sum_at place +ℤ p.portion.amount) has.next.place
 
 -- ---- a further one
 
 pub more_within : (old between new : Unread) (before middle after : Option (List ℕ)) → IsWithin old between before middle
-    → PassesPortion between new → Appends middle after between.line → IsWithin old new before after
-more_within old between new before middle after was passed written =
-    let p = passed.portion in
+    → get_or between.line 0 0 ≡ 76 → Steps between new → ReadsOn between new → Appends middle after between.line → IsWithin old new before after
+more_within old between new before middle after was first passed reads written =
     let same : p.payee ≡ was.payee = subst (λ (at : At). IsPayeeAt at.place at.payee p.payee) was.at p.due in
     let form : passed.row ≡ portion_row was.payee p.portion = p.form ∙ ap (λ (name : List ℕ). portion_row name p.portion) same in
     let text = portions_more was.payee was.portions p.portion in
@@ -128,25 +143,28 @@ more_within old between new before middle after was passed written =
       written = subst (λ (t : List ℕ). Appends before after t) text
           (appends_more before middle after (text_of (map (portion_row was.payee) was.portions)) (text_of_row (portion_row was.payee p.portion)) was.written
           (subst (λ (t : List ℕ). Appends middle after t) (sym passed.line ∙ ap text_of_row form) written));
+      reads = λ start read. reads start (was.reads start read);
     }
   where
-    count : count_at between.at.place + 1 ≡ length (was.portions ++ passed.portion.portion ∷ [])
-    count = ap (λ (at : At). count_at at.place + 1) was.at ∙ sym (length_push was.portions passed.portion.portion)
+    p : IsPortionAt between.at passed.row new.at
+    p = portion_passed between.at new.at passed.row passed.follows (ap (λ (text : List ℕ). get_or text 0 0) passed.line ∙ first)
 
-    sum : sum_at between.at.place +ℤ passed.portion.portion.amount ≡ total_of_portions (was.portions ++ passed.portion.portion ∷ [])
-    sum = ap (λ (at : At). sum_at at.place +ℤ passed.portion.portion.amount) was.at ∙ total_more was.portions passed.portion.portion
+    count : count_at between.at.place + 1 ≡ length (was.portions ++ p.portion ∷ [])
+    count = ap (λ (at : At). count_at at.place + 1) was.at ∙ sym (length_push was.portions p.portion)
 
-    all : between.at.portions + 1 ≡ old.at.portions + length (was.portions ++ passed.portion.portion ∷ [])
-    all = omega (arith, ap (λ (at : At). at.portions) was.at, length_push was.portions passed.portion.portion)
+    sum : sum_at between.at.place +ℤ p.portion.amount ≡ total_of_portions (was.portions ++ p.portion ∷ [])
+    sum = ap (λ (at : At). sum_at at.place +ℤ p.portion.amount) was.at ∙ total_more was.portions p.portion
+
+    all : between.at.portions + 1 ≡ old.at.portions + length (was.portions ++ p.portion ∷ [])
+    all = omega (arith, ap (λ (at : At). at.portions) was.at, length_push was.portions p.portion)
 
 -- ---- the end of a statement
 
 pub statement_written : (old between new : Unread) (before after : Option (List ℕ)) (count : ℕ) (total : ℤ) → IsWithin old between before after
-    → (IsWithinOne between.at → PassesSum IsSumAt between new count total) → WritesStatement old new before after count total
-statement_written old between new before after count total was ends =
+    → PassesSum IsSumAt between new count total → ReadsOn between new → IsLooked new → WritesStatement old new before after count total
+statement_written old between new before after count total was end reads looked =
     let statement : Statement = record { payee = was.payee; portions = was.portions } in
     let place : between.at.place ≡ Within (length was.portions) (total_of_portions was.portions) = ap (λ (at : At). at.place) was.at in
-    let end = ends (length was.portions, total_of_portions was.portions, place) in
     let payee : between.at.payee ≡ was.payee = ap (λ (at : At). at.payee) was.at in
     let form : end.row ≡ total_row (codes "S") was.payee (length was.portions) (total_of_portions was.portions) =
     end.sum.form ∙ (λ i. total_row (codes "S") (payee i) (count_at (place i)) (sum_at (place i))) in
@@ -167,6 +185,8 @@ statement_written old between new before after count total was ends =
           total = (was.at i).total +ℤ sum_at (place i);
         });
         few = subst IsCount (sym (ap (λ (at : At). at.portions) end.sum.leads)) end.few;
+        reads = λ start read. reads start (was.reads start read);
+        looked = looked;
       };
       counted = end.counted ∙ ap count_at place;
       sum = end.comes_to ∙ ap sum_at place;
@@ -187,32 +207,22 @@ opened from before after line found same more ends = subst (λ (known : Option (
     by (Some xs) (Some ys) true more ends = sym (more refl)
     by (Some xs) (Some ys) false more ends = ends refl
 
--- a row that begins with the letter of portions
-pub next_begins : (at : At) (line payee : List ℕ) → IsNext at line payee → get_or line 0 0 ≡ 76
-next_begins at line payee next = ap (λ (text : List ℕ). get_or text 0 0) (sym next.row)
-
 -- ---- what nobody gets
 
-pub no_rests : (old : Unread) (before : Option (List ℕ)) → old.at.place ≡ Between → HasRests old old before before
-no_rests old before between = record {
+pub no_rests : (old : Unread) (before : Option (List ℕ)) → CanEnd old → HasRests old old before before
+no_rests old before can = record {
   rests = [];
   sound = All-nil IsRest;
-  count = ap count_at between;
-  sum = ap sum_at between;
+  count = ap count_at can.between;
+  sum = ap sum_at can.between;
   payee = refl;
   portions = omega arith;
   total = refl;
-  consumed = nothing_consumed old.left;
-  written = nothing_appended before;
+  consumed = none_consumed old.left;
+  written = none_appended before;
+  among = inl can;
+  reads = λ start read. read;
 }
-  where
-    nothing_consumed : (left : Option (List ℕ)) → Consumes left left []
-    nothing_consumed None = tt
-    nothing_consumed (Some xs) = refl
-
-    nothing_appended : (known : Option (List ℕ)) → Appends known known []
-    nothing_appended None = tt
-    nothing_appended (Some xs) = sym (append-nil xs)
 
 rests_text : (rests : List Rest) (rest : Rest) → text_of (map rest_row rests) ++ text_of_row (rest_row rest) ≡ text_of (map rest_row (rests ++ rest ∷ []))
 rests_text rests rest = text_more (map rest_row rests) (rest_row rest) ∙ ap text_of (sym (map-append rest_row rests (rest ∷ [])))
@@ -222,9 +232,9 @@ rests_total rests rest =
     ap (λ (n : ℤ). total_of_rests rests +ℤ n) (sym (none_plus rest.amount)) ∙ sym (int_sum_by-append (λ (r : Rest). r.amount) rests (rest ∷ []))
 
 pub more_rests : (old between new : Unread) (before middle after : Option (List ℕ)) → HasRests old between before middle
-    → PassesRest between new → Appends middle after between.line → HasRests old new before after
-more_rests old between new before middle after was passed written =
-    let r = passed.rest in
+    → get_or between.line 0 0 ≡ 77 → Steps between new → ReadsOn between new → Appends middle after between.line → HasRests old new before after
+more_rests old between new before middle after was first passed reads written =
+    let r : IsRestAt between.at passed.row new.at = rest_passed between.at new.at passed.row passed.follows (ap (λ (text : List ℕ). get_or text 0 0) passed.line ∙ first) in
     let text = rests_text was.rests r.what in
     record {
       rests = was.rests ++ r.what ∷ [];
@@ -240,6 +250,8 @@ more_rests old between new before middle after was passed written =
       written = subst (λ (t : List ℕ). Appends before after t) text
           (appends_more before middle after (text_of (map rest_row was.rests)) (text_of_row (rest_row r.what)) was.written
           (subst (λ (t : List ℕ). Appends middle after t) (sym passed.line ∙ ap text_of_row r.form) written));
+      among = inr (count_at between.at.place + 1, sum_at between.at.place +ℤ r.what.amount, ap (λ (at : At). at.place) r.leads);
+      reads = λ start read. reads start (was.reads start read);
     }
 
 pub rests_written : (old between new : Unread) (before after : Option (List ℕ)) (count : ℕ) (total : ℤ) → HasRests old between before after

@@ -1,9 +1,9 @@
 -- A text is read through: its rows so far, and what is wrong with the rest.
-use Rattle.std.proofs.Common.{◌≡◌, ◌∙◌, ◌<◌, ◌+◌, ◌++◌, ◌∷◌, ◌||◌, [], ℕ, zero, suc, List, Option, Some, None, Result, Ok, Err, Bool, true, false, true≢false, length, get_or, take, ap, sym, refl, subst, append_assoc, arith}
-use Rattle.std.specs.Prelude.{IfErr, IfOk, IfSome, drop, ⊤}
+use Rattle.std.proofs.Common.{◌≡◌, ◌∙◌, ◌<◌, ◌+◌, ◌++◌, ◌∷◌, ◌||◌, [], ℕ, zero, suc, List, Option, Some, None, Bool, true, false, true≢false, length, get_or, take, ap, sym, refl, subst, append_assoc, arith}
+use Rattle.std.specs.Prelude.{IfSome, drop, ⊤}
 use Rattle.std.specs.Io.KnownBytes.{Consumes, IsAtEnd}
 use Rattle.std.specs.List.{list_any}
-use Rattle.std.proofs.lemmas.List.{append-nil, length-append}
+use Rattle.std.proofs.lemmas.List.{append-nil, length-append, take_all}
 use Rattle.std.proofs.lemmas.Grind.{flat_map-append}
 use Rattle.csv_table.specs.Written.{text_of, text_of_row}
 use Rattle.merge_statements.specs.Buffered.{is_feed}
@@ -11,18 +11,18 @@ use Rattle.merge_statements.specs.Places.{At, Follows, at_first, row_of}
 use Rattle.merge_statements.specs.Reading.{IsFaultOf}
 use Rattle.merge_statements.specs.Refused.{AreRows, BeginsWithWrong, IsFaultFrom, IsRefusedFor, IsRefusedFrom, IsStatementText, refusal_of_field, refusal_of_line}
 use Rattle.merge_statements.specs.Refused.AreRows.{none as no_rows, more as more_rows}
-use Rattle.merge_statements.specs.Unread.{FollowsAs}
+use Rattle.merge_statements.specs.SoFar.{FollowsAs, IsReadTo}
 use Rattle.merge_statements.specs.Wrong.{IsWrongAt}
 use Rattle.merge_statements.specs.declared.read_fault.ReadFault.{ReadFault}
 use Rattle.merge_statements.specs.declared.read_fault.ReadFault.TheVariants.{Refused, TooLong, Unended}
 use Rattle.merge_statements.specs.declared.refusal.Refusal.{Refusal}
 use Rattle.merge_statements.specs.declared.refusal.Refusal.TheVariants as refusal
-use Rattle.merge_statements.specs.declared.refusal.StatementFault.TheVariants.{Row, End}
+use Rattle.merge_statements.specs.declared.refusal.StatementFault.TheVariants.{End, Row}
 use Rattle.merge_statements.specs.declared.walk.Place.TheVariants.{Ended}
 use Rattle.merge_statements.specs.declared.walk.Wrong.{Wrong}
 use Rattle.merge_statements.specs.declared.walk.Wrong.TheVariants as wrong
 use Rattle.merge_statements.proofs.FieldLemmas.{or-right}
-use Rattle.merge_statements.proofs.Passing.{consumes_more}
+use Rattle.merge_statements.proofs.Passing.{consumes_more, none_consumed}
 
 -- ---- line feeds
 
@@ -30,14 +30,16 @@ or_true : (b : Bool) → (b || true) ≡ true
 or_true true = refl
 or_true false = refl
 
-pub feed_found : (line rest : List ℕ) → list_any is_feed (line ++ 10 ∷ rest) ≡ true
-feed_found [] rest = refl
-feed_found (byte ∷ line) rest = ap (λ b. is_feed byte || b) (feed_found line rest) ∙ or_true (is_feed byte)
-
+-- a line feed stands in a text, and in its first bytes, where it ends a line of fewer
 feed_in : (n : ℕ) (line rest : List ℕ) → length line < n → list_any is_feed (take n (line ++ 10 ∷ rest)) ≡ true
 feed_in zero line rest short = absurd (omega (arith, short))
 feed_in (suc n) [] rest short = refl
 feed_in (suc n) (byte ∷ line) rest short = ap (λ b. is_feed byte || b) (feed_in n line rest (omega (arith, short))) ∙ or_true (is_feed byte)
+
+pub feed_found : (line rest : List ℕ) → list_any is_feed (line ++ 10 ∷ rest) ≡ true
+feed_found line rest =
+    let all : List ℕ = line ++ 10 ∷ rest in
+    subst (λ (text : List ℕ). list_any is_feed text ≡ true) (take_all (length all) all (omega arith)) (feed_in (length all) line rest (omega (arith, length-append line (10 ∷ rest))))
 
 -- the first line feed ends the first line
 pub one_line : (line other rest behind : List ℕ) → list_any is_feed line ≡ false → list_any is_feed other ≡ false → line ++ 10 ∷ rest ≡ other ++ 10 ∷ behind → line ≡ other
@@ -108,17 +110,6 @@ field_refused at number left new line kind whose third fourth wrong.Memory takes
 
 -- ---- row by row
 
--- rows were read from the start of a text on, and the next has this number
-pub record IsReadTo (start : Option (List ℕ)) (at : At) (left : Option (List ℕ)) (number : ℕ) : Type 0 where
-  pub rows : List (List (List ℕ))
-  pub are : AreRows at_first rows at
-  pub consumed : Consumes start left (text_of rows)
-  pub counted : number ≡ length rows + 1
-
-none_consumed : (start : Option (List ℕ)) → Consumes start start []
-none_consumed None = tt
-none_consumed (Some text) = refl
-
 pub none_read : (start : Option (List ℕ)) → IsReadTo start at_first start 1
 none_read start = record { rows = []; are = no_rows at_first; consumed = none_consumed start; counted = refl }
 
@@ -186,13 +177,3 @@ rest_refused start left at number refusal.Memory was from = nothing_claimed star
 rest_refused start left at number refusal.Many was from = nothing_claimed start
 rest_refused start left at number (refusal.Read error) was from = nothing_claimed start
 rest_refused start left at number (refusal.Write error) was from = nothing_claimed start
-
--- ---- answers
-
-pub ok_so : {X E : Type 0} (result : Result X E) (P Q : X → Type 0) → ((x : X) → P x → Q x) → IfOk result P → IfOk result Q
-ok_so (Ok x) P Q so holds = so x holds
-ok_so (Err e) P Q so holds = tt
-
-pub err_so : {X E : Type 0} (result : Result X E) (P Q : E → Type 0) → ((e : E) → P e → Q e) → IfErr result P → IfErr result Q
-err_so (Ok x) P Q so holds = tt
-err_so (Err e) P Q so holds = so e holds

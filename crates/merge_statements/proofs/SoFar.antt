@@ -19,17 +19,15 @@ use Rattle.std.proofs.lemmas.Slice.Eq.{bytes_eq-Decides}
 use Rattle.csv_table.specs.Written.{text_of, text_of_row}
 use Rattle.line_split.specs.Signs.{int_sum_by}
 use Rattle.line_split.proofs.IntSums.{int_sum_by-append, int_sum_by-cons, none_plus, plus_none}
-use Rattle.merge_statements.specs.Together.{AreMergedSoFar, AreOpen, HasLeast, HasPassed, HavePassed, IsBehind, IsNextSound, TakesEach, TakesOne, WritesAll, last_payee, order, payees_of, portions_in}
-use Rattle.merge_statements.specs.Together.AreOpen.{none as no_open, more as more_open}
-use Rattle.merge_statements.specs.Together.HavePassed.{none as no_passed, more as more_passed}
-use Rattle.merge_statements.specs.Together.TakesEach.{none as none_of, more as more_of}
-use Rattle.merge_statements.specs.Together.TakesOne.{taken as taken_of, left as left_of}
-use Rattle.merge_statements.specs.Passed.{IsNext, PassesStatement, total_of_portions}
-use Rattle.merge_statements.specs.Places.{At, IsCount}
-use Rattle.merge_statements.specs.Statements.{IsStatement, Portion, Statement, portion_row, statement_rows, total_of, total_row}
-use Rattle.merge_statements.specs.Unread.{Unread}
+use Rattle.merge_statements.specs.SoFar.{AreMergedSoFar, AreOpen, HasLeast, HasPassed, HavePassed, IsBehind, IsNext, IsNextSound, PassesStatement, TakesEach, TakesOne, Unread, WritesAll, last_payee, order, payees_of, portions_in, total_of_portions}
+use Rattle.merge_statements.specs.SoFar.AreOpen.{none as no_open, more as more_open}
+use Rattle.merge_statements.specs.SoFar.HavePassed.{none as no_passed, more as more_passed}
+use Rattle.merge_statements.specs.SoFar.TakesEach.{none as none_of, more as more_of}
+use Rattle.merge_statements.specs.SoFar.TakesOne.{taken as taken_of, left as left_of}
+use Rattle.merge_statements.specs.Places.{At}
+use Rattle.merge_statements.specs.Statements.{IsCount, IsStatement, Portion, Statement, portion_row, statement_rows, total_of, total_row}
 use Rattle.merge_statements.specs.declared.walk.Place.TheVariants.{Between}
-use Rattle.merge_statements.proofs.Passing.{appends_more, consumes_more}
+use Rattle.merge_statements.proofs.Passing.{appends_more, consumes_more, none_appended}
 use Rattle.merge_statements.proofs.ReadBack.{the_statement}
 
 -- ---- byte order
@@ -121,6 +119,8 @@ passed_more start old new done statement was passes =
       });
       consumed = subst (λ (t : List ℕ). Consumes start new.left t) (rows_more done statement)
           (consumes_more start old.left new.left (text_of (flat_map statement_rows done)) (text_of (statement_rows statement)) was.consumed passes.consumed);
+      read = passes.reads start was.read;
+      looked = passes.looked;
     }
   where
     counted : old.at.portions + length statement.portions ≡ sum_by (λ s. length s.portions) (done ++ statement ∷ [])
@@ -344,12 +344,12 @@ none_merged starts parts before open_ = record {
   sum = refl;
   sums = nought starts parts open_;
   few = omega arith;
-  written = nothing_more before;
+  written = none_appended before;
 }
   where
     dones : (starts : List (Option (List ℕ))) (parts : List Unread) → AreOpen starts parts → List (List Statement)
     dones _ _ no_open = []
-    dones _ _ (more_open start part starts parts at left others) = [] ∷ dones starts parts others
+    dones _ _ (more_open start part starts parts at left read looked others) = [] ∷ dones starts parts others
 
     begun : (start left : Option (List ℕ)) → Keeps start left → Consumes start left []
     begun None left keeps = tt
@@ -358,23 +358,19 @@ none_merged starts parts before open_ = record {
 
     passed : (starts : List (Option (List ℕ))) (parts : List Unread) (are : AreOpen starts parts) → HavePassed starts parts (dones starts parts are)
     passed _ _ no_open = no_passed
-    passed _ _ (more_open start part starts parts at left others) =
+    passed _ _ (more_open start part starts parts at left read looked others) =
         more_passed start part [] starts parts (dones starts parts others)
-        record { sound = All-nil IsStatement; rising = tt; at = at; consumed = begun start part.left left } (passed starts parts others)
+        record { sound = All-nil IsStatement; rising = tt; at = at; consumed = begun start part.left left; read = read; looked = looked } (passed starts parts others)
 
     behind : (starts : List (Option (List ℕ))) (parts : List Unread) → AreOpen starts parts → All (IsBehind []) parts
     behind _ _ no_open = All-nil (IsBehind [])
-    behind _ _ (more_open start part starts parts at left others) = All-cons (IsBehind []) part parts (inl (ap (λ (a : At). a.payee) at)) (behind starts parts others)
+    behind _ _ (more_open start part starts parts at left read looked others) = All-cons (IsBehind []) part parts (inl (ap (λ (a : At). a.payee) at)) (behind starts parts others)
 
     nothing : (payee : List ℕ) (starts : List (Option (List ℕ))) (parts : List Unread) (are : AreOpen starts parts) → ◌≡◌ {A = List Portion} [] (flat_map (portions_in payee) (dones starts parts are))
     nothing payee _ _ no_open = refl
-    nothing payee _ _ (more_open start part starts parts at left others) = nothing payee starts parts others
+    nothing payee _ _ (more_open start part starts parts at left read looked others) = nothing payee starts parts others
 
     nought : (starts : List (Option (List ℕ))) (parts : List Unread) (are : AreOpen starts parts) → pos 0 ≡ int_sum_by (λ done. int_sum_by total_of done) (dones starts parts are)
     nought _ _ no_open = refl
-    nought _ _ (more_open start part starts parts at left others) =
+    nought _ _ (more_open start part starts parts at left read looked others) =
         nought starts parts others ∙ (sym (none_plus (int_sum_by (λ done. int_sum_by total_of done) (dones starts parts others))) ∙ sym (int_sum_by-cons (λ (done : List Statement). int_sum_by total_of done) [] (dones starts parts others)))
-
-    nothing_more : (known : Option (List ℕ)) → Appends known known []
-    nothing_more None = tt
-    nothing_more (Some xs) = sym (append-nil xs)

@@ -2,9 +2,9 @@
 use Rattle.std.proofs.Common.{◌≡◌, ◌∙◌, ◌⊎◌, inl, inr, ℕ, ℤ, List, get_or, ap, sym, refl, subst, arith, codes}
 use Rattle.csv_table.specs.Written.{text_of_row}
 use Rattle.merge_statements.specs.Places.{At, Follows, KindFits, row_of}
-use Rattle.merge_statements.specs.Passed.{IsPortionAt, IsRestAt, IsRestsSumAt, IsRunAt, IsSumAt}
+use Rattle.merge_statements.specs.SoFar.{IsPortionAt, IsRestAt, IsRestsSumAt, IsRunAt, IsSumAt}
 use Rattle.merge_statements.specs.declared.walk.Place.{Place}
-use Rattle.merge_statements.specs.declared.walk.Place.TheVariants.{Between, Within, Resting, Summed, Ended}
+use Rattle.merge_statements.specs.declared.walk.Place.TheVariants.{Between, Ended, Resting, Summed, Within}
 
 -- a kind of row is one of five
 abbrev pub IsKind : List ℕ → Type 0

@@ -11,14 +11,11 @@ use Rattle.std.proofs.lemmas.List.Elements.{All-append, All-cons, All-nil, All-w
 use Rattle.std.proofs.lemmas.Grind.{flat_map-append}
 use Rattle.csv_table.specs.Written.{text_of, text_of_row}
 use Rattle.line_split.proofs.IntSums.{int_sum_by-append}
-use Rattle.merge_statements.specs.Together.{HasLeast, HoldsOfFirst, IsNextSound, TakesEach, TakesOne, WritesAll, WritesOne, order}
-use Rattle.merge_statements.specs.Together.TakesEach.{none as none_of, more as more_of}
-use Rattle.merge_statements.specs.Together.TakesOne.{taken as taken_of, left as left_of}
-use Rattle.merge_statements.specs.Passed.{IsNext, WritesStatement}
-use Rattle.merge_statements.specs.Places.{IsCount}
-use Rattle.merge_statements.specs.Statements.{IsPortion, Portion, portion_row}
-use Rattle.merge_statements.specs.Unread.{Unread}
-use Rattle.merge_statements.proofs.Passing.{appends_more}
+use Rattle.merge_statements.specs.SoFar.{HasLeast, HoldsOfFirst, IsNext, IsNextSound, TakesEach, TakesOne, Unread, WritesAll, WritesOne, WritesStatement, order}
+use Rattle.merge_statements.specs.SoFar.TakesEach.{none as none_of, more as more_of}
+use Rattle.merge_statements.specs.SoFar.TakesOne.{taken as taken_of, left as left_of}
+use Rattle.merge_statements.specs.Statements.{IsCount, IsPortion, Portion, portion_row}
+use Rattle.merge_statements.proofs.Passing.{appends_more, none_appended}
 
 -- ---- one text
 
@@ -42,10 +39,6 @@ one_written payee old new before after count total next was =
       written = subst (λ (p : List ℕ). Appends before after (text_of (map (portion_row p) was.statement.portions))) same was.written;
     }
 
-nothing : (known : Option (List ℕ)) → Appends known known []
-nothing None = tt
-nothing (Some xs) = sym (append-nil xs)
-
 pub none_written : (payee : List ℕ) (part : Unread) (before : Option (List ℕ)) → ¬ (part.payee ≡ Some payee) → WritesOne payee part part before before 0 (pos 0)
 none_written payee part before other = record {
   portions = [];
@@ -53,7 +46,7 @@ none_written payee part before other = record {
   sound = All-nil IsPortion;
   counted = refl;
   sum = refl;
-  written = nothing before;
+  written = none_appended before;
 }
 
 -- ---- all texts
@@ -66,7 +59,7 @@ no_texts payee before = record {
   counted = refl;
   sum = refl;
   few = omega arith;
-  written = nothing before;
+  written = none_appended before;
 }
 
 text_joined : (payee : List ℕ) (xs ys : List Portion)

@@ -9,14 +9,13 @@ use Rattle.std.proofs.lemmas.Grind.{flat_map-append}
 use Rattle.csv_table.specs.Written.{text_of}
 use Rattle.line_split.specs.Signs.{int_sum_by}
 use Rattle.line_split.proofs.IntSums.{int_sum_by_push}
-use Rattle.merge_statements.specs.Passed.{total_of_portions}
-use Rattle.merge_statements.specs.Places.{At, Follows, IsCount, IsPayeeAt, KindFits, at_first, count_at, row_of, sum_at}
-use Rattle.merge_statements.specs.Refused.{AreRows, IsStatementText, count_of_portions}
+use Rattle.merge_statements.specs.SoFar.{last_payee, order, payees_of, total_of_portions}
+use Rattle.merge_statements.specs.Places.{At, Follows, IsPayeeAt, KindFits, at_first, count_at, row_of, sum_at}
+use Rattle.merge_statements.specs.Statements.{AreStatements, IsCount, IsName, IsPortion, IsRest, IsStatement, Portion, Rest, Statement, Statements, count_of_portions, portion_row, rest_row, rests_rows, rows_of_statements, statement_rows, text_of_statements, total_of, total_of_rests, total_row}
+use Rattle.merge_statements.specs.Refused.{AreRows, IsStatementText}
 use Rattle.merge_statements.specs.Refused.AreRows.{none as no_rows, more as more_rows}
-use Rattle.merge_statements.specs.Statements.{AreStatements, IsName, IsPortion, IsRest, IsStatement, Portion, Rest, Statement, Statements, portion_row, rest_row, rests_rows, rows_of_statements, statement_rows, text_of_statements, total_of, total_of_rests, total_row}
-use Rattle.merge_statements.specs.Together.{last_payee, order, payees_of}
 use Rattle.merge_statements.specs.declared.walk.Place.{Place}
-use Rattle.merge_statements.specs.declared.walk.Place.TheVariants.{Between, Within, Resting, Summed, Ended}
+use Rattle.merge_statements.specs.declared.walk.Place.TheVariants.{Between, Ended, Resting, Summed, Within}
 use Rattle.merge_statements.proofs.Chains.{IsSound, first_sound, sound_on}
 use Rattle.merge_statements.proofs.ReadBack.{the_statement, the_statements}
 use Rattle.merge_statements.proofs.SoFar.{all_before, count_more, last_is, rises_more, total_more}

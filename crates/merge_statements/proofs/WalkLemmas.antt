@@ -3,9 +3,9 @@ use Rattle.std.proofs.Common.{◌≡◌, ◌∙◌, ◌+◌, ◌+ℤ◌, ◌∷�
 use Rattle.std.specs.Prelude.{◌==◌}
 use Rattle.std.proofs.lemmas.Bool.{eqb-true}
 use Rattle.std.specs.Fmt.{signed_decimal}
-use Rattle.merge_statements.specs.Statements.{IsAmount}
-use Rattle.merge_statements.specs.Places.{At, Fits, IsCount, KindFits, Leads, count_at, sum_at}
-use Rattle.merge_statements.specs.declared.walk.Place.TheVariants.{Ended, Within, Resting}
+use Rattle.merge_statements.specs.Statements.{IsAmount, IsCount}
+use Rattle.merge_statements.specs.Places.{At, Fits, KindFits, Leads, count_at, sum_at}
+use Rattle.merge_statements.specs.declared.walk.Place.TheVariants.{Ended, Resting, Within}
 
 -- kinds of rows differ by their letters
 module _ (kind : List ℕ) where

@@ -12,15 +12,14 @@ use Rattle.std.proofs.lemmas.Grind.{flat_map-append}
 use Rattle.csv_table.specs.Written.{text_of, text_of_row}
 use Rattle.line_split.specs.Signs.{int_sum_by}
 use Rattle.line_split.proofs.IntSums.{int_sum_by-append, int_sum_by-cons, size_plus}
-use Rattle.merge_statements.specs.Together.{AreMergedSoFar, AreOpen, AreTexts, Ending, EndsAs, EndsEach, EndsOne, HasPassed, HavePassed, IsBetween, TakesEach, WritesMerge, lines_of, order, payees_of, portions_in, rests_of}
-use Rattle.merge_statements.specs.Together.AreOpen.{none as no_open, more as more_open}
-use Rattle.merge_statements.specs.Together.AreTexts.{none as no_texts, more as more_texts}
-use Rattle.merge_statements.specs.Together.HavePassed.{none as no_passed, more as more_passed}
-use Rattle.merge_statements.specs.Together.TakesEach.{none as none_of, more as more_of}
-use Rattle.merge_statements.specs.Passed.{total_of_portions}
-use Rattle.merge_statements.specs.Places.{At, IsCount, at_first}
-use Rattle.merge_statements.specs.Statements.{AreStatements, IsPortion, IsRest, IsStatement, Portion, Rest, Statement, Statements, rest_row, rests_rows, statement_rows, text_of_statements, total_of, total_of_rests, total_row}
-use Rattle.merge_statements.specs.Unread.{Unread}
+use Rattle.merge_statements.specs.SoFar.{AreMergedSoFar, AreOpen, Ending, EndsAs, EndsEach, EndsOne, HasPassed, HavePassed, IsLooked, IsRead, TakesEach, Unread, lines_of, order, payees_of, portions_in, rests_of, total_of_portions}
+use Rattle.merge_statements.specs.Merged.{AreTexts, WritesMerge}
+use Rattle.merge_statements.specs.SoFar.AreOpen.{none as no_open, more as more_open}
+use Rattle.merge_statements.specs.Merged.AreTexts.{none as no_texts, more as more_texts}
+use Rattle.merge_statements.specs.SoFar.HavePassed.{none as no_passed, more as more_passed}
+use Rattle.merge_statements.specs.SoFar.TakesEach.{none as none_of, more as more_of}
+use Rattle.merge_statements.specs.Places.{At, at_first}
+use Rattle.merge_statements.specs.Statements.{AreStatements, IsCount, IsPortion, IsRest, IsStatement, Portion, Rest, Statement, Statements, rest_row, rests_rows, statement_rows, text_of_statements, total_of, total_of_rests, total_row}
 use Rattle.merge_statements.proofs.Passing.{appends_more, consumes_more}
 use Rattle.merge_statements.proofs.ReadBack.{the_statements}
 
@@ -210,24 +209,19 @@ all_merged starts mid last before one two three after paid left all sum rest tot
 
 pub open_push : (starts : List (Option (List ℕ))) (parts : List Unread) (start : Option (List ℕ)) (part : Unread) → AreOpen starts parts → AreOpen (start ∷ []) (part ∷ []) → AreOpen (starts ++ start ∷ []) (parts ++ part ∷ [])
 open_push _ _ start part no_open last = last
-open_push _ _ start part (more_open first old starts parts at left others) last = more_open first old (starts ++ start ∷ []) (parts ++ part ∷ []) at left (open_push starts parts start part others last)
+open_push _ _ start part (more_open first old starts parts at left read looked others) last = more_open first old (starts ++ start ∷ []) (parts ++ part ∷ []) at left read looked (open_push starts parts start part others last)
 
 pub none_open : AreOpen [] []
 none_open = no_open
 
-pub one_open : (start : Option (List ℕ)) (part : Unread) → part.at ≡ at_first → Keeps start part.left → AreOpen (start ∷ []) (part ∷ [])
-one_open start part at left = more_open start part [] [] at left no_open
-
--- behind their last payees all stand between
-pub all_between : (starts : List (Option (List ℕ))) (parts : List Unread) (dones : List (List Statement)) → HavePassed starts parts dones → All IsBetween parts
-all_between _ _ _ no_passed = All-nil IsBetween
-all_between _ _ _ (more_passed start part done starts parts dones has have) = All-cons IsBetween part parts (ap (λ (at : At). at.place) has.at) (all_between starts parts dones have)
+pub one_open : (start : Option (List ℕ)) (part : Unread) → part.at ≡ at_first → Keeps start part.left → IsRead start part → IsLooked part → AreOpen (start ∷ []) (part ∷ [])
+one_open start part at left read looked = more_open start part [] [] at left read looked no_open
 
 -- ---- the last page
 
-nothing_added : (known : Option (List ℕ)) → append_known known [] ≡ known
-nothing_added None = refl
-nothing_added (Some bytes) = ap Some (append-nil bytes)
+none_added : (known : Option (List ℕ)) → append_known known [] ≡ known
+none_added None = refl
+none_added (Some bytes) = ap Some (append-nil bytes)
 
 -- what was written by the page begins with an empty one, and the last goes on
 pub merge_passed : (starts : List (Option (List ℕ))) (before after last : Option (List ℕ)) (page : List ℕ) → page ≡ [] → WritesMerge starts (append_known before page) after
@@ -238,5 +232,5 @@ merge_passed starts before after last page none was passed = record {
   merged = was.merged;
   merge = was.merge;
   written = subst (λ (t : List ℕ). Appends before last t) (append-nil was.merged)
-      (appends_more before after last was.merged [] (subst (λ (known : Option (List ℕ)). Appends known after was.merged) (ap (append_known before) none ∙ nothing_added before) was.written) passed);
+      (appends_more before after last was.merged [] (subst (λ (known : Option (List ℕ)). Appends known after was.merged) (ap (append_known before) none ∙ none_added before) was.written) passed);
 }

@@ -1,11 +1,9 @@
 pub mod Buffered
 pub mod Fields
 pub mod Merged
-pub mod Together
-pub mod Passed
 pub mod Places
 pub mod Reading
 pub mod Refused
+pub mod SoFar
 pub mod Statements
-pub mod Unread
 pub mod Wrong

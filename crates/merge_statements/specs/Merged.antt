@@ -1,8 +1,9 @@
 -- What statements come to together.
-use Rattle.std.specs.Prelude.{ℕ, ◌≡◌, ◌≤◌, ◌^◌, ◌∷◌, [], List, All, filter, flat_map, map, sum_by, unsigned_abs}
+use Rattle.std.specs.Prelude.{ℕ, ◌≡◌, ◌≤◌, ◌^◌, ◌∷◌, [], List, All, filter, flat_map, map, sum_by, unsigned_abs, IfSome, Option}
 use Rattle.std.specs.Str.{bytes_eq}
 use Rattle.line_split.specs.Signs.{int_sum_by}
 use Rattle.merge_statements.specs.Statements.{AreStatements, Portion, Statements, text_of_statements, total_of_rests}
+use Rattle.std.specs.Io.KnownBytes.{Appends}
 
 -- a payee's portions; none where it has no statement
 abbrev pub portions_of : List ℕ → Statements → List Portion
@@ -37,3 +38,17 @@ pub data AreMergesOf : List (List (List ℕ)) → List (List ℕ) → Type 0 whe
   none : AreMergesOf [] []
   more : (texts : List (List ℕ)) (merged : List ℕ) (groups : List (List (List ℕ))) (others : List (List ℕ))
       → IsMergeOf texts merged → AreMergesOf groups others → AreMergesOf (texts ∷ groups) (merged ∷ others)
+
+-- these are the texts, where their bytes are known
+pub data AreTexts : List (Option (List ℕ)) → List (List ℕ) → Type 0 where
+  none : AreTexts [] []
+  more : (start : Option (List ℕ)) (text : List ℕ) (starts : List (Option (List ℕ))) (texts : List (List ℕ))
+      → IfSome start (λ bytes. bytes ≡ text) → AreTexts starts texts → AreTexts (start ∷ starts) (text ∷ texts)
+
+-- What these bytes merge to was written. Where bytes are not known, it is what some texts merge to.
+pub record WritesMerge (starts : List (Option (List ℕ))) (before after : Option (List ℕ)) : Type 0 where
+  pub texts : List (List ℕ)
+  pub are : AreTexts starts texts
+  pub merged : List ℕ
+  pub merge : IsMergeOf texts merged
+  pub written : Appends before after merged

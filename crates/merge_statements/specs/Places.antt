@@ -1,10 +1,10 @@
 -- Where a reader of a statement text stands, and which row can stand there.
-use Rattle.std.specs.Prelude.{ℕ, ℤ, pos, ◌≡◌, ◌≤◌, ◌+◌, ◌+ℤ◌, ◌^◌, ◌∷◌, ◌⊎◌, [], List, codes, decimal}
+use Rattle.std.specs.Prelude.{ℕ, ℤ, pos, ◌≡◌, ◌+◌, ◌+ℤ◌, ◌∷◌, ◌⊎◌, [], List, codes, decimal}
 use Rattle.std.specs.Cmp.Lexicographic.{slice_cmp}
 use Rattle.std.specs.Fmt.{signed_decimal}
 use Rattle.std.specs.Ordering.{nat_cmp}
 use Rattle.std.specs.declared.cmp.Ordering.TheVariants.{Less}
-use Rattle.merge_statements.specs.Statements.{IsAmount, IsName, IsReason}
+use Rattle.merge_statements.specs.Statements.{IsAmount, IsCount, IsName, IsReason}
 use Rattle.merge_statements.specs.declared.walk.Place.{Place}
 use Rattle.merge_statements.specs.declared.walk.Place.TheVariants.{Between, Within, Resting, Summed, Ended}
 
@@ -53,10 +53,6 @@ abbrev pub sum_at : Place → ℤ
 sum_at (Within count so_far) = so_far
 sum_at (Resting count so_far) = so_far
 sum_at _ = pos 0
-
--- as many as are counted
-abbrev pub IsCount : ℕ → Type 0
-IsCount count = count ≤ 10 ^ 18
 
 -- the third
 pub record ThirdFits (at : At) (kind third : List ℕ) : Type 0 where

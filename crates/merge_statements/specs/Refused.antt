@@ -1,17 +1,16 @@
 -- Why a text is no text of statements: the first row that cannot stand where it does.
-use Rattle.std.specs.Prelude.{ℕ, ◌≡◌, ◌<◌, ◌+◌, ◌++◌, ◌∷◌, [], List, Option, IfSome, false, length, sum_by, ⊤}
+use Rattle.std.specs.Prelude.{ℕ, ◌≡◌, ◌<◌, ◌+◌, ◌++◌, ◌∷◌, [], List, None, Option, IfSome, false, length, slice_index_or, ⊤}
 use Rattle.std.specs.List.{list_any}
 use Rattle.csv_table.specs.Written.{text_of, text_of_row}
 use Rattle.merge_statements.specs.Buffered.{is_feed}
 use Rattle.merge_statements.specs.Places.{At, Follows, at_first, row_of}
-use Rattle.merge_statements.specs.Statements.{Statements}
 use Rattle.merge_statements.specs.Wrong.{IsWrongAt}
 use Rattle.merge_statements.specs.declared.read_fault.ReadFault.{ReadFault}
 use Rattle.merge_statements.specs.declared.read_fault.ReadFault.TheVariants.{Refused, TooLong, Unended}
 use Rattle.merge_statements.specs.declared.refusal.Refusal.{Refusal}
 use Rattle.merge_statements.specs.declared.refusal.Refusal.TheVariants as refusal
 use Rattle.merge_statements.specs.declared.refusal.StatementFault.{StatementFault}
-use Rattle.merge_statements.specs.declared.refusal.StatementFault.TheVariants.{Row, Kind, Whose, Third, Fourth, End}
+use Rattle.merge_statements.specs.declared.refusal.StatementFault.TheVariants.{End, Fourth, Kind, Row, Third, Whose}
 use Rattle.merge_statements.specs.declared.walk.Place.TheVariants.{Ended}
 use Rattle.merge_statements.specs.declared.walk.Wrong.{Wrong}
 use Rattle.merge_statements.specs.declared.walk.Wrong.TheVariants as wrong
@@ -28,10 +27,6 @@ pub record IsStatementText (text : List ℕ) (lines : ℕ) : Type 0 where
   pub are : AreRows at_first rows last
   pub ended : last.place ≡ Ended lines
   pub bytes : text ≡ text_of rows
-
--- how many portions statements have, those that nobody gets among them
-abbrev pub count_of_portions : Statements → ℕ
-count_of_portions all = sum_by (λ statement. length statement.portions) all.payees + length all.rests
 
 -- a line that ends within the next 32,768 bytes
 pub record IsLine (text line rest : List ℕ) : Type 0 where
@@ -78,10 +73,20 @@ abbrev pub IsRefusedFor : List ℕ → Refusal → Type 0
 IsRefusedFor text (refusal.Fault fault) = IsFaultIn text fault
 IsRefusedFor text _ = ⊤
 
--- the same of the rest of a text, where its bytes are known
+-- Of several texts the one in a place, from 0, is refused for its first fault, where its bytes are known. Nothing is claimed of the same as above, nor of more portions or usage lines than are counted.
+abbrev pub IsRefusalOf : List (Option (List ℕ)) → ℕ → Refusal → Type 0
+IsRefusalOf starts place (refusal.Fault fault) = (place < length starts) × IfSome (slice_index_or starts place None) (λ text. IsFaultIn text fault)
+IsRefusalOf starts place _ = ⊤
+
+-- the same of the rest of one text, where its bytes are known
 abbrev pub IsRefusedFrom : At → ℕ → Option (List ℕ) → Refusal → Type 0
 IsRefusedFrom at number left (refusal.Fault fault) = IfSome left (λ text. IsFaultFrom at number text fault)
 IsRefusedFrom at number left _ = ⊤
+
+-- no fault of a text
+abbrev pub IsNoFault : Refusal → Type 0
+IsNoFault (refusal.Fault fault) = ⊥
+IsNoFault _ = ⊤
 
 -- which refusal a wrong field is
 abbrev pub refusal_of_field : Wrong → ℕ → Refusal

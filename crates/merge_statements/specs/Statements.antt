@@ -1,5 +1,5 @@
 -- What the text of a run's statements says, and its rows.
-use Rattle.std.specs.Prelude.{ℕ, ℤ, ◌≡◌, ◌≤◌, ◌<◌, ◌+ℤ◌, ◌^◌, ◌++◌, ◌∷◌, ◌⊎◌, [], List, All, codes, decimal, flat_map, length, map, unsigned_abs}
+use Rattle.std.specs.Prelude.{ℕ, ℤ, ◌≡◌, ◌≤◌, ◌<◌, ◌+◌, ◌+ℤ◌, ◌^◌, ◌++◌, ◌∷◌, [], List, All, codes, decimal, flat_map, length, map, sum_by, unsigned_abs}
 use Rattle.std.specs.Fmt.{signed_decimal}
 use Rattle.std.specs.List.Sorted.{IsStrictlySortedBy}
 use Rattle.std.specs.Cmp.Lexicographic.{slice_cmp}
@@ -101,3 +101,11 @@ pub record AreStatements (all : Statements) : Type 0 where
   pub amount : unsigned_abs all.amount ≤ 10 ^ 30
   pub totals : All (λ statement. unsigned_abs (total_of statement) ≤ 10 ^ 30) all.payees
   pub rest : unsigned_abs (total_of_rests all.rests) ≤ 10 ^ 30
+
+-- how many portions statements have, those that nobody gets among them
+abbrev pub count_of_portions : Statements → ℕ
+count_of_portions all = sum_by (λ statement. length statement.portions) all.payees + length all.rests
+
+-- so many portions, or usage lines, are counted
+abbrev pub IsCount : ℕ → Type 0
+IsCount count = count ≤ 10 ^ 18

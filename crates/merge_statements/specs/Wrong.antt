@@ -2,7 +2,7 @@
 use Rattle.std.specs.Prelude.{ℕ, List, ⊤}
 use Rattle.merge_statements.specs.Places.{At, FourthFits, KindFits, ThirdFits, WhoseFits}
 use Rattle.merge_statements.specs.declared.walk.Wrong.{Wrong}
-use Rattle.merge_statements.specs.declared.walk.Wrong.TheVariants.{Kind, Whose, Third, Fourth, Memory}
+use Rattle.merge_statements.specs.declared.walk.Wrong.TheVariants.{Fourth, Kind, Memory, Third, Whose}
 
 -- those before it can, and it cannot
 abbrev pub IsWrongAt : At → (kind whose third fourth : List ℕ) → Wrong → Type 0

@@ -1,16 +1,21 @@
 //! One text of statements, read through: whether it is one, and if not, what is wrong with it first.
 
-ghost use Rattle.std.specs.Io.KnownBytes.{Consumes, IsAtEnd};
-ghost use Rattle.std.specs.Prelude.{◌≡◌, ◌++◌, ◌∷◌, [], ℕ, IfErr, IfOk, IfSome, false, true};
+ghost use Rattle.std.specs.Io.KnownBytes.{Consumes, IsAtEnd, Keeps, prepend_known};
+ghost use Rattle.std.specs.Prelude.{◌≡◌, ◌<◌, ◌++◌, ◌∷◌, [], List, ℕ, IfErr, IfOk, IfSome, OnOk, false, length, true};
+ghost use Rattle.std.specs.List.{list_any};
+ghost use Rattle.csv_table.specs.Written.{text_of_row};
+ghost use Rattle.merge_statements.specs.Buffered.{is_feed};
+ghost use Rattle.merge_statements.specs.Fields.{fields_of};
+ghost use Rattle.merge_statements.specs.Places.{At};
 ghost use Rattle.merge_statements.specs.Refused.{IsRefusedFor, IsRefusedFrom, IsStatementText};
-ghost use Rattle.merge_statements.specs.Unread.{FollowsAs};
+ghost use Rattle.merge_statements.specs.SoFar.{FollowsAs};
 ghost use Rattle.merge_statements.specs.declared.refusal.Refusal.TheVariants as Refusal;
 ghost use Rattle.merge_statements.specs.declared.refusal.StatementFault.TheVariants as StatementFault;
 ghost use Rattle.merge_statements.specs.declared.walk.Place.TheVariants as Place;
 
 use crate::reader::RowReader;
 use crate::refusal::{Refusal, StatementFault};
-use crate::row::RowRoom;
+use crate::row::{Row, RowRoom};
 use crate::walk::Progress;
 use std::alloc::Global;
 use std::io::Read;
@@ -61,16 +66,67 @@ fn pass_next<R: Read>(
     ensures end { IfOk result (λ found. found ≡ false → IsAtEnd rows.old.left × (progress.new ≡ progress.old)) }
     ensures refused { IfErr result (IsRefusedFrom progress.old number rows.old.left) }
 {
-    match rows.next() {
+    match advance(rows, number) {
         Ok(true) => {}
         Ok(false) => return Ok(false),
-        Err(fault) => return Err(Refusal::of_line(fault, number)),
+        Err(refusal) => return Err(refusal),
     }
-    let Some(row) = rows.row(room) else {
-        return Err(Refusal::Fault(StatementFault::Row(number)));
+    match follow(progress, rows, room, number) {
+        Ok(()) => Ok(true),
+        Err(refusal) => Err(refusal),
+    }
+}
+
+/// Goes on to the next line, which is that of the row of a number, and answers whether there is one.
+pub(crate) fn advance<R: Read>(rows: &mut RowReader<R>, number: u64) -> Result<bool, Refusal>
+    ensures found { IfOk result (λ found. found ≡ true → Consumes rows.old.left rows.new.left (rows.new.line ++ 10 ∷ [])) }
+    ensures end { IfOk result (λ found. found ≡ false → IsAtEnd rows.old.left × IsAtEnd rows.new.left) }
+    ensures still { IfOk result (λ found. found ≡ false → Keeps rows.old.left rows.new.left) }
+    ensures one { list_any is_feed rows.new.line ≡ false }
+    ensures short { length rows.new.line < 32768 }
+    ensures refused { IfErr result (λ refusal. (at : At) → IsRefusedFrom at number rows.old.left refusal) }
+{
+    match rows.next() {
+        Ok(found) => Ok(found),
+        Err(fault) => Err(Refusal::of_line(fault, number)),
+    }
+}
+
+/// Goes on behind the line at hand, if it is a row that can stand there.
+pub(crate) fn follow<R: Read>(
+    progress: &mut Progress,
+    rows: &RowReader<R>,
+    room: &mut RowRoom,
+    number: u64,
+) -> Result<(), Refusal>
+    requires one { list_any is_feed rows.now.line ≡ false }
+    requires short { length rows.now.line < 32768 }
+    ensures follows { OnOk result (FollowsAs progress.old (rows.now.line ++ 10 ∷ []) progress.new) }
+    ensures refused { IfErr result (IsRefusedFrom progress.old number (prepend_known (rows.now.line ++ 10 ∷ []) rows.now.left)) }
+{
+    let row = match row_of(rows, room, number) {
+        Ok(row) => row,
+        Err(refusal) => return Err(refusal),
     };
     match progress.follow(&row) {
-        Ok(()) => Ok(true),
+        Ok(()) => Ok(()),
         Err(wrong) => Err(Refusal::of_field(wrong, number)),
+    }
+}
+
+/// The row that the line at hand holds.
+pub(crate) fn row_of<'a, R: Read>(
+    rows: &'a RowReader<R>,
+    room: &'a mut RowRoom,
+    number: u64,
+) -> Result<Row<'a>, Refusal>
+    requires { list_any is_feed rows.now.line ≡ false }
+    ensures row { IfOk result (λ row. text_of_row (fields_of row) ≡ rows.now.line ++ 10 ∷ []) }
+    ensures refused { IfErr result (λ refusal. (at : At) → IsRefusedFrom at number (prepend_known (rows.now.line ++ 10 ∷ []) rows.now.left) refusal) }
+    ensures none { IfErr result (λ _. (fields : List (List ℕ)) → length fields ≡ 4 → ¬ (text_of_row fields ≡ rows.now.line ++ 10 ∷ [])) }
+{
+    match rows.row(room) {
+        Some(row) => Ok(row),
+        None => Err(Refusal::Fault(StatementFault::Row(number))),
     }
 }

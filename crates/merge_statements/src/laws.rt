@@ -1,10 +1,10 @@
 //! What merging keeps to. A law has an empty body: its contract is the law.
 
-ghost use Rattle.std.specs.Prelude.{◌≡◌, ◌∷◌, ◌↔◌, [], ℕ, All, List, flat_map};
+ghost use Rattle.std.specs.Prelude.{◌≡◌, ◌∷◌, ◌↔◌, [], ℕ, All, List, None, Option, Some, flat_map, slice_index_or};
 ghost use Rattle.merge_statements.specs.Merged.{AreInLimits, AreMerged, AreMergesOf, IsMergeOf};
-ghost use Rattle.merge_statements.specs.Places.{IsCount};
-ghost use Rattle.merge_statements.specs.Refused.{IsFaultIn, IsStatementText, count_of_portions};
-ghost use Rattle.merge_statements.specs.Statements.{AreStatements, Statements, text_of_statements};
+ghost use Rattle.merge_statements.specs.Statements.{AreStatements, IsCount, Statements, count_of_portions, text_of_statements};
+ghost use Rattle.merge_statements.specs.Refused.{IsFaultIn, IsRefusalOf, IsStatementText};
+ghost use Rattle.merge_statements.specs.declared.refusal.Refusal.TheVariants as Refusal;
 ghost use Rattle.merge_statements.specs.declared.refusal.StatementFault.{StatementFault};
 
 /// A text is that of one set of statements, if of any.
@@ -34,10 +34,12 @@ pub fn law_merged_texts_merge_as_their_parts()
         → IsMergeOf merged all ↔ IsMergeOf (flat_map (λ group. group) groups) all }
 {}
 
-/// A text with a fault is no text of statements: so none is refused for one.
+/// A text with a fault is no text of statements: so none is refused for one, neither by itself nor where several are merged.
 pub fn law_a_text_with_a_fault_is_no_statement_text()
     ensures found { (text : List ℕ) (fault : StatementFault) (lines : ℕ) → IsFaultIn text fault → ¬ IsStatementText text lines }
     ensures refused { (text : List ℕ) (fault : StatementFault) (all : Statements) → IsFaultIn text fault → AreStatements all → IsCount (count_of_portions all) → ¬ (text ≡ text_of_statements all) }
+    ensures merged { (texts : List (Option (List ℕ))) (place : ℕ) (fault : StatementFault) (text : List ℕ) (lines : ℕ) → IsRefusalOf texts place (Refusal.Fault fault)
+        → slice_index_or texts place None ≡ Some text → ¬ IsStatementText text lines }
 {}
 
 /// A text whose rows can stand one after another, from the first to the last, is that of some statements; and the text of any statements is such a text, where their

@@ -1,11 +1,12 @@
 //! Texts of statements merged into one.
 
-ghost use Rattle.std.specs.Prelude.{◌≡◌, ◌+◌, ◌+ℤ◌, [], ℕ, All, List, Option, codes, IfOk, OnOk, Some, false, map, true};
+ghost use Rattle.std.specs.Prelude.{◌≡◌, ◌+◌, ◌+ℤ◌, [], ℕ, All, List, None, Option, codes, IfErr, IfOk, OnOk, Some, false, map, true};
 ghost use Rattle.std.specs.Io.KnownBytes.{Appends, append_known};
 ghost use Rattle.csv_table.specs.Written.{text_of_row};
-ghost use Rattle.merge_statements.specs.Together.{AreMergedSoFar, AreOpen, EndsEach, HasLeast, IsBetween, WritesAll, WritesEnding, WritesMerge, WritesOne};
-ghost use Rattle.merge_statements.specs.Statements.{total_row};
-ghost use Rattle.merge_statements.specs.Places.{IsCount};
+ghost use Rattle.merge_statements.specs.SoFar.{AreMergedSoFar, AreOpen, CanEnd, EndsEach, HasLeast, HasNext, RefusesOne, RefusesRest, WritesAll, WritesEnding, WritesOne};
+ghost use Rattle.merge_statements.specs.Refused.{IsNoFault, IsRefusalOf};
+ghost use Rattle.merge_statements.specs.Merged.{WritesMerge};
+ghost use Rattle.merge_statements.specs.Statements.{IsCount, total_row};
 
 use crate::amount::MOST_COUNT;
 use crate::page::Page;
@@ -23,13 +24,14 @@ pub struct TextRefusal {
 }
 
 /// Merges texts of statements, in this order, and adds the merged text to an output. Each text is read once, through a small buffer.
-/// Where one is refused, the output may have a beginning already: `check` reads a text through before.
+/// A text is refused for its first fault, so none that `check` accepts. Where one is refused, the output may have a beginning already.
 pub fn merge<R: Read + Drop, W: Write>(
     alloc: Global,
     from: Vec<R>,
     out: &mut W,
 ) -> Result<(), TextRefusal>
-    ensures { OnOk result (WritesMerge (map R.remaining from.items) (W.contents out.old) (W.contents out.new)) }
+    ensures merged { OnOk result (WritesMerge (map R.remaining from.items) (W.contents out.old) (W.contents out.new)) }
+    ensures refused { IfErr result (λ refused. IsRefusalOf (map R.remaining from.items) refused.place refused.refusal) }
 {
     let mut parts = open_all(alloc, from)?;
     let mut page = Page::new(alloc);
@@ -48,7 +50,8 @@ fn merge_parts<R: Read + Drop, W: Write>(
     out: &mut W,
 ) -> Result<(), TextRefusal>
     requires { (starts : List (Option (List ℕ))) × AreOpen starts parts.old }
-    ensures { OnOk result ((starts : List (Option (List ℕ))) → AreOpen starts parts.old → WritesMerge starts (append_known (W.contents out.old) page.old) (append_known (W.contents out.new) page.new)) }
+    ensures merged { OnOk result ((starts : List (Option (List ℕ))) → AreOpen starts parts.old → WritesMerge starts (append_known (W.contents out.old) page.old) (append_known (W.contents out.new) page.new)) }
+    ensures refused { IfErr result (λ refused. (starts : List (Option (List ℕ))) → AreOpen starts parts.old → IsRefusalOf starts refused.place refused.refusal) }
 {
     let paid = merge_payees(alloc, parts, page, out)?;
     let (left, lines) = end_all(parts, page, out)?;
@@ -60,7 +63,8 @@ fn merge_parts<R: Read + Drop, W: Write>(
 
 /// The texts, before their first rows.
 fn open_all<R: Read + Drop>(alloc: Global, from: Vec<R>) -> Result<Vec<Part<R>>, TextRefusal>
-    ensures { IfOk result (λ parts. AreOpen (map R.remaining from.items) parts.items) }
+    ensures opened { IfOk result (λ parts. AreOpen (map R.remaining from.items) parts.items) }
+    ensures refused { IfErr result (λ refused. IsRefusalOf (map R.remaining from.items) refused.place refused.refusal) }
 {
     let mut parts = Vec::new(alloc);
     for reader in from {
@@ -103,7 +107,8 @@ fn pass_if_next<R: Read + Drop, W: Write>(
     page: &mut Page,
     out: &mut W,
 ) -> Result<(u64, i128), Refusal>
-    ensures { IfOk result (λ sum. WritesOne payee.now part.old part.new (append_known (W.contents out.old) page.old) (append_known (W.contents out.new) page.new) sum.0 sum.1) }
+    ensures written { IfOk result (λ sum. WritesOne payee.now part.old part.new (append_known (W.contents out.old) page.old) (append_known (W.contents out.new) page.new) sum.0 sum.1) }
+    ensures refused { IfErr result (RefusesRest part.old) }
 {
     if !is_next(part, payee) {
         return Ok((0, 0));
@@ -115,6 +120,7 @@ fn pass_if_next<R: Read + Drop, W: Write>(
 /// Whether a payee comes next in a text.
 fn is_next<R: Read + Drop>(part: &Part<R>, payee: &[u8]) -> bool
     ensures is { result ≡ true → part.now.payee ≡ Some payee.now }
+    ensures next { result ≡ true → HasNext part.now }
     ensures is_not { result ≡ false → ¬ (part.now.payee ≡ Some payee.now) }
 {
     match part.payee() {
@@ -130,7 +136,8 @@ fn pass_payee<R: Read + Drop, W: Write>(
     page: &mut Page,
     out: &mut W,
 ) -> Result<(u64, i128), TextRefusal>
-    ensures { IfOk result (λ sum. WritesAll payee.now parts.old parts.new (append_known (W.contents out.old) page.old) (append_known (W.contents out.new) page.new) sum.0 sum.1) }
+    ensures written { IfOk result (λ sum. WritesAll payee.now parts.old parts.new (append_known (W.contents out.old) page.old) (append_known (W.contents out.new) page.new) sum.0 sum.1) }
+    ensures refused { IfErr result (λ refused. RefusesOne parts.old refused.place refused.refusal) }
 {
     let mut all = (0, 0);
     for place in 0..parts.len() {
@@ -151,7 +158,9 @@ fn merge_payees<R: Read + Drop, W: Write>(
     page: &mut Page,
     out: &mut W,
 ) -> Result<(u64, i128), TextRefusal>
-    ensures { IfOk result (λ sum. (starts : List (Option (List ℕ))) → AreOpen starts parts.old → AreMergedSoFar starts parts.new (append_known (W.contents out.old) page.old) (append_known (W.contents out.new) page.new) sum.0 sum.1) }
+    ensures merged { IfOk result (λ sum. (starts : List (Option (List ℕ))) → AreOpen starts parts.old → AreMergedSoFar starts parts.new (append_known (W.contents out.old) page.old) (append_known (W.contents out.new) page.new) sum.0 sum.1) }
+    ensures none { IfOk result (λ _. All (λ part. part.payee ≡ None) parts.new) }
+    ensures refused { IfErr result (λ refused. (starts : List (Option (List ℕ))) → AreOpen starts parts.old → IsRefusalOf starts refused.place refused.refusal) }
 {
     let mut payee = Vec::new(alloc);
     let mut all = (0, 0);
@@ -169,7 +178,8 @@ fn merge_payees<R: Read + Drop, W: Write>(
 
 /// The least of the payees that come next, as above.
 fn has_payee<R: Read + Drop>(parts: &[Part<R>], least: &mut Vec<u8>) -> Result<bool, TextRefusal>
-    ensures { IfOk result (HasLeast parts.now least.new.items) }
+    ensures least { IfOk result (HasLeast parts.now least.new.items) }
+    ensures refused { IfErr result (λ refused. IsNoFault refused.refusal) }
 {
     match least_payee(parts, least) {
         Ok(found) => Ok(found),
@@ -185,7 +195,8 @@ fn push_total<W: Write>(
     whose: &[u8],
     sum: (u64, i128),
 ) -> Result<(), TextRefusal>
-    ensures { OnOk result (Appends (append_known (W.contents out.old) page.old) (append_known (W.contents out.new) page.new) (text_of_row (total_row kind.now whose.now sum.0 sum.1))) }
+    ensures pushed { OnOk result (Appends (append_known (W.contents out.old) page.old) (append_known (W.contents out.new) page.new) (text_of_row (total_row kind.now whose.now sum.0 sum.1))) }
+    ensures refused { IfErr result (λ refused. IsNoFault refused.refusal) }
 {
     match page.push_total(out, kind, whose, sum.0, sum.1) {
         Ok(()) => Ok(()),
@@ -200,7 +211,8 @@ fn push_run<W: Write>(
     lines: u64,
     portions: (u64, i128),
 ) -> Result<(), TextRefusal>
-    ensures { OnOk result (Appends (append_known (W.contents out.old) page.old) (append_known (W.contents out.new) page.new) (text_of_row (total_row (codes "R") [] lines portions.1))) }
+    ensures pushed { OnOk result (Appends (append_known (W.contents out.old) page.old) (append_known (W.contents out.new) page.new) (text_of_row (total_row (codes "R") [] lines portions.1))) }
+    ensures refused { IfErr result (λ refused. IsNoFault refused.refusal) }
 {
     push_total(page, out, "R", b"", (lines, portions.1))
 }
@@ -212,8 +224,9 @@ fn end_text<R: Read + Drop, W: Write>(
     page: &mut Page,
     out: &mut W,
 ) -> Result<((u64, i128), u64), Refusal>
-    requires { IsBetween part.old }
-    ensures { IfOk result (λ end. WritesEnding part.old part.new (append_known (W.contents out.old) page.old) (append_known (W.contents out.new) page.new) end.0.0 end.0.1 end.1) }
+    requires { CanEnd part.old }
+    ensures written { IfOk result (λ end. WritesEnding part.old part.new (append_known (W.contents out.old) page.old) (append_known (W.contents out.new) page.new) end.0.0 end.0.1 end.1) }
+    ensures refused { IfErr result (RefusesRest part.old) }
 {
     let sum = part.pass_rests(page, out)?;
     let lines = part.finish()?;
@@ -226,8 +239,9 @@ fn end_all<R: Read + Drop, W: Write>(
     page: &mut Page,
     out: &mut W,
 ) -> Result<((u64, i128), u64), TextRefusal>
-    requires { All IsBetween parts.old }
-    ensures { IfOk result (λ end. EndsEach parts.old parts.new (append_known (W.contents out.old) page.old) (append_known (W.contents out.new) page.new) end.0.0 end.0.1 end.1) }
+    requires { All CanEnd parts.old }
+    ensures written { IfOk result (λ end. EndsEach parts.old parts.new (append_known (W.contents out.old) page.old) (append_known (W.contents out.new) page.new) end.0.0 end.0.1 end.1) }
+    ensures refused { IfErr result (λ refused. RefusesOne parts.old refused.place refused.refusal) }
 {
     let mut all = ((0, 0), 0);
     for place in 0..parts.len() {
@@ -244,6 +258,7 @@ fn end_all<R: Read + Drop, W: Write>(
 fn more_lines(lines: u64, more: u64, place: usize) -> Result<u64, TextRefusal>
     ensures sum { IfOk result (λ all. all ≡ lines + more) }
     ensures few { IfOk result IsCount }
+    ensures refused { IfErr result (λ refused. IsNoFault refused.refusal) }
 {
     match lines.checked_add(more) {
         Some(all) if all <= MOST_COUNT => Ok(all),
@@ -252,7 +267,10 @@ fn more_lines(lines: u64, more: u64, place: usize) -> Result<u64, TextRefusal>
 }
 
 /// The refusal of the text with a number.
-fn refused(place: usize, refusal: Refusal) -> TextRefusal {
+fn refused(place: usize, refusal: Refusal) -> TextRefusal
+    ensures place { result.place ≡ place }
+    ensures refusal { result.refusal ≡ refusal }
+{
     TextRefusal {
         place: place as u64,
         refusal,
@@ -264,6 +282,7 @@ fn both(own: (u64, i128), more: (u64, i128), place: usize) -> Result<(u64, i128)
     ensures count { IfOk result (λ sum. sum.0 ≡ own.0 + more.0) }
     ensures sum { IfOk result (λ sum. sum.1 ≡ own.1 +ℤ more.1) }
     ensures few { IfOk result (λ sum. IsCount sum.0) }
+    ensures refused { IfErr result (λ refused. IsNoFault refused.refusal) }
 {
     match (own.0.checked_add(more.0), own.1.checked_add(more.1)) {
         (Some(count), Some(sum)) if count <= MOST_COUNT => Ok((count, sum)),

@@ -2,8 +2,9 @@
 
 ghost use Rattle.std.specs.Fmt.{signed_decimal};
 ghost use Rattle.std.specs.Io.KnownBytes.{Appends, append_known};
-ghost use Rattle.std.specs.Prelude.{◌≡◌, ◌∷◌, [], IfOk, OnOk, decimal};
+ghost use Rattle.std.specs.Prelude.{◌≡◌, ◌∷◌, [], IfErr, IfOk, OnOk, decimal};
 ghost use Rattle.csv_table.specs.Written.{text_of_row};
+ghost use Rattle.merge_statements.specs.Refused.{IsNoFault};
 ghost use Rattle.merge_statements.specs.Statements.{total_row};
 
 use crate::refusal::Refusal;
@@ -44,7 +45,8 @@ impl Page {
 
     /// Adds a text.
     pub(crate) fn push<W: Write>(&mut self, out: &mut W, text: &[u8]) -> Result<(), Refusal>
-        ensures { OnOk result (Appends (append_known (W.contents out.old) self.old) (append_known (W.contents out.new) self.new) text.now) }
+        ensures pushed { OnOk result (Appends (append_known (W.contents out.old) self.old) (append_known (W.contents out.new) self.new) text.now) }
+        ensures refused { IfErr result IsNoFault }
     {
         if self.text.len() >= PAGE_BYTES {
             self.pass_on(out)?;
@@ -57,6 +59,7 @@ impl Page {
     pub(crate) fn pass_on<W: Write>(&mut self, out: &mut W) -> Result<(), Refusal>
         ensures empty { OnOk result (self.new ≡ []) }
         ensures passed { OnOk result (Appends (append_known (W.contents out.old) self.old) (W.contents out.new) []) }
+        ensures refused { IfErr result IsNoFault }
     {
         match out.write_all(self.text.as_slice()) {
             Ok(()) => {
@@ -76,7 +79,8 @@ impl Page {
         count: u64,
         total: i128,
     ) -> Result<(), Refusal>
-        ensures { OnOk result (Appends (append_known (W.contents out.old) self.old) (append_known (W.contents out.new) self.new) (text_of_row (total_row kind.now whose.now count total))) }
+        ensures pushed { OnOk result (Appends (append_known (W.contents out.old) self.old) (append_known (W.contents out.new) self.new) (text_of_row (total_row kind.now whose.now count total))) }
+        ensures refused { IfErr result IsNoFault }
     {
         let text = total_text(self.alloc, kind, whose, count, total)?;
         self.push(out, text.as_slice())

@@ -1,19 +1,18 @@
 //! One of the texts that are merged, read statement by statement.
 
-ghost use Rattle.std.specs.Io.KnownBytes.{Appends, Consumes, IsAtEnd, Keeps, append_known};
-ghost use Rattle.std.specs.Prelude.{◌≡◌, ◌<◌, ◌++◌, ◌∷◌, [], IfOk, IfSome, OnOk, slice_index, true, false};
+ghost use Rattle.std.specs.Io.KnownBytes.{Appends, Keeps, append_known};
+ghost use Rattle.std.specs.Prelude.{◌≡◌, ◌<◌, ◌++◌, ◌∷◌, [], List, ℕ, IfErr, IfOk, IfSome, OnOk, slice_index, true, false};
 ghost use Rattle.std.specs.Option.{option_map};
-ghost use Rattle.csv_table.specs.Written.{text_of_row};
-ghost use Rattle.merge_statements.specs.Fields.{fields_of};
-ghost use Rattle.merge_statements.specs.Passed.{EndsText, IsNext, IsRestsSumAt, IsSumAt, IsWithin, IsWithinOne, PassesPortion, PassesRest, PassesSum, WritesRests, WritesStatement};
-ghost use Rattle.merge_statements.specs.Places.{at_first};
-ghost use Rattle.merge_statements.specs.Unread.{FollowsAs, Steps};
+ghost use Rattle.merge_statements.specs.SoFar.{CanEnd, EndsText, HasNext, IsAmongRests, IsLooked, IsNext, IsOfKind, IsRead, IsRestsSumAt, IsSumAt, IsWithin, IsWithinOne, NeedsRow, PassesSum, ReadsOn, RefusesRest, Steps, WritesRests, WritesStatement};
+ghost use Rattle.merge_statements.specs.Places.{KindFits, at_first};
+ghost use Rattle.merge_statements.specs.Refused.{IsNoFault, IsRefusedFor};
 ghost use Rattle.merge_statements.specs.declared.walk.Place.TheVariants as Place;
 
+use crate::checking::{advance, follow, row_of};
 use crate::page::Page;
 use crate::reader::RowReader;
 use crate::refusal::{Refusal, StatementFault};
-use crate::row::{Row, RowRoom};
+use crate::row::RowRoom;
 use crate::walk::{Progress, replace};
 use std::alloc::Global;
 use std::io::{Read, Write};
@@ -36,27 +35,26 @@ pub(crate) struct Part<R: Read> {
 }
 
 impl<R: Read> Model for Part<R> {
-    ghost use Rattle.std.specs.Prelude.{◌≡◌, ◌++◌, ◌∷◌, [], None, Some, false, true, if◌then◌else◌};
-    ghost use Rattle.merge_statements.specs.Passed.{IsNext};
+    ghost use Rattle.std.specs.Prelude.{◌≡◌, ◌<◌, ◌++◌, ◌∷◌, [], None, Some, false, length, true, if◌then◌else◌};
     ghost use Rattle.std.specs.Io.KnownBytes.{IsAtEnd, prepend_known};
-    ghost use Rattle.std.specs.Option.{option_map};
-    ghost use Rattle.csv_table.specs.Written.{text_of_row};
-    ghost use Rattle.merge_statements.specs.Fields.{fields_of};
-    ghost use Rattle.merge_statements.specs.Passed.{EndsText, IsNext, IsRestsSumAt, IsSumAt, IsWithin, IsWithinOne, PassesPortion, PassesRest, PassesSum, WritesRests, WritesStatement};
-    ghost use Rattle.merge_statements.specs.Places.{at_first};
-    ghost use Rattle.merge_statements.specs.Unread.{Unread};
+    ghost use Rattle.std.specs.List.{list_any};
+    ghost use Rattle.merge_statements.specs.Buffered.{is_feed};
+    ghost use Rattle.merge_statements.specs.SoFar.{IsNext, Unread};
 
     ghost Value = { Unread };
 
     ghost view = { λ b. record {
       at = b.progress;
       line = if b.has_row then b.rows.line ++ 10 ∷ [] else [];
+      number = b.number;
       left = prepend_known (if b.has_row then b.rows.line ++ 10 ∷ [] else []) b.rows.left;
       payee = if b.has_payee then Some b.payee.items else None;
     } };
 
     ghost invariant = { λ b. (b.has_payee ≡ true → IsNext b.progress (if b.has_row then b.rows.line ++ 10 ∷ [] else []) b.payee.items)
-        × (b.has_row ≡ false → IsAtEnd b.rows.left) };
+        × (b.has_row ≡ false → IsAtEnd b.rows.left)
+        × (list_any is_feed b.rows.line ≡ false)
+        × (length b.rows.line < 32768) };
 }
 
 impl<R: Read + Drop> Part<R> {
@@ -64,16 +62,18 @@ impl<R: Read + Drop> Part<R> {
     pub(crate) fn open(alloc: Global, from: R) -> Result<Part<R>, Refusal>
         ensures at { IfOk result (λ part. part.at ≡ at_first) }
         ensures left { IfOk result (λ part. Keeps (R.remaining from) part.left) }
+        ensures read { IfOk result (IsRead (R.remaining from)) }
+        ensures looked { IfOk result IsLooked }
+        ensures refused { IfErr result (λ refusal. IfSome (R.remaining from) (λ text. IsRefusedFor text refusal)) }
     {
         let mut rows = RowReader::new(alloc, from)?;
         let room = RowRoom::new(alloc)?;
-        let mut number = 0;
-        let has_row = advance(&mut rows, &mut number)?;
+        let has_row = advance(&mut rows, 1)?;
         let mut part = Part {
             rows,
             room,
             progress: Progress::new(alloc),
-            number,
+            number: 1,
             has_row,
             payee: Vec::new(alloc),
             has_payee: false,
@@ -96,7 +96,10 @@ impl<R: Read + Drop> Part<R> {
 
     /// Looks which payee comes next, behind a statement or before the first.
     fn look(&mut self) -> Result<(), Refusal>
-        ensures { OnOk result ((self.new.at ≡ self.old.at) × (self.new.line ≡ self.old.line) × (self.new.left ≡ self.old.left)) }
+        requires { self.old.at.place ≡ Place.Between }
+        ensures same { OnOk result ((self.new.at ≡ self.old.at) × (self.new.line ≡ self.old.line) × (self.new.number ≡ self.old.number) × (self.new.left ≡ self.old.left)) }
+        ensures looked { OnOk result (IsLooked self.new) }
+        ensures refused { IfErr result (RefusesRest self.old) }
     {
         self.has_payee = false;
         if !self.has_row {
@@ -106,7 +109,7 @@ impl<R: Read + Drop> Part<R> {
         if row.kind != b"L".as_slice() {
             return Ok(());
         }
-        if !self.progress.can_begin(row.whose) {
+        if !self.progress.is_payee_here(row.whose) {
             return Err(Refusal::Fault(StatementFault::Whose(self.number)));
         }
         replace(&mut self.payee, row.whose)?;
@@ -116,21 +119,31 @@ impl<R: Read + Drop> Part<R> {
 
     /// Passes over the row at hand, if it can stand there.
     fn step(&mut self) -> Result<(), Refusal>
-        ensures { OnOk result (Steps self.old self.new) }
+        requires { NeedsRow self.old }
+        ensures steps { OnOk result (Steps self.old self.new) }
+        ensures reads { OnOk result (ReadsOn self.old self.new) }
+        ensures refused { IfErr result (RefusesRest self.old) }
     {
         if !self.has_row {
             return Err(Refusal::Fault(StatementFault::End(self.number)));
         }
+        let Some(number) = self.number.checked_add(1) else {
+            return Err(Refusal::Many);
+        };
         self.has_payee = false;
         follow(&mut self.progress, &self.rows, &mut self.room, self.number)?;
-        self.has_row = advance(&mut self.rows, &mut self.number)?;
+        self.has_row = advance(&mut self.rows, number)?;
+        self.number = number;
         Ok(())
     }
 
     /// The same, and adds it to the output as it stands.
     fn pass_row<W: Write>(&mut self, page: &mut Page, out: &mut W) -> Result<(), Refusal>
+        requires { NeedsRow self.old }
         ensures steps { OnOk result (Steps self.old self.new) }
+        ensures reads { OnOk result (ReadsOn self.old self.new) }
         ensures passed { OnOk result (Appends (append_known (W.contents out.old) page.old) (append_known (W.contents out.new) page.new) self.old.line) }
+        ensures refused { IfErr result (RefusesRest self.old) }
     {
         if self.has_row {
             push_line(page, out, self.rows.line())?;
@@ -152,31 +165,14 @@ impl<R: Read + Drop> Part<R> {
         }
     }
 
-    /// Passes over a payee's portion, and adds it to the output.
-    fn pass_portion<W: Write>(&mut self, page: &mut Page, out: &mut W) -> Result<(), Refusal>
-        requires { slice_index self.old.line 0 ≡ 76 }
-        ensures portion { OnOk result (PassesPortion self.old self.new) }
-        ensures passed { OnOk result (Appends (append_known (W.contents out.old) page.old) (append_known (W.contents out.new) page.new) self.old.line) }
-    {
-        self.pass_row(page, out)?;
-        Ok(())
-    }
-
-    /// Passes over the first portion of the payee that comes next, and adds it to the output.
-    fn pass_first<W: Write>(&mut self, page: &mut Page, out: &mut W) -> Result<(), Refusal>
-        ensures { OnOk result (IsWithin self.old self.new (append_known (W.contents out.old) page.old) (append_known (W.contents out.new) page.new)) }
-    {
-        let Some(_) = self.payee() else {
-            return Err(Refusal::Fault(StatementFault::Kind(self.number)));
-        };
-        self.pass_portion(page, out)?;
-        Ok(())
-    }
-
     /// Passes over the sum of a payee's portions, behind which the next payee comes. Answers how many portions there were and what they come to.
     fn end_statement(&mut self) -> Result<(u64, i128), Refusal>
-        requires { ¬ (slice_index self.old.line 0 ≡ 76) }
-        ensures { IfOk result (λ sum. IsWithinOne self.old.at → PassesSum IsSumAt self.old self.new sum.0 sum.1) }
+        requires no_portion { ¬ (slice_index self.old.line 0 ≡ 76) }
+        requires within { IsWithinOne self.old.at }
+        ensures sum { IfOk result (λ sum. PassesSum IsSumAt self.old self.new sum.0 sum.1) }
+        ensures reads { IfOk result (λ _. ReadsOn self.old self.new) }
+        ensures looked { IfOk result (λ _. IsLooked self.new) }
+        ensures refused { IfErr result (RefusesRest self.old) }
     {
         let sum = self.progress.so_far();
         self.step()?;
@@ -191,32 +187,30 @@ impl<R: Read + Drop> Part<R> {
         page: &mut Page,
         out: &mut W,
     ) -> Result<(u64, i128), Refusal>
-        ensures { IfOk result (λ sum. WritesStatement self.old self.new (append_known (W.contents out.old) page.old) (append_known (W.contents out.new) page.new) sum.0 sum.1) }
+        requires { HasNext self.old }
+        ensures written { IfOk result (λ sum. WritesStatement self.old self.new (append_known (W.contents out.old) page.old) (append_known (W.contents out.new) page.new) sum.0 sum.1) }
+        ensures reads { IfOk result (λ _. ReadsOn self.old self.new) }
+        ensures looked { IfOk result (λ _. IsLooked self.new) }
+        ensures refused { IfErr result (RefusesRest self.old) }
     {
-        self.pass_first(page, out)?;
+        self.pass_row(page, out)?;
         for _ in 0..u64::MAX {
             if !self.begins_with(b'L') {
                 let sum = self.end_statement()?;
                 return Ok(sum);
             }
-            self.pass_portion(page, out)?;
+            self.pass_row(page, out)?;
         }
-        Err(Refusal::Fault(StatementFault::Fourth(self.number)))
-    }
-
-    /// Passes over a portion that nobody gets, and adds it to the output.
-    fn pass_rest<W: Write>(&mut self, page: &mut Page, out: &mut W) -> Result<(), Refusal>
-        requires { slice_index self.old.line 0 ≡ 77 }
-        ensures rest { OnOk result (PassesRest self.old self.new) }
-        ensures passed { OnOk result (Appends (append_known (W.contents out.old) page.old) (append_known (W.contents out.new) page.new) self.old.line) }
-    {
-        self.pass_row(page, out)?;
-        Ok(())
+        Err(Refusal::Many)
     }
 
     /// Passes over what nobody gets in all. Answers how many portions there were and what they come to.
     fn end_rests(&mut self) -> Result<(u64, i128), Refusal>
-        ensures { IfOk result (λ sum. PassesSum IsRestsSumAt self.old self.new sum.0 sum.1) }
+        requires among { IsAmongRests self.old }
+        requires no_rest { ¬ (slice_index self.old.line 0 ≡ 77) }
+        ensures sum { IfOk result (λ sum. PassesSum IsRestsSumAt self.old self.new sum.0 sum.1) }
+        ensures reads { IfOk result (λ _. ReadsOn self.old self.new) }
+        ensures refused { IfErr result (RefusesRest self.old) }
     {
         if !self.begins_with(b'T') {
             return Err(self.not_here());
@@ -227,7 +221,11 @@ impl<R: Read + Drop> Part<R> {
     }
 
     /// Why the row at hand cannot stand here: there is none, it is no row, or it is of another kind.
-    fn not_here(&mut self) -> Refusal {
+    fn not_here(&mut self) -> Refusal
+        requires row { NeedsRow self.old }
+        requires other { (kind : List ℕ) → KindFits self.old.at.place kind → ¬ IsOfKind self.old kind }
+        ensures { RefusesRest self.old result }
+    {
         if !self.has_row {
             return Refusal::Fault(StatementFault::End(self.number));
         }
@@ -244,23 +242,26 @@ impl<R: Read + Drop> Part<R> {
         page: &mut Page,
         out: &mut W,
     ) -> Result<(u64, i128), Refusal>
-        requires { self.old.at.place ≡ Place.Between }
-        ensures { IfOk result (λ sum. WritesRests self.old self.new (append_known (W.contents out.old) page.old) (append_known (W.contents out.new) page.new) sum.0 sum.1) }
+        requires { CanEnd self.old }
+        ensures written { IfOk result (λ sum. WritesRests self.old self.new (append_known (W.contents out.old) page.old) (append_known (W.contents out.new) page.new) sum.0 sum.1) }
+        ensures reads { IfOk result (λ _. ReadsOn self.old self.new) }
+        ensures refused { IfErr result (RefusesRest self.old) }
     {
         for _ in 0..u64::MAX {
             if !self.begins_with(b'M') {
                 let sum = self.end_rests()?;
                 return Ok(sum);
             }
-            self.pass_rest(page, out)?;
+            self.pass_row(page, out)?;
         }
-        Err(Refusal::Fault(StatementFault::Fourth(self.number)))
+        Err(Refusal::Many)
     }
 
     /// Passes over the usage lines, behind which the text ends. Answers how many there were.
     pub(crate) fn finish(&mut self) -> Result<u64, Refusal>
         requires { self.old.at.place ≡ Place.Summed }
-        ensures { IfOk result (λ lines. EndsText self.old self.new lines) }
+        ensures ended { IfOk result (λ lines. EndsText self.old self.new lines) }
+        ensures refused { IfErr result (RefusesRest self.old) }
     {
         self.step()?;
         if self.has_row {
@@ -272,51 +273,9 @@ impl<R: Read + Drop> Part<R> {
 
 /// Adds a line with its line feed.
 fn push_line<W: Write>(page: &mut Page, out: &mut W, line: &[u8]) -> Result<(), Refusal>
-    ensures { OnOk result (Appends (append_known (W.contents out.old) page.old) (append_known (W.contents out.new) page.new) (line.now ++ 10 ∷ [])) }
+    ensures passed { OnOk result (Appends (append_known (W.contents out.old) page.old) (append_known (W.contents out.new) page.new) (line.now ++ 10 ∷ [])) }
+    ensures refused { IfErr result IsNoFault }
 {
     page.push(out, line)?;
     page.push(out, b"\n")
-}
-
-/// Goes on behind the line at hand, if it is a row that can stand there.
-fn follow<R: Read>(
-    progress: &mut Progress,
-    rows: &RowReader<R>,
-    room: &mut RowRoom,
-    number: u64,
-) -> Result<(), Refusal>
-    ensures { OnOk result (FollowsAs progress.old (rows.now.line ++ 10 ∷ []) progress.new) }
-{
-    let row = row_of(rows, room, number)?;
-    match progress.follow(&row) {
-        Ok(()) => Ok(()),
-        Err(wrong) => Err(Refusal::of_field(wrong, number)),
-    }
-}
-
-/// The row that the line at hand holds.
-fn row_of<'a, R: Read>(
-    rows: &'a RowReader<R>,
-    room: &'a mut RowRoom,
-    number: u64,
-) -> Result<Row<'a>, Refusal>
-    ensures { IfOk result (λ row. text_of_row (fields_of row) ≡ rows.now.line ++ 10 ∷ []) }
-{
-    match rows.row(room) {
-        Some(row) => Ok(row),
-        None => Err(Refusal::Fault(StatementFault::Row(number))),
-    }
-}
-
-/// Goes on to the next line, and answers whether there is one.
-fn advance<R: Read>(rows: &mut RowReader<R>, number: &mut u64) -> Result<bool, Refusal>
-    ensures found { IfOk result (λ found. found ≡ true → Consumes rows.old.left rows.new.left (rows.new.line ++ 10 ∷ [])) }
-    ensures end { IfOk result (λ found. found ≡ false → Keeps rows.old.left rows.new.left) }
-    ensures nothing { IfOk result (λ found. found ≡ false → IsAtEnd rows.new.left) }
-{
-    *number = number.saturating_add(1);
-    match rows.next() {
-        Ok(found) => Ok(found),
-        Err(fault) => Err(Refusal::of_line(fault, *number)),
-    }
 }

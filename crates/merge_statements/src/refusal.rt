@@ -108,6 +108,11 @@ impl Refusal {
 }
 
 impl From<AllocError> for Refusal {
+    ghost use Rattle.std.specs.Prelude.{◌≡◌};
+    ghost use Rattle.merge_statements.specs.declared.refusal.Refusal.TheVariants.{Memory};
+
+    ghost from_gives = { λ _ refusal. refusal ≡ Memory };
+
     fn from(_: AllocError) -> Refusal {
         Refusal::Memory
     }

@@ -5,8 +5,8 @@ ghost use Rattle.std.specs.Prelude.{◌≡◌, ◌⊎◌, ◌+◌, ◌+ℤ◌, �
 ghost use Rattle.std.specs.Cmp.Lexicographic.{slice_cmp};
 ghost use Rattle.std.specs.Ordering.{nat_cmp};
 ghost use Rattle.std.specs.declared.cmp.Ordering.TheVariants.{Less};
-ghost use Rattle.merge_statements.specs.Places.{Fits, IsCount, IsPayeeAt, KindFits, Leads, at_first, count_at, sum_at};
-ghost use Rattle.merge_statements.specs.Statements.{IsAmount, IsName, IsReason};
+ghost use Rattle.merge_statements.specs.Places.{Fits, IsPayeeAt, KindFits, Leads, at_first, count_at, sum_at};
+ghost use Rattle.merge_statements.specs.Statements.{IsAmount, IsCount, IsName, IsReason};
 ghost use Rattle.merge_statements.specs.declared.walk.Place.TheVariants as Place;
 ghost use Rattle.merge_statements.specs.declared.walk.Wrong.TheVariants as Wrong;
 ghost use Rattle.merge_statements.specs.Wrong.{IsWrongAt};
@@ -257,18 +257,8 @@ impl Progress {
         }
     }
 
-    /// Whether the statement of this payee can begin here.
-    pub(crate) fn can_begin(&self, payee: &[u8]) -> bool
-        ensures { result ≡ true → (self.now.place ≡ Place.Between) × IsName payee.now × (slice_cmp nat_cmp self.now.payee payee.now ≡ Less) }
-    {
-        match self.place {
-            Place::Between => is_name(payee) && is_before(self.payee.as_slice(), payee),
-            Place::Within(_, _) | Place::Resting(_, _) | Place::Summed | Place::Ended(_) => false,
-        }
-    }
-
     /// Whether a portion of this payee can stand here.
-    fn is_payee_here(&self, whose: &[u8]) -> bool
+    pub(crate) fn is_payee_here(&self, whose: &[u8]) -> bool
         ensures { IsTrue result ↔ IsPayeeAt self.now.place self.now.payee whose.now }
     {
         match self.place {

@@ -1,16 +1,16 @@
 -- Texts of statements over files, path by path.
-use Rattle.std.proofs.Common.{◌≡◌, ◌∙◌, ◌+◌, ◌<◌, ◌≤◌, ◌^◌, ◌++◌, ◌∷◌, ℕ, List, [], Option, Result, Ok, Err, ap, arith, length, map, refl, slice_index_or, subst, suc, sym, take, zero}
+use Rattle.std.proofs.Common.{◌≡◌, ◌∙◌, ◌+◌, ◌<◌, ◌≤◌, ◌^◌, ◌++◌, ◌∷◌, ℕ, List, [], Option, ap, arith, length, map, refl, slice_index_or, subst, suc, sym, take, zero}
 use Rattle.std.proofs.lemmas.List.{length-map, map-append, map_more, take-map}
 use Rattle.std.specs.Option.{IfSome}
 use Rattle.std.specs.List.{Contains}
 use Rattle.std.specs.Io.KnownBytes.{Appends}
-use Rattle.std.specs.Prelude.{IfErr, String, string_bytes}
+use Rattle.std.specs.Prelude.{String, string_bytes}
 use Rattle.std.specs.declared.alloc.Global.{Global}
 use Rattle.std.specs.declared.io.ErrorKind.{ErrorKind}
 use Rattle.std.specs.declared.io.ErrorKind.TheVariants.{OutOfMemory}
 use Rattle.merge_statements.specs.Refused.{IsFaultIn, IsRefusedFor}
-use Rattle.merge_statements.specs.Together.{AreTexts, WritesMerge}
-use Rattle.merge_statements.specs.Together.AreTexts.{none as no_texts, more as more_texts}
+use Rattle.merge_statements.specs.Merged.{AreTexts, WritesMerge}
+use Rattle.merge_statements.specs.Merged.AreTexts.{none as no_texts, more as more_texts}
 use Rattle.merge_statements.specs.declared.refusal.Refusal.{Refusal}
 use Rattle.royalty_program.specs.MergeFiles.{AreOpened, AreSoundTexts, AreTextsAt, Gives, HoldsOf, IsMergeOver, IsSoundText}
 use Rattle.royalty_program.specs.Status.{IsOfOne, IsOfRefusal, IsOfText, IsOfTexts, IsUnopened, failure_of_file}
@@ -40,11 +40,6 @@ pub unopened_one : (paths : List (List ℕ)) (path : List ℕ) (failure : Failur
 unopened_one paths path Room one is = tt
 unopened_one paths path (File name) one is = subst (Contains paths) (sym is) one
 unopened_one paths path failure one is = absurd is
-
--- what fails for one reason fails for another that it is
-pub fails_so : {X E : Type 0} (result : Result X E) (P Q : E → Type 0) → ((e : E) → P e → Q e) → IfErr result P → IfErr result Q
-fails_so (Ok x) P Q so holds = tt
-fails_so (Err e) P Q so holds = so e holds
 
 module _ (gives : List ℕ → List ℕ → Type 0) where
   -- one more text

@@ -1,12 +1,14 @@
 use Rattle.std.proofs.Common.{◌≡◌, ◌∙◌, ◌++◌, ◌∷◌, [], ℕ, List, Option, ap, subst, sym}
 use Rattle.std.specs.Prelude.{IfSome}
+use Rattle.std.proofs.lemmas.Result.{IfErr-weaker, IfOk-weaker}
 use Rattle.merge_statements.specs.Places.{At, at_first}
 use Rattle.merge_statements.specs.Refused.{IsRefusedFor, IsStatementText}
 use Rattle.merge_statements.specs.declared.refusal.Refusal.{Refusal}
 use Rattle.merge_statements.specs.declared.refusal.Refusal.TheVariants as refusal
 use Rattle.merge_statements.specs.declared.refusal.StatementFault.TheVariants.{End}
 use Rattle.merge_statements.specs.declared.walk.Place.TheVariants.{Ended}
-use Rattle.merge_statements.proofs.ReadThrough.{IsReadTo, all_read, end_refused, err_so, more_read, none_read, nothing_claimed, ok_so, rest_refused}
+use Rattle.merge_statements.specs.SoFar.{IsReadTo}
+use Rattle.merge_statements.proofs.ReadThrough.{all_read, end_refused, more_read, none_read, rest_refused}
 use Rattle.merge_statements.proofs.checking.check.Goals as goal
 
 pub loop-number-init : goal.loop-number-init
@@ -20,7 +22,7 @@ returns-in-Ok-false-clause-sound g c =
     let start = g.R.Read.remaining c.args.from in
     let l = c.loop-number in
     let end = c.in-Ok-false.ensures.end c.in-Ok-false.field-0-test in
-    ok_so c.end.result (λ (lines : ℕ). c.pass_next.new.progress.place ≡ Ended lines) (λ (lines : ℕ). IfSome start (λ text. IsStatementText text lines))
+    IfOk-weaker c.end.result (λ (lines : ℕ). c.pass_next.new.progress.place ≡ Ended lines) (λ (lines : ℕ). IfSome start (λ text. IsStatementText text lines))
     (λ lines ended. all_read start l.rows.left l.progress l.number lines l.invariant end.0 (ap (λ (at : At). at.place) (sym end.1) ∙ ended)) c.end.ensures.sound
 
 pub returns-in-Ok-false-clause-refused : goal.returns-in-Ok-false-clause-refused
@@ -28,7 +30,7 @@ returns-in-Ok-false-clause-refused g c =
     let start = g.R.Read.remaining c.args.from in
     let l = c.loop-number in
     let end = c.in-Ok-false.ensures.end c.in-Ok-false.field-0-test in
-    err_so c.end.result (λ (why : Refusal). (why ≡ refusal.Fault (End l.number)) × ((lines : ℕ) → ¬ (c.pass_next.new.progress.place ≡ Ended lines)))
+    IfErr-weaker c.end.result (λ (why : Refusal). (why ≡ refusal.Fault (End l.number)) × ((lines : ℕ) → ¬ (c.pass_next.new.progress.place ≡ Ended lines)))
     (λ (why : Refusal). IfSome start (λ text. IsRefusedFor text why))
     (λ why is. subst (λ (w : Refusal). IfSome start (λ text. IsRefusedFor text w)) (sym is.0)
     (end_refused start l.rows.left l.progress l.number l.invariant end.0 (λ lines ended. is.1 lines (ap (λ (at : At). at.place) end.1 ∙ ended))))

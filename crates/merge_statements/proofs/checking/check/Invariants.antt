@@ -1,4 +1,4 @@
-use Rattle.merge_statements.proofs.ReadThrough.{IsReadTo}
+use Rattle.merge_statements.specs.SoFar.{IsReadTo}
 use Rattle.merge_statements.proofs.checking.check.Given as goal
 
 -- some rows are read

@@ -1,9 +1,7 @@
-use Rattle.std.proofs.Common.{List, ℕ, subst, sym, true}
-use Rattle.std.proofs.Common.{take, drop, length, ◌-◌, ◌∷◌, ◌≡◌}
+use Rattle.std.proofs.Common.{List, ℕ, subst, sym, true, take, drop, length, ◌-◌, ◌∷◌, ◌≡◌}
 use Rattle.std.specs.declared.cmp.Ordering.TheVariants.{Less}
 use Rattle.merge_statements.proofs.Taking.{least_is_first, least_stays, least_without, parts_whole}
-use Rattle.merge_statements.specs.Together.{HasLeast, order}
-use Rattle.merge_statements.specs.Unread.{Unread}
+use Rattle.merge_statements.specs.SoFar.{HasLeast, Unread, order}
 use Rattle.merge_statements.proofs.merging.«+least_payee».Goals as goal
 use Rattle.merge_statements.proofs.merging.«+least_payee».Goals.{then-not-found-via-then-not-found, then-not-found-via-else-not-found+then-is_before}
 

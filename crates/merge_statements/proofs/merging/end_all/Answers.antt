@@ -1,7 +1,9 @@
+use Rattle.merge_statements.specs.Refused.{IsRefusalOf}
+use Rattle.merge_statements.specs.SoFar.{CanEnd, EndsEach, RefusesRest, Unread}
+use Rattle.merge_statements.proofs.Refusing.{one_refused, placed}
 use Rattle.std.specs.Io.KnownBytes.{append_known}
 use Rattle.std.proofs.Common.{◌<◌, arith, get_or, length, take, subst, sym}
 use Rattle.std.proofs.lemmas.List.{get_or_default}
-use Rattle.merge_statements.specs.Together.{EndsEach, IsBetween}
 use Rattle.merge_statements.proofs.Endings.{ends_more, no_ends}
 use Rattle.merge_statements.proofs.Taking.{holds_of_all, holds_of_more, holds_of_none}
 use Rattle.merge_statements.proofs.merging.end_all.Goals as goal
@@ -13,7 +15,7 @@ pub end_text-requires : goal.end_text-requires
 end_text-requires g c =
     let l = c.loop-place in
     let d = c.index-parts-place.result in
-    subst IsBetween (sym (l.invariant.others l.place d (omega arith))) (c.requires l.place d (omega (arith, c.loop-place-test.true)))
+    subst CanEnd (sym (l.invariant.others l.place d (omega arith))) (c.requires l.place d (omega (arith, c.loop-place-test.true)))
 
 pub loop-place-preserved : goal.loop-place-preserved
 loop-place-preserved g c =
@@ -28,9 +30,17 @@ loop-place-preserved g c =
     c.args.parts.now l.parts old c.end_text.new.part l.place low (get_or_default l.parts l.place c.index-parts-place.result old low) l.invariant
     (λ was. ends_more old c.end_text.new.part (take l.place c.args.parts.now) (take l.place l.parts) (append_known (g.W.Write.contents c.args.out.now) c.args.page.now) (append_known (g.W.Write.contents l.out) l.page) (append_known (g.W.Write.contents c.end_text.new.out) c.end_text.new.page)
     l.all.0.0 own.0.0 c.in_ok-both.field-0.0 l.all.0.1 own.0.1 c.in_ok-both.field-0.1 l.all.1 own.1 c.in_ok-more_lines.field-0
-    was c.in-Ok.ensures both.count both.sum both.few lines.sum lines.few)
+    was c.in-Ok.ensures.written both.count both.sum both.few lines.sum lines.few)
 
-pub returns : goal.returns
-returns g c =
+pub returns-clause-written : goal.returns-clause-written
+returns-clause-written g c =
     let l = c.loop-place in
     holds_of_all (λ olds news. EndsEach olds news (append_known (g.W.Write.contents c.args.out.now) c.args.page.now) (append_known (g.W.Write.contents l.out) l.page) l.all.0.0 l.all.0.1 l.all.1) c.args.parts.now l.parts l.place (omega (arith, c.loop-place-test.false, l.auto.parts)) l.invariant
+
+pub returns-in-Err-clause-refused : goal.returns-in-Err-clause-refused
+returns-in-Err-clause-refused g c = λ starts are.
+    let l = c.loop-place in
+    let d = c.index-parts-place.result in
+    placed (IsRefusalOf starts) c.refused.result.place l.place c.refused.result.refusal c.in-Err.refusal c.refused.ensures.place c.refused.ensures.refusal
+    (one_refused starts c.args.parts.now l.place d c.in-Err.refusal (omega (arith, c.loop-place-test.true))
+    (subst (λ (part : Unread). RefusesRest part c.in-Err.refusal) (l.invariant.others l.place d (omega arith)) c.in-Err.ensures.refused) are)

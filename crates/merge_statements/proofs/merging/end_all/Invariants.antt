@@ -1,5 +1,5 @@
 use Rattle.std.specs.Io.KnownBytes.{append_known}
-use Rattle.merge_statements.specs.Together.{EndsEach, HoldsOfFirst}
+use Rattle.merge_statements.specs.SoFar.{EndsEach, HoldsOfFirst}
 use Rattle.merge_statements.proofs.merging.end_all.Given as goal
 
 -- the texts before this one were passed over to their ends

@@ -5,8 +5,8 @@ use Rattle.merge_statements.proofs.Endings.{ending_written}
 use Rattle.merge_statements.proofs.merging.end_text.Goals as goal
 
 pub finish-requires : goal.finish-requires
-finish-requires g c = ap (λ (at : At). at.place) c.in_ok-sum.ensures.at
+finish-requires g c = ap (λ (at : At). at.place) c.in_ok-sum.ensures.written.at
 
-pub returns : goal.returns
-returns g c =
-    ending_written c.args.part.now c.pass_rests.new.self c.finish.new.self (append_known (g.W.Write.contents c.args.out.now) c.args.page.now) (append_known (g.W.Write.contents c.pass_rests.new.out) c.pass_rests.new.page) c.in_ok-sum.sum.0 c.in_ok-sum.sum.1 c.in_ok-lines.lines c.in_ok-sum.ensures c.in_ok-lines.ensures
+pub returns-clause-written : goal.returns-clause-written
+returns-clause-written g c =
+    ending_written c.args.part.now c.pass_rests.new.self c.finish.new.self (append_known (g.W.Write.contents c.args.out.now) c.args.page.now) (append_known (g.W.Write.contents c.pass_rests.new.out) c.pass_rests.new.page) c.in_ok-sum.sum.0 c.in_ok-sum.sum.1 c.in_ok-lines.lines c.in_ok-sum.ensures.written c.in_ok-lines.ensures.ended

@@ -1,16 +1,26 @@
+use Rattle.std.proofs.lemmas.Result.{err_from_is_err_and}
+use Rattle.merge_statements.proofs.Refusing.{passed_read}
 use Rattle.std.specs.Io.KnownBytes.{append_known}
-use Rattle.merge_statements.proofs.Whole.{all_between, all_merged}
+use Rattle.merge_statements.proofs.Refusing.{all_can_end}
+use Rattle.merge_statements.proofs.Whole.{all_merged}
 use Rattle.merge_statements.proofs.merging.merge_parts.Goals as goal
 
 pub end_all-requires : goal.end_all-requires
 end_all-requires g c =
-    let was = c.in_ok-paid.ensures c.requires.0 c.requires.1 in
-    all_between c.requires.0 c.merge_payees.new.parts was.dones was.passed
+    let was = c.in_ok-paid.ensures.merged c.requires.0 c.requires.1 in
+    all_can_end c.requires.0 c.merge_payees.new.parts was.dones was.passed c.in_ok-paid.ensures.none
 
-pub returns : goal.returns
-returns g c = λ starts are.
+pub returns-clause-merged : goal.returns-clause-merged
+returns-clause-merged g c = λ starts are.
     let all = c.in_ok-all in
     let end = c.in_ok-left in
     all_merged starts c.merge_payees.new.parts c.end_all.new.parts (append_known (g.W.Write.contents c.args.out.now) c.args.page.now) (append_known (g.W.Write.contents c.merge_payees.new.out) c.merge_payees.new.page) (append_known (g.W.Write.contents c.end_all.new.out) c.end_all.new.page) (append_known (g.W.Write.contents c.push_total.new.out) c.push_total.new.page) (append_known (g.W.Write.contents c.push_run.new.out) c.push_run.new.page)
     c.in_ok-paid.paid.0 end.left.0 all.all.0 c.in_ok-paid.paid.1 end.left.1 all.all.1 end.lines
-    (c.in_ok-paid.ensures starts are) end.ensures c.in_ok-push_total.ensures all.ensures.count all.ensures.sum all.ensures.few c.in_ok-push_run.ensures
+    (c.in_ok-paid.ensures.merged starts are) end.ensures.written c.in_ok-push_total.ensures.pushed all.ensures.count all.ensures.sum all.ensures.few c.in_ok-push_run.ensures.pushed
+
+pub returns-in_err-left-clause-refused : goal.returns-in_err-left-clause-refused
+returns-in_err-left-clause-refused g c =
+    let p = err_from_is_err_and c.from_residual-in_err-left.result c.from_residual-in_err-left.ensures.1 in
+    rw (p.1, p.2) (λ starts are.
+    let was = c.in_ok-paid.ensures.merged starts are in
+    c.in_err-left.ensures.refused starts (passed_read starts c.merge_payees.new.parts was.dones was.passed))

@@ -1,6 +1,6 @@
 use Rattle.std.specs.Io.KnownBytes.{append_known}
 use Rattle.std.proofs.Common.{List, Option, ℕ}
-use Rattle.merge_statements.specs.Together.{AreMergedSoFar, AreOpen}
+use Rattle.merge_statements.specs.SoFar.{AreMergedSoFar, AreOpen}
 use Rattle.merge_statements.proofs.merging.merge_payees.Given as goal
 
 -- some payees are merged

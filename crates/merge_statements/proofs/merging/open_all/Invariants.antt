@@ -1,5 +1,5 @@
 use Rattle.std.proofs.Common.{map}
-use Rattle.merge_statements.specs.Together.{AreOpen}
+use Rattle.merge_statements.specs.SoFar.{AreOpen}
 use Rattle.merge_statements.proofs.merging.open_all.Given as goal
 
 -- the texts so far

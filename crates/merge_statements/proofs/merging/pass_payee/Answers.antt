@@ -1,7 +1,9 @@
+use Rattle.merge_statements.specs.Refused.{IsRefusalOf}
+use Rattle.merge_statements.specs.SoFar.{RefusesRest, Unread, WritesAll}
+use Rattle.merge_statements.proofs.Refusing.{one_refused, placed}
 use Rattle.std.specs.Io.KnownBytes.{append_known}
-use Rattle.std.proofs.Common.{◌<◌, arith, get_or, length, take}
+use Rattle.std.proofs.Common.{◌<◌, arith, get_or, length, subst, take}
 use Rattle.std.proofs.lemmas.List.{get_or_default}
-use Rattle.merge_statements.specs.Together.{WritesAll}
 use Rattle.merge_statements.proofs.Taking.{holds_of_all, holds_of_more, holds_of_none, no_texts, texts_more}
 use Rattle.merge_statements.proofs.merging.pass_payee.Goals as goal
 
@@ -20,9 +22,17 @@ loop-place-preserved g c =
     (λ olds news. WritesAll c.args.payee.now olds news (append_known (g.W.Write.contents c.args.out.now) c.args.page.now) (append_known (g.W.Write.contents c.pass_if_next.new.out) c.pass_if_next.new.page) c.in_ok-all.all.0 c.in_ok-all.all.1)
     c.args.parts.now l.parts old c.pass_if_next.new.part l.place low (get_or_default l.parts l.place c.index-parts-place.result old low) l.invariant
     (λ was. texts_more c.args.payee.now old c.pass_if_next.new.part (take l.place c.args.parts.now) (take l.place l.parts) (append_known (g.W.Write.contents c.args.out.now) c.args.page.now) (append_known (g.W.Write.contents l.out) l.page) (append_known (g.W.Write.contents c.pass_if_next.new.out) c.pass_if_next.new.page) own.0 l.all.0 c.in_ok-all.all.0 own.1 l.all.1 c.in_ok-all.all.1
-    was c.in-Ok.ensures all.count all.sum all.few)
+    was c.in-Ok.ensures.written all.count all.sum all.few)
 
-pub returns : goal.returns
-returns g c =
+pub returns-clause-written : goal.returns-clause-written
+returns-clause-written g c =
     let l = c.loop-place in
     holds_of_all (λ olds news. WritesAll c.args.payee.now olds news (append_known (g.W.Write.contents c.args.out.now) c.args.page.now) (append_known (g.W.Write.contents l.out) l.page) l.all.0 l.all.1) c.args.parts.now l.parts l.place (omega (arith, c.loop-place-test.false, l.auto.parts)) l.invariant
+
+pub returns-in-Err-clause-refused : goal.returns-in-Err-clause-refused
+returns-in-Err-clause-refused g c = λ starts are.
+    let l = c.loop-place in
+    let d = c.index-parts-place.result in
+    placed (IsRefusalOf starts) c.refused.result.place l.place c.refused.result.refusal c.in-Err.refusal c.refused.ensures.place c.refused.ensures.refusal
+    (one_refused starts c.args.parts.now l.place d c.in-Err.refusal (omega (arith, c.loop-place-test.true))
+    (subst (λ (part : Unread). RefusesRest part c.in-Err.refusal) (l.invariant.others l.place d (omega arith)) c.in-Err.ensures.refused) are)

@@ -1,5 +1,5 @@
 use Rattle.std.specs.Io.KnownBytes.{append_known}
-use Rattle.merge_statements.specs.Together.{HoldsOfFirst, WritesAll}
+use Rattle.merge_statements.specs.SoFar.{HoldsOfFirst, WritesAll}
 use Rattle.merge_statements.proofs.merging.pass_payee.Given as goal
 
 -- the payee's statements were passed over in the texts before this one

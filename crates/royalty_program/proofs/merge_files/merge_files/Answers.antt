@@ -1,7 +1,8 @@
 use Rattle.std.proofs.Common.{map}
 use Rattle.std.specs.Prelude.{string_bytes}
 use Rattle.royalty_program.specs.Status.{IsOfOne, IsOfTexts}
-use Rattle.royalty_program.proofs.MergeFileLemmas.{fails_so, one_of_sound}
+use Rattle.std.proofs.lemmas.Result.{IfErr-weaker}
+use Rattle.royalty_program.proofs.MergeFileLemmas.{one_of_sound}
 use Rattle.royalty_program.proofs.merge_files.merge_files.Goals as goal
 
 pub returns-clause-files : goal.returns-clause-files
@@ -9,4 +10,4 @@ returns-clause-files g c =
     let gives = g.S.Source.gives c.args.files.now in
     let paths = map string_bytes c.args.paths.now in
     let sound = c.in_ok-check_all.ensures.sound in
-    fails_so c.merge_opened.result (IsOfOne paths) (IsOfTexts gives paths) (λ failure one. one_of_sound gives paths sound.0 failure sound.1 sound.2 one) c.merge_opened.ensures.one
+    IfErr-weaker c.merge_opened.result (IsOfOne paths) (IsOfTexts gives paths) (λ failure one. one_of_sound gives paths sound.0 failure sound.1 sound.2 one) c.merge_opened.ensures.one

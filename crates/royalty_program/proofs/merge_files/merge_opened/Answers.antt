@@ -5,4 +5,4 @@ use Rattle.royalty_program.proofs.merge_files.merge_opened.Goals as goal
 
 pub returns-in-Ok-clause-merged : goal.returns-in-Ok-clause-merged
 returns-in-Ok-clause-merged g c =
-    merged_over (g.S.Source.gives c.args.files.now) (map string_bytes c.args.paths.now) (map g.S.Reader.Read.remaining c.in_ok-readers.readers.items) _ _ c.in_ok-readers.ensures.opened c.in-Ok.ensures
+    merged_over (g.S.Source.gives c.args.files.now) (map string_bytes c.args.paths.now) (map g.S.Reader.Read.remaining c.in_ok-readers.readers.items) _ _ c.in_ok-readers.ensures.opened c.in-Ok.ensures.merged

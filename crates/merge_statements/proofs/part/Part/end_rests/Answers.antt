@@ -1,12 +1,23 @@
-use Rattle.std.proofs.Common.{◌∙◌, ap, get_or, subst}
-use Rattle.merge_statements.specs.Places.{IsCount, count_at, sum_at}
-use Rattle.merge_statements.specs.Unread.{Unread}
+use Rattle.std.proofs.Common.{◌∙◌, arith, ap, get_or, subst}
+use Rattle.merge_statements.specs.Statements.{IsCount}
+use Rattle.merge_statements.specs.Places.{count_at, sum_at}
+use Rattle.merge_statements.specs.SoFar.{Unread}
+use Rattle.merge_statements.proofs.Refusing.{among_needs, letter_needs, no_kind_here}
 use Rattle.merge_statements.proofs.Steps.{rests_sum_passed}
 use Rattle.merge_statements.proofs.part.Part.end_rests.Goals as goal
 
-pub returns : goal.returns
-returns g c =
-    let steps = c.in_ok-step.ensures in
+pub not_here-requires-clause-row : goal.not_here-requires-clause-row
+not_here-requires-clause-row g c = among_needs c.args.self.now c.requires.among
+
+pub not_here-requires-clause-other : goal.not_here-requires-clause-other
+not_here-requires-clause-other g c = no_kind_here c.args.self.now c.requires.among c.requires.no_rest (c.begins_with.ensures.is_not c.if-not-begins_with.true (omega arith))
+
+pub step-requires : goal.step-requires
+step-requires g c = letter_needs c.args.self.now 84 (c.begins_with.ensures.is c.if-not-begins_with.false) (omega arith)
+
+pub returns-clause-sum : goal.returns-clause-sum
+returns-clause-sum g c =
+    let steps = c.in_ok-step.ensures.steps in
     let first = c.begins_with.ensures.is c.if-not-begins_with.false in
     record {
       row = steps.row;

@@ -1,5 +1,5 @@
 use Rattle.std.specs.Io.KnownBytes.{append_known}
-use Rattle.merge_statements.specs.Passed.{HasRests}
+use Rattle.merge_statements.specs.SoFar.{HasRests}
 use Rattle.merge_statements.proofs.part.Part.pass_rests.Given as goal
 
 -- so many portions were passed over

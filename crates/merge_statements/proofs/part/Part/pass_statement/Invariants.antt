@@ -1,5 +1,5 @@
 use Rattle.std.specs.Io.KnownBytes.{append_known}
-use Rattle.merge_statements.specs.Passed.{IsWithin}
+use Rattle.merge_statements.specs.SoFar.{IsWithin}
 use Rattle.merge_statements.proofs.part.Part.pass_statement.Given as goal
 
 -- so many portions were passed over
