@@ -97,7 +97,7 @@ pub fn run_command<'a>(alloc: Global) -> Result<Command<'a>, AllocError>
         alloc,
         "nodes",
         value_parser!(u64).range(1..=64),
-        "How many postings a worker has under way to an account at most: 1 to 64",
+        "How many postings a worker has under way at most: 1 to 64",
     ))?
     .arg(optional_file_arg(
         alloc,

@@ -14,7 +14,7 @@ pub struct Plan {
     pub(crate) workers: u64,
     /// How many readers keep the statements.
     pub(crate) readers: u64,
-    /// How many nodes each worker has in each mailbox.
+    /// How many nodes each worker has, in each mailbox or, in a pool, for all of them together.
     pub(crate) nodes: u64,
 }
 
