@@ -1,10 +1,11 @@
 //! Explanations of usage lines, worked out by hand.
 
 use crate::merge_tests::text_of;
+use crate::told::assert_told;
 use explain_line::explain;
 use line_split::LineFault;
 use run_inputs::Fault;
-use small_run::{B_PAID_TO_A, TERRITORIES, THREE_PARTIES, TWO_PARTIES, USES, assert_told};
+use small_run::{B_PAID_TO_A, TERRITORIES, THREE_PARTIES, TWO_PARTIES, USES};
 use std::alloc::Global;
 use std::test::Fail;
 

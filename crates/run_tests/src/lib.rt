@@ -12,3 +12,5 @@ mod merge_tests;
 mod pool_core_tests;
 #[cfg(test)]
 mod queue_core_tests;
+#[cfg(test)]
+mod told;

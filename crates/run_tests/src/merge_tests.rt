@@ -1,8 +1,8 @@
 //! Rows, numbers, lines and merged texts, as tables of texts and of what they are read as.
 
+use crate::told::assert_told;
 use merge_statements::amount::{amount_of, count_of};
 use merge_statements::{ReadFault, Refusal, Row, RowReader, RowRoom, TextRefusal, check, merge};
-use small_run::assert_told;
 use std::alloc::Global;
 use std::io::{self, ErrorKind, Read};
 use std::process::Abort;

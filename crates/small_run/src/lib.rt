@@ -1,15 +1,7 @@
-//! A small run: its three inputs, and its statements. Several tests share it, and how they assert what was told.
+//! A small run: its three inputs, and its statements. Several tests share it.
 #![tactic(auto)]
 
 use std::alloc::{AllocError, Global};
-use std::process::Abort;
-use std::test::Fail;
-
-/// Asserts what was told. A call of it is proved far sooner than such an assertion in a test, which drops the text there.
-pub fn assert_told(rt: &impl Abort, told: Result<String, Fail>, want: &str) -> Result<(), Fail> {
-    assert_eq!(rt; told?.as_str(), want);
-    Ok(())
-}
 
 /// A table of territories, in which 9001 is a group of our own.
 pub const TERRITORIES: &str = "code,groups\n2136,\n9001,2136\n276,9001\n840,2136\n";

@@ -4,9 +4,9 @@
 //! of a row are divided by strokes, and the most that a field may have or be follows it after a comma.
 
 use crate::rows::{Ask, assert_rows, in_brackets, text_of};
+use crate::told::assert_told;
 use csv_table::forms::{code, is_printable, number_up_to};
 use csv_table::{RowWriter, Rows, cut_in_two};
-use small_run::assert_told;
 use std::alloc::Global;
 use std::test::Fail;
 

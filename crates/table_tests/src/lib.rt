@@ -21,4 +21,6 @@ mod rows;
 #[cfg(test)]
 mod tis_tree_tests;
 #[cfg(test)]
+mod told;
+#[cfg(test)]
 mod usage_tests;

@@ -6,11 +6,11 @@
 ghost use Rattle.std.specs.Prelude.{◌<◌, ◌↔◌, All, IsTrue};
 
 use crate::rows::{Ask, assert_rows};
+use crate::told::assert_told;
 use line_split::{
     Account, ClaimFault, Claims, MOST_AMOUNT, MOST_CLAIMED, MOST_CLAIMS, Portions, portion_by_rank,
     split,
 };
-use small_run::assert_told;
 use std::alloc::Global;
 use std::test::Fail;
 

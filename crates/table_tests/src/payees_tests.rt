@@ -5,8 +5,8 @@
 //! row, or the payees of the parties A, B and C.
 
 use crate::rows::{Ask, assert_rows, lines_of};
+use crate::told::assert_told;
 use cwr_share::{MOST_NAME_BYTES, MOST_PAYEES, PayeeFault, Payees};
-use small_run::assert_told;
 use std::alloc::Global;
 use std::process::Abort;
 use std::test::Fail;

@@ -5,8 +5,8 @@
 //! number of the fault, and that of the row.
 
 use crate::rows::{Ask, assert_rows, lines_of, text_of};
+use crate::told::assert_told;
 use line_split::{Line, LineFault, MOST_LINES, Usage};
-use small_run::assert_told;
 use std::alloc::Global;
 use std::test::Fail;
 
