@@ -155,7 +155,7 @@ r run --help [--cwr <F>      The registrations of works|] -> 0 out
 r run --help [--usage <F>    The usage lines|] -> 0 out
 r run --help [divide usage lines: 1 to 8|] -> 0 out
 r run --help [keep statements: 1 to 8|] -> 0 out
-r run --help [to an account at most: 1 to 64|] -> 0 out
+r run --help [under way at most: 1 to 64|] -> 0 out
 r run --help [L,payee,usage,amount for each portion of a payee] -> 0 out
 r run --help [then its sum|S,payee,count,total] -> 0 out
 r run --help [party,payee: who is paid what a party of the registrations claims] -> 0 out
