@@ -11,7 +11,7 @@ mod text;
 pub use book::Book;
 pub use journal::Journal;
 pub use postings::Posting;
-pub use sheets::{Sheet, blank_sheets};
+pub use sheets::Sheets;
 
 /// The most accounts that a book has, the residue's included.
 pub const MOST_ACCOUNTS: usize = 65_535;

@@ -1,12 +1,13 @@
 //! The statements as CSV, where several threads write the payees' rows at once.
 
 ghost use Rattle.std.specs.Io.KnownBytes.{Appends};
+ghost use Rattle.std.specs.Thread.{IsSync};
 ghost use Rattle.std.specs.Prelude.{ℤ, unsigned_abs, ◌≡◌, ◌+◌, ◌≤◌, ◌<◌, ◌++◌, ℕ, List, All, IfOk, OnOk, length, map, true, vec_len};
 ghost use Rattle.csv_table.specs.Written.{empty_page, text_of};
 ghost use Rattle.line_split.specs.declared.TheConstants.{MOST_AMOUNT};
 ghost use Rattle.line_split.specs.UsageLine.{UsageLine};
 ghost use Rattle.payee_book.specs.Text.{payee_rows, payees_rows, rows_of_book};
-ghost use Rattle.payee_book.specs.Waves.{ArePayees, AreShares, between, start_of};
+ghost use Rattle.payee_book.specs.Waves.{AreBlank, ArePayees, AreReady, AreReadyTwice, AreWhole, IsSharedOut, between, rows_of_wave, share_of, start_of, text_on};
 ghost use Rattle.payee_book.specs.declared.sheets.TheConstants.{MOST_ON_SHEET, MOST_ROWS};
 
 use crate::text::{LOOKED_UP_AT_ONCE, write_postings, write_residue, write_run, write_total};
@@ -15,11 +16,11 @@ use csv_table::RowWriter;
 use line_split::{RESIDUE, Reason, Usage};
 use std::alloc::{AllocError, Global};
 use std::io::{self, Write};
-use std::thread;
 use std::thread::Threads;
+use std::{mem, thread};
 
-/// The fewest rows on a sheet, but for those of the last wave: fewer are not worth a thread.
-const LEAST_ON_SHEET: u128 = 1024;
+/// The fewest rows of a wave, for each sheet, that are worth threads.
+const LEAST_FOR_THREADS: u128 = 1024;
 
 /// The most rows on a sheet.
 const MOST_ON_SHEET: u128 = 8192;
@@ -38,10 +39,30 @@ pub struct Sheet {
     is_whole: bool,
 }
 
-/// So many sheets with nothing on them, each with room for what a thread writes on it.
-pub fn blank_sheets(alloc: Global, count: usize) -> Result<Vec<Sheet>, AllocError>
+/// Sheets for so many threads, twice: while the threads write on the ones, what is on the others is passed on.
+#[derive(Drop)]
+pub struct Sheets {
+    blank: Vec<Sheet>,
+    written: Vec<Sheet>,
+}
+
+impl Sheets {
+    /// Sheets for 1 to 64 threads, with nothing on them. Each has room for what a thread writes on it.
+    pub fn blank(alloc: Global, threads: usize) -> Result<Sheets, AllocError>
+        requires { (0 < threads) × (threads ≤ 64) }
+        ensures { IfOk result AreReadyTwice }
+    {
+        Ok(Sheets {
+            blank: blank_sheets(alloc, threads)?,
+            written: blank_sheets(alloc, threads)?,
+        })
+    }
+}
+
+/// So many sheets with nothing on them.
+fn blank_sheets(alloc: Global, count: usize) -> Result<Vec<Sheet>, AllocError>
     ensures count { IfOk result (λ sheets. vec_len sheets ≡ count) }
-    ensures blank { IfOk result (λ sheets. All (λ sheet. sheet.rows ≡ empty_page) sheets.items) }
+    ensures blank { IfOk result (λ sheets. AreBlank sheets.items) }
 {
     let mut sheets = Vec::with_capacity(alloc, count)?;
     for _ in 0..count {
@@ -55,55 +76,54 @@ pub fn blank_sheets(alloc: Global, count: usize) -> Result<Vec<Sheet>, AllocErro
 
 impl Book {
     /// Prints the same as `text` to an output, by the sheet: the rows of payees are written by as many threads as
-    /// there are sheets, 1 to 64. No memory is asked for.
+    /// there are sheets for, while this one passes on what they wrote before. No memory is asked for.
     pub fn print<R: Threads + Sync, W: Write>(
         &self,
         rt: &R,
-        mut sheets: Vec<Sheet>,
+        sheets: Sheets,
         usage: &Usage,
         parties: &[Vec<u8>],
         reasons: &[Reason],
         out: &mut W,
     ) -> io::Result<()>
-        requires sheets { (0 < vec_len sheets) × (vec_len sheets ≤ 64) }
-        requires blank { All (λ sheet. sheet.rows ≡ empty_page) sheets.items }
+        requires sheets { AreReadyTwice sheets }
         requires parties { length parties.now ≡ length self.now }
         requires reasons { length reasons.now ≡ length usage.now }
         requires lines { All (All (λ posting. posting.0 < length usage.now)) self.now }
         ensures { OnOk result (Appends (W.contents out.old) (W.contents out.new) (text_of (rows_of_book self.now usage.now (map (λ party. party.items) parties.now) reasons.now))) }
     {
-        let all = sheets.as_mut_slice();
-        write_payees(rt, all, self, usage, parties, out)?;
-        let rows = &mut all[0].rows;
+        let mut blank = write_payees(rt, sheets, self, usage, parties, out)?;
+        let rows = &mut blank[0].rows;
         write_residue(rows, usage, reasons, self.lines(RESIDUE), out)?;
         write_run(rows, usage)?;
         rows.write_to(out)
     }
 }
 
-/// The statements of all payees.
+/// The statements of all payees, and blank sheets when all of them have been passed on.
 fn write_payees<R: Threads + Sync, W: Write>(
     rt: &R,
-    sheets: &mut [Sheet],
+    sheets: Sheets,
     book: &Book,
     usage: &Usage,
     parties: &[Vec<u8>],
     out: &mut W,
-) -> io::Result<()>
-    requires sheets { (0 < length sheets.old) × (length sheets.old ≤ 64) }
-    requires blank { All (λ sheet. sheet.rows ≡ empty_page) sheets.old }
+) -> io::Result<Vec<Sheet>>
+    requires sheets { AreReadyTwice sheets }
     requires payees { ArePayees book.now usage.now (map (λ party. party.items) parties.now) }
     ensures some { 0 < length book.now }
-    ensures blank { OnOk result (All (λ sheet. sheet.rows ≡ empty_page) sheets.new) }
+    ensures ready { IfOk result (λ sheets. AreReady sheets.items) }
     ensures written { OnOk result (Appends (W.contents out.old) (W.contents out.new) (text_of (payees_rows book.now usage.now (map (λ party. party.items) parties.now)))) }
 {
     let count = payees_row_count(book);
-    let threads = sheets.len();
+    let Sheets {
+        mut blank,
+        mut written,
+    } = sheets;
     let mut from = 0;
     while from < count {
-        let left = count - from;
-        let size = (left / threads as u128 + 1).clamp(LEAST_ON_SHEET, MOST_ON_SHEET);
-        let used = (left / size + 1).min(threads as u128) as usize;
+        let threads = blank.len();
+        let size = ((count - from) / threads as u128 + 1).min(MOST_ON_SHEET);
         let wave = Wave {
             book,
             usage,
@@ -112,10 +132,46 @@ fn write_payees<R: Threads + Sync, W: Write>(
             from,
             size,
         };
-        write_wave(rt, &mut sheets[..used], wave, out)?;
-        from = wave.start_of(used);
+        write_and_pass_on(rt, &mut blank, wave, &mut written, out)?;
+        from = wave.start_of(threads);
+        mem::swap(&mut blank, &mut written);
     }
-    Ok(())
+    pass_on(written.as_mut_slice(), out)?;
+    Ok(written)
+}
+
+/// Writes a wave on blank sheets, while what is on the others is passed on.
+fn write_and_pass_on<R: Threads + Sync, W: Write>(
+    rt: &R,
+    blank: &mut Vec<Sheet>,
+    wave: Wave<'_>,
+    written: &mut Vec<Sheet>,
+    out: &mut W,
+) -> io::Result<()>
+    requires sheets { AreReady blank.old.items }
+    requires shares { IsSharedOut wave }
+    ensures blank_count { vec_len blank.new ≡ vec_len blank.old }
+    ensures written_count { vec_len written.new ≡ vec_len written.old }
+    ensures wave { AreWhole blank.new.items → text_on blank.new.items ≡ text_of (rows_of_wave wave.entry (vec_len blank.old)) }
+    ensures whole { OnOk result (AreWhole written.old.items) }
+    ensures blank { OnOk result (AreBlank written.new.items) }
+    ensures passed { OnOk result (Appends (W.contents out.old) (W.contents out.new) (text_on written.old.items)) }
+{
+    let ((), passed) = thread::join_mut(
+        rt,
+        &mut ||
+            requires { IsSync R.row × AreReady blank.now.items × IsSharedOut wave }
+            ensures count { vec_len blank.exit.now ≡ vec_len blank.entry.now }
+            ensures written { AreWhole blank.exit.now.items → text_on blank.exit.now.items ≡ text_of (rows_of_wave wave.entry (vec_len blank.entry.now)) }
+        { write_wave(rt, blank.as_mut_slice(), wave) },
+        &mut || -> io::Result<()>
+            ensures count { vec_len written.exit.now ≡ vec_len written.entry.now }
+            ensures whole { OnOk result (AreWhole written.entry.now.items) }
+            ensures blank { OnOk result (AreBlank written.exit.now.items) }
+            ensures passed { OnOk result (Appends (W.contents out.entry.now) (W.contents out.exit.now) (text_on written.entry.now.items)) }
+        { pass_on(written.as_mut_slice(), out) },
+    );
+    passed
 }
 
 /// Some of the payees' rows, for several threads: each has so many, one thread's after another's, from a row on.
@@ -135,7 +191,7 @@ impl Wave<'_> {
     fn start_of(self, place: usize) -> u128
         requires place { place ≤ 64 }
         requires small { (self.from ≤ self.count) × (self.size ≤ MOST_ON_SHEET) × (self.count ≤ MOST_ROWS) }
-        ensures { result ≡ start_of self.entry.count self.entry.from self.entry.size place }
+        ensures { result ≡ start_of self.entry place }
     {
         self.count.min(self.from + place as u128 * self.size)
     }
@@ -166,41 +222,35 @@ fn row_count(statement: &[Posting]) -> u128
     }
 }
 
-/// The rows of a wave: each thread writes its own on its sheet, and then they are passed on in order.
-fn write_wave<R: Threads + Sync, W: Write>(
-    rt: &R,
-    sheets: &mut [Sheet],
-    wave: Wave<'_>,
-    out: &mut W,
-) -> io::Result<()>
-    requires sheets { (0 < length sheets.old) × (length sheets.old ≤ 64) }
-    requires blank { All (λ sheet. sheet.rows ≡ empty_page) sheets.old }
-    requires shares { AreShares wave.book.now wave.usage.now (map (λ party. party.items) wave.parties.now) wave.count wave.from wave.size }
-    ensures blank { OnOk result (All (λ sheet. sheet.rows ≡ empty_page) sheets.new) }
-    ensures written { OnOk result (Appends (W.contents out.old) (W.contents out.new) (text_of (between wave.entry.from (start_of wave.entry.count wave.entry.from wave.entry.size (length sheets.old)) (payees_rows wave.entry.book.now wave.entry.usage.now (map (λ party. party.items) wave.entry.parties.now))))) }
+/// Writes the rows of a wave, each thread its own on its sheet. Few rows are written by one thread.
+fn write_wave<R: Threads + Sync>(rt: &R, sheets: &mut [Sheet], wave: Wave<'_>)
+    requires sheets { AreReady sheets.old }
+    requires shares { IsSharedOut wave }
+    ensures count { length sheets.new ≡ length sheets.old }
+    ensures written { AreWhole sheets.new → text_on sheets.new ≡ text_of (rows_of_wave wave.entry (length sheets.old)) }
 {
-    let count = sheets.len();
+    let threads = if wave.size < LEAST_FOR_THREADS {
+        1
+    } else {
+        sheets.len()
+    };
     thread::for_each_mut(
         rt,
         sheets,
-        count,
+        threads,
         &|place: usize, sheet: &mut Sheet|
-            requires { (place < 64) × (sheet.now.rows ≡ empty_page) × AreShares wave.book.now wave.usage.now (map (λ party. party.items) wave.parties.now) wave.count wave.from wave.size }
-            ensures { sheet.exit.now.is_whole ≡ true → sheet.exit.now.rows.text ≡ text_of (between (start_of wave.entry.count wave.entry.from wave.entry.size place) (start_of wave.entry.count wave.entry.from wave.entry.size (place + 1)) (payees_rows wave.entry.book.now wave.entry.usage.now (map (λ party. party.items) wave.entry.parties.now))) }
+            requires { (place < 64) × (sheet.now.rows ≡ empty_page) × IsSharedOut wave }
+            ensures { sheet.exit.now.is_whole ≡ true → sheet.exit.now.rows.text ≡ text_of (share_of wave.entry place) }
         { write_on(sheet, wave, place) },
     );
-    for place in 0..count {
-        pass_on(&mut sheets[place], out)?;
-    }
-    Ok(())
 }
 
 /// What the thread with a number writes of a wave.
 fn write_on(sheet: &mut Sheet, wave: Wave<'_>, place: usize)
     requires place { place < 64 }
     requires blank { sheet.old.rows ≡ empty_page }
-    requires shares { AreShares wave.book.now wave.usage.now (map (λ party. party.items) wave.parties.now) wave.count wave.from wave.size }
-    ensures { sheet.new.is_whole ≡ true → sheet.new.rows.text ≡ text_of (between (start_of wave.entry.count wave.entry.from wave.entry.size place) (start_of wave.entry.count wave.entry.from wave.entry.size (place + 1)) (payees_rows wave.entry.book.now wave.entry.usage.now (map (λ party. party.items) wave.entry.parties.now))) }
+    requires shares { IsSharedOut wave }
+    ensures { sheet.new.is_whole ≡ true → sheet.new.rows.text ≡ text_of (share_of wave.entry place) }
 {
     let from = wave.start_of(place);
     let end = wave.start_of(place + 1);
@@ -264,8 +314,21 @@ fn write_part(
     Ok(())
 }
 
+/// Passes on what is on sheets, one after another, if it is all that was to be.
+fn pass_on<W: Write>(sheets: &mut [Sheet], out: &mut W) -> io::Result<()>
+    ensures count { length sheets.new ≡ length sheets.old }
+    ensures whole { OnOk result (AreWhole sheets.old) }
+    ensures blank { OnOk result (AreBlank sheets.new) }
+    ensures passed { OnOk result (Appends (W.contents out.old) (W.contents out.new) (text_on sheets.old)) }
+{
+    for place in 0..sheets.len() {
+        pass_sheet_on(&mut sheets[place], out)?;
+    }
+    Ok(())
+}
+
 /// Passes on what is on a sheet, if it is all that was to be.
-fn pass_on<W: Write>(sheet: &mut Sheet, out: &mut W) -> io::Result<()>
+fn pass_sheet_on<W: Write>(sheet: &mut Sheet, out: &mut W) -> io::Result<()>
     ensures whole { OnOk result (sheet.old.is_whole ≡ true) }
     ensures blank { OnOk result (sheet.new.rows ≡ empty_page) }
     ensures passed { OnOk result (Appends (W.contents out.old) (W.contents out.new) sheet.old.rows.text) }

@@ -1,38 +1,73 @@
-use Rattle.std.proofs.Common.{◌≡◌, ◌∙◌, ◌≤◌, ap, drop, length, map, take, ℕ, Global, Vec, subst, sym, arith}
-use Rattle.std.proofs.KnownBytes.{Appends-trans}
-use Rattle.std.proofs.lemmas.List.{length-append, length-drop, length-take-le}
-use Rattle.std.proofs.lemmas.List.Elements.{All-append, All-drop}
+use Rattle.std.proofs.Common.{◌≡◌, ◌≤◌, ◌<◌, ◌-◌, ◌∙◌, [], ℕ, Global, Vec, ap, length, map, rules, subst, sym, arith, vec_len}
+use Rattle.std.proofs.KnownBytes.{Appends-nil, Appends-trans}
+use Rattle.std.proofs.lemmas.List.{take_all}
 use Rattle.std.specs.Io.KnownBytes.{Appends}
-use Rattle.csv_table.specs.Written.{empty_page, text_of}
+use Rattle.csv_table.specs.Written.{text_of}
 use Rattle.payee_book.specs.Text.{payees_rows}
-use Rattle.payee_book.specs.Waves.{between, start_of}
-use Rattle.payee_book.proofs.PartLemmas.{text_joined}
+use Rattle.payee_book.specs.Waves.{AreReady, AreWhole, between, start_of, text_on}
+use Rattle.payee_book.specs.declared.sheets.Sheet.{Sheet}
+use Rattle.payee_book.specs.declared.sheets.Wave.{Wave}
+use Rattle.payee_book.proofs.PartLemmas.{between_none, text_joined}
+use Rattle.payee_book.proofs.SheetLemmas.{text_on_blank}
 use Rattle.payee_book.proofs.sheets.write_payees.Goals as goal
+
+pub loop-from-init : goal.loop-from-init
+loop-from-init g c =
+    let all = payees_rows c.args.book.now c.args.usage.now (map (λ (party : Vec ℕ Global). party.items) c.args.parties.now) in
+    let start = g.W.Write.contents c.args.out.now in
+    let none : text_of (between 0 0 all) ≡ [] = ap text_of (between_none all 0 0 (omega arith)) in
+    let written = c.requires.sheets.1 in
+    record {
+      within = omega arith;
+      ready = c.requires.sheets.0;
+      count = (written.some, written.few);
+      rows = (0, omega arith, subst (Appends start start) (sym none) (Appends-nil start), λ whole. text_on_blank c.args.sheets.written.items written.blank ∙ sym none);
+    }
 
 pub loop-from-preserved : goal.loop-from-preserved
 loop-from-preserved g c =
     let all = payees_rows c.args.book.now c.args.usage.now (map (λ (party : Vec ℕ Global). party.items) c.args.parties.now) in
     let was = c.loop-from.invariant in
-    let sheets = c.loop-from.sheets in
-    let count = c.payees_row_count-count.result in
+    let done = c.in_ok-write_and_pass_on.ensures in
     let from = c.loop-from.from in
     let next = c.start_of-from.result in
-    let size = c.clamp-size.result in
-    let used = c.min-used.result in
+    let (passed, reached, out, waiting) = was.rows in
     let start = g.W.Write.contents c.args.out.now in
     let mid = g.W.Write.contents c.loop-from.out in
-    let end = g.W.Write.contents c.write_wave.new.out in
-    let within : used ≤ length sheets = omega (arith, c.min-used.ensures, was.sheets) in
-    let taken : length (take used sheets) ≡ used = length-take-le used sheets within in
-    let gone : start_of count from size (length (take used sheets)) ≡ next = ap (start_of count from size) taken ∙ sym {b = start_of count from size used} c.start_of-from.ensures in
+    let end = g.W.Write.contents c.write_and_pass_on.new.out in
+    let on : from ≤ next = omega (arith, c.start_of-from.ensures, was.within) in
+    let blank = c.write_and_pass_on.new.written in
+    let written = c.write_and_pass_on.new.blank in
+    let count : length blank.items ≡ length c.loop-from.written.items = omega (arith, done.written_count, blank.ok, c.loop-from.written.ok) in
+    let threads : vec_len c.loop-from.blank ≡ c.len-threads.result = search rules in
+    let wave : Wave = record { book = c.args.book; usage = c.args.usage; parties = c.args.parties; count = c.payees_row_count-count.result; from = from; size = c.min-size.result } in
+    let reach : start_of wave (vec_len c.loop-from.blank) ≡ next = ap (start_of wave) threads ∙ sym c.start_of-from.ensures in
+    let ready : AreReady blank.items = record { some = omega (arith, count, was.count.0); few = omega (arith, count, was.count.1); blank = done.blank } in
+    let same : length written.items ≡ length c.loop-from.blank.items = omega (arith, done.blank_count, written.ok, c.loop-from.blank.ok) in
     record {
       within = omega (arith, c.start_of-from.ensures);
-      sheets = omega (arith, was.sheets, within, taken, c.write_wave.auto.sheets, length-append c.write_wave.new.sheets (drop used sheets), length-drop used sheets);
-      blank =
-          All-append (λ sheet. sheet.rows ≡ empty_page) c.write_wave.new.sheets (drop used sheets) c.in_ok-write_wave.ensures.blank
-          (All-drop (λ sheet. sheet.rows ≡ empty_page) used sheets was.blank);
-      rows =
-          subst (Appends start end) (text_joined all 0 from next (omega arith) (omega (arith, c.start_of-from.ensures, was.within)))
-          (Appends-trans start mid end (text_of (between 0 from all)) (text_of (between from next all)) was.rows
-          (subst (λ (n : ℕ). Appends mid end (text_of (between from n all))) gone c.in_ok-write_wave.ensures.written));
+      ready = subst (λ (v : Vec Sheet Global). AreReady v.items) (sym c.swap.ensures.x_after) ready;
+      count = subst (λ (v : Vec Sheet Global). (0 < length v.items) × (length v.items ≤ 64)) (sym c.swap.ensures.y_after) (omega (arith, same, was.ready.some), omega (arith, same, was.ready.few));
+      rows = (
+        from,
+        on,
+        subst (Appends start end) (text_joined all 0 passed from (omega arith) reached)
+            (Appends-trans start mid end (text_of (between 0 passed all)) (text_of (between passed from all)) out (subst (Appends mid end) (waiting done.whole) done.passed)),
+        subst (λ (v : Vec Sheet Global). AreWhole v.items → text_on v.items ≡ text_of (between from next all)) (sym c.swap.ensures.y_after)
+            (λ whole. done.wave whole ∙ ap (λ (n : ℕ). text_of (between from n all)) reach),
+      );
     }
+
+pub returns-clause-written : goal.returns-clause-written
+returns-clause-written g c =
+    let all = payees_rows c.args.book.now c.args.usage.now (map (λ (party : Vec ℕ Global). party.items) c.args.parties.now) in
+    let (passed, reached, out, waiting) = c.loop-from.invariant.rows in
+    let done = c.in_ok-pass_on.ensures in
+    let here = c.as_mut_slice.ensures.value in
+    let start = g.W.Write.contents c.args.out.now in
+    let mid = g.W.Write.contents c.loop-from.out in
+    let end = g.W.Write.contents c.pass_on.new.out in
+    let count : length all ≤ c.loop-from.from = omega (arith, c.loop-from-test.false, c.payees_row_count-count.ensures.count c.args.usage.now (map (λ (party : Vec ℕ Global). party.items) c.args.parties.now) c.requires.payees.named) in
+    subst (Appends start end) (text_joined all 0 passed c.loop-from.from (omega arith) reached ∙ ap text_of (take_all (c.loop-from.from - 0) all (omega (arith, count))))
+    (Appends-trans start mid end (text_of (between 0 passed all)) (text_of (between passed c.loop-from.from all)) out
+    (subst (Appends mid end) (ap text_on here ∙ waiting (subst AreWhole here done.whole)) done.passed))
