@@ -47,7 +47,10 @@ impl Scratch {
         Scratch { list: Vec::with_capacity(257), order: Vec::with_capacity(257) }
     }
 
-    /// The method of largest remainder over the size of an amount; the residue's entry is last already.
+    /// The method of largest remainder over the size of an amount: each entry has its quota rounded
+    /// down, and the units that are left go one each to the largest remainders. Of equal remainders
+    /// the one that stands first in the list wins: the entries stand in order of account, and the
+    /// residue's, which stands last, loses every tie.
     #[inline]
     fn split(&mut self, amount: u64, base: u64) {
         let mut left = amount;
@@ -73,6 +76,7 @@ impl Scratch {
             for _ in 0..left {
                 let mut best = 0;
                 for i in 1..self.list.len() {
+                    // not `>=`: of equal remainders the first keeps its place
                     if self.list[i].remainder > self.list[best].remainder {
                         best = i;
                     }
@@ -85,6 +89,7 @@ impl Scratch {
             self.order.clear();
             self.order.extend(0..self.list.len() as u32);
             let list = &self.list;
+            // the largest remainder first, and of equal ones the one that stands first
             self.order.sort_unstable_by_key(|&i| (u32::MAX - list[i as usize].remainder, i));
             for &i in &self.order[..left as usize] {
                 self.list[i as usize].portion += 1;
