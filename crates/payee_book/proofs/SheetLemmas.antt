@@ -1,6 +1,9 @@
 -- What is on sheets, one after another.
-use Rattle.std.proofs.Common.{◌≡◌, ◌∙◌, ◌++◌, ◌+◌, ◌<◌, ◌∷◌, [], ℕ, suc, List, true, ap, ap₂, get_or, length, take, arith, refl, subst, sym}
+use Rattle.std.proofs.Common.{◌≡◌, ◌∙◌, ◌++◌, ◌+◌, ◌<◌, ◌≤◌, ◌∷◌, [], ℕ, suc, List, true, ap, ap₂, get_or, length, take, arith, refl, subst, sym}
 use Rattle.std.proofs.lemmas.List.{flat_map_more, take_more}
+use Rattle.std.proofs.KnownBytes.{Appends-trans}
+use Rattle.std.specs.Io.KnownBytes.{Appends}
+use Rattle.std.specs.Prelude.{Option}
 use Rattle.csv_table.specs.Written.{Page, text_of}
 use Rattle.payee_book.specs.Waves.{AreBlank, AreWhole, all_rows, between, share_of, start_of, text_on}
 use Rattle.payee_book.specs.declared.sheets.Sheet.{Sheet}
@@ -33,6 +36,15 @@ shares_joined wave place (sheet ∷ sheets) each whole =
     ap₂ ◌++◌ first rest
     ∙ (text_joined (all_rows wave) (start_of wave place) (start_of wave (place + 1)) (start_of wave (place + 1 + length sheets)) (omega arith) (omega arith)
     ∙ ap (λ (n : ℕ). text_of (between (start_of wave place) (start_of wave n) (all_rows wave))) end)
+
+-- The first rows are passed on, and then what is on sheets: the rows after these.
+pub passed_after : (start mid end : Option (List ℕ)) (rows : List (List (List ℕ))) (passed from : ℕ) (sheets : List Sheet)
+    → passed ≤ from → Appends start mid (text_of (between 0 passed rows))
+    → (AreWhole sheets → text_on sheets ≡ text_of (between passed from rows)) → AreWhole sheets → Appends mid end (text_on sheets)
+    → Appends start end (text_of (between 0 from rows))
+passed_after start mid end rows passed from sheets reached before waiting whole more =
+    subst (Appends start end) (text_joined rows 0 passed from (omega arith) reached)
+    (Appends-trans start mid end (text_of (between 0 passed rows)) (text_of (between passed from rows)) before (subst (Appends mid end) (waiting whole) more))
 
 -- the first of sheets, and one more
 pub text_on_more : (sheets : List Sheet) (k : ℕ) (d : Sheet) → k < length sheets → text_on (take k sheets) ++ (get_or sheets k d).rows.text ≡ text_on (take (k + 1) sheets)

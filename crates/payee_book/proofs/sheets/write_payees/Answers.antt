@@ -1,5 +1,5 @@
 use Rattle.std.proofs.Common.{◌≡◌, ◌≤◌, ◌<◌, ◌-◌, ◌∙◌, [], ℕ, Global, Vec, ap, length, map, rules, subst, sym, arith, vec_len}
-use Rattle.std.proofs.KnownBytes.{Appends-nil, Appends-trans}
+use Rattle.std.proofs.KnownBytes.{Appends-nil}
 use Rattle.std.proofs.lemmas.List.{take_all}
 use Rattle.std.specs.Io.KnownBytes.{Appends}
 use Rattle.csv_table.specs.Written.{text_of}
@@ -7,8 +7,8 @@ use Rattle.payee_book.specs.Text.{payees_rows}
 use Rattle.payee_book.specs.Waves.{AreReady, AreWhole, between, start_of, text_on}
 use Rattle.payee_book.specs.declared.sheets.Sheet.{Sheet}
 use Rattle.payee_book.specs.declared.sheets.Wave.{Wave}
-use Rattle.payee_book.proofs.PartLemmas.{between_none, text_joined}
-use Rattle.payee_book.proofs.SheetLemmas.{text_on_blank}
+use Rattle.payee_book.proofs.PartLemmas.{between_none}
+use Rattle.payee_book.proofs.SheetLemmas.{passed_after, text_on_blank}
 use Rattle.payee_book.proofs.sheets.write_payees.Goals as goal
 
 pub loop-from-init : goal.loop-from-init
@@ -51,8 +51,7 @@ loop-from-preserved g c =
       rows = (
         from,
         on,
-        subst (Appends start end) (text_joined all 0 passed from (omega arith) reached)
-            (Appends-trans start mid end (text_of (between 0 passed all)) (text_of (between passed from all)) out (subst (Appends mid end) (waiting done.whole) done.passed)),
+        passed_after start mid end all passed from c.loop-from.written.items reached out waiting done.whole done.passed,
         subst (λ (v : Vec Sheet Global). AreWhole v.items → text_on v.items ≡ text_of (between from next all)) (sym c.swap.ensures.y_after)
             (λ whole. done.wave whole ∙ ap (λ (n : ℕ). text_of (between from n all)) reach),
       );
@@ -68,6 +67,6 @@ returns-clause-written g c =
     let mid = g.W.Write.contents c.loop-from.out in
     let end = g.W.Write.contents c.pass_on.new.out in
     let count : length all ≤ c.loop-from.from = omega (arith, c.loop-from-test.false, c.payees_row_count-count.ensures.count c.args.usage.now (map (λ (party : Vec ℕ Global). party.items) c.args.parties.now) c.requires.payees.named) in
-    subst (Appends start end) (text_joined all 0 passed c.loop-from.from (omega arith) reached ∙ ap text_of (take_all (c.loop-from.from - 0) all (omega (arith, count))))
-    (Appends-trans start mid end (text_of (between 0 passed all)) (text_of (between passed c.loop-from.from all)) out
-    (subst (Appends mid end) (ap text_on here ∙ waiting (subst AreWhole here done.whole)) done.passed))
+    subst (λ rows. Appends start end (text_of rows)) (take_all (c.loop-from.from - 0) all (omega (arith, count)))
+    (passed_after start mid end all passed c.loop-from.from c.loop-from.written.items reached out waiting (subst AreWhole here done.whole)
+    (subst (λ sheets. Appends mid end (text_on sheets)) here done.passed))
