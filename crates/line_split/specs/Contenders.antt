@@ -7,11 +7,11 @@ use Rattle.line_split.specs.Signs.{signed_entry, with_sign_of}
 
 -- a contender's place among the participants
 abbrev pub place_of : Contender → ℕ
-place_of contender = PLACES - 1 - contender.number.0 % PLACES
+place_of contender = PLACES - 1 - contender.precedence.0 % PLACES
 
 -- a contender's place and remainder
 abbrev pub place_and_remainder : Contender → ℕ × ℕ
-place_and_remainder contender = (place_of contender, contender.number.0 / PLACES)
+place_and_remainder contender = (place_of contender, contender.precedence.0 / PLACES)
 
 -- a participant's account and its quota, with the amount's sign
 abbrev pub signed_quota : (amount : ℤ) (base : ℕ) → ℕ × ℕ → ℕ × ℤ
