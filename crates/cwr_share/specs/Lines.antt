@@ -6,6 +6,6 @@ use Rattle.csv_table.specs.Pieces.{pieces_at}
 abbrev pub without_return : List ℕ → List ℕ
 without_return line = if slice_index line (length line - 1) == 13 then take (length line - 1) line else line
 
--- the lines of a text, without their ends; one that ends in a line feed has no line after it
+-- the lines of a text, without their ends; a text that ends in a line feed has no line after it
 abbrev pub lines_of : List ℕ → List (List ℕ)
 lines_of bytes = map without_return (pieces_at 10 bytes)
