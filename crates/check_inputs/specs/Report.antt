@@ -45,7 +45,7 @@ abbrev pub cwr_line : (path : List ℕ) → List ℕ × CwrFault → List ℕ
 cwr_line path e = fault_line path (codes "line ") (cwr.place_of_fault e.1) (cwr_message e.0 e.1) (cwr.number_of_fault e.1)
 
 abbrev pub usage_line : (path : List ℕ) → List (List ℕ) × LineFault → List ℕ
-usage_line path e = fault_line path (codes "row ") (usage.place_of e.1) (usage_message e.0 e.1) (usage.number_of e.1)
+usage_line path e = fault_line path (codes "row ") (usage.place_of_fault e.1) (usage_message e.0 e.1) (usage.number_of_fault e.1)
 
 -- all faults, in the order in which a run reads the files
 abbrev pub faults_text : Paths → Found → List ℕ

@@ -2,6 +2,7 @@ pub mod Codes
 pub mod Fields
 pub mod InTurn
 pub mod LineFeeds
+pub mod PieceLemmas
 pub mod ReadBack
 pub mod ReadingOn
 pub mod RowCounts

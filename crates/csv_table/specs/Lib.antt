@@ -1,5 +1,6 @@
 pub mod FirstFault
 pub mod Forms
+pub mod Pieces
 pub mod ReadOn
 pub mod Table
 pub mod Walk

@@ -2,7 +2,8 @@
 use Rattle.std.specs.Prelude.{ℕ, ◌≡◌, ◌+◌, ◌⊎◌, ◌∷◌, List, [], drop}
 use Rattle.csv_table.specs.FirstFault.{HasNoHeader}
 
--- By the next rows, of which the first has a number, from one state to another: the rows that are left out, each with what it is refused for, and the rows to come. Of a row it is said what state it leads to, what it is refused for, and whether it ends reading.
+-- By the next rows, of which the first has a number, from one state to another: the rows that are left out, each with what it is refused for, and the rows to come.
+-- Of a row it is said what state it leads to, what it is refused for, and whether it ends reading.
 pub data ReadsOn {S R F : Type 0} (Reads : S → R → S → Type 0) (Refuses : S → ℕ → R → F → Type 0) (Stops : S → R → F → Type 0)
     : S → ℕ → List R → List (R × F) → S → ℕ → List R → Type 0 where
   here : (state : S) (number : ℕ) (rows : List R) → ReadsOn Reads Refuses Stops state number rows [] state number rows
@@ -15,7 +16,8 @@ pub data ReadsOn {S R F : Type 0} (Reads : S → R → S → Type 0) (Refuses : 
   stopped : (state : S) (number : ℕ) (row : R) (fault : F) (rows : List R)
       → Stops state row fault → ReadsOn Reads Refuses Stops state number (row ∷ rows) ((row, fault) ∷ []) state number []
 
--- A table is read whole: its rows below the header, from a state to another. Where its first row is not the header, or there is none, that is a fault of its own, without fields, and the rows below it are read.
+-- A table is read whole: its rows below the header, from a state to another.
+-- Where its first row is not the header, or there is none, that is a fault of its own, without fields, and the rows below it are read.
 pub record ReadsTable {S F : Type 0} (Reads : S → List (List ℕ) → S → Type 0) (Refuses : S → ℕ → List (List ℕ) → F → Type 0) (Stops : S → List (List ℕ) → F → Type 0)
     (header : List (List ℕ)) (headless : F) (first : S) (rows : List (List (List ℕ))) (out : List (List (List ℕ) × F)) (last : S) : Type 0 where
   pub below : List (List (List ℕ) × F)

@@ -1,7 +1,8 @@
-//! Where a text can be cut in two.
+//! Where a text is cut.
 
-ghost use Rattle.std.specs.Prelude.{◌≡◌, ◌++◌, IfSome, false};
+ghost use Rattle.std.specs.Prelude.{◌≡◌, ◌<◌, ◌++◌, ◌∷◌, IfSome, false, length};
 ghost use Rattle.csv.specs.Reading.{strip_bom};
+ghost use Rattle.csv_table.specs.Pieces.{pieces_at};
 ghost use Rattle.csv_table.specs.Table.{HaveNoLineFeed, rows_of};
 
 use memchr::memchr;
@@ -20,6 +21,18 @@ pub fn cut_in_two(text: &[u8]) -> Option<(&[u8], &[u8])>
         return None;
     }
     Some((&text[..at], &text[at..]))
+}
+
+/// What stands before the first byte of this value, and what stands after it. Where there is none, that is the text and nothing.
+#[inline]
+pub fn first_piece(text: &[u8], cut: u8) -> (&[u8], &[u8])
+    ensures pieces { (0 < length text.now) → pieces_at cut text.now ≡ result.0.now ∷ pieces_at cut result.1.now }
+    ensures shorter { (0 < length text.now) → length result.1.now < length text.now }
+{
+    match memchr(cut, text) {
+        Some(place) => (&text[..place], &text[place + 1..]),
+        None => (text, b""),
+    }
 }
 
 /// Whether a text begins as a byte order mark does.

@@ -7,6 +7,6 @@ pub mod laws;
 mod row_writer;
 mod rows;
 
-pub use cuts::cut_in_two;
+pub use cuts::{cut_in_two, first_piece};
 pub use row_writer::RowWriter;
 pub use rows::Rows;

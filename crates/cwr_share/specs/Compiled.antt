@@ -1,5 +1,6 @@
 -- How a registration is kept, so that its claims take one look at each of its share lines.
-use Rattle.std.specs.Prelude.{ℕ, ◌++◌, ◌==◌, nat_lt, if◌then◌else◌, ◌≡◌, ◌≤◌, ◌<◌, ◌+◌, ◌∷◌, List, All, AllPairs, Contains, [], drop, filter, length, map, nat_eq, slice_index_or, sum_by, take, zip, false, true, ⊤, Vec, Bool, not, flat_map, reverse}
+use Rattle.std.specs.Prelude.{ℕ, ⊤, ◌≡◌, ◌≤◌, ◌<◌, ◌+◌, ◌++◌, ◌==◌, ◌∷◌, [], Bool, List, Vec, All, AllPairs, Contains, false, true, not, if◌then◌else◌}
+use Rattle.std.specs.Prelude.{drop, filter, flat_map, length, map, nat_eq, nat_lt, reverse, slice_index_or, sum_by, take, zip}
 use Rattle.std.specs.List.{list_any}
 use Rattle.std.specs.Cmp.Lexicographic.{pointwise}
 use Rattle.line_split.specs.declared.usage.Right.{Right}

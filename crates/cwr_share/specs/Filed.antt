@@ -1,5 +1,5 @@
 -- Registrations as they stand in their file, whose lines count from 1.
-use Rattle.std.specs.Prelude.{ℕ, ◌≡◌, ◌+◌, ◌&&◌, ◌∷◌, ◌++◌, All, Bool, List, count_by, false, drop, length, map, nat_eq, not, reverse, true, Option, Some, None}
+use Rattle.std.specs.Prelude.{ℕ, ◌≡◌, ◌+◌, ◌&&◌, ◌∷◌, ◌++◌, [], All, Bool, List, count_by, false, drop, length, map, nat_eq, not, reverse, true, Option, Some, None}
 use Rattle.std.specs.List.{enumerate_from, filter, find, take_while}
 use Rattle.std.specs.Option.{option_map}
 use Rattle.std.specs.Cmp.Lexicographic.{pointwise}
@@ -61,3 +61,8 @@ pub record IsFiledTo (body : List (List ℕ)) (filing : Filing) : Type 0 where
   pub numbers : filing.filed.numbers.items ≡ share_numbers (filing.filed.line + 1) body
   pub interest : filing.interest ≡ count_by opens_interest body
   pub number : filing.number ≡ filing.filed.line + length body
+
+-- a registration goes on by a line more, which does not end it
+abbrev pub GoesOnBy : (line : List ℕ) → (old next : Filing) → Type 0
+GoesOnBy line old next =
+    (ends_registration line ≡ false) × (next.filed.line ≡ old.filed.line) × ((body : List (List ℕ)) → IsFiledTo body old → IsFiledTo (body ++ line ∷ []) next)

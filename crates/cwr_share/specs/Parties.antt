@@ -50,7 +50,8 @@ pub record AreAllOf (text_of : ShareLine → List ℕ) (lists : List (List Share
 abbrev pub IsAccountOf : (payees : List (List ℕ)) → (payee : List ℕ) → (account : ℕ) → Type 0
 IsAccountOf payees payee account = (0 < account) × (account < length payees) × (slice_index_or payees account [] ≡ payee)
 
--- The payees of the lists by account, each once and in byte order, where the residue's account has no text; and the parties of the lists, each once, with the account of its payee, in order of account.
+-- The payees of the lists by account, each once and in byte order, where the residue's account has no text;
+-- and the parties of the lists, each once, with the account of its payee, in order of account.
 pub record AreAccountsOf (rows : List (List ℕ × List ℕ)) (lists : List (List ShareLine)) (parties : List (List ℕ × ℕ)) (payees : List (List ℕ)) : Type 0 where
   pub names : List (List ℕ)
   pub accounts : payees ≡ [] ∷ names

@@ -75,8 +75,10 @@ pub(crate) fn claims(
     requires lines { (named : List ShareLine) × (claimants : List (ℕ × List ℕ)) × AreClaimLines named claimants lines.now }
     requires few { length lines.now ≤ MOST_SHARES }
     requires room { length lines.now ≤ out.old.room }
-    ensures within { (named : List ShareLine) (claimants : List (ℕ × List ℕ)) → AreClaimLines named claimants lines.now → result ≡ nat_le (total_of (claims_of_claimants tis.now land right named claimants)) MOST_CLAIMED }
-    ensures claims { (named : List ShareLine) (claimants : List (ℕ × List ℕ)) → AreClaimLines named claimants lines.now → out.new.list ≡ (if result then filter (λ claim. not (claim.1 == 0)) (claims_of_claimants tis.now land right named claimants) else []) }
+    ensures within { (named : List ShareLine) (claimants : List (ℕ × List ℕ)) → AreClaimLines named claimants lines.now
+        → result ≡ nat_le (total_of (claims_of_claimants tis.now land right named claimants)) MOST_CLAIMED }
+    ensures claims { (named : List ShareLine) (claimants : List (ℕ × List ℕ)) → AreClaimLines named claimants lines.now
+        → out.new.list ≡ (if result then filter (λ claim. not (claim.1 == 0)) (claims_of_claimants tis.now land right named claimants) else []) }
     ensures room { out.new.room ≡ out.old.room }
 {
     out.clear();

@@ -3,7 +3,7 @@
 
 ghost use Rattle.std.specs.Prelude.{◌≡◌, ◌≤◌, ◌+◌, ◌∷◌, ◌++◌, ◌<◌, ◌^◌, ◌⊎◌, [], ℕ, List, IfNone, IfOk, IfSome, None, OnOk, Some, count_by, drop, false, length, true};
 ghost use Rattle.cwr_share.specs.CwrFile.{AreSound, IsShareRecord};
-ghost use Rattle.cwr_share.specs.Filed.{AreShareRecords, IsFiled, IsFiledTo, body_of, last_opening as number_of_opening, opens_work, share_numbers};
+ghost use Rattle.cwr_share.specs.Filed.{AreShareRecords, GoesOnBy, IsFiled, IsFiledTo, body_of, last_opening as number_of_opening, opens_work, share_numbers};
 ghost use Rattle.cwr_share.specs.Lines.{lines_of};
 ghost use Rattle.cwr_share.specs.Records.{ends_registration, is_share_line, opens_registration, share_fields};
 ghost use Rattle.cwr_share.specs.Registrations.{share_line_of, share_lines_of};
@@ -131,7 +131,7 @@ impl Filing {
         requires few { self.old.number + 1 < 2 ^ 64 }
         requires shares { length self.old.filed.shares.items ≤ MOST_SHARES }
         ensures shares { IfOk result (λ _. length self.new.filed.shares.items ≤ MOST_SHARES) }
-        ensures on { IfOk result (λ on. on ≡ true → (ends_registration line.now ≡ false) × (self.new.filed.line ≡ self.old.filed.line) × ((body : List (List ℕ)) → IsFiledTo body self.old → IsFiledTo (body ++ line.now ∷ []) self.new)) }
+        ensures on { IfOk result (λ on. on ≡ true → GoesOnBy line.now self.old self.new) }
         ensures end { IfOk result (λ on. on ≡ false → (ends_registration line.now ≡ true) × (self.new.filed ≡ self.old.filed)) }
     {
         match record_type(line) {

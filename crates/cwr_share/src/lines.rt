@@ -1,9 +1,9 @@
 //! The lines of a file, one after another.
 
-ghost use Rattle.std.specs.Prelude.{◌≡◌, ◌∷◌, ◌<◌, [], IfSome, IfNone, length};
-ghost use Rattle.cwr_share.specs.Lines.{cut_at_line_feeds, without_return, lines_of};
+ghost use Rattle.std.specs.Prelude.{◌≡◌, ◌∷◌, [], IfSome, IfNone};
+ghost use Rattle.cwr_share.specs.Lines.{without_return, lines_of};
 
-use memchr::memchr;
+use csv_table::first_piece;
 use std::marker::Model;
 
 /// The lines of a text that are to come, without their ends: LF or CR LF.
@@ -44,19 +44,9 @@ impl<'a> Lines<'a> {
         if self.rest.is_empty() {
             return None;
         }
-        let (line, rest) = first_line(self.rest);
+        let (line, rest) = first_piece(self.rest, b'\n');
         self.rest = rest;
         Some(before_return(line))
-    }
-}
-
-/// What stands before the first line feed, and what stands after it.
-fn first_line(text: &[u8]) -> (&[u8], &[u8])
-    ensures { (0 < length text.now) → cut_at_line_feeds text.now ≡ result.0.now ∷ cut_at_line_feeds result.1.now }
-{
-    match memchr(b'\n', text) {
-        Some(place) => (&text[..place], &text[place + 1..]),
-        None => (text, b""),
     }
 }
 

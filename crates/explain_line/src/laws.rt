@@ -10,7 +10,7 @@ ghost use Rattle.cwr_share.specs.Registrations.{ShareLine};
 ghost use Rattle.explain_line.specs.Explanation.{IsExplanationOf, IsRow, decides, portions_shown};
 ghost use Rattle.line_split.specs.Signs.{signed_portions_of};
 ghost use Rattle.line_split.specs.UsageLine.{UsageLine};
-ghost use Rattle.payee_book.specs.Run.{IsBookOf, portion_of, posting_of};
+ghost use Rattle.payee_book.specs.Run.{IsBookOf, portion_for, posting_of};
 ghost use Rattle.run_inputs.specs.Inputs.{IsReading};
 
 /// The portions that an explanation shows are the postings of its line in the statements of a run over the same files, those that
@@ -23,7 +23,7 @@ pub fn law_explained_portions_are_posted()
         → IsReading territories_file payees_file registrations_file usage_file of_run registered_of_run lines_of_run
         → IsBookOf (λ other. signed_portions_of other.amount (claims_on of_run registered_of_run other)) lines_of_run (length registered_of_run.parties) statements
         → IsRow lines (place + 1) line → account < length registered.parties
-        → filter (λ posting. posting.0 == place) (slice_index_or statements account []) ≡ posting_of place (portion_of account (portions_shown line.amount (claims_on table registered line))) }
+        → filter (λ posting. posting.0 == place) (slice_index_or statements account []) ≡ posting_of place (portion_for account (portions_shown line.amount (claims_on table registered line))) }
 {}
 
 /// Where no reason stands against them, the claims by the share lines that an explanation shows are those that the line is divided by.

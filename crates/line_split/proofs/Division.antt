@@ -100,10 +100,10 @@ module _ (a amount : ℤ) (b base n : ℕ) (ps : List (ℕ × ℕ)) (list : List
 
 -- the order that the sort goes by
 abbrev pub contender_lt : Contender → Contender → Bool
-contender_lt a b = is_lt (nat_cmp b.number.0 a.number.0)
+contender_lt a b = is_lt (nat_cmp b.precedence.0 a.precedence.0)
 
 contender_lt_order : IsStrictWeakOrder contender_lt
-contender_lt_order = ranks_by (on_total (λ (t : Contender). t.number.0) (back_total nat_cmp_total)) (λ t. t)
+contender_lt_order = ranks_by (on_total (λ (t : Contender). t.precedence.0) (back_total nat_cmp_total)) (λ t. t)
 
 -- the order of contenders is that of the definition
 same_order : (a b : Contender) → contender_lt a b ≡ comes_before (place_and_remainder a) (place_and_remainder b)

@@ -9,7 +9,7 @@ use Rattle.line_split.specs.Claims.{total_of, counted_claims, base_of, participa
 use Rattle.line_split.specs.LargestRemainder.{quota_of, portions_among, portions_of}
 use Rattle.line_split.specs.FairSplit.{value_at, StaysWithinQuota, GivesByRemainder, IsFairSplitOfSize}
 use Rattle.line_split.proofs.SumBelow.{sum_below, bit, same_sums, sum_below-add}
-use Rattle.line_split.proofs.Ranks.{before, before_means, before_from, rank, rank_rises, first_k, count_below}
+use Rattle.line_split.proofs.Ranks.{comes_before_by, comes_before_means, comes_before_from, rank, rank_rises, first_k, count_below}
 use Rattle.line_split.proofs.Quotas.{quotas, left, remainders, portion, portions_add_up, within_quota}
 use Rattle.line_split.proofs.Places.{number_at_is, sum_by_number, length-portions, portion_at}
 
@@ -61,7 +61,7 @@ module _ (amount base : ℕ) (participants : List (ℕ × ℕ)) (some : 0 < base
   pub portions-by_remainder : GivesByRemainder amount base participants (portions_among amount base participants)
   portions-by_remainder i j in_i in_j first has =
       rw (value_at-portions i in_i) (
-      let up = rank_rises (length participants) (remainders amount base (value_at participants)) i j in_i (before_from (remainders amount base (value_at participants)) i j first) in
+      let up = rank_rises (length participants) (remainders amount base (value_at participants)) i j in_i (comes_before_from (remainders amount base (value_at participants)) i j first) in
       up_with (quota_of amount base (value_at participants i)) (quota_of amount base (value_at participants j))
       (rank (length participants) (remainders amount base (value_at participants)) i) (rank (length participants) (remainders amount base (value_at participants)) j)
       (left (length participants) amount base (value_at participants)) up (rw (value_at-portions j in_j) at has)
@@ -147,9 +147,9 @@ module _ (amount base : ℕ) (participants portions : List (ℕ × ℕ)) where
       units q c e = omega arith
 
       goes_down : (j k : ℕ) → j < length participants → k < length participants
-          → before (remainders amount base (value_at participants)) j k ≡ true → has_unit k ≡ true → has_unit j ≡ true
+          → comes_before_by (remainders amount base (value_at participants)) j k ≡ true → has_unit k ≡ true → has_unit j ≡ true
       goes_down j k jn kn first has_k =
-          lt-ltb _ _ (by_remainder j k jn kn (before_means (remainders amount base (value_at participants)) j k first) (ltb-true _ _ has_k))
+          lt-ltb _ _ (by_remainder j k jn kn (comes_before_means (remainders amount base (value_at participants)) j k first) (ltb-true _ _ has_k))
 
 -- No other portions are fair.
 pub only_fair : (amount : ℕ) (claims portions : List (ℕ × ℕ)) → IsFairSplitOfSize amount claims portions → portions ≡ portions_of amount claims

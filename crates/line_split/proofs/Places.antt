@@ -7,7 +7,7 @@ use Rattle.line_split.specs.LargestRemainder.{quota_of, remainder_of, units_left
 use Rattle.line_split.specs.FairSplit.{value_at}
 use Rattle.line_split.proofs.Enumerated.{enumerated}
 use Rattle.line_split.proofs.SumBelow.{sum_below, bit, same_sums, sum_by-places}
-use Rattle.line_split.proofs.Ranks.{before, rank}
+use Rattle.line_split.proofs.Ranks.{comes_before_by, rank}
 use Rattle.line_split.proofs.Quotas.{left, remainders, portion}
 
 -- an entry's number, at a place of the list
@@ -40,7 +40,7 @@ module _ (amount base : ℕ) (participants : List (ℕ × ℕ)) where
       ∙ (ap (λ (n : ℕ). sum_below n (λ j. bit (comes_before (get_or (contenders_of amount base participants) j (0, 0)) (i, remainders amount base (value_at participants) i))))
       (length-enumerate_from 0 (map (λ p. remainder_of amount base p.1) participants) ∙ length-map participants (λ p. remainder_of amount base p.1))
       ∙ same_sums (length participants) (λ j. bit (comes_before (get_or (contenders_of amount base participants) j (0, 0)) (i, remainders amount base (value_at participants) i)))
-      (λ j. bit (before (remainders amount base (value_at participants)) j i))
+      (λ j. bit (comes_before_by (remainders amount base (value_at participants)) j i))
       (λ j lt. ap (λ (contender : ℕ × ℕ). bit (comes_before contender (i, remainders amount base (value_at participants) i))) (contender_at j (0, 0) lt)))
 
   pub portion_is : (i : ℕ) → portion_of amount base participants i (value_at participants i) ≡ portion (length participants) amount base (value_at participants) i

@@ -5,7 +5,7 @@ use Rattle.std.proofs.lemmas.Bool.{cases_lt}
 use Rattle.std.proofs.lemmas.Bool.Decides.{nat_tests}
 use Rattle.line_split.specs.LargestRemainder.{quota_of, remainder_of}
 use Rattle.line_split.proofs.SumBelow.{sum_below, bit, same_sums, sum_below-add, sum_below-scale, sum_below-le, sum_below-constant}
-use Rattle.line_split.proofs.Ranks.{before, before_from, rank, ranks_count}
+use Rattle.line_split.proofs.Ranks.{comes_before_by, comes_before_from, rank, ranks_count}
 
 -- what the quotas and the units left are
 abbrev pub quotas : (n amount base : ℕ) (w : ℕ → ℕ) → ℕ
@@ -80,9 +80,9 @@ unit_needs_remainder n amount base w some whole i has = go (remainders amount ba
     most : remainders amount base w i ≡ 0
         → sum_below n (remainders amount base w) ≤ (base - 1) * rank n (remainders amount base w) i
     most none =
-        let scaled = sum_below-scale n (base - 1) (λ j. bit (before (remainders amount base w) j i)) in
-        let each = sum_below-le n (remainders amount base w) (λ j. (base - 1) * bit (before (remainders amount base w) j i))
-        (λ j _. one (amount * w j) (before (remainders amount base w) j i) (λ more. before_from (remainders amount base w) j i (inl (omega (arith, none, more))))) in
+        let scaled = sum_below-scale n (base - 1) (λ j. bit (comes_before_by (remainders amount base w) j i)) in
+        let each = sum_below-le n (remainders amount base w) (λ j. (base - 1) * bit (comes_before_by (remainders amount base w) j i))
+        (λ j _. one (amount * w j) (comes_before_by (remainders amount base w) j i) (λ more. comes_before_from (remainders amount base w) j i (inl (omega (arith, none, more))))) in
         omega (arith, scaled, each)
       where
         one : (x : ℕ) (b : Bool) → (0 < x % base → b ≡ true) → x % base ≤ (base - 1) * bit b

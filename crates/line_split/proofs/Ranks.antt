@@ -4,28 +4,28 @@ use Rattle.std.proofs.lemmas.Bool.Decides.{nat_tests}
 use Rattle.line_split.specs.LargestRemainder.{comes_before}
 use Rattle.line_split.proofs.SumBelow.{sum_below, bit, same_sums, sum_below-add, sum_below-le, sum_below-lt, sum_below-constant}
 
--- the place j comes before the place i
-abbrev pub before : (ℕ → ℕ) → ℕ → ℕ → Bool
-before r j i = comes_before (j, r j) (i, r i)
+-- the place j comes before the place i, where each place has the remainder that r gives it
+abbrev pub comes_before_by : (ℕ → ℕ) → ℕ → ℕ → Bool
+comes_before_by r j i = comes_before (j, r j) (i, r i)
 
 abbrev pub rank : ℕ → (ℕ → ℕ) → ℕ → ℕ
-rank n r i = sum_below n (λ j. bit (before r j i))
+rank n r i = sum_below n (λ j. bit (comes_before_by r j i))
 
-before_irrefl : (r : ℕ → ℕ) (i : ℕ) → before r i i ≡ false
-before_irrefl r i = grind (arith, nat_tests)
+comes_before_irrefl : (r : ℕ → ℕ) (i : ℕ) → comes_before_by r i i ≡ false
+comes_before_irrefl r i = grind (arith, nat_tests)
 
-pub before_total : (r : ℕ → ℕ) (j i : ℕ) → j ≢ i → before r j i ≡ false → before r i j ≡ true
-before_total r j i other h = grind (arith, nat_tests)
+pub comes_before_total : (r : ℕ → ℕ) (j i : ℕ) → j ≢ i → comes_before_by r j i ≡ false → comes_before_by r i j ≡ true
+comes_before_total r j i other h = grind (arith, nat_tests)
 
-before_trans : (r : ℕ → ℕ) (k j i : ℕ) → before r k j ≡ true → before r j i ≡ true → before r k i ≡ true
-before_trans r k j i h g = grind (arith, nat_tests)
+comes_before_trans : (r : ℕ → ℕ) (k j i : ℕ) → comes_before_by r k j ≡ true → comes_before_by r j i ≡ true → comes_before_by r k i ≡ true
+comes_before_trans r k j i h g = grind (arith, nat_tests)
 
 -- in words: by the greater remainder, and among equal ones by the earlier place
-pub before_means : (r : ℕ → ℕ) (j i : ℕ) → before r j i ≡ true → (r i < r j) ⊎ ((r j ≡ r i) × (j < i))
-before_means r j i h = grind (arith, nat_tests)
+pub comes_before_means : (r : ℕ → ℕ) (j i : ℕ) → comes_before_by r j i ≡ true → (r i < r j) ⊎ ((r j ≡ r i) × (j < i))
+comes_before_means r j i h = grind (arith, nat_tests)
 
-pub before_from : (r : ℕ → ℕ) (j i : ℕ) → (r i < r j) ⊎ ((r j ≡ r i) × (j < i)) → before r j i ≡ true
-before_from r j i h = grind (arith, nat_tests)
+pub comes_before_from : (r : ℕ → ℕ) (j i : ℕ) → (r i < r j) ⊎ ((r j ≡ r i) × (j < i)) → comes_before_by r j i ≡ true
+comes_before_from r j i h = grind (arith, nat_tests)
 
 bit_le : (p q : Bool) → (p ≡ true → q ≡ true) → bit p ≤ bit q
 bit_le true q h = rw (h refl) (omega arith)
@@ -35,25 +35,25 @@ bit_lt : (p q : Bool) → p ≡ false → q ≡ true → bit p < bit q
 bit_lt p q hp hq = rw (hp, hq) (omega arith)
 
 -- who comes before another has the smaller rank
-pub rank_rises : (n : ℕ) (r : ℕ → ℕ) (j i : ℕ) → j < n → before r j i ≡ true → rank n r j < rank n r i
+pub rank_rises : (n : ℕ) (r : ℕ → ℕ) (j i : ℕ) → j < n → comes_before_by r j i ≡ true → rank n r j < rank n r i
 rank_rises n r j i lt h =
-    sum_below-lt n (λ k. bit (before r k j)) (λ k. bit (before r k i)) j
-    (λ k _. bit_le (before r k j) (before r k i) (λ g. before_trans r k j i g h))
-    lt (bit_lt (before r j j) (before r j i) (before_irrefl r j) h)
+    sum_below-lt n (λ k. bit (comes_before_by r k j)) (λ k. bit (comes_before_by r k i)) j
+    (λ k _. bit_le (comes_before_by r k j) (comes_before_by r k i) (λ g. comes_before_trans r k j i g h))
+    lt (bit_lt (comes_before_by r j j) (comes_before_by r j i) (comes_before_irrefl r j) h)
 
 -- two places have two ranks
 one_each : (n : ℕ) (r : ℕ → ℕ) (j i : ℕ) → j < n → i < n → rank n r j ≡ rank n r i → j ≢ i → ⊥
-one_each n r j i jn in_n same other = go (before r j i) refl
+one_each n r j i jn in_n same other = go (comes_before_by r j i) refl
   where
-    go : (b : Bool) → before r j i ≡ b → ⊥
+    go : (b : Bool) → comes_before_by r j i ≡ b → ⊥
     go true h = let up = rank_rises n r j i jn h in absurd (omega arith)
-    go false h = let up = rank_rises n r i j in_n (before_total r j i other h) in absurd (omega arith)
+    go false h = let up = rank_rises n r i j in_n (comes_before_total r j i other h) in absurd (omega arith)
 
 -- no rank reaches n
 pub rank_small : (n : ℕ) (r : ℕ → ℕ) (i : ℕ) → i < n → rank n r i < n
 rank_small n r i lt =
-    let less = sum_below-lt n (λ k. bit (before r k i)) (λ _. 1) i
-    (λ k _. bit_le (before r k i) true (λ _. refl)) lt (bit_lt (before r i i) true (before_irrefl r i) refl) in
+    let less = sum_below-lt n (λ k. bit (comes_before_by r k i)) (λ _. 1) i
+    (λ k _. bit_le (comes_before_by r k i) true (λ _. refl)) lt (bit_lt (comes_before_by r i i) true (comes_before_irrefl r i) refl) in
     omega (arith, less, sum_below-constant n 1)
 
 -- how many of the places below n pass
@@ -119,30 +119,30 @@ ranks_count n r k le =
 
 -- What a place has, each place before it has too, and as many places have it as k: then those have it whose rank is below k.
 pub first_k : (n : ℕ) (r : ℕ → ℕ) (p : ℕ → Bool) (k : ℕ) → count_below n p ≡ k
-    → ((j i : ℕ) → j < n → i < n → before r j i ≡ true → p i ≡ true → p j ≡ true)
+    → ((j i : ℕ) → j < n → i < n → comes_before_by r j i ≡ true → p i ≡ true → p j ≡ true)
     → (i : ℕ) → i < n → p i ≡ ltb (rank n r i) k
 first_k n r p k count down i lt = go (p i) refl
   where
     -- who has it comes before who has it not
-    comes_first : p i ≡ false → (j : ℕ) → j < n → p j ≡ true → before r j i ≡ true
-    comes_first lacks j jn has = pick (before r j i) refl
+    comes_first : p i ≡ false → (j : ℕ) → j < n → p j ≡ true → comes_before_by r j i ≡ true
+    comes_first lacks j jn has = pick (comes_before_by r j i) refl
       where
-        pick : (b : Bool) → before r j i ≡ b → before r j i ≡ true
+        pick : (b : Bool) → comes_before_by r j i ≡ b → comes_before_by r j i ≡ true
         pick true e = e
         pick false e =
             let other : j ≢ i = λ same. let bad : false ≡ true = sym lacks ∙ (ap p (sym same) ∙ has) in cc in
-            let back = down i j lt jn (before_total r j i other e) has in
+            let back = down i j lt jn (comes_before_total r j i other e) has in
             let bad : false ≡ true = sym lacks ∙ back in
             cc
 
     go : (b : Bool) → p i ≡ b → p i ≡ ltb (rank n r i) k
     go true has =
-        let more = sum_below-lt n (λ j. bit (before r j i)) (λ j. bit (p j)) i
-        (λ j jn. bit_le (before r j i) (p j) (λ g. down j i jn lt g has)) lt (bit_lt (before r i i) (p i) (before_irrefl r i) has) in
+        let more = sum_below-lt n (λ j. bit (comes_before_by r j i)) (λ j. bit (p j)) i
+        (λ j jn. bit_le (comes_before_by r j i) (p j) (λ g. down j i jn lt g has)) lt (bit_lt (comes_before_by r i i) (p i) (comes_before_irrefl r i) has) in
         has ∙ sym (grind (arith, nat_tests, more, count))
     go false lacks =
-        let most = sum_below-le n (λ j. bit (p j)) (λ j. bit (before r j i))
-        (λ j jn. bit_le (p j) (before r j i) (comes_first lacks j jn)) in
+        let most = sum_below-le n (λ j. bit (p j)) (λ j. bit (comes_before_by r j i))
+        (λ j jn. bit_le (p j) (comes_before_by r j i) (comes_first lacks j jn)) in
         lacks ∙ sym (grind (arith, nat_tests, most, count))
 
 -- Where each place before one that passes passes too, a place passes where its number is below the count.

@@ -5,7 +5,7 @@ use Rattle.csv_table.specs.ReadOn.{ReadsOn}
 use Rattle.csv_table.specs.ReadOn.ReadsOn.{here, read, left_out, stopped}
 use Rattle.line_split.specs.UsageLine.{UsageLine, line_of}
 use Rattle.line_split.specs.UsageReading.{IsReadWithout, Reads, Refuses, Stops}
-use Rattle.line_split.specs.UsageTable.{IsFaultOf, IsFaultOfRow, IsTableOf, place_of}
+use Rattle.line_split.specs.UsageTable.{IsFaultOf, IsFaultOfRow, IsTableOf, place_of_fault}
 use Rattle.line_split.specs.UsageParts.{IsFaultIn}
 use Rattle.line_split.specs.declared.line_fault.LineFault.{LineFault}
 use Rattle.line_split.specs.declared.line_fault.LineFault.TheVariants.{Csv, Lines, Memory}
@@ -14,7 +14,7 @@ use Rattle.line_split.proofs.UsageRows.{Walked, headed_fault, headed_table, walk
 
 -- a row that is refused for what is in it is left out
 pub left_out_row : (lines after : List UsageLine) (row : List (List ℕ)) (number : ℕ) (fault : LineFault) → IsFaultOfRow (length lines) number row fault
-    → (fault ≡ Memory) ⊎ ((after ≡ lines) × (place_of fault ≡ Some number)) → is_some (place_of fault) ≡ true → Refuses lines number row fault × (after ≡ lines)
+    → (fault ≡ Memory) ⊎ ((after ≡ lines) × (place_of_fault fault ≡ Some number)) → is_some (place_of_fault fault) ≡ true → Refuses lines number row fault × (after ≡ lines)
 left_out_row lines after row number fault refused (inl memory) placed = cc (rw memory at placed)
 left_out_row lines after row number fault refused (inr (same, place)) placed = ((refused, place), same)
 

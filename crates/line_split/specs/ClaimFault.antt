@@ -22,15 +22,15 @@ IsFaultOf list (Twice place) = (length list ≤ MOST_CLAIMS) × ((i : ℕ) → �
 IsFaultOf list Memory = (length list ≤ MOST_CLAIMS) × ((i : ℕ) → ¬ IsOver list i) × ((i : ℕ) → ¬ StandsBefore list i)
 
 -- the fault's number
-abbrev pub number_of : ClaimFault → ℕ
-number_of (Share place) = 1
-number_of (Twice place) = 2
-number_of Many = 3
-number_of Memory = 4
+abbrev pub number_of_fault : ClaimFault → ℕ
+number_of_fault (Share place) = 1
+number_of_fault (Twice place) = 2
+number_of_fault Many = 3
+number_of_fault Memory = 4
 
 -- the claim's place, where the fault is one claim's
-abbrev pub place_of : ClaimFault → Option ℕ
-place_of (Share place) = Some place
-place_of (Twice place) = Some place
-place_of Many = None
-place_of Memory = None
+abbrev pub place_of_fault : ClaimFault → Option ℕ
+place_of_fault (Share place) = Some place
+place_of_fault (Twice place) = Some place
+place_of_fault Many = None
+place_of_fault Memory = None

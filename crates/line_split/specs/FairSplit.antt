@@ -19,15 +19,15 @@ abbrev pub HasUnit : (amount base : ℕ) → (participants portions : List (ℕ 
 HasUnit amount base participants portions i = quota_of amount base (value_at participants i) < value_at portions i
 
 -- the participant at i has the better right to a unit than the one at j: a greater remainder, or an equal one and an earlier place
-abbrev pub GoesFirst : (amount base : ℕ) → List (ℕ × ℕ) → (i j : ℕ) → Type 0
-GoesFirst amount base participants i j =
+abbrev pub ComesBefore : (amount base : ℕ) → List (ℕ × ℕ) → (i j : ℕ) → Type 0
+ComesBefore amount base participants i j =
     let remainder : ℕ → ℕ = λ k. remainder_of amount base (value_at participants k) in
     (remainder j < remainder i) ⊎ ((remainder i ≡ remainder j) × (i < j))
 
 -- A unit is given to nobody before one who has the better right to it.
 abbrev pub GivesByRemainder : (amount base : ℕ) → (participants portions : List (ℕ × ℕ)) → Type 0
 GivesByRemainder amount base participants portions = (i j : ℕ) → i < length participants → j < length participants →
-    GoesFirst amount base participants i j → HasUnit amount base participants portions j → HasUnit amount base participants portions i
+    ComesBefore amount base participants i j → HasUnit amount base participants portions j → HasUnit amount base participants portions i
 
 -- a fair division of an amount that is not negative by the claims on it
 pub record IsFairSplitOfSize (amount : ℕ) (claims portions : List (ℕ × ℕ)) : Type 0 where

@@ -2,7 +2,7 @@
 use Rattle.std.specs.Prelude.{ℕ, ◌≡◌, ◌≤◌, ◌<◌, ◌∷◌, ◌++◌, Bool, List, [], length, Some}
 use Rattle.csv_table.specs.ReadOn.{ReadsOn, ReadsTable}
 use Rattle.line_split.specs.UsageLine.{UsageLine, line_of}
-use Rattle.line_split.specs.UsageTable.{IsFaultOfRow, IsLine, header, place_of}
+use Rattle.line_split.specs.UsageTable.{IsFaultOfRow, IsLine, header, place_of_fault}
 use Rattle.line_split.specs.declared.usage.TheConstants.{MOST_LINES}
 use Rattle.line_split.specs.declared.line_fault.LineFault.{LineFault}
 use Rattle.line_split.specs.declared.line_fault.LineFault.TheVariants.{Csv, Lines}
@@ -25,7 +25,7 @@ Reads lines row next = (length lines < MOST_LINES) × IsLine row × (next ≡ li
 
 -- a row is left out
 abbrev pub Refuses : List UsageLine → ℕ → List (List ℕ) → LineFault → Type 0
-Refuses lines number row fault = IsFaultOfRow (length lines) number row fault × (place_of fault ≡ Some number)
+Refuses lines number row fault = IsFaultOfRow (length lines) number row fault × (place_of_fault fault ≡ Some number)
 
 -- there are as many lines as a list has, and one row more
 abbrev pub Stops : List UsageLine → List (List ℕ) → LineFault → Type 0

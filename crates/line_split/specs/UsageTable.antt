@@ -46,21 +46,21 @@ abbrev pub IsFaultOf : List (List (List ℕ)) → LineFault → Type 0
 IsFaultOf rows fault = (fault ≡ Memory) ⊎ IsFaultOfTable header (Csv 0) (All IsLine) IsRefused rows fault
 
 -- the fault's number
-abbrev pub number_of : LineFault → ℕ
-number_of (Csv row) = 1
-number_of (Fields row) = 2
-number_of (Territory row) = 3
-number_of (Right row) = 4
-number_of (Amount row) = 5
-number_of Lines = 6
-number_of Memory = 7
+abbrev pub number_of_fault : LineFault → ℕ
+number_of_fault (Csv row) = 1
+number_of_fault (Fields row) = 2
+number_of_fault (Territory row) = 3
+number_of_fault (Right row) = 4
+number_of_fault (Amount row) = 5
+number_of_fault Lines = 6
+number_of_fault Memory = 7
 
 -- the row's number, where the fault is one row's
-abbrev pub place_of : LineFault → Option ℕ
-place_of (Csv row) = Some row
-place_of (Fields row) = Some row
-place_of (Territory row) = Some row
-place_of (Right row) = Some row
-place_of (Amount row) = Some row
-place_of Lines = None
-place_of Memory = None
+abbrev pub place_of_fault : LineFault → Option ℕ
+place_of_fault (Csv row) = Some row
+place_of_fault (Fields row) = Some row
+place_of_fault (Territory row) = Some row
+place_of_fault (Right row) = Some row
+place_of_fault (Amount row) = Some row
+place_of_fault Lines = None
+place_of_fault Memory = None

@@ -50,7 +50,7 @@ pub fn working_of(amount: u64, claims: &Claims, place: usize) -> Working
     let claims = claims.list();
     let share = share_at(claims, place);
     let quota = amount * share / base;
-    let rank = rank(amount, base, claims, place);
+    let rank = rank_at(amount, base, claims, place);
     let has_unit = rank < left(amount, base, claims);
     Working {
         share,
@@ -91,7 +91,7 @@ fn left(amount: u64, base: u64, claims: &[(Account, u32)]) -> u64
 }
 
 /// How many participants come before the one at `place`.
-fn rank(amount: u64, base: u64, claims: &[(Account, u32)], place: usize) -> u64
+fn rank_at(amount: u64, base: u64, claims: &[(Account, u32)], place: usize) -> u64
     requires in_range { amount ≤ MOST_AMOUNT }
     requires claims { AreClaims claims.now }
     requires base { base ≡ base_of claims.now }
@@ -104,13 +104,13 @@ fn rank(amount: u64, base: u64, claims: &[(Account, u32)], place: usize) -> u64
     let mut rank = 0;
     for other in 0..claims.len() + 1 {
         let other_remainder = amount * share_at(claims, other) % base;
-        rank += u64::from(goes_first((other, other_remainder), (place, remainder)));
+        rank += u64::from(comes_before((other, other_remainder), (place, remainder)));
     }
     rank
 }
 
 /// Whether a place with its remainder comes before another.
-fn goes_first(contender: (usize, u64), other: (usize, u64)) -> bool
+fn comes_before(contender: (usize, u64), other: (usize, u64)) -> bool
     ensures { result ≡ comes_before contender other }
 {
     contender.1 > other.1 || (contender.1 == other.1 && contender.0 < other.0)

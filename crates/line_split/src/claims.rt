@@ -29,11 +29,11 @@ pub enum ClaimFault {
 }
 
 impl ClaimFault {
-    ghost use Rattle.line_split.specs.ClaimFault.{number_of, place_of};
+    ghost use Rattle.line_split.specs.ClaimFault.{number_of_fault, place_of_fault};
 
     /// The fault's number: 1 to 4, in the order above.
     pub fn number(&self) -> u8
-        ensures { result ≡ number_of self.now }
+        ensures { result ≡ number_of_fault self.now }
     {
         match self {
             ClaimFault::Share(_) => 1,
@@ -45,7 +45,7 @@ impl ClaimFault {
 
     /// The place of the claim at fault, from 1, where it is one claim's.
     pub fn place(&self) -> Option<u64>
-        ensures { result ≡ place_of self.now }
+        ensures { result ≡ place_of_fault self.now }
     {
         match *self {
             ClaimFault::Share(place) | ClaimFault::Twice(place) => Some(place),

@@ -11,11 +11,11 @@ use std::cmp::Reverse;
 pub const PLACES: u64 = 512;
 
 /// A participant that contends for a unit, by its remainder and its place: a greater remainder comes first,
-/// and among equal ones the earlier place. It is one number, so that one test tells which of two comes first:
-/// the remainder times `PLACES`, and how many places come after its own.
+/// and among equal ones the earlier place. Its precedence is one number, so that one test tells which of two
+/// comes first: the remainder times `PLACES`, and how many places come after its own.
 #[derive(Clone, Copy, PartialEq, Eq, PartialOrd, Ord)]
 pub struct Contender {
-    pub number: Reverse<u64>,
+    pub precedence: Reverse<u64>,
 }
 
 impl Contender {
@@ -27,7 +27,7 @@ impl Contender {
         ensures { place_and_remainder result ≡ (place, remainder) }
     {
         Contender {
-            number: Reverse(remainder * PLACES + (PLACES - 1 - place as u64)),
+            precedence: Reverse(remainder * PLACES + (PLACES - 1 - place as u64)),
         }
     }
 
@@ -36,7 +36,7 @@ impl Contender {
     pub fn place(self) -> usize
         ensures { result ≡ place_of self }
     {
-        (PLACES - 1 - self.number.0 % PLACES) as usize
+        (PLACES - 1 - self.precedence.0 % PLACES) as usize
     }
 
     /// Whether it comes before another.
@@ -44,6 +44,6 @@ impl Contender {
     pub fn comes_before(self, other: Contender) -> bool
         ensures { result ≡ comes_before (place_and_remainder self) (place_and_remainder other) }
     {
-        self.number.0 > other.number.0
+        self.precedence.0 > other.precedence.0
     }
 }

@@ -58,7 +58,8 @@ pub fn law_a_list_read_on_without_faults()
 
 /// The first row that is left out is what the whole table is refused for.
 pub fn law_the_first_row_left_out_is_the_fault()
-    ensures { (rows : List (List (List ℕ))) (row : List (List ℕ)) (fault : LineFault) (more : List (List (List ℕ) × LineFault)) (lines : List UsageLine) → IsReadWithout rows ((row, fault) ∷ more) lines → IsFaultOf rows fault }
+    ensures { (rows : List (List (List ℕ))) (row : List (List ℕ)) (fault : LineFault) (more : List (List (List ℕ) × LineFault)) (lines : List UsageLine)
+        → IsReadWithout rows ((row, fault) ∷ more) lines → IsFaultOf rows fault }
 {}
 
 /// The residue's account and the limits, as numbers: claims in hundredths of a per cent, the sizes of amounts in

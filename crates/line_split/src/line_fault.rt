@@ -33,11 +33,11 @@ pub enum LineFault {
 }
 
 impl LineFault {
-    ghost use Rattle.line_split.specs.UsageTable.{number_of, place_of};
+    ghost use Rattle.line_split.specs.UsageTable.{number_of_fault, place_of_fault};
 
     /// The fault's number: 1 to 7, in the order above.
     pub fn number(&self) -> u8
-        ensures { result ≡ number_of self.now }
+        ensures { result ≡ number_of_fault self.now }
     {
         match self {
             LineFault::Csv(_) => 1,
@@ -52,7 +52,7 @@ impl LineFault {
 
     /// The number of the row at fault, where it is one row's.
     pub fn place(&self) -> Option<u64>
-        ensures { result ≡ place_of self.now }
+        ensures { result ≡ place_of_fault self.now }
     {
         match *self {
             LineFault::Csv(row)

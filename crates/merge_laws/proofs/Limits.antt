@@ -20,7 +20,7 @@ use Rattle.line_split.specs.declared.reason.Reason.TheVariants.{Work, Land, Over
 use Rattle.line_split.proofs.Fair.{portions_are_fair}
 use Rattle.line_split.proofs.IntSums.{int_sum_by_size}
 use Rattle.line_split.proofs.Signs.{signed_sum, size_of_signed}
-use Rattle.payee_book.specs.Run.{portion_of}
+use Rattle.payee_book.specs.Run.{portion_for}
 use Rattle.line_split.specs.ReasonTexts.{reason_text}
 use Rattle.merge_statements.specs.Statements.{AreStatements, IsAmount, IsName, IsPortion, IsReason, IsRest, IsStatement, Portion, Rest, Statement, total_of, total_of_rests}
 use Rattle.merge_statements.proofs.OneMerge.{payees_of}
@@ -62,13 +62,13 @@ own_sizes amount account (entry ∷ sizes) =
     (own_sizes amount account sizes)
 
 -- what an account has of an amount is no larger than it
-pub portion_small : (amount : ℤ) (claims : List (ℕ × ℕ)) (account : ℕ) → unsigned_abs (portion_of account (signed_portions_of amount claims)) ≤ unsigned_abs amount
+pub portion_small : (amount : ℤ) (claims : List (ℕ × ℕ)) (account : ℕ) → unsigned_abs (portion_for account (signed_portions_of amount claims)) ≤ unsigned_abs amount
 portion_small amount claims account =
     let sizes = portions_of (unsigned_abs amount) claims in
     let own = filter {X = ℕ × ℕ} (λ portion. portion.0 == account) sizes in
-    let is : portion_of account (signed_portions_of amount claims) ≡ with_sign_of amount (sum_by (λ (portion : ℕ × ℕ). portion.1) own) =
+    let is : portion_for account (signed_portions_of amount claims) ≡ with_sign_of amount (sum_by (λ (portion : ℕ × ℕ). portion.1) own) =
     ap (int_sum_by (λ (portion : ℕ × ℤ). portion.1)) (own_sizes amount account sizes) ∙ signed_sum amount own in
-    let size : unsigned_abs (portion_of account (signed_portions_of amount claims)) ≡ sum_by (λ (portion : ℕ × ℕ). portion.1) own =
+    let size : unsigned_abs (portion_for account (signed_portions_of amount claims)) ≡ sum_by (λ (portion : ℕ × ℕ). portion.1) own =
     ap unsigned_abs is ∙ size_of_signed amount (sum_by (λ (portion : ℕ × ℕ). portion.1) own) in
     let both = sum_by-filter_both {X = ℕ × ℕ} (λ portion. portion.0 == account) (λ portion. not (portion.0 == account)) (λ portion. refl) (λ portion. portion.1) sizes in
     let all = (portions_are_fair (unsigned_abs amount) claims).adds_up in
@@ -82,13 +82,13 @@ module _ {X : Type 0} (make : UsageLine → ℤ → X) (division : UsageLine →
 
   -- it holds of what an account has of a line, if of anything
   abbrev HoldsOf : (X → Type 0) → UsageLine → Type 0
-  HoldsOf P line = is_not_zero (portion_of account (division line)) ≡ true → P (make line (portion_of account (division line)))
+  HoldsOf P line = is_not_zero (portion_for account (division line)) ≡ true → P (make line (portion_for account (division line)))
 
   -- what holds of all that an account has
   all_made : (P : X → Type 0) (lines : List UsageLine) → All (HoldsOf P) lines → All P (flat_map (made_of make division account) lines)
   all_made P [] each = All-nil P
   all_made P (line ∷ lines) each =
-      let portion = portion_of account (division line) in
+      let portion = portion_for account (division line) in
       All-append P (made_of make division account line) (flat_map (made_of make division account) lines)
       (one_made P line portion (is_not_zero portion) refl (All-head (HoldsOf P) line lines each)) (all_made P lines (All-tail (HoldsOf P) line lines each))
 
@@ -100,7 +100,7 @@ module _ {X : Type 0} (make : UsageLine → ℤ → X) (division : UsageLine →
   few_made : (lines : List UsageLine) → length (flat_map (made_of make division account) lines) ≤ length lines
   few_made [] = omega arith
   few_made (line ∷ lines) =
-      let portion = portion_of account (division line) in
+      let portion = portion_for account (division line) in
       omega (
         arith,
         one_at_most line portion (is_not_zero portion),
@@ -157,10 +157,10 @@ not_zero amount is = grind (arith, is)
 is_reason : (reason : Reason) → IsReason (reason_text reason)
 is_reason reason = (reason, refl)
 
-module _ (division : UsageLine → List (ℕ × ℤ)) (small : (account : ℕ) (line : UsageLine) → unsigned_abs (portion_of account (division line)) ≤ unsigned_abs line.amount)
+module _ (division : UsageLine → List (ℕ × ℤ)) (small : (account : ℕ) (line : UsageLine) → unsigned_abs (portion_for account (division line)) ≤ unsigned_abs line.amount)
     (lines : List UsageLine) (sound : All IsInLimits lines) where
-  is_amount : (account : ℕ) (line : UsageLine) → IsInLimits line → is_not_zero (portion_of account (division line)) ≡ true → IsAmount (portion_of account (division line))
-  is_amount account line limits some = (not_zero (portion_of account (division line)) some, omega (arith, small account line, limits.1))
+  is_amount : (account : ℕ) (line : UsageLine) → IsInLimits line → is_not_zero (portion_for account (division line)) ≡ true → IsAmount (portion_for account (division line))
+  is_amount account line limits some = (not_zero (portion_for account (division line)) some, omega (arith, small account line, limits.1))
 
   are_portions : (account : ℕ) → All IsPortion (portions_by division lines account)
   are_portions account =

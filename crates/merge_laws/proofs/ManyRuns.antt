@@ -8,7 +8,7 @@ use Rattle.cwr_share.specs.ClaimsOn.{claims_on}
 use Rattle.line_split.specs.Signs.{int_sum_by}
 use Rattle.line_split.specs.UsageLine.{UsageLine}
 use Rattle.line_split.proofs.IntSums.{int_sum_by_size}
-use Rattle.payee_book.specs.Run.{portion_of}
+use Rattle.payee_book.specs.Run.{portion_for}
 use Rattle.settle_run.specs.Settled.{AreStatementsOf, reason_of}
 use Rattle.split_run.specs.Divisions.{division_by}
 use Rattle.merge_statements.specs.Merged.{AreInLimits, IsMergeOf, portions_of}
@@ -59,7 +59,7 @@ module _ (territories_file : List ℕ) (payees_file : Option (List ℕ)) (regist
       let reason = reason_of of.table of.registered in
       let names = of.read.accounts.names in
       let says = text_said territories_file payees_file registrations_file usage_file text of.table of.registered of.lines of.read of.statements in
-      let small : (account : ℕ) (line : UsageLine) → unsigned_abs (portion_of account (division line)) ≤ unsigned_abs line.amount =
+      let small : (account : ℕ) (line : UsageLine) → unsigned_abs (portion_for account (division line)) ≤ unsigned_abs line.amount =
       λ account line. portion_small line.amount (claims_on of.table of.registered line) account in
       let limits = lines_in_limits (rows_of usage_file) of.lines of.read.uses in
       let few = of.read.uses.few in

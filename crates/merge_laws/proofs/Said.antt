@@ -9,7 +9,7 @@ use Rattle.line_split.specs.Signs.{int_sum_by, is_not_zero}
 use Rattle.line_split.proofs.IntSums.{int_sum_by-append, int_sum_by-cons, none_plus}
 use Rattle.line_split.specs.UsageLine.{UsageLine}
 use Rattle.line_split.specs.declared.reason.Reason.{Reason}
-use Rattle.payee_book.specs.Run.{IsBookOf, portion_of, statement_of}
+use Rattle.payee_book.specs.Run.{IsBookOf, portion_for, statement_of}
 use Rattle.payee_book.specs.Statement.{total_of as total_of_postings}
 use Rattle.line_split.specs.ReasonTexts.{reason_text}
 use Rattle.payee_book.specs.Text.{payee_rows, reason_at, residue_rows, rows_of_book, run_row, usage_at}
@@ -43,7 +43,7 @@ statements_with payee (portion ∷ portions) = the_statement payee (portion ∷ 
 -- what an account has of a line: its portion, where that is not 0
 abbrev pub made_of : {X : Type 0} → (UsageLine → ℤ → X) → (UsageLine → List (ℕ × ℤ)) → (account : ℕ) → UsageLine → List X
 made_of make division account line =
-    let portion = portion_of account (division line) in
+    let portion = portion_for account (division line) in
     if is_not_zero portion then make line portion ∷ [] else []
 
 -- and of lines
@@ -78,18 +78,18 @@ kept_or_not false posting made x later rest first others = others
 postings_made : {X : Type 0} (at : ℕ → ℤ → X) (make : UsageLine → ℤ → X) (division : UsageLine → List (ℕ × ℤ)) (account from : ℕ) (lines : List UsageLine)
     → ((place : ℕ) (amount : ℤ) (d : UsageLine) → place < length lines → at (from + place) amount ≡ make (get_or lines place d) amount)
     → map (λ (posting : ℕ × ℤ). at posting.0 posting.1)
-    (filter (λ posting. is_not_zero posting.1) (map (λ e. (e.0, portion_of account (division e.1))) (enumerate_from from lines)))
+    (filter (λ posting. is_not_zero posting.1) (map (λ e. (e.0, portion_for account (division e.1))) (enumerate_from from lines)))
     ≡ flat_map (made_of make division account) lines
 postings_made at make division account from [] finds = refl
 postings_made {X} at make division account from (line ∷ lines) finds =
-    let portion = portion_of account (division line) in
+    let portion = portion_for account (division line) in
     let here : from ≡ from + 0 = omega arith in
     let later : (place : ℕ) (amount : ℤ) (d : UsageLine) → place < length lines → at (from + 1 + place) amount ≡ make (get_or lines place d) amount =
     λ place amount d within.
     let moved : from + 1 + place ≡ from + suc place = omega arith in
     ap (λ (k : ℕ). at k amount) moved ∙ finds (suc place) amount d (omega (arith, within)) in
     kept_or_not (is_not_zero portion) (from, portion) (λ (posting : ℕ × ℤ). at posting.0 posting.1) (make line portion)
-    (filter (λ posting. is_not_zero posting.1) (map (λ e. (e.0, portion_of account (division e.1))) (enumerate_from (from + 1) lines)))
+    (filter (λ posting. is_not_zero posting.1) (map (λ e. (e.0, portion_for account (division e.1))) (enumerate_from (from + 1) lines)))
     (flat_map (made_of make division account) lines)
     (ap (λ (k : ℕ). at k portion) here ∙ finds 0 portion line (omega arith))
     (postings_made at make division account (from + 1) lines later)

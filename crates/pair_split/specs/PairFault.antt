@@ -19,7 +19,8 @@ IsNamedBefore words i = (i < length words)
 abbrev pub IsTooLarge : List (List ℕ) → ℕ → Type 0
 IsTooLarge words i = (i < length words) × (FULL_SHARE < share_of (word_at words i))
 
--- What the words are refused for: too many of them come first, then the first that is no pair, then the first party that came before, then the first share that is too large. Memory is asked for before the shares are looked at.
+-- What the words are refused for: too many of them come first, then the first that is no pair, then the first party that came before,
+-- then the first share that is too large. Memory is asked for before the shares are looked at.
 abbrev pub IsFaultOf : List (List ℕ) → PairFault → Type 0
 IsFaultOf words Many = MOST_CLAIMS < length words
 IsFaultOf words (Pair place) = (length words ≤ MOST_CLAIMS) × IsFirstPlace (IsMalformed words) place
@@ -38,17 +39,17 @@ pub record AreSound (words : List (List ℕ)) : Type 0 where
   pub small : (i : ℕ) → ¬ IsTooLarge words i
 
 -- the fault's number
-abbrev pub number_of : PairFault → ℕ
-number_of (Pair place) = 1
-number_of (Name place) = 2
-number_of (Share place) = 3
-number_of Many = 4
-number_of Memory = 5
+abbrev pub number_of_fault : PairFault → ℕ
+number_of_fault (Pair place) = 1
+number_of_fault (Name place) = 2
+number_of_fault (Share place) = 3
+number_of_fault Many = 4
+number_of_fault Memory = 5
 
 -- the word's place, where the fault is one word's
-abbrev pub place_of : PairFault → Option ℕ
-place_of (Pair place) = Some place
-place_of (Name place) = Some place
-place_of (Share place) = Some place
-place_of Many = None
-place_of Memory = None
+abbrev pub place_of_fault : PairFault → Option ℕ
+place_of_fault (Pair place) = Some place
+place_of_fault (Name place) = Some place
+place_of_fault (Share place) = Some place
+place_of_fault Many = None
+place_of_fault Memory = None

@@ -25,11 +25,11 @@ pub enum PairFault {
 }
 
 impl PairFault {
-    ghost use Rattle.pair_split.specs.PairFault.{number_of, place_of};
+    ghost use Rattle.pair_split.specs.PairFault.{number_of_fault, place_of_fault};
 
     /// The fault's number: 1 to 5, in the order above.
     pub fn number(&self) -> u8
-        ensures { result ≡ number_of self.now }
+        ensures { result ≡ number_of_fault self.now }
     {
         match self {
             PairFault::Pair(_) => 1,
@@ -42,7 +42,7 @@ impl PairFault {
 
     /// The place of the word at fault, from 1, where it is one word's.
     pub fn place(&self) -> Option<u64>
-        ensures { result ≡ place_of self.now }
+        ensures { result ≡ place_of_fault self.now }
     {
         match *self {
             PairFault::Pair(place) => Some(place),

@@ -56,11 +56,11 @@ fault_text what number where_is None = codes "royalty_run: " ++ what ++ codes " 
 abbrev pub text_of : Failure → Option (List ℕ)
 text_of (Words error) = None
 text_of NotText = Some (codes "royalty_run: an argument is not UTF-8\n")
-text_of (Pairs f) = Some (fault_text (codes "pair") (pair.number_of f) [] (pair.place_of f))
+text_of (Pairs f) = Some (fault_text (codes "pair") (pair.number_of_fault f) [] (pair.place_of_fault f))
 text_of (Input (input.Tis f)) = Some (fault_text (codes "tis") (tis.number_of_fault f) (codes "row ") (tis.place_of_fault f))
 text_of (Input (input.Payee f)) = Some (fault_text (codes "payee") (payees.number_of_fault f) (codes "row ") (payees.place_of_fault f))
 text_of (Input (input.Cwr f)) = Some (fault_text (codes "cwr") (cwr.number_of_fault f) (codes "line ") (cwr.place_of_fault f))
-text_of (Input (input.Usage f)) = Some (fault_text (codes "usage") (usage.number_of f) (codes "row ") (usage.place_of f))
+text_of (Input (input.Usage f)) = Some (fault_text (codes "usage") (usage.number_of_fault f) (codes "row ") (usage.place_of_fault f))
 text_of (Input input.Room) = Some (codes "royalty_run: out of room\n")
 text_of (Row row) = Some (codes "royalty_run: the usage list has no row " ++ decimal row ++ codes "\n")
 text_of Room = Some (codes "royalty_run: out of room\n")

@@ -32,17 +32,17 @@ fault_of_payees payee_fault.Memory = Room
 fault_of_payees fault = Payee fault
 
 -- the fault's number
-abbrev pub number_of : Fault → ℕ
-number_of (Tis fault) = 1
-number_of (Cwr fault) = 2
-number_of (Usage fault) = 3
-number_of Room = 4
-number_of (Payee fault) = 5
+abbrev pub number_of_fault : Fault → ℕ
+number_of_fault (Tis fault) = 1
+number_of_fault (Cwr fault) = 2
+number_of_fault (Usage fault) = 3
+number_of_fault Room = 4
+number_of_fault (Payee fault) = 5
 
 -- the place of the fault within
-abbrev pub place_of : Fault → Option ℕ
-place_of (Tis fault) = tis.place_of_fault fault
-place_of (Cwr fault) = cwr.place_of_fault fault
-place_of (Usage fault) = usage.place_of fault
-place_of Room = None
-place_of (Payee fault) = payees.place_of_fault fault
+abbrev pub place_of_fault : Fault → Option ℕ
+place_of_fault (Tis fault) = tis.place_of_fault fault
+place_of_fault (Cwr fault) = cwr.place_of_fault fault
+place_of_fault (Usage fault) = usage.place_of_fault fault
+place_of_fault Room = None
+place_of_fault (Payee fault) = payees.place_of_fault fault

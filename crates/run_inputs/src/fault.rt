@@ -1,7 +1,7 @@
 //! Why the inputs of a run are refused.
 
 ghost use Rattle.std.specs.Prelude.{◌≡◌};
-ghost use Rattle.run_inputs.specs.Faults.{fault_of_cwr, fault_of_payees, fault_of_tis, fault_of_usage, number_of, place_of};
+ghost use Rattle.run_inputs.specs.Faults.{fault_of_cwr, fault_of_payees, fault_of_tis, fault_of_usage, number_of_fault, place_of_fault};
 
 use cwr_share::{CwrFault, PayeeFault};
 use line_split::LineFault;
@@ -32,7 +32,7 @@ pub enum Fault {
 impl Fault {
     /// The fault's number: 1 to 5, in the order above.
     pub fn number(&self) -> u8
-        ensures { result ≡ number_of self.now }
+        ensures { result ≡ number_of_fault self.now }
     {
         match self {
             Fault::Tis(_) => 1,
@@ -45,7 +45,7 @@ impl Fault {
 
     /// The row or line of the fault within, where it is one's.
     pub fn place(&self) -> Option<u64>
-        ensures { result ≡ place_of self.now }
+        ensures { result ≡ place_of_fault self.now }
     {
         match self {
             Fault::Tis(fault) => fault.place(),

@@ -12,7 +12,7 @@ use Rattle.line_split.proofs.IntSums.{int_sum_below, int_sum_below-add, int_sum_
 use Rattle.line_split.proofs.Signs.{portions_add_up, signed_portions_below}
 use Rattle.cwr_share.specs.ClaimsOn.{claims_on}
 use Rattle.cwr_share.specs.Registered.{IsRegistered, Registered}
-use Rattle.payee_book.specs.Run.{IsBookOf, portion_of}
+use Rattle.payee_book.specs.Run.{IsBookOf, portion_for}
 use Rattle.payee_book.specs.Statement.{total_of}
 use Rattle.split_run.specs.Divisions.{division_by}
 use Rattle.split_run.proofs.DivisionLemmas.{claims_below, some_accounts}
@@ -34,23 +34,23 @@ sum_at (suc n) (suc a) v lt =
     (λ i. first i +ℤ rest i) ∙ none_plus v
 
 -- the first portion of a division, and the others
-pub portion_first : (account : ℕ) (p : ℕ × ℤ) (division : List (ℕ × ℤ)) → portion_of account (p ∷ division) ≡ (if p.0 == account then p.1 else pos 0) +ℤ portion_of account division
+pub portion_first : (account : ℕ) (p : ℕ × ℤ) (division : List (ℕ × ℤ)) → portion_for account (p ∷ division) ≡ (if p.0 == account then p.1 else pos 0) +ℤ portion_for account division
 portion_first account p division = by (p.0 == account)
   where
     by : (b : Bool) → int_sum_by (λ (e : ℕ × ℤ). e.1) (if b then p ∷ filter (λ e. e.0 == account) division else filter (λ e. e.0 == account) division)
-        ≡ (if b then p.1 else pos 0) +ℤ portion_of account division
+        ≡ (if b then p.1 else pos 0) +ℤ portion_for account division
     by true = int_sum_by-cons (λ (e : ℕ × ℤ). e.1) p (filter (λ e. e.0 == account) division)
-    by false = sym (none_plus (portion_of account division))
+    by false = sym (none_plus (portion_for account division))
 
 -- the portions of all accounts are all portions
 all_portions : (n : ℕ) (division : List (ℕ × ℤ)) → All (λ account. account < n) (map (λ portion. portion.0) division)
-    → int_sum_below n (λ account. portion_of account division) ≡ int_sum_by (λ portion. portion.1) division
+    → int_sum_below n (λ account. portion_for account division) ≡ int_sum_by (λ portion. portion.1) division
 all_portions n [] below = int_sum_below-none n
 all_portions n (p ∷ division) below =
     let first : p.0 < n = below 0 0 (omega arith) in
     let rest = all_portions n division (All-tail (λ account. account < n) p.0 (map (λ portion. portion.0) division) below) in
-    same_int_sums n (λ account. portion_of account (p ∷ division)) (λ account. (if p.0 == account then p.1 else pos 0) +ℤ portion_of account division) (λ account lt. portion_first account p division)
-    ∙ (int_sum_below-add n (λ account. if p.0 == account then p.1 else pos 0) (λ account. portion_of account division)
+    same_int_sums n (λ account. portion_for account (p ∷ division)) (λ account. (if p.0 == account then p.1 else pos 0) +ℤ portion_for account division) (λ account lt. portion_first account p division)
+    ∙ (int_sum_below-add n (λ account. if p.0 == account then p.1 else pos 0) (λ account. portion_for account division)
     ∙ ((λ i. sum_at n p.0 p.1 first i +ℤ rest i)
     ∙ sym (int_sum_by-cons (λ (e : ℕ × ℤ). e.1) p division)))
 
@@ -81,9 +81,9 @@ adds_up table registered usage book is of_book =
     let places : int_sum_by total_of book ≡ int_sum_below n (λ i. total_of (get_or book i [])) =
     int_sum_by-places total_of book [] ∙ ap (λ (k : ℕ). int_sum_below k (λ i. total_of (get_or book i []))) of_book.whole in
     places
-    ∙ (same_int_sums n (λ i. total_of (get_or book i [])) (λ i. int_sum_by (λ line. portion_of i (division line)) usage) (λ i lt.
-    ap total_of (of_book.each i lt) ∙ total_from (λ line. portion_of i (division line)) 0 usage)
-    ∙ (int_sums_exchanged n (λ i line. portion_of i (division line)) usage
-    ∙ int_sum_by_same (λ line. int_sum_below n (λ i. portion_of i (division line))) (λ line. line.amount) (λ line.
+    ∙ (same_int_sums n (λ i. total_of (get_or book i [])) (λ i. int_sum_by (λ line. portion_for i (division line)) usage) (λ i lt.
+    ap total_of (of_book.each i lt) ∙ total_from (λ line. portion_for i (division line)) 0 usage)
+    ∙ (int_sums_exchanged n (λ i line. portion_for i (division line)) usage
+    ∙ int_sum_by_same (λ line. int_sum_below n (λ i. portion_for i (division line))) (λ line. line.amount) (λ line.
     all_portions n (division line) (signed_portions_below line.amount n (claims_on table registered line) (some_accounts registered is) (claims_below table registered line))
     ∙ portions_add_up line.amount (claims_on table registered line)) usage))

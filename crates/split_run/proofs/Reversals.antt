@@ -8,7 +8,7 @@ use Rattle.line_split.proofs.FairSigns.{reversed_portions}
 use Rattle.line_split.proofs.IntSums.{int_sum_by-cons, none_plus}
 use Rattle.cwr_share.specs.ClaimsOn.{claims_on}
 use Rattle.cwr_share.specs.Registered.{Registered}
-use Rattle.payee_book.specs.Run.{portion_of, statement_of}
+use Rattle.payee_book.specs.Run.{portion_for, statement_of}
 use Rattle.payee_book.specs.Statement.{total_of}
 use Rattle.split_run.specs.Divisions.{division_by}
 use Rattle.split_run.proofs.AddsUp.{portion_first, total_from}
@@ -22,11 +22,11 @@ undone true v s t is = omega (arith, ints, is)
 undone false v s t is = omega (arith, ints, is)
 
 -- what a division gives an account, and what the same with the other sign gives it
-negated_portion : (account : ℕ) (division : List (ℕ × ℤ)) → portion_of account division +ℤ portion_of account (negated division) ≡ pos 0
+negated_portion : (account : ℕ) (division : List (ℕ × ℤ)) → portion_for account division +ℤ portion_for account (negated division) ≡ pos 0
 negated_portion account [] = refl
 negated_portion account (p ∷ division) =
     (λ i. portion_first account p division i +ℤ portion_first account (p.0, neg_ℤ p.1) (negated division) i)
-    ∙ undone (p.0 == account) p.1 (portion_of account division) (portion_of account (negated division)) (negated_portion account division)
+    ∙ undone (p.0 == account) p.1 (portion_for account division) (portion_for account (negated division)) (negated_portion account division)
 
 -- a reversal is divided as its line is, each portion with the other sign
 reversed_division : (table : List (ℕ × List ℕ)) (registered : Registered) (line reversal : UsageLine) → IsReversalOf line reversal
@@ -36,9 +36,9 @@ reversed_division table registered line reversal is =
     ∙ reversed_portions line.amount (claims_on table registered line)
 
 pub portions_undone : (table : List (ℕ × List ℕ)) (registered : Registered) (line reversal : UsageLine) (account : ℕ) → IsReversalOf line reversal
-    → portion_of account (division_by table registered line) +ℤ portion_of account (division_by table registered reversal) ≡ pos 0
+    → portion_for account (division_by table registered line) +ℤ portion_for account (division_by table registered reversal) ≡ pos 0
 portions_undone table registered line reversal account is =
-    ap (λ (division : List (ℕ × ℤ)). portion_of account (division_by table registered line) +ℤ portion_of account division) (reversed_division table registered line reversal is)
+    ap (λ (division : List (ℕ × ℤ)). portion_for account (division_by table registered line) +ℤ portion_for account division) (reversed_division table registered line reversal is)
     ∙ negated_portion account (division_by table registered line)
 
 -- a sum over two lists, one after the other
@@ -65,7 +65,7 @@ sum_undone f line reversal before between after nothing =
 pub totals_undone : (table : List (ℕ × List ℕ)) (registered : Registered) (line reversal : UsageLine) (before between after : List UsageLine) (account : ℕ) → IsReversalOf line reversal
     → total_of (statement_of (division_by table registered) (before ++ line ∷ (between ++ reversal ∷ after)) account) ≡ total_of (statement_of (division_by table registered) (before ++ (between ++ after)) account)
 totals_undone table registered line reversal before between after account is =
-    let portion : UsageLine → ℤ = λ line. portion_of account (division_by table registered line) in
+    let portion : UsageLine → ℤ = λ line. portion_for account (division_by table registered line) in
     total_from portion 0 (before ++ line ∷ (between ++ reversal ∷ after))
     ∙ (sum_undone portion line reversal before between after (portions_undone table registered line reversal account is)
     ∙ sym (total_from portion 0 (before ++ (between ++ after))))

@@ -3,7 +3,7 @@
 ghost use Rattle.std.specs.Prelude.{◌≡◌, ◌++◌, ◌∷◌, ◌+ℤ◌, ℕ, pos, List};
 ghost use Rattle.cwr_share.specs.Registered.{Registered};
 ghost use Rattle.line_split.specs.UsageLine.{IsReversalOf, UsageLine};
-ghost use Rattle.payee_book.specs.Run.{portion_of, statement_of};
+ghost use Rattle.payee_book.specs.Run.{portion_for, statement_of};
 ghost use Rattle.payee_book.specs.Statement.{total_of};
 ghost use Rattle.split_run.specs.Divisions.{division_by};
 ghost use Rattle.split_run.specs.declared.TheConstants.{MOST_NODES, MOST_POSTINGS, MOST_THREADS};
@@ -33,7 +33,7 @@ pub fn law_taking_keeps_up()
 /// same law, since each of the two is the reversal of the other. Both stay in the rows.
 pub fn law_a_reversal_undoes_a_line()
     ensures portions { (table : List (ℕ × List ℕ)) (registered : Registered) (line reversal : UsageLine) (account : ℕ) → IsReversalOf line reversal
-        → portion_of account (division_by table registered line) +ℤ portion_of account (division_by table registered reversal) ≡ pos 0 }
+        → portion_for account (division_by table registered line) +ℤ portion_for account (division_by table registered reversal) ≡ pos 0 }
     ensures totals { (table : List (ℕ × List ℕ)) (registered : Registered) (line reversal : UsageLine) (before between after : List UsageLine) (account : ℕ) → IsReversalOf line reversal
         → total_of (statement_of (division_by table registered) (before ++ line ∷ (between ++ reversal ∷ after)) account)
         ≡ total_of (statement_of (division_by table registered) (before ++ (between ++ after)) account) }

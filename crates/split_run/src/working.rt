@@ -6,7 +6,7 @@ ghost use Rattle.cwr_share.specs.Found.{IsLookUp};
 ghost use Rattle.cwr_share.specs.Registered.{IsRegistered};
 ghost use Rattle.line_split.specs.UsageLine.{UsageLine};
 ghost use Rattle.line_split.specs.declared.TheConstants.{MOST_CLAIMS};
-ghost use Rattle.payee_book.specs.Run.{portion_of, posting_of};
+ghost use Rattle.payee_book.specs.Run.{portion_for, posting_of};
 ghost use Rattle.block_draw.specs.Views.{drawer_of};
 ghost use Rattle.split_run.specs.Blocks.{list_of, postings_in, postings_of};
 ghost use Rattle.split_run.specs.Divisions.{division_by};
@@ -224,7 +224,7 @@ fn work_line<B: Mailboxes, G: Gate, R: Wait>(
     requires ready { AreReadyFor B.is_shared (B.senders senders.old) 1 }
     requires claims { MOST_CLAIMS ≤ claims.old.room }
     requires portions { MOST_CLAIMS + 1 ≤ portions.old.room }
-    ensures sent { (line : UsageLine) → slice_get inputs.entry.usage.now place ≡ Some line → result ≡ true → HaveSent B.is_shared (B.senders senders.old) (B.senders senders.new) (λ account. posting_of place (portion_of account (division_by inputs.entry.tis.now inputs.entry.registry.now line))) }
+    ensures sent { (line : UsageLine) → slice_get inputs.entry.usage.now place ≡ Some line → result ≡ true → HaveSent B.is_shared (B.senders senders.old) (B.senders senders.new) (λ account. posting_of place (portion_for account (division_by inputs.entry.tis.now inputs.entry.registry.now line))) }
     ensures spent { result ≡ true → HasSpent B.is_shared (B.senders senders.old) (B.senders senders.new) 257 }
     ensures rooms { (claims.new.room ≡ claims.old.room) × (portions.new.room ≡ portions.old.room) }
 {

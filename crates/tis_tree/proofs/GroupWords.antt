@@ -4,20 +4,15 @@ use Rattle.std.proofs.lemmas.Bool.{false≢true}
 use Rattle.std.proofs.lemmas.Bool.Decides.{Decides-eqb}
 use Rattle.std.proofs.lemmas.List.{append-nil, get_or-map, map-append}
 use Rattle.std.proofs.lemmas.List.Elements.{All-contains, All-nil, All-push, Contains-append_left, Contains-append_right, Contains-push, Contains-push_cases}
+use Rattle.std.specs.List.{filter}
+use Rattle.std.specs.Prelude.{not}
 use Rattle.csv_table.specs.Forms.{IsCode, number_of}
-use Rattle.tis_tree.specs.Compiled.{has_bit}
+use Rattle.csv_table.proofs.PieceLemmas.{no_pieces}
+use Rattle.tis_tree.specs.Compiled.{IsAbove, has_bit}
 use Rattle.tis_tree.specs.Territories.{Encloses, IsKnown, row_at}
-use Rattle.tis_tree.specs.TisRows.{pieces_of, words_of}
+use Rattle.tis_tree.specs.TisRows.{IsGroup, words_of}
 use Rattle.tis_tree.specs.declared.TheConstants.{MOST_ROWS}
 use Rattle.tis_tree.proofs.Compiling.{either_true, or_true}
-
--- the word is a code that has a row
-abbrev pub IsGroup : List (ℕ × List ℕ) → List ℕ → Type 0
-IsGroup table word = IsCode word × IsKnown table (number_of word)
-
--- the row at the place contains one of the groups
-abbrev pub IsAbove : List (ℕ × List ℕ) → List ℕ → ℕ → Type 0
-IsAbove table groups place = (group : ℕ) × Contains groups group × (place < length table) × Encloses table (row_at table place).0 group
 
 -- the words that were read so far are these groups, and the set has what contains them
 pub record Named (table : List (ℕ × List ℕ)) (text rest old set groups : List ℕ) (number : ℕ) : Type 0 where
@@ -98,8 +93,7 @@ named_fault table text rest old set groups number word after named is wrong = λ
 
 -- an empty text has no words
 pub no_words : (text : List ℕ) → length text ≤ 0 → words_of text ≡ []
-unfolding pieces_of
-no_words [] none = refl
+no_words [] none = ap (filter (λ (piece : List ℕ). not (length piece == 0))) (no_pieces 32)
 no_words (byte ∷ rest) none = absurd (omega arith)
 
 -- a word of no bytes is empty

@@ -3,7 +3,6 @@ pub mod Compiling
 pub mod Enclosing
 mod GroupWords
 pub mod OneTable
-pub mod Pieces
 pub mod TisReadings
 mod TisWalks
 pub mod WorkedOut

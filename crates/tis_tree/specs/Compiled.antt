@@ -1,5 +1,5 @@
 -- How the table is kept, so that a look at it takes no search.
-use Rattle.std.specs.Prelude.{ℕ, ◌≡◌, ◌<◌, ◌≤◌, ◌+◌, ◌/◌, ◌%◌, ◌==◌, ◌↔◌, Bool, true, List, [], length, slice_index, slice_index_or}
+use Rattle.std.specs.Prelude.{ℕ, ◌≡◌, ◌<◌, ◌≤◌, ◌+◌, ◌/◌, ◌%◌, ◌==◌, ◌↔◌, Bool, Contains, true, List, [], length, slice_index, slice_index_or}
 use Rattle.std.specs.Int.{bit_at}
 use Rattle.tis_tree.specs.Territories.{AreTerritories, Encloses, IsKnown, row_at}
 use Rattle.tis_tree.specs.declared.TheConstants.{MOST_ROWS}
@@ -8,6 +8,10 @@ use Rattle.csv_table.specs.declared.forms.TheConstants.{MOST_CODE}
 -- whether a place is in a set of places, 64 to a word
 abbrev pub has_bit : List ℕ → ℕ → Bool
 has_bit words place = bit_at (slice_index words (place / 64)) (place % 64) == 1
+
+-- the code of the row at a place contains one of the groups
+abbrev pub IsAbove : List (ℕ × List ℕ) → (groups : List ℕ) → (place : ℕ) → Type 0
+IsAbove table groups place = (group : ℕ) × Contains groups group × (place < length table) × Encloses table (row_at table place).0 group
 
 -- For each code the place of its row, from 1, or 0 where it has none; and for each row the places of the rows whose codes contain its own.
 pub record IsCompiled (table : List (ℕ × List ℕ)) (places : List ℕ) (enclosing : List (List ℕ)) : Type 0 where

@@ -1,8 +1,9 @@
 -- The table of territories as CSV: a header, and a row for each code. Rows count from 0, the header's.
-use Rattle.std.specs.Prelude.{ℕ, ◌≡◌, ◌≤◌, ◌<◌, ◌⊎◌, ◌==◌, ◌∷◌, [], List, All, length, map, not, codes, slice_index_or, if◌then◌else◌, Option, Some, None, ⊤}
+use Rattle.std.specs.Prelude.{ℕ, ◌≡◌, ◌≤◌, ◌<◌, ◌⊎◌, ◌==◌, ◌∷◌, [], List, All, length, map, not, codes, slice_index_or, Option, Some, None, ⊤}
 use Rattle.std.specs.List.{filter}
 use Rattle.csv_table.specs.FirstFault.{AreInTurn, IsFaultOfTable}
 use Rattle.csv_table.specs.Forms.{IsCode, number_of}
+use Rattle.csv_table.specs.Pieces.{pieces_at}
 use Rattle.tis_tree.specs.Territories.{IsKnown}
 use Rattle.tis_tree.specs.declared.TheConstants.{MOST_ROWS}
 use Rattle.tis_tree.specs.declared.tis_fault.TisFault.{TisFault}
@@ -11,19 +12,9 @@ use Rattle.tis_tree.specs.declared.tis_fault.TisFault.TheVariants.{Csv, Code, Tw
 abbrev pub header : List (List ℕ)
 header = codes "code" ∷ codes "groups" ∷ []
 
--- a byte more in front of the first piece
-abbrev pub before_piece : ℕ → List (List ℕ) → List (List ℕ)
-before_piece byte [] = (byte ∷ []) ∷ []
-before_piece byte (piece ∷ pieces) = (byte ∷ piece) ∷ pieces
-
--- what stands between the spaces of a text, empty pieces too
-unfoldable pub pieces_of : List ℕ → List (List ℕ)
-pieces_of [] = [] ∷ []
-pieces_of (byte ∷ rest) = if byte == 32 then [] ∷ pieces_of rest else before_piece byte (pieces_of rest)
-
 -- the words of a text, with one or more spaces between them and any at its ends
 abbrev pub words_of : List ℕ → List (List ℕ)
-words_of text = filter (λ piece. not (length piece == 0)) (pieces_of text)
+words_of text = filter (λ piece. not (length piece == 0)) (pieces_at 32 text)
 
 -- the two fields of a row
 abbrev pub code_field : List (List ℕ) → List ℕ
@@ -39,9 +30,13 @@ territory_of row = (number_of (code_field row), map number_of (words_of (groups_
 abbrev pub HasCode : List (List ℕ) → Type 0
 HasCode row = IsCode (code_field row)
 
+-- the word is the code of an earlier row
+abbrev pub IsGroup : List (ℕ × List ℕ) → List ℕ → Type 0
+IsGroup earlier word = IsCode word × IsKnown earlier (number_of word)
+
 -- each group is a code of an earlier row
 abbrev pub HasGroups : List (ℕ × List ℕ) → List (List ℕ) → Type 0
-HasGroups earlier row = All (λ word. IsCode word × IsKnown earlier (number_of word)) (words_of (groups_field row))
+HasGroups earlier row = All (IsGroup earlier) (words_of (groups_field row))
 
 -- a row that is a territory, below the rows of the earlier ones
 pub record IsTerritory (earlier : List (ℕ × List ℕ)) (row : List (List ℕ)) : Type 0 where

@@ -31,7 +31,8 @@ pub fn law_an_unknown_code_is_apart()
 
 /// A row more at the end changes nothing in what contains a code before it.
 pub fn law_a_later_row_changes_nothing()
-    ensures { (table : List (ℕ × List ℕ)) (row : ℕ × List ℕ) (group land : ℕ) → AreTerritories (table ++ row ∷ []) → IsKnown table land → Encloses (table ++ row ∷ []) group land ↔ Encloses table group land }
+    ensures { (table : List (ℕ × List ℕ)) (row : ℕ × List ℕ) (group land : ℕ) → AreTerritories (table ++ row ∷ [])
+        → IsKnown table land → Encloses (table ++ row ∷ []) group land ↔ Encloses table group land }
 {}
 
 /// What contains what can be worked out, by looking from the last row back.
@@ -56,7 +57,8 @@ pub fn law_a_table_read_on_without_faults()
 
 /// The first row that is left out is what the whole table is refused for.
 pub fn law_the_first_row_left_out_is_the_fault()
-    ensures { (rows : List (List (List ℕ))) (row : List (List ℕ)) (fault : TisFault) (more : List (List (List ℕ) × TisFault)) (table : List (ℕ × List ℕ)) → IsReadWithout rows ((row, fault) ∷ more) table → IsFaultOf rows fault }
+    ensures { (rows : List (List (List ℕ))) (row : List (List ℕ)) (fault : TisFault) (more : List (List (List ℕ) × TisFault)) (table : List (ℕ × List ℕ))
+        → IsReadWithout rows ((row, fault) ∷ more) table → IsFaultOf rows fault }
 {}
 
 /// A table has at most 2,048 rows.

@@ -2,9 +2,9 @@
 
 ghost use Rattle.std.specs.Prelude.{◌≡◌, ◌≤◌, ◌<◌, ◌+◌, ◌↔◌, ◌⊎◌, ◌++◌, ◌∷◌, [], ℕ, true, All, Contains, IfOk, IfErr, IfSome, IfNone, IsTrue, OnOk, Some, length, map};
 ghost use Rattle.csv_table.specs.Forms.{IsCode, number_of};
-ghost use Rattle.tis_tree.specs.Compiled.{has_bit};
+ghost use Rattle.tis_tree.specs.Compiled.{IsAbove, has_bit};
 ghost use Rattle.tis_tree.specs.Territories.{AreTerritories, Encloses, IsKnown, encloses, row_at};
-ghost use Rattle.tis_tree.specs.TisRows.{IsFaultOfRow, IsTerritory, place_of_fault, territory_of, words_of};
+ghost use Rattle.tis_tree.specs.TisRows.{IsFaultOfRow, IsGroup, IsTerritory, place_of_fault, territory_of, words_of};
 ghost use Rattle.tis_tree.specs.declared.tis_fault.TisFault.TheVariants.{Memory};
 
 use crate::places::Places;
@@ -122,10 +122,10 @@ impl TisTable {
         text: &[u8],
         set: &mut Places,
     ) -> Result<Vec<u16>, TisFault>
-        ensures known { IfOk result (λ _. All (λ word. IsCode word × IsKnown self.now (number_of word)) (words_of text.now)) }
+        ensures known { IfOk result (λ _. All (IsGroup self.now) (words_of text.now)) }
         ensures groups { IfOk result (λ groups. groups.items ≡ map number_of (words_of text.now)) }
-        ensures set { IfOk result (λ groups. (place : ℕ) → place < MOST_ROWS → (has_bit set.new.words place ≡ true) ↔ ((has_bit set.old.words place ≡ true) ⊎ ((group : ℕ) × Contains groups.items group × (place < length self.now) × Encloses self.now (row_at self.now place).0 group))) }
-        ensures fault { IfErr result (λ fault. (fault ≡ TisFault.Memory) ⊎ ((fault ≡ TisFault.Group number) × ¬ All (λ word. IsCode word × IsKnown self.now (number_of word)) (words_of text.now))) }
+        ensures set { IfOk result (λ groups. (place : ℕ) → place < MOST_ROWS → (has_bit set.new.words place ≡ true) ↔ ((has_bit set.old.words place ≡ true) ⊎ IsAbove self.now groups.items place)) }
+        ensures fault { IfErr result (λ fault. (fault ≡ TisFault.Memory) ⊎ ((fault ≡ TisFault.Group number) × ¬ All (IsGroup self.now) (words_of text.now))) }
     {
         let mut groups = Vec::new(alloc);
         let mut rest = text;
@@ -149,7 +149,7 @@ impl TisTable {
     /// The place of the row of the code that a word writes, where there is one.
     fn place_of(&self, word: &[u8]) -> Option<usize>
         ensures some { IfSome result (λ place. IsCode word.now × (place < length self.now) × ((row_at self.now place).0 ≡ number_of word.now)) }
-        ensures none { IfNone result (¬ (IsCode word.now × IsKnown self.now (number_of word.now))) }
+        ensures none { IfNone result (¬ IsGroup self.now word.now) }
     {
         match code(word) {
             Some(code) => self.place(code),
@@ -174,7 +174,7 @@ impl TisTable {
         requires few { length self.old < MOST_ROWS }
         requires code { (0 < code) × (code ≤ MOST_CODE) × ¬ IsKnown self.old code }
         requires groups { All (IsKnown self.old) groups.items }
-        requires set { (place : ℕ) → place < MOST_ROWS → (has_bit set.words place ≡ true) ↔ ((group : ℕ) × Contains groups.items group × (place < length self.old) × Encloses self.old (row_at self.old place).0 group) }
+        requires set { (place : ℕ) → place < MOST_ROWS → (has_bit set.words place ≡ true) ↔ IsAbove self.old groups.items place }
         ensures { OnOk result (self.new ≡ self.old ++ (code, groups.items) ∷ []) }
     {
         let place = self.rows.len() as u16;

@@ -8,7 +8,7 @@ use Rattle.line_split.proofs.Signs.{signed_portion_accounts, signed_portions_sma
 use Rattle.line_split.specs.Claims.{AreClaims}
 use Rattle.line_split.specs.Signs.{int_sum_by, signed_portions_of}
 use Rattle.line_split.specs.declared.TheConstants.{MOST_AMOUNT, RESIDUE}
-use Rattle.payee_book.specs.Run.{portion_of}
+use Rattle.payee_book.specs.Run.{portion_for}
 use Rattle.usage_totals.proofs.TotalLemmas.{amount_kept}
 
 abbrev account_of : ℕ × ℤ → ℕ
@@ -18,7 +18,7 @@ abbrev sum_of : List (ℕ × ℤ) → ℤ
 sum_of portions = int_sum_by (λ (portion : ℕ × ℤ). portion.1) portions
 
 -- the portion of the last account of a list, which no other has
-last_alone : (list : List (ℕ × ℤ)) (others : List ℕ) (d : ℕ × ℤ) → map account_of list ≡ others ++ 0 ∷ [] → All (λ account. 0 < account) others → portion_of 0 list ≡ (get_or list (length others) d).1
+last_alone : (list : List (ℕ × ℤ)) (others : List ℕ) (d : ℕ × ℤ) → map account_of list ≡ others ++ 0 ∷ [] → All (λ account. 0 < account) others → portion_for 0 list ≡ (get_or list (length others) d).1
 last_alone [] [] d is above = absurd (cc)
 last_alone [] (other ∷ others) d is above = absurd (cc)
 last_alone (portion ∷ []) [] d is above =
@@ -41,7 +41,7 @@ module _ (amount : ℤ) (claims : List (ℕ × ℕ)) where
       ∙ length_push (map (λ (claim : ℕ × ℕ). claim.0) claims) RESIDUE
       ∙ ap (λ n. n + 1) (length-map claims (λ (claim : ℕ × ℕ). claim.0))
 
-  pub residue_last : (d : ℕ × ℤ) → AreClaims claims → (get_or (signed_portions_of amount claims) (length claims) d).1 ≡ portion_of RESIDUE (signed_portions_of amount claims)
+  pub residue_last : (d : ℕ × ℤ) → AreClaims claims → (get_or (signed_portions_of amount claims) (length claims) d).1 ≡ portion_for RESIDUE (signed_portions_of amount claims)
   residue_last d are =
       let place : length (map (λ (claim : ℕ × ℕ). claim.0) claims) ≡ length claims = length-map claims (λ (claim : ℕ × ℕ). claim.0) in
       ap (λ n. (get_or (signed_portions_of amount claims) n d).1) (sym place)
@@ -51,12 +51,12 @@ module _ (amount : ℤ) (claims : List (ℕ × ℕ)) where
   -- what is read of them by the place behind the claims
   pub residue_shown : (shown : List (ℕ × ℤ)) (listed : List (ℕ × ℕ)) → unsigned_abs amount ≤ MOST_AMOUNT → AreClaims claims → shown ≡ signed_portions_of (to_z w64 (of_z w64 amount)) claims → listed ≡ claims
       → (length listed < length shown)
-      × (to_z w64 (of_z w64 (get_or shown (length listed) (0, pos 0)).1) ≡ portion_of RESIDUE (signed_portions_of amount claims))
+      × (to_z w64 (of_z w64 (get_or shown (length listed) (0, pos 0)).1) ≡ portion_for RESIDUE (signed_portions_of amount claims))
       × (unsigned_abs (to_z w64 (of_z w64 (get_or shown (length listed) (0, pos 0)).1)) ≤ MOST_AMOUNT)
   residue_shown shown listed small are is all =
       let these : shown ≡ signed_portions_of amount claims = is ∙ ap (λ (z : ℤ). signed_portions_of z claims) (amount_kept amount small) in
       let within : length listed < length shown = omega (arith, portions_long, ap (λ (l : List (ℕ × ℤ)). length l) these, ap (λ (l : List (ℕ × ℕ)). length l) all) in
-      let portion : (get_or shown (length listed) (0, pos 0)).1 ≡ portion_of RESIDUE (signed_portions_of amount claims) =
+      let portion : (get_or shown (length listed) (0, pos 0)).1 ≡ portion_for RESIDUE (signed_portions_of amount claims) =
       (λ i. (get_or (these i) (length (all i)) (0, pos 0)).1) ∙ residue_last (0, pos 0) are in
       let each : (k : ℕ) (d : ℕ × ℤ) → k < length shown → unsigned_abs (get_or shown k d).1 ≤ MOST_AMOUNT =
       subst (λ (l : List (ℕ × ℤ)). (k : ℕ) (d : ℕ × ℤ) → k < length l → unsigned_abs (get_or l k d).1 ≤ MOST_AMOUNT) (sym these) (signed_portions_small amount MOST_AMOUNT claims small) in

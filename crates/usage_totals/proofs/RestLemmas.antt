@@ -12,7 +12,7 @@ use Rattle.line_split.specs.declared.reason.Reason.{Reason}
 use Rattle.line_split.specs.declared.reason.Reason.TheVariants.{Work, Land, Over, Open}
 use Rattle.cwr_share.specs.ClaimsOn.{claims_on, reason_against}
 use Rattle.cwr_share.specs.Registered.{Registered}
-use Rattle.payee_book.specs.Run.{portion_of, statement_of}
+use Rattle.payee_book.specs.Run.{portion_for, statement_of}
 use Rattle.payee_book.specs.Statement.{total_of}
 use Rattle.usage_totals.specs.Totals.{is_same, reason_of, residue_of}
 use Rattle.usage_totals.proofs.ReasonLemmas.{amount_of, counted, lines_of}
@@ -34,18 +34,18 @@ module _ (portion : UsageLine → ℤ) where
       by p true told rest = int_sum_by-cons (λ (posting : ℕ × ℤ). posting.1) (n, p) (posted (n + 1) lines) ∙ ap (λ (z : ℤ). p +ℤ z) rest
       by p false told rest = rest ∙ sym (none_plus (int_sum_by portion lines)) ∙ ap (λ (z : ℤ). z +ℤ int_sum_by portion lines) (sym (nothing_else p told))
 
-pub statement_sum : (division : UsageLine → List (ℕ × ℤ)) (account : ℕ) (lines : List UsageLine) → total_of (statement_of division lines account) ≡ int_sum_by (λ line. portion_of account (division line)) lines
-statement_sum division account lines = posted_sum (λ (line : UsageLine). portion_of account (division line)) 0 lines
+pub statement_sum : (division : UsageLine → List (ℕ × ℤ)) (account : ℕ) (lines : List UsageLine) → total_of (statement_of division lines account) ≡ int_sum_by (λ line. portion_for account (division line)) lines
+statement_sum division account lines = posted_sum (λ (line : UsageLine). portion_for account (division line)) 0 lines
 
 -- where nobody claims anything, all is the residue's
-alone : (list : List (ℕ × ℤ)) → map {A = ℕ × ℤ} (λ portion. portion.0) list ≡ 0 ∷ [] → portion_of 0 list ≡ int_sum_by (λ (portion : ℕ × ℤ). portion.1) list
+alone : (list : List (ℕ × ℤ)) → map {A = ℕ × ℤ} (λ portion. portion.0) list ≡ 0 ∷ [] → portion_for 0 list ≡ int_sum_by (λ (portion : ℕ × ℤ). portion.1) list
 alone [] is = absurd (cc)
 alone (portion ∷ []) is =
     let zero_is : portion.0 ≡ 0 = cc in
     ap (λ (b : Bool). int_sum_by (λ (p : ℕ × ℤ). p.1) (cond b (portion ∷ []) [])) (eq-eqb portion.0 0 zero_is)
 alone (portion ∷ next ∷ list) is = absurd (cc)
 
-unclaimed : (amount : ℤ) → portion_of RESIDUE (signed_portions_of amount []) ≡ amount
+unclaimed : (amount : ℤ) → portion_for RESIDUE (signed_portions_of amount []) ≡ amount
 unclaimed amount = alone (signed_portions_of amount []) (signed_portion_accounts amount []) ∙ portions_add_up amount []
 
 module _ (table : List (ℕ × List ℕ)) (registered : Registered) where
@@ -61,7 +61,7 @@ module _ (table : List (ℕ × List ℕ)) (registered : Registered) where
         where
           Bool-apart : true ≡ false → ⊥
           Bool-apart e = cc
-      by (Some reason) told = ap (λ (claims : List (ℕ × ℕ)). portion_of RESIDUE (signed_portions_of line.amount claims)) (no_claims line reason told) ∙ unclaimed line.amount
+      by (Some reason) told = ap (λ (claims : List (ℕ × ℕ)). portion_for RESIDUE (signed_portions_of line.amount claims)) (no_claims line reason told) ∙ unclaimed line.amount
 
   abbrev given : UsageLine → Reason
   given line = reason_of table registered line

@@ -10,7 +10,7 @@ use Rattle.line_split.specs.UsageLine.{UsageLine}
 use Rattle.line_split.specs.declared.TheConstants.{RESIDUE}
 use Rattle.line_split.specs.declared.reason.Reason.{Reason}
 use Rattle.line_split.specs.declared.reason.Reason.TheVariants.{Work, Land, Over, Open}
-use Rattle.payee_book.specs.Run.{portion_of}
+use Rattle.payee_book.specs.Run.{portion_for}
 use Rattle.usage_totals.specs.Greatest.{AreGreatest}
 use Rattle.usage_totals.specs.declared.total.Total.{Total}
 use Rattle.usage_totals.specs.declared.totals.Totals.{Totals}
@@ -36,7 +36,7 @@ total_of_lines lines = record { lines = length lines; amount = int_sum_by (λ li
 
 -- the residue's portion of a line
 abbrev pub residue_of : List (ℕ × List ℕ) → Registered → UsageLine → ℤ
-residue_of table registered line = portion_of RESIDUE (signed_portions_of line.amount (claims_on table registered line))
+residue_of table registered line = portion_for RESIDUE (signed_portions_of line.amount (claims_on table registered line))
 
 -- amounts by work, and by territory
 abbrev pub amounts_by_work : List UsageLine → List (List ℕ × ℤ)

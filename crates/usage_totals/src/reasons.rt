@@ -9,7 +9,7 @@ ghost use Rattle.line_split.specs.UsageLine.{UsageLine};
 ghost use Rattle.line_split.specs.declared.TheConstants.{MOST_AMOUNT, MOST_CLAIMS, RESIDUE};
 ghost use Rattle.line_split.specs.declared.reason.Reason.{Reason};
 ghost use Rattle.line_split.specs.declared.reason.Reason.TheVariants.{Open};
-ghost use Rattle.payee_book.specs.Run.{portion_of};
+ghost use Rattle.payee_book.specs.Run.{portion_for};
 ghost use Rattle.usage_totals.specs.Totals.{is_same as are_same, lines_for, reason_of, residue_of, total_of_lines};
 
 use crate::total::Total;
@@ -49,7 +49,7 @@ pub(crate) fn reasons_of(
 fn residue_portion(amount: i64, claims: &Claims, portions: &mut Portions) -> i64
     requires in_range { unsigned_abs amount ≤ MOST_AMOUNT }
     requires room { MOST_CLAIMS + 1 ≤ portions.old.room }
-    ensures portion { result ≡ portion_of RESIDUE (signed_portions_of amount claims.now.list) }
+    ensures portion { result ≡ portion_for RESIDUE (signed_portions_of amount claims.now.list) }
     ensures small { unsigned_abs result ≤ MOST_AMOUNT }
     ensures room { portions.new.room ≡ portions.old.room }
 {

@@ -18,7 +18,7 @@ use Rattle.line_split.proofs.portions.give_in_order.Goals as goal
 
 -- any contender, for the reads past a list's end
 abbrev none : Contender
-none = record { number = record { 0 = 0 } }
+none = record { precedence = record { 0 = 0 } }
 
 -- each contender stands at its own place
 own_places : (contenders : List Contender) → ((k : ℕ) (d : ℕ × ℕ) → k < length contenders → (get_or (map place_and_remainder contenders) k d).0 ≡ k)

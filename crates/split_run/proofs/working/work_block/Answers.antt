@@ -1,6 +1,6 @@
 use Rattle.std.proofs.Common.{arith, ap, get_or, length, sym, ◌*◌, ◌+◌, ◌-◌, ◌<◌, ◌≡◌, ◌++◌, ◌∙◌, ℕ}
 use Rattle.std.proofs.lemmas.Option.{get_or_from_slice_get}
-use Rattle.payee_book.specs.Run.{portion_of, posting_of}
+use Rattle.payee_book.specs.Run.{portion_for, posting_of}
 use Rattle.split_run.specs.Blocks.{postings_in}
 use Rattle.split_run.specs.Divisions.{division_by}
 use Rattle.split_run.proofs.SendingLemmas.{sent_both, sent_same, spent_both, spent_less}
@@ -33,13 +33,13 @@ loop-place-preserved g c =
     let count : (place - first) + 1 ≡ (place + 1) - first = omega (arith, c.loop-place.auto.place) in
     record {
       sent = sent_same g.B.Mailboxes.is_shared (g.B.Mailboxes.senders c.args.senders.now) (g.B.Mailboxes.senders c.work_line.new.senders)
-          (λ account. postings_from division account usage first (place - first) ++ posting_of place (portion_of account (division line)))
+          (λ account. postings_from division account usage first (place - first) ++ posting_of place (portion_for account (division line)))
           (λ account. postings_from division account usage first ((place + 1) - first))
           (sent_both g.B.Mailboxes.is_shared (g.B.Mailboxes.senders c.args.senders.now) (g.B.Mailboxes.senders c.loop-place.senders) (g.B.Mailboxes.senders c.work_line.new.senders)
-          (λ account. postings_from division account usage first (place - first)) (λ account. posting_of place (portion_of account (division line)))
+          (λ account. postings_from division account usage first (place - first)) (λ account. posting_of place (portion_for account (division line)))
           c.loop-place.invariant.sent (c.work_line.ensures.sent line here.1 c.if-not-work_line.false))
           (λ account.
-          ap (λ (n : ℕ). postings_from division account usage first (place - first) ++ posting_of n (portion_of account (division line))) (sym back)
+          ap (λ (n : ℕ). postings_from division account usage first (place - first) ++ posting_of n (portion_for account (division line))) (sym back)
           ∙ (line_more division account usage first (place - first) line (omega (arith, back, inside)) (ap (λ (n : ℕ). get_or usage n line) back ∙ get_or_from_slice_get usage place line line here.1)
           ∙ ap (postings_from division account usage first) count));
       spent = spent_less g.B.Mailboxes.is_shared (g.B.Mailboxes.senders c.args.senders.now) (g.B.Mailboxes.senders c.work_line.new.senders) (257 * (place - first) + 257) (257 * ((place + 1) - first)) (omega (arith, count))

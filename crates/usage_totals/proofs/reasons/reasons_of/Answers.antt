@@ -6,7 +6,7 @@ use Rattle.line_split.specs.Signs.{signed_portions_of}
 use Rattle.line_split.specs.UsageLine.{UsageLine, usage_line_of}
 use Rattle.line_split.specs.declared.TheConstants.{MOST_AMOUNT, MOST_CLAIMS, RESIDUE}
 use Rattle.line_split.specs.declared.reason.Reason.TheVariants.{Open}
-use Rattle.payee_book.specs.Run.{portion_of}
+use Rattle.payee_book.specs.Run.{portion_for}
 use Rattle.usage_totals.specs.Totals.{is_same, reason_of, residue_of}
 use Rattle.usage_totals.proofs.TotalLemmas.{amount_kept, same_reason, sum_more, sum_same}
 use Rattle.usage_totals.proofs.reasons.reasons_of.Goals as goal
@@ -35,7 +35,7 @@ loop-place-preserved c =
           let few : (place + 1) * MOST_AMOUNT < 2 ^ 63 = omega (arith, c.len-place-end.ensures.few, c.loop-place-test.true) in
           let portion : w.residue_portion-residue.result ≡ residue_of tis registry line =
           w.residue_portion-residue.ensures.portion
-          ∙ (λ i. portion_of RESIDUE (signed_portions_of (amount_kept line.amount c.line-line.ensures.sound.amount i) (c.claims-in-loop-place.ensures.claims i))) in
+          ∙ (λ i. portion_for RESIDUE (signed_portions_of (amount_kept line.amount c.line-line.ensures.sound.amount i) (c.claims-in-loop-place.ensures.claims i))) in
           let sum = sum_handed_on so_far w.residue_portion-residue.result (place * MOST_AMOUNT) MOST_AMOUNT c.loop-place.invariant.small w.residue_portion-residue.ensures.small (omega (arith, few)) in
           let size = size_plus so_far w.residue_portion-residue.result (place * MOST_AMOUNT) MOST_AMOUNT c.loop-place.invariant.small w.residue_portion-residue.ensures.small in
           rw (w.residue-is, w.portions-is) record {

@@ -1,6 +1,6 @@
 use Rattle.std.proofs.Common.{◌≡◌, ◌+◌, ◌++◌, ◌∷◌, ◌∙◌, [], ℕ, List, false, true, refl, sym, ap}
-use Rattle.cwr_share.specs.Filed.{IsFiledTo}
-use Rattle.cwr_share.specs.Records.{ends_registration, share_fields}
+use Rattle.cwr_share.specs.Filed.{GoesOnBy}
+use Rattle.cwr_share.specs.Records.{share_fields}
 use Rattle.cwr_share.specs.Registrations.{share_line_of}
 use Rattle.cwr_share.specs.declared.fields.ShareFields.{ShareFields}
 use Rattle.cwr_share.specs.declared.fields.TheConstants.{SPT, SWT}
@@ -27,16 +27,12 @@ add_share-requires-in-WriterShare-clause-sound c =
     let fields : share_fields line ≡ SWT = rw (sym c.in-WriterShare.ensures) refl in
     rw fields at (record_due body line c.args.self.now filed good (of_type WriterShare line (sym c.in-WriterShare.ensures)).share)
 
--- the registration with the line, by the line's type
-abbrev GoesOn : List ℕ → Filing → Filing → Type 0
-GoesOn line old next = (ends_registration line ≡ false) × (next.filed.line ≡ old.filed.line) × ((body : List (List ℕ)) → IsFiledTo body old → IsFiledTo (body ++ line ∷ []) next)
-
--- by a share line of either kind, whose fields stand there
+-- the registration goes on by a share line of either kind, whose fields stand there
 by_share : (type : RecordType) (line : List ℕ) (fields : ShareFields) (old self added : Filing) → IsOfType type line → type_is_share type ≡ true → type_ends type ≡ false → type_opens_interest type ≡ false
     → share_fields line ≡ fields → self ≡ added → (added.filed.line ≡ old.filed.line) × (added.interest ≡ old.interest) × (added.number ≡ old.number)
     → added.filed.shares.items ≡ old.filed.shares.items ++ share_line_of old.interest fields line ∷ []
     → added.filed.numbers.items ≡ old.filed.numbers.items ++ (old.number + 1) ∷ []
-    → GoesOn line old (record { filed = self.filed; interest = self.interest; number = self.number + 1 })
+    → GoesOnBy line old (record { filed = self.filed; interest = self.interest; number = self.number + 1 })
 by_share type line fields old self added is share stays same at on (first, interest, count) shares numbers = (
   is.ends ∙ stays,
   ap (λ (f : Filing). f.filed.line) on ∙ first,
@@ -52,7 +48,7 @@ returns-clause-on c = λ _.
     let old = c.args.self.now in
     let self = c.match-record_type.self in
     let next : Filing = record { filed = self.filed; interest = self.interest; number = self.number + 1 } in
-    let on : GoesOn line old next = elim c.match-record_type.branch [
+    let on : GoesOnBy line old next = elim c.match-record_type.branch [
       | in-Interest w ↦
           let type = of_type Interest line (sym w.in-Interest.ensures) in
           let filed : next.filed ≡ old.filed = ap (λ (f : Filing). f.filed) w.self-is in (
