@@ -414,7 +414,7 @@ sound_outside before line shut outside = record {
 abbrev share_at : List (List ℕ) → ℕ × List ℕ → Option ShareLine
 share_at lines e = cond (is_share_line e.1) (Some (share_line_of (count_by opens_interest (take e.0 lines)) (share_fields e.1) e.1)) None
 
-filter_map_agree : {X Y : Type 0} (h g : X → Option Y) (xs : List X) → All (λ x. h x ≡ g x) xs → filter_map h xs ≡ filter_map g xs
+pub filter_map_agree : {X Y : Type 0} (h g : X → Option Y) (xs : List X) → All (λ x. h x ≡ g x) xs → filter_map h xs ≡ filter_map g xs
 filter_map_agree h g [] same = refl
 filter_map_agree {X} {Y} h g (x ∷ xs) same =
     ap (λ (o : Option Y). cons_option o (filter_map h xs)) (All-head (λ y. h y ≡ g y) x xs same)

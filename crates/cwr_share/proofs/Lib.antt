@@ -15,5 +15,6 @@ pub mod PaidClaims
 pub mod PartyLemmas
 pub mod PartyShares
 pub mod PartyWorks
+pub mod PassedOverLemmas
 pub mod PayeeLemmas
 pub mod Runs

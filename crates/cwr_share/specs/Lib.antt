@@ -13,4 +13,5 @@ pub mod Parties
 pub mod Payees
 pub mod PayeeReading
 pub mod PayeeTable
+pub mod PassedOver
 pub mod CwrReading

@@ -1,6 +1,6 @@
 //! The table of payees: who is paid what a party claims.
 
-ghost use Rattle.std.specs.Prelude.{ℕ, ◌≡◌, ◌≤◌, ◌<◌, ◌+◌, ◌↔◌, ◌⊎◌, ◌++◌, ◌∷◌, [], IfErr, IfNone, IfOk, IfSome, IsTrue, OnOk, Some, length};
+ghost use Rattle.std.specs.Prelude.{ℕ, List, ◌≡◌, ◌≤◌, ◌<◌, ◌+◌, ◌↔◌, ◌⊎◌, ◌++◌, ◌∷◌, [], IfErr, IfNone, IfOk, IfSome, IsTrue, OnOk, Some, length, slice_index_or};
 ghost use Rattle.csv_table.specs.Forms.{IsPrintable};
 ghost use Rattle.cwr_share.specs.Fields.{trimmed as trimmed_text};
 ghost use Rattle.cwr_share.specs.PayeeTable.{IsFaultOfRow, IsPayeeRow, payee_row_of, place_of_fault};
@@ -68,6 +68,17 @@ impl Payees {
         ensures names { AreNames self.now }
     {
         self.rows.len()
+    }
+
+    /// The party of the row at a place.
+    pub(crate) fn party(&self, place: usize) -> &[u8]
+        requires { place < length self.now }
+        ensures { (d : List ℕ × List ℕ) → result.now ≡ (slice_index_or self.now place d).0 }
+    {
+        let Some((party, _)) = self.rows.get_index(place) else {
+            unreachable!()
+        };
+        party.as_slice()
     }
 
     /// Adds the row at hand, which has this number.

@@ -229,7 +229,7 @@ pub(crate) fn is_filled(field: &[u8]) -> bool
 }
 
 /// The territory that a field names: a code of four digits.
-fn territory(field: &[u8]) -> Option<Code>
+pub(crate) fn territory(field: &[u8]) -> Option<Code>
     ensures some { IfSome result (λ territory. IsCode field.now × (territory ≡ number_of field.now)) }
     ensures none { IfNone result (¬ IsCode field.now) }
 {
