@@ -1,7 +1,6 @@
 -- What a step of the receiver of a mailbox has to show, so that the rule of a table of nodes is kept.
-use Rattle.std.proofs.Common.{◌≡◌, ◌∙◌, ◌<◌, ◌+◌, ◌*◌, ◌++◌, ◌∷◌, ◌⊎◌, [], ℕ, All, List, Option, None, Some, suc, length, set, ap, sym, refl, subst, inl, inr, arith, get_or-set_other, get_or-set_same}
+use Rattle.std.proofs.Common.{◌≡◌, ◌∙◌, ◌<◌, ◌+◌, ◌*◌, ◌∷◌, ◌⊎◌, [], ℕ, All, List, Option, Some, suc, length, set, ap, sym, refl, subst, inl, inr, arith, get_or-set_other, get_or-set_same}
 use Rattle.std.specs.Prelude.{slice_index_or, true}
-use Rattle.std.proofs.lemmas.Bool.{cases_eq}
 use Rattle.std.proofs.lemmas.List.Elements.{All-cons, All-weaker}
 use mathlib.Core.Option.{Option as Slot, some}
 use lib.ListN.{get_elem?}
@@ -16,16 +15,14 @@ use Rattle.queue_core.specs.declared.sender.Caller.{Caller}
 use Rattle.queue_core.specs.declared.step.Step.{Step}
 use Rattle.queue_core.specs.declared.words.Node.{Node as Word}
 use Rattle.queue_core.specs.Mailbox.{IsHeld, Mailbox, got, passed_entries}
-use Rattle.queue_core.specs.Events.{Event, after}
-use Rattle.queue_core.specs.Pool.{Pool, PoolLeads, after_in}
-use Rattle.queue_core.specs.Pool.PoolLeads.{more}
+use Rattle.queue_core.specs.Events.{Event}
+use Rattle.queue_core.specs.Pool.{Pool, PoolLeads}
 use Rattle.queue_core.specs.Pooled.{Pooled, has_ended_in, new_reader, reader_in, sender_at, stub_in, with_reader}
-use Rattle.queue_core.specs.PoolShows.{ShowsPool, node_in, place_of}
+use Rattle.queue_core.specs.PoolShows.{node_in, place_of}
 use Rattle.queue_core.specs.PoolLaws.{ShowsAfterIn, event_in}
 use Rattle.queue_core.specs.PoolSteps.{stepped_in}
 use Rattle.queue_core.proofs.MailboxHolds.{Holds}
 use Rattle.queue_core.proofs.PoolKept.{holds_in}
-use Rattle.queue_core.proofs.PoolPosts.{box_other, box_own, same_field}
 use Rattle.queue_core.proofs.PoolRuns.{step_shows_in}
 use Rattle.queue_core.proofs.PoolStepsKeep.{keeps_step_in}
 use Rattle.node_table.specs.declared.seats.Holding.{Holding}

@@ -21,9 +21,8 @@ use Rattle.queue_core.specs.Mailbox.{IsHeld, Mailbox, got, is_among, item_at, pa
 use Rattle.queue_core.specs.Events.{Event, MayExchange, MayFill, after}
 use Rattle.queue_core.specs.Events.Event.{Exchange, Fill, Link}
 use Rattle.queue_core.specs.Pool.{MayFillIn, Pool, PoolLeads, after_in, events_in, post_at}
-use Rattle.queue_core.specs.Pool.PoolLeads.{more}
 use Rattle.queue_core.specs.Pooled.{Pooled, first_node, has_ended_in, reader_in, sender_at}
-use Rattle.queue_core.specs.PoolShows.{ShowsPool, number_in, place_of}
+use Rattle.queue_core.specs.PoolShows.{number_in, place_of}
 use Rattle.queue_core.specs.PoolSteps.{stepped_in}
 use Rattle.queue_core.specs.PoolLaws.{ShowsAfterIn, event_in}
 use Rattle.queue_core.proofs.Entries.{among_first, same_received}

@@ -6,7 +6,6 @@ use Rattle.std.proofs.lemmas.Bool.{cases_Bool, cases_eq, cases_lt, eq-eqb, false
 use Rattle.std.proofs.lemmas.Bool.Decides.{nat_tests}
 use Rattle.std.proofs.lemmas.List.{append-nil, get_or-replicate, get_or_past, length-replicate, length-set, map-append}
 use Rattle.std.proofs.lemmas.List.Elements.{All-push, filter-append}
-use Rattle.std.proofs.lemmas.Nat.{mul-add-lt}
 use mathlib.Core.Option.{none, some}
 use lib.ListN.{get_elem?}
 use Rattle.atomic_table.specs.Table.{State, gives, keeps, step, takes, Allows}
