@@ -1,8 +1,9 @@
 -- How a clause sees a draw and its drawers.
-use Rattle.std.specs.Prelude.{ℕ, ◌+◌, ◌==◌, ◌++◌, ◌∷◌, [], Bool, List, cond, false, length, true}
+use Rattle.std.specs.Prelude.{ℕ, ◌≡◌, ◌<◌, ◌+◌, ◌==◌, ◌++◌, ◌∷◌, [], Bool, HoldsAt, List, cond, false, length, true}
 use Rattle.atomic_table.specs.Seated.{TableId}
 use Rattle.block_draw.specs.declared.draw.Draw.{Draw}
 use Rattle.block_draw.specs.declared.draw.Drawer.{Drawer}
+use Rattle.block_draw.specs.declared.seats.Shape.{Shape}
 use Rattle.block_draw.specs.Seats.{drawn_by}
 use Rattle.block_draw.specs.Steps.{drawer_in, gatherer_in}
 
@@ -36,6 +37,10 @@ opened_draw draw blocks drawers = record { draw = draw; blocks = blocks; drawers
 
 abbrev pub opened_drawer : TableId → (blocks number : ℕ) → DrawerView
 opened_drawer draw blocks number = record { draw = draw; blocks = blocks; number = number; drawn = []; is_done = false }
+
+-- the drawers of a draw by number, which have drawn nothing
+abbrev pub AreNewDrawers : TableId → Shape → List Drawer → Type 0
+AreNewDrawers draw shape drawers = (number : ℕ) → number < shape.drawers → HoldsAt (λ d. drawer_of d ≡ opened_drawer draw shape.blocks number) drawers number
 
 -- a drawer after it drew this block, and after it found that none is left
 abbrev pub with_block : DrawerView → ℕ → DrawerView

@@ -76,7 +76,7 @@ impl Draw {
 }
 
 impl Drawer {
-    ghost use Rattle.block_draw.specs.Views.{drawer_of, finished, opened_drawer, with_block};
+    ghost use Rattle.block_draw.specs.Views.{AreNewDrawers, drawer_of, finished, with_block};
 
     /// A drawer for each number.
     fn deal_all(
@@ -92,7 +92,7 @@ impl Drawer {
         ensures same { gatherer.new.table_id ≡ gatherer.old.table_id }
         ensures me { IfOk result (λ _. gatherer.new.me ≡ (Gathers (opened_gatherer shape shape.drawers), [])) }
         ensures count { IfOk result (λ drawers. vec_len drawers ≡ shape.drawers) }
-        ensures opened { IfOk result (λ drawers. (number : ℕ) → number < shape.drawers → HoldsAt (λ d. drawer_of d ≡ opened_drawer gatherer.old.table_id shape.blocks number) (vec_items drawers) number) }
+        ensures opened { IfOk result (λ drawers. AreNewDrawers gatherer.old.table_id shape (vec_items drawers)) }
     {
         let mut drawers = Vec::with_capacity(alloc, shape.drawers as usize)?;
         for _ in 0..shape.drawers {

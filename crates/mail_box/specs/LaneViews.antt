@@ -1,5 +1,5 @@
 -- How a clause sees the senders, the receiver and the held items of a mailbox of lanes.
-use Rattle.std.specs.Prelude.{◌≡◌, ◌<◌, ◌≤◌, ℕ, List, [], Option, Some, None, cond, map, slice_index_or, vec_items, vec_len}
+use Rattle.std.specs.Prelude.{◌≡◌, ◌<◌, ◌≤◌, ℕ, HoldsAt, List, [], Option, Some, None, cond, map, slice_index_or, vec_items, vec_len}
 use Rattle.std.specs.Arc.{arc_value}
 use Rattle.queue_core.specs.declared.item.Item.{Item}
 use Rattle.crossbeam_queue.specs.Passes.{Pass, view}
@@ -8,10 +8,14 @@ use Rattle.mail_box.specs.declared.lane_mail.Lanes.{Lanes}
 use Rattle.mail_box.specs.declared.lane_mail.LaneSender.{LaneSender}
 use Rattle.mail_box.specs.declared.lane_mail.LaneReceiver.{LaneReceiver}
 use Rattle.mail_box.specs.declared.lane_mail.LaneHeld.{LaneHeld}
-use Rattle.mail_box.specs.Mails.{HasGained, HeldView, ReceiverView, SenderView}
+use Rattle.mail_box.specs.Mails.{HasGained, HeldView, ReceiverView, SenderView, opened_sender}
 
 abbrev pub sender_of : LaneSender → SenderView Lanes
 sender_of s = record { mailbox = arc_value s.lanes; number = s.number; nodes = (arc_value s.lanes).nodes; left = s.left; is_ended = s.ended; sent = (view s.pass).sent }
+
+-- the senders of these lanes by number, which have sent nothing, and have so many posts left
+abbrev pub AreNewSenders : Lanes → (count most : ℕ) → List LaneSender → Type 0
+AreNewSenders lanes count most senders = (k : ℕ) → k < count → HoldsAt (λ s. sender_of s ≡ opened_sender lanes k lanes.nodes most) senders k
 
 -- what a receiver's pass has taken, and what it knows to have been sent
 abbrev pub got_by : Pass Item Log → List Item

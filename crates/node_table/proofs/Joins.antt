@@ -1,5 +1,5 @@
 -- Seats at a table of nodes are cut in two and put together: the core, the pool, the words and what all other seats know stay as they were.
-use Rattle.std.proofs.Common.{[], ap, arith, inl, inr, None, Option, set, Some, subst, sym, true, ℕ, ◌++◌, ◌+◌, ◌<◌, ◌∙◌, ◌∷◌, ◌≡◌, ◌≤◌, ◌⊎◌}
+use Rattle.std.proofs.Common.{[], ap, arith, inl, inr, List, None, Option, set, Some, subst, sym, true, ℕ, ◌++◌, ◌+◌, ◌<◌, ◌∙◌, ◌∷◌, ◌≡◌, ◌≤◌, ◌⊎◌}
 use Rattle.std.proofs.lemmas.List.Elements.{All-cons}
 use Rattle.std.proofs.lemmas.Option.{none-some}
 use mathlib.Core.Option.{some}
@@ -12,17 +12,17 @@ use Rattle.queue_core.specs.Pool.{Pool}
 use Rattle.queue_core.specs.Pooled.{Pooled}
 use Rattle.node_table.specs.declared.seats.Holding.{Holding}
 use Rattle.node_table.specs.declared.seats.Known.{Known}
-use Rattle.node_table.specs.declared.seats.Known.TheVariants.{Sends, Reads, Holds, Tallies, Gone}
+use Rattle.node_table.specs.declared.seats.Known.TheVariants.{Sends, Receives, Holds, Tallies, Gone}
 use Rattle.node_table.specs.declared.seats.Posting.{Posting}
-use Rattle.node_table.specs.declared.seats.ReaderSeat.{ReaderSeat}
+use Rattle.node_table.specs.declared.seats.ReceiverSeat.{ReceiverSeat}
 use Rattle.node_table.specs.declared.seats.SenderSeat.{SenderSeat}
 use Rattle.node_table.specs.declared.seats.Shape.{Shape}
 use Rattle.node_table.specs.declared.seats.TallySeat.{TallySeat}
-use Rattle.node_table.specs.Seats.{HasEndedEverywhere, Owned, Has, has_ended, IsGathered, IsHolding, IsPartIn, IsPartOf, IsReaderSeat, IsSeat, IsSenderSeat, IsTakenIn, IsTallySeat}
+use Rattle.node_table.specs.Seats.{HasEndedEverywhere, Owned, Has, has_ended, KnowsMailbox, IsHolding, IsPartIn, IsPartOf, IsReceiverSeat, IsSeat, IsSenderSeat, IsTakenIn, IsTallySeat}
 use Rattle.node_table.specs.Seats.Owned.{Part, Node}
 use Rattle.node_table.specs.Rule.{KeepsNodes, opened_tally}
 use Rattle.node_table.specs.Tells.{after_deal, after_hand, dealt, gathered, hand_of, handed, taken_back, taken_in, tallied, with_hand}
-use Rattle.node_table.specs.Asks.{IsTakingIn, IsDealing, IsGathering, IsHandingOut, IsTakingBack, IsTallying, holding_in, reader_in, sender_in, tally_in}
+use Rattle.node_table.specs.Asks.{IsTakingIn, IsDealing, IsGathering, IsHandingOut, IsTakingBack, IsTallying, holding_in, receiver_in, sender_in, tally_in}
 use Rattle.node_table.proofs.Owned.{apart_join, apart_split, read_join, read_split}
 
 -- ---- what is to be shown of a cut, and of a join
@@ -91,16 +91,16 @@ dealt_differ v early (Part part) has is = elim has [
 ]
 dealt_differ v early (Node n) has is = is
 
--- a reader that has handed out what it had at hand has its parts still, and the new seat has the node
-hand_left : (v : ReaderSeat) (thing : Owned) → Has (Reads (with_hand None v)) thing → Has (Reads v) thing
+-- a receiver that has handed out what it had at hand has its parts still, and the new seat has the node
+hand_left : (v : ReceiverSeat) (thing : Owned) → Has (Receives (with_hand None v)) thing → Has (Receives v) thing
 hand_left v (Part part) has = has
 hand_left v (Node n) has = absurd (none-some has.0 has.1)
 
-hand_had : (v : ReaderSeat) (h : Holding) → v.at_hand ≡ Some h → (thing : Owned) → Has (Holds h) thing → Has (Reads v) thing
+hand_had : (v : ReceiverSeat) (h : Holding) → v.at_hand ≡ Some h → (thing : Owned) → Has (Holds h) thing → Has (Receives v) thing
 hand_had v h hand (Part part) has = absurd has
 hand_had v h hand (Node n) has = (h, hand, has)
 
-hand_differ : (v : ReaderSeat) (h : Holding) (thing : Owned) → Has (Reads (with_hand None v)) thing → ¬ Has (Holds h) thing
+hand_differ : (v : ReceiverSeat) (h : Holding) (thing : Owned) → Has (Receives (with_hand None v)) thing → ¬ Has (Holds h) thing
 hand_differ v h (Part part) has is = is
 hand_differ v h (Node n) has is = none-some has.0 has.1
 
@@ -108,12 +108,12 @@ hand_differ v h (Node n) has is = none-some has.0 has.1
 some_same : (h g : Holding) → Some h ≡ Some g → h ≡ g
 some_same h g e = cc
 
-back_from : (v : ReaderSeat) (h : Holding) (thing : Owned) → Has (Reads (with_hand (Some h) v)) thing → Has (Reads v) thing ⊎ Has (Holds h) thing
+back_from : (v : ReceiverSeat) (h : Holding) (thing : Owned) → Has (Receives (with_hand (Some h) v)) thing → Has (Receives v) thing ⊎ Has (Holds h) thing
 back_from v h (Part part) has = inl has
 back_from v h (Node n) has = inr (ap (λ (x : Holding). x.node) (some_same h has.0 has.1) ∙ has.2)
 
 -- whoever takes a sender in has its part too
-in_from : (v : ReaderSeat) (a : SenderSeat) (thing : Owned) → Has (taken_in (Reads v) (Sends a)) thing → Has (Reads v) thing ⊎ Has (Sends a) thing
+in_from : (v : ReceiverSeat) (a : SenderSeat) (thing : Owned) → Has (taken_in (Receives v) (Sends a)) thing → Has (Receives v) thing ⊎ Has (Sends a) thing
 in_from v a (Part part) has = elim has [
   | inl own ↦ inl (inl own)
   | inr (inl its) ↦ inr its
@@ -131,8 +131,8 @@ tallied_from v a (Part part) has = elim has [
 ]
 tallied_from v a (Node n) has = inl has
 
--- and the tally that gathers a reader has that one's
-gathered_from : (v : TallySeat) (a : ReaderSeat) (thing : Owned) → Has (gathered (Tallies v) (Reads a)) thing → Has (Tallies v) thing ⊎ Has (Reads a) thing
+-- and the tally that gathers a receiver has that one's
+gathered_from : (v : TallySeat) (a : ReceiverSeat) (thing : Owned) → Has (gathered (Tallies v) (Receives a)) thing → Has (Tallies v) thing ⊎ Has (Receives a) thing
 gathered_from v a (Part part) has = elim has [
   | inl first ↦ inl (inl first)
   | inr (inl late) ↦ inl (inr (inl late))
@@ -145,15 +145,15 @@ gathered_from v a (Node n) has = absurd has
 -- ---- what the parts know
 
 module _ (c : Pooled) (q : Pool) where
-  -- a reader with something else at hand
-  with_hand_is : (v : ReaderSeat) (hand : Option Holding) → ((h : Holding) → hand ≡ Some h → IsHolding c q h × (h.mailbox ≡ v.mailbox)) → IsReaderSeat c q v → IsReaderSeat c q (with_hand hand v)
+  -- what a receiver knows of its mailbox does not turn on what it has at hand, or on whom it took in
+  still_knows : (v : ReceiverSeat) (hand : Option Holding) (seats : List SenderSeat) → KnowsMailbox c q v → KnowsMailbox c q (record v { at_hand = hand; taken_in = seats })
+  still_knows v hand seats was =
+      record { shape = was.shape; within = was.within; reader = was.reader; passed = was.passed; given = was.given; got = was.got }
+
+  -- a receiver with something else at hand
+  with_hand_is : (v : ReceiverSeat) (hand : Option Holding) → ((h : Holding) → hand ≡ Some h → IsHolding c q h × (h.mailbox ≡ v.mailbox)) → IsReceiverSeat c q v → IsReceiverSeat c q (with_hand hand v)
   with_hand_is v hand holds was = record {
-    shape = was.shape;
-    within = was.within;
-    reader = was.reader;
-    passed = was.passed;
-    given = was.given;
-    got = was.got;
+    its_mailbox = still_knows v hand v.taken_in was.its_mailbox;
     at_hand = holds;
     taken_in = was.taken_in;
     ended = was.ended;
@@ -176,30 +176,25 @@ module _ (shape : Shape) (id : ℕ) where
       record { shape_is = was.shape; within = more; new = was.waiting v.dealt (omega arith) more }
       (left_had v) (dealt_had v) (dealt_differ v early)
 
-  hands_out : (v : ReaderSeat) (h : Holding) → v.at_hand ≡ Some h → Splits (KeepsNodes shape) id (Reads v) (after_hand (Reads v)) (hand_of (Reads v))
-  hands_out v h hand = subst (λ o. Splits (KeepsNodes shape) id (Reads v) (after_hand (Reads v)) (handed o)) (sym hand) (λ s kept seen.
-      let was : IsReaderSeat kept.core kept.pool v = kept.seats id (Reads v) seen in
-      cut_keeps shape id (Reads v) s kept seen (after_hand (Reads v)) (Holds h) (with_hand_is kept.core kept.pool v None (λ g none. absurd (none-some g none)) was) (was.at_hand h hand).0 (hand_left v) (hand_had v h hand) (hand_differ v h))
+  hands_out : (v : ReceiverSeat) (h : Holding) → v.at_hand ≡ Some h → Splits (KeepsNodes shape) id (Receives v) (after_hand (Receives v)) (hand_of (Receives v))
+  hands_out v h hand = subst (λ o. Splits (KeepsNodes shape) id (Receives v) (after_hand (Receives v)) (handed o)) (sym hand) (λ s kept seen.
+      let was : IsReceiverSeat kept.core kept.pool v = kept.seats id (Receives v) seen in
+      cut_keeps shape id (Receives v) s kept seen (after_hand (Receives v)) (Holds h) (with_hand_is kept.core kept.pool v None (λ g none. absurd (none-some g none)) was) (was.at_hand h hand).0 (hand_left v) (hand_had v h hand) (hand_differ v h))
 
-  takes_back : (v : ReaderSeat) (other : ℕ) (h : Holding) → h.mailbox ≡ v.mailbox → Joins (KeepsNodes shape) id (Reads v) other (Holds h) (taken_back (Reads v) (Holds h)) Gone
+  takes_back : (v : ReceiverSeat) (other : ℕ) (h : Holding) → h.mailbox ≡ v.mailbox → Joins (KeepsNodes shape) id (Receives v) other (Holds h) (taken_back (Receives v) (Holds h)) Gone
   takes_back v other h same s kept seen apart there =
-      join_keeps shape id (Reads v) s kept seen other (Holds h) (taken_back (Reads v) (Holds h)) apart there
-      (λ held. with_hand_is kept.core kept.pool v (Some h) (λ g is. subst (λ (x : Holding). IsHolding kept.core kept.pool x × (x.mailbox ≡ v.mailbox)) (some_same h g is) (held, same)) (kept.seats id (Reads v) seen))
+      join_keeps shape id (Receives v) s kept seen other (Holds h) (taken_back (Receives v) (Holds h)) apart there
+      (λ held. with_hand_is kept.core kept.pool v (Some h) (λ g is. subst (λ (x : Holding). IsHolding kept.core kept.pool x × (x.mailbox ≡ v.mailbox)) (some_same h g is) (held, same)) (kept.seats id (Receives v) seen))
       (back_from v h)
 
-  takes_in : (v : ReaderSeat) (other : ℕ) (a : SenderSeat) → v.reader.point ≡ reads.Rest → a.caller.point ≡ sends.Rest → has_ended a v.mailbox ≡ true → Joins (KeepsNodes shape) id (Reads v) other (Sends a) (taken_in (Reads v) (Sends a)) Gone
+  takes_in : (v : ReceiverSeat) (other : ℕ) (a : SenderSeat) → v.reader.point ≡ reads.Rest → a.caller.point ≡ sends.Rest → has_ended a v.mailbox ≡ true → Joins (KeepsNodes shape) id (Receives v) other (Sends a) (taken_in (Receives v) (Sends a)) Gone
   takes_in v other a at rest over s kept seen apart there =
       let c : Pooled = kept.core in
       let q : Pool = kept.pool in
-      let was : IsReaderSeat c q v = kept.seats id (Reads v) seen in
-      join_keeps shape id (Reads v) s kept seen other (Sends a) (taken_in (Reads v) (Sends a)) apart there
+      let was : IsReceiverSeat c q v = kept.seats id (Receives v) seen in
+      join_keeps shape id (Receives v) s kept seen other (Sends a) (taken_in (Receives v) (Sends a)) apart there
       (λ its. record {
-        shape = was.shape;
-        within = was.within;
-        reader = was.reader;
-        passed = was.passed;
-        given = was.given;
-        got = was.got;
+        its_mailbox = still_knows c q v v.at_hand (a ∷ v.taken_in) was.its_mailbox;
         at_hand = was.at_hand;
         taken_in = All-cons (IsTakenIn c q) a v.taken_in (taken c q a rest its) was.taken_in;
         ended = All-cons (λ (a : SenderSeat). has_ended a v.mailbox ≡ true) a v.taken_in over was.ended;
@@ -207,16 +202,16 @@ module _ (shape : Shape) (id : ℕ) where
       })
       (in_from v a)
 
-  gathers : (v : TallySeat) (other : ℕ) (a : ReaderSeat) → Joins (KeepsNodes shape) id (Tallies v) other (Reads a) (gathered (Tallies v) (Reads a)) Gone
+  gathers : (v : TallySeat) (other : ℕ) (a : ReceiverSeat) → Joins (KeepsNodes shape) id (Tallies v) other (Receives a) (gathered (Tallies v) (Receives a)) Gone
   gathers v other a s kept seen apart there =
       let c : Pooled = kept.core in
       let q : Pool = kept.pool in
       let was : IsTallySeat c q s.homes v = kept.seats id (Tallies v) seen in
-      join_keeps shape id (Tallies v) s kept seen other (Reads a) (gathered (Tallies v) (Reads a)) apart there
+      join_keeps shape id (Tallies v) s kept seen other (Receives a) (gathered (Tallies v) (Receives a)) apart there
       (λ its. record {
         shape = was.shape;
         waiting = was.waiting;
-        gathered = All-cons (IsGathered c q) a v.gathered record { shape = its.shape; within = its.within; reader = its.reader; passed = its.passed; given = its.given; got = its.got } was.gathered;
+        gathered = All-cons (KnowsMailbox c q) a v.gathered its.its_mailbox was.gathered;
         taken_in = was.taken_in;
         ended = was.ended;
       })
@@ -254,7 +249,7 @@ module _ (shape : Shape) (id : ℕ) (me : Me Posting Known) where
 
   pub hands : IsHandingOut me → Splits (KeepsNodes shape) id me.0 (after_hand me.0) (hand_of me.0)
   hands at =
-      subst (λ (x : Known). Splits (KeepsNodes shape) id x (after_hand x) (hand_of x)) (known_is me (Reads (reader_in me.0)) at.is_reader) (hands_out shape id (reader_in me.0) at.holding at.hand)
+      subst (λ (x : Known). Splits (KeepsNodes shape) id x (after_hand x) (hand_of x)) (known_is me (Receives (receiver_in me.0)) at.is_receiver) (hands_out shape id (receiver_in me.0) at.holding at.hand)
 
   module _ (other : ℕ) (them : Me Posting Known) where
     -- of two seats by what each knows
@@ -266,14 +261,14 @@ module _ (shape : Shape) (id : ℕ) (me : Me Posting Known) where
         subst (λ (x : Known × Known). Joins (KeepsNodes shape) id x.0 other x.1 (both x.0 x.1) Gone) (λ i. (own i, its i)) joins
 
     pub gets_back : IsTakingBack me them → Joins (KeepsNodes shape) id me.0 other them.0 (taken_back me.0 them.0) Gone
-    gets_back at = both_known (Reads (reader_in me.0)) (Holds (holding_in them.0)) taken_back at.is_reader at.held (takes_back shape id (reader_in me.0) other (holding_in them.0) at.same)
+    gets_back at = both_known (Receives (receiver_in me.0)) (Holds (holding_in them.0)) taken_back at.is_receiver at.held (takes_back shape id (receiver_in me.0) other (holding_in them.0) at.same)
 
     pub gets_in : IsTakingIn me them → Joins (KeepsNodes shape) id me.0 other them.0 (taken_in me.0 them.0) Gone
     gets_in at =
-        both_known (Reads (reader_in me.0)) (Sends (sender_in them.0)) taken_in at.reader.is_reader at.sender.is (takes_in shape id (reader_in me.0) other (sender_in them.0) at.reader.rest at.sender.rest at.ended)
+        both_known (Receives (receiver_in me.0)) (Sends (sender_in them.0)) taken_in at.receiver.is_receiver at.sender.is (takes_in shape id (receiver_in me.0) other (sender_in them.0) at.receiver.rest at.sender.rest at.ended)
 
     pub gathers_in : IsGathering me them → Joins (KeepsNodes shape) id me.0 other them.0 (gathered me.0 them.0) Gone
-    gathers_in at = both_known (Tallies (tally_in me.0)) (Reads (reader_in them.0)) gathered at.is_tally at.reader (gathers shape id (tally_in me.0) other (reader_in them.0))
+    gathers_in at = both_known (Tallies (tally_in me.0)) (Receives (receiver_in them.0)) gathered at.is_tally at.receiver (gathers shape id (tally_in me.0) other (receiver_in them.0))
 
     pub counts_in : IsTallying me them → Joins (KeepsNodes shape) id me.0 other them.0 (tallied me.0 them.0) Gone
     counts_in at = both_known (Tallies (tally_in me.0)) (Sends (sender_in them.0)) tallied at.is_tally at.sender.is (tallies_in shape id (tally_in me.0) other (sender_in them.0) at.sender.rest at.ended)

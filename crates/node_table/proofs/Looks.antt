@@ -1,4 +1,4 @@
--- What looks at a word that nobody writes tell: what was received of a sender that was taken in is the first part of what that sent. And how a reader that was dealt begins.
+-- What looks at a word that nobody writes tell: what was received of a sender that was taken in is the first part of what that sent. And how a receiver that was dealt begins.
 use Rattle.std.proofs.Common.{[], ap, arith, inl, inr, refl, subst, sym, true, ℕ, ◌*◌, ◌+◌, ◌-◌, ◌<◌, ◌∙◌, ◌≡◌, ◌≤◌}
 use Rattle.std.specs.List.{filter_map}
 use Rattle.std.proofs.lemmas.List.{set-get_or}
@@ -12,19 +12,19 @@ use Rattle.queue_core.specs.Mailbox.{received_at}
 use Rattle.queue_core.specs.Pool.{Pool}
 use Rattle.queue_core.specs.Pooled.{Pooled, new_reader, stub_in}
 use Rattle.node_table.specs.declared.seats.Known.{Known}
-use Rattle.node_table.specs.declared.seats.Known.TheVariants.{Dealt, Reads, Tallies}
+use Rattle.node_table.specs.declared.seats.Known.TheVariants.{Dealt, Receives, Tallies}
 use Rattle.node_table.specs.declared.seats.Posting.{Posting}
-use Rattle.node_table.specs.declared.seats.ReaderSeat.{ReaderSeat}
+use Rattle.node_table.specs.declared.seats.ReceiverSeat.{ReceiverSeat}
 use Rattle.node_table.specs.declared.seats.SenderSeat.{SenderSeat}
 use Rattle.node_table.specs.declared.seats.Shape.{Shape}
 use Rattle.node_table.specs.declared.seats.TallySeat.{TallySeat}
 use Rattle.node_table.specs.Layout.{stub_of}
-use Rattle.node_table.specs.Seats.{got_in, Has, has_ended, HasShape, IsDealtSeat, IsGathered, IsNewReader, IsReaderSeat, IsSeat, IsTakenIn, IsTallySeat, items_in, Owned}
+use Rattle.node_table.specs.Seats.{got_in, Has, has_ended, HasShape, IsDealtSeat, KnowsMailbox, IsNewReceiver, IsReceiverSeat, IsSeat, IsTakenIn, IsTallySeat, items_in, Owned}
 use Rattle.node_table.specs.Seats.Owned.{Part, Node}
 use Rattle.node_table.specs.Rule.{KeepsNodes}
 use Rattle.queue_core.specs.Items.{IsFirstOf}
-use Rattle.node_table.specs.Tells.{TallyBegins, new_reader_seat, tells_begin_reading, tells_look, tells_tally}
-use Rattle.node_table.specs.Asks.{IsTally, IsUnread, tally_in, reader_in}
+use Rattle.node_table.specs.Tells.{TallyBegins, new_receiver, tells_begin_receiving, tells_look, tells_tally}
+use Rattle.node_table.specs.Asks.{IsTally, IsDealtReceiver, tally_in, receiver_in}
 use Rattle.node_table.proofs.Owned.{apart_still}
 use Rattle.node_table.proofs.TakenIn.{begins_now, received_first}
 
@@ -40,21 +40,23 @@ module _ (shape : Shape) (s : State Posting Known) (kept : KeepsNodes shape s) (
   tally_begins : (v : TallySeat) → get_elem? s.views id ≡ some (Tallies v) → TallyBegins v
   tally_begins v seen =
       let mine : IsTallySeat c q s.homes v = kept.seats id (Tallies v) seen in
-      All-weaker (IsGathered c q) _ (λ r is. All-weaker (IsTakenIn c q) _ (λ a its. subst (λ pairs. IsFirstOf (got_in pairs a.number) (items_in r.mailbox a.filled)) is.got (received_first shape s kept r.mailbox a its)) v.taken_in mine.taken_in) v.gathered mine.gathered
+      All-weaker (KnowsMailbox c q) _ (λ r is. All-weaker (IsTakenIn c q) _ (λ a its. subst (λ pairs. IsFirstOf (got_in pairs a.number) (items_in r.mailbox a.filled)) is.got (received_first shape s kept r.mailbox a its)) v.taken_in mine.taken_in) v.gathered mine.gathered
 
--- ---- a reader that was dealt
+-- ---- a receiver that was dealt
 
 -- it has received nothing, and its tail is its stub
-new_reads : (c : Pooled) (q : Pool) (shape : Shape) (b : ℕ) → HasShape shape c → b < shape.mailboxes → IsNewReader c q b → IsReaderSeat c q (new_reader_seat shape b)
-new_reads c q shape b fits low new =
+new_receives : (c : Pooled) (q : Pool) (shape : Shape) (b : ℕ) → HasShape shape c → b < shape.mailboxes → IsNewReceiver c q b → IsReceiverSeat c q (new_receiver shape b)
+new_receives c q shape b fits low new =
     let stub : stub_in c b ≡ stub_of shape b = λ i. fits.senders i * (fits.ring i + fits.mailboxes i) + b in
     record {
-      shape = fits;
-      within = low;
-      reader = new.reader ∙ ap new_reader stub;
-      passed = new.passed;
-      given = new.given;
-      got = ap (filter_map (received_at (q.boxes b))) new.passed;
+      its_mailbox = record {
+        shape = fits;
+        within = low;
+        reader = new.reader ∙ ap new_reader stub;
+        passed = new.passed;
+        given = new.given;
+        got = ap (filter_map (received_at (q.boxes b))) new.passed;
+      };
       at_hand = λ h none. absurd (none-some h none);
       taken_in = All-nil (IsTakenIn c q);
       ended = All-nil (λ (a : SenderSeat). has_ended a _ ≡ true);
@@ -62,7 +64,7 @@ new_reads c q shape b fits low new =
     }
 
 -- it has the part that was dealt
-new_had : (shape : Shape) (turn : ℕ) → shape.senders ≤ turn → (thing : Owned) → Has (Reads (new_reader_seat shape (turn - shape.senders))) thing → Has (Dealt shape turn) thing
+new_had : (shape : Shape) (turn : ℕ) → shape.senders ≤ turn → (thing : Owned) → Has (Receives (new_receiver shape (turn - shape.senders))) thing → Has (Dealt shape turn) thing
 new_had shape turn past (Part part) has = elim has [
   | inl own ↦ omega (arith, own, past)
   | inr nobody ↦ absurd nobody
@@ -72,21 +74,21 @@ new_had shape turn past (Node n) has = absurd (none-some has.0 has.1)
 -- ---- the steps
 
 module _ (key : Shape) (slots id : ℕ) where
-  looks : (v : ReaderSeat) → Allows (KeepsNodes key) slots id (Reads v, []) 0 (λ n. n) (tells_look (step slots 0 0 0 none) (Reads v, []))
-  looks v s kept deep seen small = (Reads v, keeps, tt, rw (set-get_or s.words 0 0, set_again s.views id (Reads v) seen) kept, (v, refl, (refl, begins_now key s kept id v seen)))
+  looks : (v : ReceiverSeat) → Allows (KeepsNodes key) slots id (Receives v, []) 0 (λ n. n) (tells_look (step slots 0 0 0 none) (Receives v, []))
+  looks v s kept deep seen small = (Receives v, keeps, tt, rw (set-get_or s.words 0 0, set_again s.views id (Receives v) seen) kept, (v, refl, (refl, begins_now key s kept id v seen)))
 
   tally_looks : (v : TallySeat) → Allows (KeepsNodes key) slots id (Tallies v, []) 0 (λ n. n) (tells_tally (step slots 0 0 0 none) (Tallies v, []))
   tally_looks v s kept deep seen small = (Tallies v, keeps, tt, rw (set-get_or s.words 0 0, set_again s.views id (Tallies v) seen) kept, (refl, tally_begins key s kept id v seen))
 
-  begins : (shape : Shape) (turn : ℕ) → shape.senders ≤ turn → Allows (KeepsNodes key) slots id (Dealt shape turn, []) 0 (λ n. n) (tells_begin_reading (step slots 0 0 0 none) (Dealt shape turn, []))
+  begins : (shape : Shape) (turn : ℕ) → shape.senders ≤ turn → Allows (KeepsNodes key) slots id (Dealt shape turn, []) 0 (λ n. n) (tells_begin_receiving (step slots 0 0 0 none) (Dealt shape turn, []))
   begins shape turn past s kept deep seen small =
       let c : Pooled = kept.core in
       let q : Pool = kept.pool in
       let b : ℕ = turn - shape.senders in
-      let w : Known = Reads (new_reader_seat shape b) in
+      let w : Known = Receives (new_receiver shape b) in
       let was : IsDealtSeat c q s.homes shape turn = kept.seats id (Dealt shape turn) seen in
       let low : b < shape.mailboxes = omega (arith, was.within, past) in
-      let is : IsSeat c q s.homes w = new_reads c q shape b was.shape_is low (was.new.reader b low (omega (arith, past))) in (
+      let is : IsSeat c q s.homes w = new_receives c q shape b was.shape_is low (was.new.receiver b low (omega (arith, past))) in (
         w,
         keeps,
         tt,
@@ -108,13 +110,13 @@ module _ (key : Shape) (slots id : ℕ) where
   -- ---- the same as the functions ask for it
 
   module _ (me : Me Posting Known) where
-    pub looks_again : me ≡ (Reads (reader_in me.0), []) → Allows (KeepsNodes key) slots id me 0 (λ n. n) (tells_look (step slots 0 0 0 none) me)
-    looks_again is = subst (λ (x : Me Posting Known). Allows (KeepsNodes key) slots id x 0 (λ n. n) (tells_look (step slots 0 0 0 none) x)) (sym is) (looks (reader_in me.0))
+    pub looks_again : me ≡ (Receives (receiver_in me.0), []) → Allows (KeepsNodes key) slots id me 0 (λ n. n) (tells_look (step slots 0 0 0 none) me)
+    looks_again is = subst (λ (x : Me Posting Known). Allows (KeepsNodes key) slots id x 0 (λ n. n) (tells_look (step slots 0 0 0 none) x)) (sym is) (looks (receiver_in me.0))
 
     pub tally_looks_again : IsTally me → Allows (KeepsNodes key) slots id me 0 (λ n. n) (tells_tally (step slots 0 0 0 none) me)
     tally_looks_again is = subst (λ (x : Me Posting Known). Allows (KeepsNodes key) slots id x 0 (λ n. n) (tells_tally (step slots 0 0 0 none) x)) (sym is) (tally_looks (tally_in me.0))
 
-    pub begins_reading : (shape : Shape) (b : ℕ) → IsUnread shape b me → Allows (KeepsNodes key) slots id me 0 (λ n. n) (tells_begin_reading (step slots 0 0 0 none) me)
-    begins_reading shape b at =
-        subst (λ (x : Me Posting Known). Allows (KeepsNodes key) slots id x 0 (λ n. n) (tells_begin_reading (step slots 0 0 0 none) x)) (sym at.0)
+    pub begins_receiving : (shape : Shape) (b : ℕ) → IsDealtReceiver shape b me → Allows (KeepsNodes key) slots id me 0 (λ n. n) (tells_begin_receiving (step slots 0 0 0 none) me)
+    begins_receiving shape b at =
+        subst (λ (x : Me Posting Known). Allows (KeepsNodes key) slots id x 0 (λ n. n) (tells_begin_receiving (step slots 0 0 0 none) x)) (sym at.0)
         (begins shape (shape.senders + b) (omega arith))

@@ -21,7 +21,7 @@ use Rattle.node_table.specs.declared.seats.Posting.{Posting}
 use Rattle.node_table.specs.declared.seats.Shape.{Shape}
 use Rattle.node_table.specs.Layout.{IsSmall, amount_word_of, head_word, line_word_of, next_word, nodes_in, slot_of, slots_in, stub_of, turn_word, words_in}
 use Rattle.queue_core.specs.Items.{IsInRange}
-use Rattle.node_table.specs.Seats.{HasEndedEverywhere, HasShape, IsGathered, IsNewReader, IsNewSender, IsSeat, IsTakenIn}
+use Rattle.node_table.specs.Seats.{HasEndedEverywhere, HasShape, KnowsMailbox, IsNewReceiver, IsNewSender, IsSeat, IsTakenIn}
 use Rattle.node_table.specs.Rule.{AreApart, AreWords, IsNodeMail, KeepsNodes, nodes_opened}
 use Rattle.node_table.proofs.Owned.{at_within}
 
@@ -89,7 +89,7 @@ module _ (shape : Shape) (small : IsSmall shape) (words : List ℕ) (wide : leng
     slot = some_there slots (slot_of p) (omega (arith, low, many));
   }
 
-  new_reader_is : (b : ℕ) → b < shape.mailboxes → IsNewReader core opening_pool b
+  new_reader_is : (b : ℕ) → b < shape.mailboxes → IsNewReceiver core opening_pool b
   new_reader_is b low =
       let stub : stub_in core b ≡ stub_of shape b = λ i. fits.senders i * (shape.ring + fits.mailboxes i) + b in
       record {
@@ -103,8 +103,8 @@ module _ (shape : Shape) (small : IsSmall shape) (words : List ℕ) (wide : leng
   tally : IsSeat core opening_pool homes (nodes_opened shape)
   tally = record {
     shape = fits;
-    waiting = λ turn late low. record { sender = new_sender_is turn; reader = λ b there is. new_reader_is b there };
-    gathered = All-nil (IsGathered core opening_pool);
+    waiting = λ turn late low. record { sender = new_sender_is turn; receiver = λ b there is. new_reader_is b there };
+    gathered = All-nil (KnowsMailbox core opening_pool);
     taken_in = All-nil (IsTakenIn core opening_pool);
     ended = All-nil HasEndedEverywhere;
   }

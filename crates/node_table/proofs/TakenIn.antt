@@ -22,18 +22,18 @@ use Rattle.queue_core.proofs.PoolFree.{all_sent}
 use Rattle.queue_core.proofs.PoolPosts.{posts_after}
 use Rattle.queue_core.proofs.ReceivedLemmas.{got_prefix}
 use Rattle.node_table.specs.declared.seats.Known.{Known}
-use Rattle.node_table.specs.declared.seats.Known.TheVariants.{Reads}
+use Rattle.node_table.specs.declared.seats.Known.TheVariants.{Receives}
 use Rattle.node_table.specs.declared.seats.Posting.{Posting}
-use Rattle.node_table.specs.declared.seats.ReaderSeat.{ReaderSeat}
+use Rattle.node_table.specs.declared.seats.ReceiverSeat.{ReceiverSeat}
 use Rattle.node_table.specs.declared.seats.SenderSeat.{SenderSeat}
 use Rattle.node_table.specs.declared.seats.Shape.{Shape}
 use Rattle.queue_core.specs.Items.{IsFirstOf}
 use Rattle.queue_core.proofs.MailboxHolds.{Holds}
 use Rattle.queue_core.proofs.PoolKept.{holds_in}
 use Rattle.node_table.specs.Rule.{KeepsNodes}
-use Rattle.node_table.specs.Seats.{AreTakenIn, IsReaderSeat, IsTakenIn, got_in, items_in, known_in}
+use Rattle.node_table.specs.Seats.{AreTakenIn, IsReceiverSeat, IsTakenIn, got_in, items_in, known_in}
 use Rattle.node_table.specs.Tells.{BeginsAt, IsAwaitedAt}
-use Rattle.node_table.proofs.Readers.{holds, low, own}
+use Rattle.node_table.proofs.ReceiverFrame.{holds, low, own}
 
 -- ---- the list of them
 
@@ -56,7 +56,7 @@ find_unknown b ws (suc n) = elim (find_unknown b ws n) [
 ]
 
 -- every sender was taken in, or some is awaited
-pub find_awaited : (v : ReaderSeat) → AreTakenIn v ⊎ IsAwaitedAt v
+pub find_awaited : (v : ReceiverSeat) → AreTakenIn v ⊎ IsAwaitedAt v
 find_awaited v = find_unknown v.mailbox v.taken_in v.shape.senders
 
 -- what is known of a sender is what one that was taken in has
@@ -107,9 +107,9 @@ rests_in c d p rest = elim (cases_Bool ((sender_at c p).mailbox == d)) [
 absent_rests : (c : Pooled) (p : ℕ) → length c.senders ≤ p → (sender_at c p).point ≡ sends.Rest
 absent_rests c p past = ap (λ (x : Caller). x.point) (get_or_past c.senders p _ past)
 
--- ---- what a reader knows of senders that it took in
+-- ---- what a receiver knows of senders that it took in
 
-module _ (shape : Shape) (s : State Posting Known) (kept : KeepsNodes shape s) (id : ℕ) (v : ReaderSeat) (seen : get_elem? s.views id ≡ some (Reads v)) where
+module _ (shape : Shape) (s : State Posting Known) (kept : KeepsNodes shape s) (id : ℕ) (v : ReceiverSeat) (seen : get_elem? s.views id ≡ some (Receives v)) where
   abbrev c : Pooled
   c = kept.core
 
@@ -119,7 +119,7 @@ module _ (shape : Shape) (s : State Posting Known) (kept : KeepsNodes shape s) (
   abbrev m : Mailbox
   m = q.boxes v.mailbox
 
-  abbrev mine : IsReaderSeat c q v
+  abbrev mine : IsReceiverSeat c q v
   mine = own shape s kept id v seen
 
   abbrev links : ShowLinks (links_in c q v.mailbox) m
@@ -146,7 +146,7 @@ module _ (shape : Shape) (s : State Posting Known) (kept : KeepsNodes shape s) (
   nothing_flies all stub (Of p j) =
       let rest : (sender_at c p).point ≡ sends.Rest = elim (cases_lt p v.shape.senders) [
         | inl within ↦ let known = all p within in known_rests p known.0 known.1
-        | inr past ↦ absent_rests c p (omega (arith, past, mine.shape.senders))
+        | inr past ↦ absent_rests c p (omega (arith, past, mine.its_mailbox.shape.senders))
       ] in
       subst (IsOwedBySender (links_in c q v.mailbox) m p) (rests_in c v.mailbox p rest) (links.senders p).in_flight j
 
@@ -163,9 +163,9 @@ module _ (shape : Shape) (s : State Posting Known) (kept : KeepsNodes shape s) w
       let first = got_prefix kept.core.ring m (holds b) a.number in
       ap (take (length (got_of m a.number))) (sym whole ∙ first.1) ∙ take_at (got_of m a.number) first.0 (length (got_of m a.number)) refl
 
-  pub begins_now : (id : ℕ) (v : ReaderSeat) → get_elem? s.views id ≡ some (Reads v) → BeginsAt v
+  pub begins_now : (id : ℕ) (v : ReceiverSeat) → get_elem? s.views id ≡ some (Receives v) → BeginsAt v
   begins_now id v seen p items known =
-      let mine : IsReaderSeat kept.core kept.pool v = kept.seats id (Reads v) seen in
+      let mine : IsReceiverSeat kept.core kept.pool v = kept.seats id (Receives v) seen in
       let found = known_seat (IsTakenIn kept.core kept.pool) v.mailbox v.taken_in p items mine.taken_in known in
-      let first : IsFirstOf (got_in v.got found.0.number) (items_in v.mailbox found.0.filled) = subst (λ pairs. IsFirstOf (got_in pairs found.0.number) (items_in v.mailbox found.0.filled)) mine.got (received_first v.mailbox found.0 found.1) in
+      let first : IsFirstOf (got_in v.got found.0.number) (items_in v.mailbox found.0.filled) = subst (λ pairs. IsFirstOf (got_in pairs found.0.number) (items_in v.mailbox found.0.filled)) mine.its_mailbox.got (received_first v.mailbox found.0 found.1) in
       subst (λ (x : ℕ × List Item). IsFirstOf (got_in v.got x.0) x.1) (λ i. (found.2 i, found.3 i)) first

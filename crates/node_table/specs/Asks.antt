@@ -10,15 +10,15 @@ use Rattle.queue_core.specs.declared.sender.SenderPoint.{SenderPoint}
 use Rattle.queue_core.specs.declared.sender.SenderPoint.TheVariants as sends
 use Rattle.node_table.specs.declared.seats.Holding.{Holding}
 use Rattle.node_table.specs.declared.seats.Known.{Known}
-use Rattle.node_table.specs.declared.seats.Known.TheVariants.{Dealt, Sends, Reads, Holds, Tallies}
+use Rattle.node_table.specs.declared.seats.Known.TheVariants.{Dealt, Sends, Receives, Holds, Tallies}
 use Rattle.node_table.specs.declared.seats.Posting.{Posting}
-use Rattle.node_table.specs.declared.seats.ReaderSeat.{ReaderSeat}
+use Rattle.node_table.specs.declared.seats.ReceiverSeat.{ReceiverSeat}
 use Rattle.node_table.specs.declared.seats.SenderSeat.{SenderSeat}
 use Rattle.node_table.specs.declared.seats.Shape.{Shape}
 use Rattle.node_table.specs.declared.seats.TallySeat.{TallySeat}
 use Rattle.node_table.specs.Rule.{opened_tally}
 use Rattle.node_table.specs.Seats.{HasEndedEverywhere, has_ended}
-use Rattle.node_table.specs.Tells.{at_point, filling, found_full, in_slot, new_reader_seat, new_sender, node_of}
+use Rattle.node_table.specs.Tells.{at_point, filling, found_full, in_slot, new_receiver, new_sender, node_of}
 use Rattle.node_table.specs.Layout.{slot_of}
 
 -- ---- what a seat knows, by its kind
@@ -26,16 +26,16 @@ use Rattle.node_table.specs.Layout.{slot_of}
 abbrev pub no_shape : Shape
 no_shape = record { senders = 0; mailboxes = 0; ring = 0 }
 
--- of a sender or a reader that has not begun: what it knows once it has
+-- of a sender or a receiver that has not begun: what it knows once it has
 abbrev pub sender_in : Known → SenderSeat
 sender_in (Sends v) = v
 sender_in (Dealt shape p) = new_sender shape p
 sender_in known = new_sender no_shape 0
 
-abbrev pub reader_in : Known → ReaderSeat
-reader_in (Reads v) = v
-reader_in (Dealt shape turn) = new_reader_seat shape (turn - shape.senders)
-reader_in known = new_reader_seat no_shape 0
+abbrev pub receiver_in : Known → ReceiverSeat
+receiver_in (Receives v) = v
+receiver_in (Dealt shape turn) = new_receiver shape (turn - shape.senders)
+receiver_in known = new_receiver no_shape 0
 
 abbrev pub holding_in : Known → Holding
 holding_in (Holds h) = h
@@ -48,8 +48,8 @@ tally_in known = opened_tally no_shape 0
 -- ---- a sender
 
 -- it was dealt, and has not begun
-abbrev pub IsSlotless : Shape → (p : ℕ) → Me Posting Known → Type 0
-IsSlotless shape p me = (me ≡ (Dealt shape p, [])) × (p < shape.senders)
+abbrev pub IsDealtSender : Shape → (p : ℕ) → Me Posting Known → Type 0
+IsDealtSender shape p me = (me ≡ (Dealt shape p, [])) × (p < shape.senders)
 
 -- it is in no call, has its slot, has not ended in the mailbox, and has room for one more post, which is within the limits
 pub record IsPosting (shape : Shape) (number count mailbox line : ℕ) (amount : ℤ) (me : Me Posting Known) : Type 0 where
@@ -101,46 +101,46 @@ abbrev pub after_swap_on : SenderPoint → (before : ℕ) → SenderSeat → Sen
 after_swap_on (sends.Swap item) before v = at_point (sends.Link item before) v
 after_swap_on _ before v = v
 
--- ---- a reader
+-- ---- a receiver
 
 -- it was dealt, and has not begun
-abbrev pub IsUnread : Shape → (b : ℕ) → Me Posting Known → Type 0
-IsUnread shape b me = (me ≡ (Dealt shape (shape.senders + b), [])) × (b < shape.mailboxes)
+abbrev pub IsDealtReceiver : Shape → (b : ℕ) → Me Posting Known → Type 0
+IsDealtReceiver shape b me = (me ≡ (Dealt shape (shape.senders + b), [])) × (b < shape.mailboxes)
 
 -- it is at a point, and its tail is a node
 pub record IsReading (At : ReaderPoint → Type 0) (shape : Shape) (mailbox tail : ℕ) (me : Me Posting Known) : Type 0 where
-  pub is_reader : me ≡ (Reads (reader_in me.0), [])
-  pub shape_is : (reader_in me.0).shape ≡ shape
-  pub mailbox_is : (reader_in me.0).mailbox ≡ mailbox
-  pub at : At (reader_in me.0).reader.point
-  pub tail_is : (reader_in me.0).reader.tail ≡ tail
+  pub is_receiver : me ≡ (Receives (receiver_in me.0), [])
+  pub shape_is : (receiver_in me.0).shape ≡ shape
+  pub mailbox_is : (receiver_in me.0).mailbox ≡ mailbox
+  pub at : At (receiver_in me.0).reader.point
+  pub tail_is : (receiver_in me.0).reader.tail ≡ tail
 
 -- it is in no call, and has an item at hand, which stands in this node
 pub record HasAtHand (shape : Shape) (node : ℕ) (me : Me Posting Known) : Type 0 where
-  pub is_reader : me ≡ (Reads (reader_in me.0), [])
-  pub shape_is : (reader_in me.0).shape ≡ shape
+  pub is_receiver : me ≡ (Receives (receiver_in me.0), [])
+  pub shape_is : (receiver_in me.0).shape ≡ shape
   pub holding : Holding
-  pub hand : (reader_in me.0).at_hand ≡ Some holding
+  pub hand : (receiver_in me.0).at_hand ≡ Some holding
   pub node_is : holding.node ≡ node
-  pub rest : (reader_in me.0).reader.point ≡ reads.Rest
+  pub rest : (receiver_in me.0).reader.point ≡ reads.Rest
 
 -- it has something at hand
 pub record IsHandingOut (me : Me Posting Known) : Type 0 where
-  pub is_reader : me ≡ (Reads (reader_in me.0), [])
+  pub is_receiver : me ≡ (Receives (receiver_in me.0), [])
   pub holding : Holding
-  pub hand : (reader_in me.0).at_hand ≡ Some holding
+  pub hand : (receiver_in me.0).at_hand ≡ Some holding
 
 -- it has nothing at hand, and the other seat is that of a holding in its mailbox
 pub record IsTakingBack (me other : Me Posting Known) : Type 0 where
-  pub is_reader : me ≡ (Reads (reader_in me.0), [])
-  pub free : (reader_in me.0).at_hand ≡ None
+  pub is_receiver : me ≡ (Receives (receiver_in me.0), [])
+  pub free : (receiver_in me.0).at_hand ≡ None
   pub held : other ≡ (Holds (holding_in other.0), [])
-  pub same : (holding_in other.0).mailbox ≡ (reader_in me.0).mailbox
+  pub same : (holding_in other.0).mailbox ≡ (receiver_in me.0).mailbox
 
 -- it is in no call
 pub record IsAtRest (me : Me Posting Known) : Type 0 where
-  pub is_reader : me ≡ (Reads (reader_in me.0), [])
-  pub rest : (reader_in me.0).reader.point ≡ reads.Rest
+  pub is_receiver : me ≡ (Receives (receiver_in me.0), [])
+  pub rest : (receiver_in me.0).reader.point ≡ reads.Rest
 
 -- ---- the tally
 
@@ -152,16 +152,16 @@ pub record IsDealing (me : Me Posting Known) : Type 0 where
   pub is_tally : me ≡ (Tallies (opened_tally (tally_in me.0).shape (tally_in me.0).dealt), [])
   pub more : (tally_in me.0).dealt < (tally_in me.0).shape.senders + (tally_in me.0).shape.mailboxes
 
--- a reader in no call, and a sender that has left and has ended in its mailbox
+-- a receiver in no call, and a sender that has left and has ended in its mailbox
 pub record IsTakingIn (me other : Me Posting Known) : Type 0 where
-  pub reader : IsAtRest me
+  pub receiver : IsAtRest me
   pub sender : HasLeft other
-  pub ended : has_ended (sender_in other.0) (reader_in me.0).mailbox ≡ true
+  pub ended : has_ended (sender_in other.0) (receiver_in me.0).mailbox ≡ true
 
--- a reader, and the tally that gathers it
+-- a receiver, and the tally that gathers it
 pub record IsGathering (me other : Me Posting Known) : Type 0 where
   pub is_tally : IsTally me
-  pub reader : other ≡ (Reads (reader_in other.0), [])
+  pub receiver : other ≡ (Receives (receiver_in other.0), [])
 
 -- a sender that has left and has ended in every mailbox, and the tally that takes it in
 pub record IsTallying (me other : Me Posting Known) : Type 0 where

@@ -11,16 +11,16 @@ use Rattle.queue_core.specs.declared.sender.SenderPoint.TheVariants as sends
 use Rattle.queue_core.specs.Mailbox.{is_among}
 use Rattle.node_table.specs.declared.seats.Holding.{Holding}
 use Rattle.node_table.specs.declared.seats.Known.{Known}
-use Rattle.node_table.specs.declared.seats.Known.TheVariants.{Holds, Reads, Sends}
+use Rattle.node_table.specs.declared.seats.Known.TheVariants.{Holds, Receives, Sends}
 use Rattle.node_table.specs.declared.seats.Posting.{Posting}
-use Rattle.node_table.specs.declared.seats.ReaderSeat.{ReaderSeat}
+use Rattle.node_table.specs.declared.seats.ReceiverSeat.{ReceiverSeat}
 use Rattle.node_table.specs.declared.seats.SenderSeat.{SenderSeat}
 use Rattle.node_table.specs.declared.seats.Shape.{Shape}
 use Rattle.node_table.specs.Layout.{nodes_in, slot_of}
 use Rattle.queue_core.specs.Items.{IsInRange}
 use Rattle.queue_core.specs.Matches.{MatchTook}
 use Rattle.node_table.specs.Seats.{own_entries}
-use Rattle.node_table.specs.Asks.{holding_in, reader_in, sender_in}
+use Rattle.node_table.specs.Asks.{holding_in, receiver_in, sender_in}
 use Rattle.node_table.specs.Tells.{BeginsAt, IsAwaitedAt, IsHeldAt, IsWholeAt, after_sending, filling, found_full, in_slot}
 
 -- ---- a sender
@@ -60,16 +60,16 @@ pub record IsHeldSeat (node number : ℕ) (item : Item) (me : Me Posting Known) 
   pub item_is : (holding_in me.0).item ≡ item
   pub low : node < nodes_in (holding_in me.0).shape
 
--- ---- a reader
+-- ---- a receiver
 
 -- where it is in a take, with nothing at hand
 pub record IsTakingAt (At : ReaderPoint → Type 0) (shape : Shape) (mailbox tail : ℕ) (me : Me Posting Known) : Type 0 where
-  pub is_reader : me ≡ (Reads (reader_in me.0), [])
-  pub shape_is : (reader_in me.0).shape ≡ shape
-  pub mailbox_is : (reader_in me.0).mailbox ≡ mailbox
-  pub at : At (reader_in me.0).reader.point
-  pub tail_is : (reader_in me.0).reader.tail ≡ tail
-  pub free : (reader_in me.0).at_hand ≡ None
+  pub is_receiver : me ≡ (Receives (receiver_in me.0), [])
+  pub shape_is : (receiver_in me.0).shape ≡ shape
+  pub mailbox_is : (receiver_in me.0).mailbox ≡ mailbox
+  pub at : At (receiver_in me.0).reader.point
+  pub tail_is : (receiver_in me.0).reader.tail ≡ tail
+  pub free : (receiver_in me.0).at_hand ≡ None
   pub low : tail < nodes_in shape
 
 abbrev pub AtRest : ReaderPoint → Type 0
@@ -81,14 +81,14 @@ AtNode reads.Second = ⊤
 AtNode _ = ⊥
 
 -- what was received, given back and taken in is as it was
-pub record HasSameMail (v w : ReaderSeat) : Type 0 where
+pub record HasSameMail (v w : ReceiverSeat) : Type 0 where
   pub passed : own_entries w.passed ≡ own_entries v.passed
   pub given : w.given ≡ v.given
   pub got : w.got ≡ v.got
   pub taken_in : w.taken_in ≡ v.taken_in
 
 -- a node was taken, and what stands in it is at hand
-pub record HasGotNode (shape : Shape) (node : ℕ) (v w : ReaderSeat) : Type 0 where
+pub record HasGotNode (shape : Shape) (node : ℕ) (v w : ReceiverSeat) : Type 0 where
   pub held : Holding
   pub hand : w.at_hand ≡ Some held
   pub of_shape : held.shape ≡ shape
@@ -107,24 +107,24 @@ pub record HasGotNode (shape : Shape) (node : ℕ) (v w : ReaderSeat) : Type 0 w
 
 -- what is left of a take when it has found its node, or nothing
 pub record HasFound (shape : Shape) (mailbox : ℕ) (took : Took ℕ × ℕ) (old new : Me Posting Known) : Type 0 where
-  pub is_reader : new ≡ (Reads (reader_in new.0), [])
-  pub shape_is : (reader_in new.0).shape ≡ shape
-  pub mailbox_is : (reader_in new.0).mailbox ≡ mailbox
-  pub point : (reader_in new.0).reader.point ≡ reads.Rest
-  pub tail_is : (reader_in new.0).reader.tail ≡ took.1
+  pub is_receiver : new ≡ (Receives (receiver_in new.0), [])
+  pub shape_is : (receiver_in new.0).shape ≡ shape
+  pub mailbox_is : (receiver_in new.0).mailbox ≡ mailbox
+  pub point : (receiver_in new.0).reader.point ≡ reads.Rest
+  pub tail_is : (receiver_in new.0).reader.tail ≡ took.1
   pub low : took.1 < nodes_in shape
-  pub found : MatchTook took.0 (λ node. (node < nodes_in shape) × HasGotNode shape node (reader_in old.0) (reader_in new.0))
-      (((reader_in new.0).at_hand ≡ None) × HasSameMail (reader_in old.0) (reader_in new.0) × IsWholeAt (reader_in old.0))
-      (((reader_in new.0).at_hand ≡ None) × HasSameMail (reader_in old.0) (reader_in new.0) × IsAwaitedAt (reader_in old.0))
+  pub found : MatchTook took.0 (λ node. (node < nodes_in shape) × HasGotNode shape node (receiver_in old.0) (receiver_in new.0))
+      (((receiver_in new.0).at_hand ≡ None) × HasSameMail (receiver_in old.0) (receiver_in new.0) × IsWholeAt (receiver_in old.0))
+      (((receiver_in new.0).at_hand ≡ None) × HasSameMail (receiver_in old.0) (receiver_in new.0) × IsAwaitedAt (receiver_in old.0))
 
 -- in no call, with the item of a node at hand
 pub record IsHolder (shape : Shape) (node : ℕ) (me : Me Posting Known) : Type 0 where
-  pub is_reader : me ≡ (Reads (reader_in me.0), [])
-  pub shape_is : (reader_in me.0).shape ≡ shape
+  pub is_receiver : me ≡ (Receives (receiver_in me.0), [])
+  pub shape_is : (receiver_in me.0).shape ≡ shape
   pub held : Holding
-  pub hand : (reader_in me.0).at_hand ≡ Some held
+  pub hand : (receiver_in me.0).at_hand ≡ Some held
   pub of_shape : held.shape ≡ shape
   pub node_is : held.node ≡ node
   pub block : node / (shape.ring + shape.mailboxes) ≡ held.sender
   pub low : node < nodes_in shape
-  pub point : (reader_in me.0).reader.point ≡ reads.Rest
+  pub point : (receiver_in me.0).reader.point ≡ reads.Rest

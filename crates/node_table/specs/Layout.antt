@@ -21,7 +21,9 @@ stub_of shape b = first_of shape shape.senders + b
 abbrev pub nodes_in : Shape → ℕ
 nodes_in shape = stub_of shape shape.mailboxes
 
--- ---- the words: each node has eight, a line of memory, of which it uses four; the head of a mailbox stands with its stub, in the fifth. Before the first node there are six, and no step writes the first of all. (Large memory that the C library gives begins 16 bytes into a line, so word 6 begins one.)
+-- ---- the words: each node has eight, a line of memory, of which it uses four; the head of a mailbox stands
+-- with its stub, in the fifth. Before the first node there are six, and no step writes the first of all. (Large
+-- memory that the C library gives begins 16 bytes into a line, so word 6 begins one.)
 
 abbrev pub next_word : (n : ℕ) → ℕ
 next_word n = 8 * n + 6
@@ -41,7 +43,8 @@ head_word shape b = 8 * stub_of shape b + 10
 abbrev pub words_in : Shape → ℕ
 words_in shape = 8 * nodes_in shape + 6
 
--- ---- the slots: every fourth is a sender's, from the third on; so no two senders write to one line of memory, nor does a sender write to one that holds anything else
+-- ---- the slots: every fourth is a sender's, from the third on; so no two senders write to one line of memory,
+-- nor does a sender write to one that holds anything else
 
 abbrev pub slot_of : (p : ℕ) → ℕ
 slot_of p = 4 * p + 2

@@ -1,4 +1,6 @@
--- The rule of a table of nodes: some pairs of mailbox and event lead to a pool that a core shows, and the words and what each seat knows are that core's. A step adds one pair at most: the event of its kind, in its mailbox (`event_in`).
+-- The rule of a table of nodes: some pairs of mailbox and event lead to a pool that a core shows, and the words and
+-- what each seat knows are that core's. A step adds one pair at most: the event of its kind, in its mailbox
+-- (`event_in`).
 use Rattle.std.specs.Prelude.{ℕ, ◌≡◌, ◌<◌, All, List, [], length, slice_index}
 use mathlib.Core.Option.{some}
 use lib.ListN.{get_elem?}

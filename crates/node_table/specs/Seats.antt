@@ -1,4 +1,5 @@
--- What each seat at a table of nodes knows: its own part of the core, and of the mailboxes that the core shows. What is in flight, and the order in which the items of all senders were exchanged in, nobody knows.
+-- What each seat at a table of nodes knows: its own part of the core, and of the mailboxes that the core shows. What
+-- is in flight, and the order in which the items of all senders were exchanged in, nobody knows.
 use Rattle.std.specs.Prelude.{ℕ, Bool, ◌≡◌, ◌<◌, ◌≤◌, ◌+◌, ◌==◌, ◌⊎◌, All, List, [], ◌∷◌, Option, None, Some, false, length, map, not, slice_index_or, true, if◌then◌else◌, ⊤}
 use Rattle.std.specs.List.{filter}
 use mathlib.Core.Option.{Option as Slot, some}
@@ -16,9 +17,9 @@ use Rattle.queue_core.specs.Pooled.{Pooled, has_ended_in, new_caller, new_reader
 use Rattle.queue_core.specs.PoolShows.{node_in}
 use Rattle.node_table.specs.declared.seats.Holding.{Holding}
 use Rattle.node_table.specs.declared.seats.Known.{Known}
-use Rattle.node_table.specs.declared.seats.Known.TheVariants.{Dealt, Sends, Reads, Holds, Tallies, Gone}
+use Rattle.node_table.specs.declared.seats.Known.TheVariants.{Dealt, Sends, Receives, Holds, Tallies, Gone}
 use Rattle.node_table.specs.declared.seats.Posting.{Posting}
-use Rattle.node_table.specs.declared.seats.ReaderSeat.{ReaderSeat}
+use Rattle.node_table.specs.declared.seats.ReceiverSeat.{ReceiverSeat}
 use Rattle.node_table.specs.declared.seats.SenderSeat.{SenderSeat}
 use Rattle.node_table.specs.declared.seats.Shape.{Shape}
 use Rattle.node_table.specs.declared.seats.TallySeat.{TallySeat}
@@ -58,17 +59,17 @@ known_in b (w ∷ ws) p = if p == w.number then Some (items_in b w.filled) else 
 abbrev pub HasEndedEverywhere : SenderSeat → Type 0
 HasEndedEverywhere v = (b : ℕ) → b < v.shape.mailboxes → has_ended v b ≡ true
 
--- the reader has taken in every sender
-abbrev pub AreTakenIn : ReaderSeat → Type 0
+-- the receiver has taken in every sender
+abbrev pub AreTakenIn : ReceiverSeat → Type 0
 AreTakenIn v = (p : ℕ) → p < v.shape.senders → (items : List Item) × (known_in v.mailbox v.taken_in p ≡ Some items)
 
--- ---- the parts: the tally's is the first, then come those of the senders, and then those of the readers
+-- ---- the parts: the tally's is the first, then come those of the senders, and then those of the receivers
 
 abbrev pub sender_part : (p : ℕ) → ℕ
 sender_part p = p + 1
 
-abbrev pub reader_part : Shape → (b : ℕ) → ℕ
-reader_part shape b = shape.senders + (b + 1)
+abbrev pub receiver_part : Shape → (b : ℕ) → ℕ
+receiver_part shape b = shape.senders + (b + 1)
 
 -- ---- what a seat alone has: a part, or the holding of a node
 
@@ -76,14 +77,14 @@ pub data Owned : Type 0 where
   Part : ℕ → Owned
   Node : ℕ → Owned
 
--- the part of a sender that was taken in, and of a reader that was gathered
+-- the part of a sender that was taken in, and of a receiver that was gathered
 abbrev pub IsPartIn : List SenderSeat → (part : ℕ) → Type 0
 IsPartIn [] part = ⊥
 IsPartIn (a ∷ seats) part = (part ≡ sender_part a.number) ⊎ IsPartIn seats part
 
-abbrev pub IsPartOf : List ReaderSeat → (part : ℕ) → Type 0
+abbrev pub IsPartOf : List ReceiverSeat → (part : ℕ) → Type 0
 IsPartOf [] part = ⊥
-IsPartOf (r ∷ seats) part = (part ≡ reader_part r.shape r.mailbox) ⊎ IsPartOf seats part
+IsPartOf (r ∷ seats) part = (part ≡ receiver_part r.shape r.mailbox) ⊎ IsPartOf seats part
 
 -- Whoever takes a seat in has its part. The tally has the parts too that it has not dealt.
 abbrev pub Has : Known → Owned → Type 0
@@ -91,8 +92,8 @@ Has (Dealt shape turn) (Part part) = part ≡ turn + 1
 Has (Dealt shape turn) (Node n) = ⊥
 Has (Sends v) (Part part) = part ≡ sender_part v.number
 Has (Sends v) (Node n) = ⊥
-Has (Reads v) (Part part) = (part ≡ reader_part v.shape v.mailbox) ⊎ IsPartIn v.taken_in part
-Has (Reads v) (Node n) = (h : Holding) × (v.at_hand ≡ Some h) × (h.node ≡ n)
+Has (Receives v) (Part part) = (part ≡ receiver_part v.shape v.mailbox) ⊎ IsPartIn v.taken_in part
+Has (Receives v) (Node n) = (h : Holding) × (v.at_hand ≡ Some h) × (h.node ≡ n)
 Has (Holds h) (Part part) = ⊥
 Has (Holds h) (Node n) = h.node ≡ n
 Has (Tallies v) (Part part) = (part ≡ 0) ⊎ ((v.dealt < part) ⊎ (IsPartOf v.gathered part ⊎ IsPartIn v.taken_in part))
@@ -116,7 +117,7 @@ pub record IsNewSender (c : Pooled) (q : Pool) (homes : List (Slot Posting)) (p 
   pub items : (b : ℕ) → (q.boxes b).items p ≡ []
   pub slot : (posting : Posting) × (get_elem? homes (slot_of p) ≡ some (some posting))
 
-pub record IsNewReader (c : Pooled) (q : Pool) (b : ℕ) : Type 0 where
+pub record IsNewReceiver (c : Pooled) (q : Pool) (b : ℕ) : Type 0 where
   pub reader : reader_in c b ≡ new_reader (stub_in c b)
   pub passed : passed_entries (q.boxes b) ≡ []
   pub given : (q.boxes b).given ≡ []
@@ -124,7 +125,7 @@ pub record IsNewReader (c : Pooled) (q : Pool) (b : ℕ) : Type 0 where
 -- What is dealt in its turn has done nothing: the senders come first.
 pub record IsNew (c : Pooled) (q : Pool) (homes : List (Slot Posting)) (shape : Shape) (turn : ℕ) : Type 0 where
   pub sender : turn < shape.senders → IsNewSender c q homes turn
-  pub reader : (b : ℕ) → b < shape.mailboxes → turn ≡ shape.senders + b → IsNewReader c q b
+  pub receiver : (b : ℕ) → b < shape.mailboxes → turn ≡ shape.senders + b → IsNewReceiver c q b
 
 pub record IsDealtSeat (c : Pooled) (q : Pool) (homes : List (Slot Posting)) (shape : Shape) (turn : ℕ) : Type 0 where
   pub shape_is : HasShape shape c
@@ -149,7 +150,7 @@ pub record IsTakenIn (c : Pooled) (q : Pool) (v : SenderSeat) : Type 0 where
 abbrev pub HasStubBehind : Mailbox → Type 0
 HasStubBehind m = (entry : Entry) × (left_entries m ≡ entry ∷ Stub ∷ [])
 
--- Once every sender was taken in, nothing but the tail is left where the reader has found no next, and then the stub alone behind it.
+-- Once every sender was taken in, nothing but the tail is left where the receiver has found no next, and then the stub alone behind it.
 abbrev pub IsAlone : Mailbox → ReaderPoint → Type 0
 IsAlone m reads.Rest = ⊤
 IsAlone m reads.Second = ⊤
@@ -160,38 +161,33 @@ IsAlone m reads.Swap = length (left_entries m) ≡ 1
 IsAlone m (reads.Link before) = HasStubBehind m
 IsAlone m reads.Last = HasStubBehind m
 
-pub record IsReaderSeat (c : Pooled) (q : Pool) (v : ReaderSeat) : Type 0 where
+-- What a receiver knows of its mailbox. It stays so once the receiver was gathered: nobody else reads there.
+pub record KnowsMailbox (c : Pooled) (q : Pool) (v : ReceiverSeat) : Type 0 where
   pub shape : HasShape v.shape c
   pub within : v.mailbox < v.shape.mailboxes
   pub reader : reader_in c v.mailbox ≡ v.reader
   pub passed : passed_entries (q.boxes v.mailbox) ≡ v.passed
   pub given : (q.boxes v.mailbox).given ≡ v.given
   pub got : got (q.boxes v.mailbox) ≡ v.got
+
+pub record IsReceiverSeat (c : Pooled) (q : Pool) (v : ReceiverSeat) : Type 0 where
+  pub its_mailbox : KnowsMailbox c q v
   pub at_hand : (h : Holding) → v.at_hand ≡ Some h → IsHolding c q h × (h.mailbox ≡ v.mailbox)
   pub taken_in : All (IsTakenIn c q) v.taken_in
   pub ended : All (λ a. has_ended a v.mailbox ≡ true) v.taken_in
   pub alone : AreTakenIn v → IsAlone (q.boxes v.mailbox) v.reader.point
 
--- What a reader knew of its mailbox that was gathered is so still: nobody else reads there.
-pub record IsGathered (c : Pooled) (q : Pool) (v : ReaderSeat) : Type 0 where
-  pub shape : HasShape v.shape c
-  pub within : v.mailbox < v.shape.mailboxes
-  pub reader : reader_in c v.mailbox ≡ v.reader
-  pub passed : passed_entries (q.boxes v.mailbox) ≡ v.passed
-  pub given : (q.boxes v.mailbox).given ≡ v.given
-  pub got : got (q.boxes v.mailbox) ≡ v.got
-
 pub record IsTallySeat (c : Pooled) (q : Pool) (homes : List (Slot Posting)) (v : TallySeat) : Type 0 where
   pub shape : HasShape v.shape c
   pub waiting : (turn : ℕ) → v.dealt ≤ turn → turn < v.shape.senders + v.shape.mailboxes → IsNew c q homes v.shape turn
-  pub gathered : All (IsGathered c q) v.gathered
+  pub gathered : All (KnowsMailbox c q) v.gathered
   pub taken_in : All (IsTakenIn c q) v.taken_in
   pub ended : All HasEndedEverywhere v.taken_in
 
 abbrev pub IsSeat : Pooled → Pool → List (Slot Posting) → Known → Type 0
 IsSeat c q homes (Dealt shape turn) = IsDealtSeat c q homes shape turn
 IsSeat c q homes (Sends v) = IsSenderSeat c q v
-IsSeat c q homes (Reads v) = IsReaderSeat c q v
+IsSeat c q homes (Receives v) = IsReceiverSeat c q v
 IsSeat c q homes (Holds h) = IsHolding c q h
 IsSeat c q homes (Tallies v) = IsTallySeat c q homes v
 IsSeat c q homes Gone = ⊤

@@ -19,9 +19,9 @@ use Rattle.queue_core.specs.Pooled.{new_caller, new_reader}
 use Rattle.queue_core.specs.PoolSteps.{after_sent}
 use Rattle.node_table.specs.declared.seats.Holding.{Holding}
 use Rattle.node_table.specs.declared.seats.Known.{Known}
-use Rattle.node_table.specs.declared.seats.Known.TheVariants.{Dealt, Sends, Reads, Holds, Tallies, Gone}
+use Rattle.node_table.specs.declared.seats.Known.TheVariants.{Dealt, Sends, Receives, Holds, Tallies, Gone}
 use Rattle.node_table.specs.declared.seats.Posting.{Posting}
-use Rattle.node_table.specs.declared.seats.ReaderSeat.{ReaderSeat}
+use Rattle.node_table.specs.declared.seats.ReceiverSeat.{ReceiverSeat}
 use Rattle.node_table.specs.declared.seats.SenderSeat.{SenderSeat}
 use Rattle.node_table.specs.declared.seats.Shape.{Shape}
 use Rattle.node_table.specs.declared.seats.TallySeat.{TallySeat}
@@ -102,20 +102,20 @@ abbrev pub after_link_at : SenderPoint → SenderSeat → SenderSeat
 after_link_at (sends.Link item before) v = after_sending item v
 after_link_at _ v = v
 
--- ---- a reader
+-- ---- a receiver
 
--- a reader that has begun, and has done nothing
-abbrev pub new_reader_seat : Shape → (b : ℕ) → ReaderSeat
-new_reader_seat shape b = record { shape = shape; mailbox = b; reader = new_reader (stub_of shape b); passed = []; given = []; got = []; at_hand = None; taken_in = [] }
+-- a receiver that has begun, and has done nothing
+abbrev pub new_receiver : Shape → (b : ℕ) → ReceiverSeat
+new_receiver shape b = record { shape = shape; mailbox = b; reader = new_reader (stub_of shape b); passed = []; given = []; got = []; at_hand = None; taken_in = [] }
 
-abbrev pub with_reader_at : Reader → ReaderSeat → ReaderSeat
+abbrev pub with_reader_at : Reader → ReceiverSeat → ReceiverSeat
 with_reader_at reader v =
     record { shape = v.shape; mailbox = v.mailbox; reader = reader; passed = v.passed; given = v.given; got = v.got; at_hand = v.at_hand; taken_in = v.taken_in }
 
-abbrev pub reading_at : ReaderPoint → ReaderSeat → ReaderSeat
+abbrev pub reading_at : ReaderPoint → ReceiverSeat → ReceiverSeat
 reading_at point v = with_reader_at (record v.reader { point = point }) v
 
-abbrev pub with_hand : Option Holding → ReaderSeat → ReaderSeat
+abbrev pub with_hand : Option Holding → ReceiverSeat → ReceiverSeat
 with_hand hand v =
     record { shape = v.shape; mailbox = v.mailbox; reader = v.reader; passed = v.passed; given = v.given; got = v.got; at_hand = hand; taken_in = v.taken_in }
 
@@ -139,7 +139,7 @@ abbrev pub after_head : (found : ℕ) → Reader → Reader
 after_head found r = after_head_at r.point found r
 
 -- the stub is passed
-abbrev pub past_stub : (next : ℕ) → ReaderSeat → ReaderSeat
+abbrev pub past_stub : (next : ℕ) → ReceiverSeat → ReceiverSeat
 past_stub next v = record {
   shape = v.shape;
   mailbox = v.mailbox;
@@ -151,8 +151,8 @@ past_stub next v = record {
   taken_in = v.taken_in;
 }
 
--- a node is taken, and the reader has it at hand
-abbrev pub past_node : (next : ℕ) → Holding → ReaderSeat → ReaderSeat
+-- a node is taken, and the receiver has it at hand
+abbrev pub past_node : (next : ℕ) → Holding → ReceiverSeat → ReceiverSeat
 past_node next h v = record {
   shape = v.shape;
   mailbox = v.mailbox;
@@ -164,8 +164,8 @@ past_node next h v = record {
   taken_in = v.taken_in;
 }
 
--- what the reader has at hand is given back
-abbrev pub after_give : Option Holding → ReaderSeat → ReaderSeat
+-- what the receiver has at hand is given back
+abbrev pub after_give : Option Holding → ReceiverSeat → ReceiverSeat
 after_give None v = v
 after_give (Some h) v = record {
   shape = v.shape;
@@ -179,23 +179,23 @@ after_give (Some h) v = record {
 }
 
 -- some sender was not taken in
-abbrev pub IsAwaitedAt : ReaderSeat → Type 0
+abbrev pub IsAwaitedAt : ReceiverSeat → Type 0
 IsAwaitedAt v = (p : ℕ) × (p < v.shape.senders) × (known_in v.mailbox v.taken_in p ≡ None)
 
 -- of each sender that was taken in, what was received is what it sent
-abbrev pub IsWholeAt : ReaderSeat → Type 0
+abbrev pub IsWholeAt : ReceiverSeat → Type 0
 IsWholeAt v = (p : ℕ) (items : List Item) → known_in v.mailbox v.taken_in p ≡ Some items → got_in v.got p ≡ items
 
 -- of each sender that was taken in, what was received is the first part of what it sent
-abbrev pub BeginsAt : ReaderSeat → Type 0
+abbrev pub BeginsAt : ReceiverSeat → Type 0
 BeginsAt v = (p : ℕ) (items : List Item) → known_in v.mailbox v.taken_in p ≡ Some items → IsFirstOf (got_in v.got p) items
 
 -- an item was taken, and not given back
-abbrev pub IsHeldAt : ReaderSeat → Holding → Type 0
+abbrev pub IsHeldAt : ReceiverSeat → Holding → Type 0
 IsHeldAt v h = (is_among (Of h.sender h.place) (own_entries v.passed) ≡ true) × (is_among (Of h.sender h.place) v.given ≡ false)
 
 -- The node at the tail, one of a sender's, is taken with its item, which is within the limits. It was not taken before, and is held then.
-pub record HasTakenNode (next : ℕ) (v w : ReaderSeat) : Type 0 where
+pub record HasTakenNode (next : ℕ) (v w : ReceiverSeat) : Type 0 where
   pub held : Holding
   pub seat : w ≡ past_node next held v
   pub shape : held.shape ≡ v.shape
@@ -208,19 +208,19 @@ pub record HasTakenNode (next : ℕ) (v w : ReaderSeat) : Type 0 where
   pub kept : IsHeldAt w held
   pub begins : BeginsAt w
 
-pub record HasLoadedNext (found : ℕ) (v w : ReaderSeat) : Type 0 where
+pub record HasLoadedNext (found : ℕ) (v w : ReceiverSeat) : Type 0 where
   pub small : found ≤ nodes_in v.shape
   pub null : found ≡ 0 → w ≡ with_reader_at (without_next (stub_of v.shape v.mailbox) v.reader) v
   pub busy : found ≡ 0 → v.reader.point ≡ reads.Last → IsAwaitedAt v
   pub stub : ¬ (found ≡ 0) → v.reader.tail ≡ stub_of v.shape v.mailbox → (w ≡ past_stub (found - 1) v) × (¬ (found - 1 ≡ stub_of v.shape v.mailbox))
   pub node : ¬ (found ≡ 0) → ¬ (v.reader.tail ≡ stub_of v.shape v.mailbox) → HasTakenNode (found - 1) v w
 
-pub record HasLoadedHead (found : ℕ) (v w : ReaderSeat) : Type 0 where
+pub record HasLoadedHead (found : ℕ) (v w : ReceiverSeat) : Type 0 where
   pub seat : w ≡ with_reader_at (after_head found v.reader) v
   pub busy : ¬ (found ≡ v.reader.tail + 1) → IsAwaitedAt v
   pub empty : found ≡ v.reader.tail + 1 → v.reader.point ≡ reads.StubHead → IsWholeAt v
 
--- ---- where the reader is before a load
+-- ---- where the receiver is before a load
 
 abbrev pub LoadsNext : ReaderPoint → Type 0
 LoadsNext reads.Rest = ⊤
@@ -235,14 +235,14 @@ LoadsHead _ = ⊥
 
 -- ---- what the steps tell
 
--- what a sender knows after a step, what a reader knows, and what the tally knows
+-- what a sender knows after a step, what a receiver knows, and what the tally knows
 abbrev pub SenderThen : (SenderSeat → SenderSeat → Type 0) → Known → (Known → Type 0) → Type 0
 SenderThen P (Sends a) is = (b : SenderSeat) × is (Sends b) × P a b
 SenderThen P _ is = ⊤
 
-abbrev pub ReaderThen : (ReaderSeat → ReaderSeat → Type 0) → Known → (Known → Type 0) → Type 0
-ReaderThen P (Reads a) is = (b : ReaderSeat) × is (Reads b) × P a b
-ReaderThen P _ is = ⊤
+abbrev pub ReceiverThen : (ReceiverSeat → ReceiverSeat → Type 0) → Known → (Known → Type 0) → Type 0
+ReceiverThen P (Receives a) is = (b : ReceiverSeat) × is (Receives b) × P a b
+ReceiverThen P _ is = ⊤
 
 abbrev pub TallyThen : (TallySeat → Type 0) → Known → (Known → Type 0) → Type 0
 TallyThen P (Tallies a) is = is (Tallies a) × P a
@@ -251,8 +251,8 @@ TallyThen P _ is = ⊤
 abbrev pub OfSender : (SenderSeat → SenderSeat → Type 0) → Me Posting Known → Me Posting Known → Type 0
 OfSender P v w = SenderThen P v.0 (λ known. w ≡ (known, v.1))
 
-abbrev pub OfReader : (ReaderSeat → ReaderSeat → Type 0) → Me Posting Known → Me Posting Known → Type 0
-OfReader P v w = ReaderThen P v.0 (λ known. w ≡ (known, v.1))
+abbrev pub OfReceiver : (ReceiverSeat → ReceiverSeat → Type 0) → Me Posting Known → Me Posting Known → Type 0
+OfReceiver P v w = ReceiverThen P v.0 (λ known. w ≡ (known, v.1))
 
 abbrev pub OfTally : (TallySeat → Type 0) → Me Posting Known → Me Posting Known → Type 0
 OfTally P v w = TallyThen P v.0 (λ known. w ≡ (known, v.1))
@@ -265,13 +265,13 @@ SenderBegins _ w = ⊤
 abbrev pub tells_take_slot : Step Posting → Me Posting Known → ℕ → Me Posting Known → Type 0
 tells_take_slot s v found w = SenderBegins v.0 w
 
--- a reader that was dealt begins
-abbrev pub ReaderBegins : Known → Me Posting Known → Type 0
-ReaderBegins (Dealt shape turn) w = w ≡ (Reads (new_reader_seat shape (turn - shape.senders)), [])
-ReaderBegins _ w = ⊤
+-- a receiver that was dealt begins
+abbrev pub ReceiverBegins : Known → Me Posting Known → Type 0
+ReceiverBegins (Dealt shape turn) w = w ≡ (Receives (new_receiver shape (turn - shape.senders)), [])
+ReceiverBegins _ w = ⊤
 
-abbrev pub tells_begin_reading : Step Posting → Me Posting Known → ℕ → Me Posting Known → Type 0
-tells_begin_reading s v found w = ReaderBegins v.0 w
+abbrev pub tells_begin_receiving : Step Posting → Me Posting Known → ℕ → Me Posting Known → Type 0
+tells_begin_receiving s v found w = ReceiverBegins v.0 w
 
 -- A sender that finds its next ring node not given back has sent at least as many posts as it has ring nodes.
 abbrev pub tells_load_turn : Step Posting → Me Posting Known → ℕ → Me Posting Known → Type 0
@@ -302,38 +302,38 @@ abbrev pub tells_give_slot : Step Posting → Me Posting Known → ℕ → Me Po
 tells_give_slot s v found w = SlotGiven v.0 w v.1
 
 abbrev pub tells_load_next : Step Posting → Me Posting Known → ℕ → Me Posting Known → Type 0
-tells_load_next s v found w = OfReader (HasLoadedNext found) v w
+tells_load_next s v found w = OfReceiver (HasLoadedNext found) v w
 
 abbrev pub tells_load_head : Step Posting → Me Posting Known → ℕ → Me Posting Known → Type 0
-tells_load_head s v found w = OfReader (HasLoadedHead found) v w
+tells_load_head s v found w = OfReceiver (HasLoadedHead found) v w
 
 abbrev pub tells_stub_null : Step Posting → Me Posting Known → ℕ → Me Posting Known → Type 0
-tells_stub_null s v found w = OfReader (λ a b. b ≡ reading_at reads.Swap a) v w
+tells_stub_null s v found w = OfReceiver (λ a b. b ≡ reading_at reads.Swap a) v w
 
 abbrev pub tells_stub_swap : Step Posting → Me Posting Known → ℕ → Me Posting Known → Type 0
-tells_stub_swap s v found w = OfReader (λ a b. (b ≡ reading_at (reads.Link (found - 1)) a) × (0 < found) × (found ≤ nodes_in a.shape)) v w
+tells_stub_swap s v found w = OfReceiver (λ a b. (b ≡ reading_at (reads.Link (found - 1)) a) × (0 < found) × (found ≤ nodes_in a.shape)) v w
 
 abbrev pub tells_stub_link : Step Posting → Me Posting Known → ℕ → Me Posting Known → Type 0
-tells_stub_link s v found w = OfReader (λ a b. b ≡ reading_at reads.Last a) v w
+tells_stub_link s v found w = OfReceiver (λ a b. b ≡ reading_at reads.Last a) v w
 
 -- a look at a word that nobody writes
 abbrev pub tells_look : Step Posting → Me Posting Known → ℕ → Me Posting Known → Type 0
-tells_look s v found w = OfReader (λ a b. (b ≡ a) × BeginsAt a) v w
+tells_look s v found w = OfReceiver (λ a b. (b ≡ a) × BeginsAt a) v w
 
 abbrev pub tells_load_line : Step Posting → Me Posting Known → ℕ → Me Posting Known → Type 0
-tells_load_line s v found w = OfReader (λ a b. (b ≡ a) × ((h : Holding) → a.at_hand ≡ Some h → found ≡ line_word h.item)) v w
+tells_load_line s v found w = OfReceiver (λ a b. (b ≡ a) × ((h : Holding) → a.at_hand ≡ Some h → found ≡ line_word h.item)) v w
 
 abbrev pub tells_load_amount : Step Posting → Me Posting Known → ℕ → Me Posting Known → Type 0
-tells_load_amount s v found w = OfReader (λ a b. (b ≡ a) × ((h : Holding) → a.at_hand ≡ Some h → found ≡ amount_word h.item)) v w
+tells_load_amount s v found w = OfReceiver (λ a b. (b ≡ a) × ((h : Holding) → a.at_hand ≡ Some h → found ≡ amount_word h.item)) v w
 
 abbrev pub tells_give_back : Step Posting → Me Posting Known → ℕ → Me Posting Known → Type 0
-tells_give_back s v found w = OfReader (λ a b. (b ≡ after_give a.at_hand a) × ((h : Holding) → a.at_hand ≡ Some h → IsHeldAt a h)) v w
+tells_give_back s v found w = OfReceiver (λ a b. (b ≡ after_give a.at_hand a) × ((h : Holding) → a.at_hand ≡ Some h → IsHeldAt a h)) v w
 
 -- ---- the tally
 
--- What each gathered reader received of each sender that was taken in is the first part of what that sent in its mailbox.
+-- What each gathered receiver received of each sender that was taken in is the first part of what that sent in its mailbox.
 abbrev pub TallyBegins : TallySeat → Type 0
-TallyBegins v = All (λ (r : ReaderSeat). All (λ (a : SenderSeat). IsFirstOf (got_in r.got a.number) (items_in r.mailbox a.filled)) v.taken_in) v.gathered
+TallyBegins v = All (λ (r : ReceiverSeat). All (λ (a : SenderSeat). IsFirstOf (got_in r.got a.number) (items_in r.mailbox a.filled)) v.taken_in) v.gathered
 
 abbrev pub tells_tally : Step Posting → Me Posting Known → ℕ → Me Posting Known → Type 0
 tells_tally s v found w = OfTally TallyBegins v w
@@ -351,7 +351,7 @@ dealt known = known
 
 -- what is at hand is handed out
 abbrev pub after_hand : Known → Known
-after_hand (Reads v) = Reads (with_hand None v)
+after_hand (Receives v) = Receives (with_hand None v)
 after_hand known = known
 
 abbrev pub handed : Option Holding → Known
@@ -359,29 +359,29 @@ handed None = Gone
 handed (Some h) = Holds h
 
 abbrev pub hand_of : Known → Known
-hand_of (Reads v) = handed v.at_hand
+hand_of (Receives v) = handed v.at_hand
 hand_of known = known
 
 -- and taken back
 abbrev pub taken_back : Known → Known → Known
-taken_back (Reads v) (Holds h) = Reads (with_hand (Some h) v)
+taken_back (Receives v) (Holds h) = Receives (with_hand (Some h) v)
 taken_back known other = known
 
--- a reader takes a sender in
-abbrev pub with_taken_in : SenderSeat → ReaderSeat → ReaderSeat
+-- a receiver takes a sender in
+abbrev pub with_taken_in : SenderSeat → ReceiverSeat → ReceiverSeat
 with_taken_in a v =
     record { shape = v.shape; mailbox = v.mailbox; reader = v.reader; passed = v.passed; given = v.given; got = v.got; at_hand = v.at_hand; taken_in = a ∷ v.taken_in }
 
 abbrev pub taken_in : Known → Known → Known
-taken_in (Reads v) (Sends a) = Reads (with_taken_in a v)
+taken_in (Receives v) (Sends a) = Receives (with_taken_in a v)
 taken_in known other = known
 
--- the tally gathers a reader, and takes a sender in
-abbrev pub with_reader : ReaderSeat → TallySeat → TallySeat
-with_reader a v = record { shape = v.shape; dealt = v.dealt; gathered = a ∷ v.gathered; taken_in = v.taken_in }
+-- the tally gathers a receiver, and takes a sender in
+abbrev pub with_receiver : ReceiverSeat → TallySeat → TallySeat
+with_receiver a v = record { shape = v.shape; dealt = v.dealt; gathered = a ∷ v.gathered; taken_in = v.taken_in }
 
 abbrev pub gathered : Known → Known → Known
-gathered (Tallies v) (Reads a) = Tallies (with_reader a v)
+gathered (Tallies v) (Receives a) = Tallies (with_receiver a v)
 gathered known other = known
 
 abbrev pub with_sender : SenderSeat → TallySeat → TallySeat

@@ -1,4 +1,4 @@
-//! A table of nodes as its ends use it: senders, the readers of its mailboxes, and a tally.
+//! A table of nodes as its ends use it: senders, the receivers of its mailboxes, and a tally.
 ghost use Rattle.std.specs.Prelude.{unsigned_abs, ◌≡◌, ◌++◌, ◌+◌, ◌*◌, ◌/◌, ◌<◌, ◌≤◌, ◌∷◌, ℕ, [], HoldsAt, IfOk, None, get_or, Some, false, true, vec_items, vec_len};
 ghost use Rattle.std.specs.Arc.{arc_value};
 ghost use Rattle.queue_core.specs.declared.TheConstants.{MOST_AMOUNT, MOST_MAILBOXES, MOST_NODES, MOST_POOL_POSTS, MOST_POSTS, MOST_SENDERS};
@@ -7,14 +7,14 @@ ghost use Rattle.queue_core.specs.declared.item.Item.TheVariants.{End, Post};
 ghost use Rattle.queue_core.specs.declared.reader.ReaderPoint.TheVariants as reads;
 ghost use Rattle.queue_core.specs.declared.sender.SenderPoint.TheVariants as sends;
 ghost use Rattle.queue_core.specs.StoredWords.{amount_word};
-ghost use Rattle.node_table.specs.declared.seats.Known.TheVariants.{Reads, Sends, Tallies};
-ghost use Rattle.node_table.specs.Asks.{IsPosting, IsSending, IsTally, holding_in, reader_in, sender_in, tally_in};
+ghost use Rattle.node_table.specs.declared.seats.Known.TheVariants.{Receives, Sends, Tallies};
+ghost use Rattle.node_table.specs.Asks.{IsPosting, IsSending, IsTally, holding_in, receiver_in, sender_in, tally_in};
 ghost use Rattle.queue_core.specs.Matches.{MatchPosted, MatchTook};
 ghost use Rattle.node_table.specs.Calls.{AtNode, AtRest, HasFound, HasSameMail, IsAtRestSender, IsHeldSeat, IsHolder, IsTakingAt, after_post, finished_at, put_in_at, sent};
 ghost use Rattle.node_table.specs.Layout.{IsSmall, head_word, next_word, nodes_in, slot_of, stub_of, words_in};
 ghost use Rattle.node_table.specs.Rule.{opened_tally};
 ghost use Rattle.node_table.specs.Seats.{HasEndedEverywhere, has_ended};
-ghost use Rattle.node_table.specs.Tells.{BeginsAt, IsHeldAt, TallyBegins, new_reader_seat, new_sender, posting, with_hand, with_reader, with_sender, with_taken_in};
+ghost use Rattle.node_table.specs.Tells.{BeginsAt, IsHeldAt, TallyBegins, new_receiver, new_sender, posting, with_hand, with_receiver, with_sender, with_taken_in};
 
 use crate::layout::{first_of, head_word, slots_in, stub_of, words_in};
 use crate::seats::{Posting, Shape};
@@ -36,9 +36,9 @@ pub struct NodeSender {
     ghost me: { IsAtRestSender (arc_value nodes).shape number count seat.me },
 }
 
-/// The reader of a mailbox. It may be moved to another thread.
+/// The receiver of a mailbox. It may be moved to another thread.
 #[derive(Drop)]
-pub struct NodeReader {
+pub struct NodeReceiver {
     nodes: Arc<Nodes>,
     seat: NodeSeat,
     mailbox: u64,
@@ -46,7 +46,7 @@ pub struct NodeReader {
     ghost seated: { seat.table_id ≡ (arc_value nodes).board.shared.table_id },
     ghost within: { mailbox < (arc_value nodes).shape.mailboxes },
     ghost rest: { IsTakingAt AtRest (arc_value nodes).shape mailbox tail seat.me },
-    ghost begins: { BeginsAt (reader_in seat.me.0) },
+    ghost begins: { BeginsAt (receiver_in seat.me.0) },
 }
 
 /// An item that was taken. It has a seat of its own, which says that its node is held.
@@ -58,7 +58,7 @@ pub struct NodeHeld {
     ghost me: { IsHeldSeat node number item seat.me },
 }
 
-/// What gathers the readers of a table and takes its senders in.
+/// What gathers the receivers of a table and takes its senders in.
 #[derive(Drop)]
 pub struct NodeTally {
     nodes: Arc<Nodes>,
@@ -140,7 +140,7 @@ fn put_stub_in(nodes: &Nodes, seat: &mut NodeSeat, mailbox: u64, tail: u64)
     requires at { IsTakingAt (λ point. point ≡ reads.Null) nodes.now.shape mailbox tail seat.old.me }
     ensures same { seat.new.table_id ≡ seat.old.table_id }
     ensures at { IsTakingAt (λ point. point ≡ reads.Last) nodes.now.shape mailbox tail seat.new.me }
-    ensures mail { HasSameMail (reader_in seat.old.me.0) (reader_in seat.new.me.0) }
+    ensures mail { HasSameMail (receiver_in seat.old.me.0) (receiver_in seat.new.me.0) }
 {
     let stub = stub_of(&nodes.shape, mailbox);
     steps::stub_null(nodes, seat, mailbox, stub);
@@ -334,35 +334,36 @@ impl NodeSender {
     }
 }
 
-impl NodeReader {
-    ghost use Rattle.node_table.specs.Views.{AreNewReaders, HasKept, HasTaken, WasAwaited, WasWhole, entry_of, holding_of, reader_of, sender_of, table_of_held, table_of_reader, table_of_sender};
+impl NodeReceiver {
+    ghost use Rattle.node_table.specs.Views.{AreNewReceivers, HasKept, HasTakenItem, WasAwaited, WasWhole, entry_of, holding_of};
+    ghost use Rattle.node_table.specs.Views.{receiver_of, sender_of, table_of_held, table_of_receiver, table_of_sender};
 
-    /// A reader for each mailbox.
+    /// A receiver for each mailbox.
     fn deal_all(
         alloc: Global,
         nodes: &Arc<Nodes>,
         tally: &mut NodeSeat,
-    ) -> Result<Vec<NodeReader>, AllocError>
+    ) -> Result<Vec<NodeReceiver>, AllocError>
         requires seated { tally.old.table_id ≡ (arc_value nodes.now).board.shared.table_id }
         requires me { tally.old.me ≡ (Tallies (opened_tally (arc_value nodes.now).shape (arc_value nodes.now).shape.senders), []) }
         ensures same { tally.new.table_id ≡ tally.old.table_id }
         ensures me { IfOk result (λ _. tally.new.me ≡ (Tallies (opened_tally (arc_value nodes.now).shape ((arc_value nodes.now).shape.senders + (arc_value nodes.now).shape.mailboxes)), [])) }
-        ensures count { IfOk result (λ readers. vec_len readers ≡ (arc_value nodes.now).shape.mailboxes) }
-        ensures opened { IfOk result (λ readers. AreNewReaders tally.old.table_id (arc_value nodes.now).shape (vec_items readers)) }
+        ensures count { IfOk result (λ receivers. vec_len receivers ≡ (arc_value nodes.now).shape.mailboxes) }
+        ensures opened { IfOk result (λ receivers. AreNewReceivers tally.old.table_id (arc_value nodes.now).shape (vec_items receivers)) }
     {
         let many = nodes.shape.mailboxes;
-        let mut readers = Vec::with_capacity(alloc, many as usize)?;
+        let mut receivers = Vec::with_capacity(alloc, many as usize)?;
         for mailbox in 0..many {
             let mut seat = steps::deal_seat(nodes, tally);
-            steps::begin_reading(nodes, &mut seat, mailbox);
-            readers.push(NodeReader {
+            steps::begin_receiving(nodes, &mut seat, mailbox);
+            receivers.push(NodeReceiver {
                 nodes: Arc::try_clone(nodes)?,
                 seat,
                 mailbox,
                 tail: stub_of(&nodes.shape, mailbox),
             })?;
         }
-        Ok(readers)
+        Ok(receivers)
     }
 
     /// What is at hand gets a seat of its own, and its item is loaded.
@@ -370,8 +371,8 @@ impl NodeReader {
         requires seat { seat.old.table_id ≡ nodes.now.board.shared.table_id }
         requires at { IsHolder nodes.now.shape node seat.old.me }
         ensures same { (seat.new.table_id ≡ seat.old.table_id) × (result.seat.table_id ≡ seat.old.table_id) }
-        ensures reads { seat.new.me ≡ (Reads (with_hand None (reader_in seat.old.me.0)), []) }
-        ensures hand { (reader_in seat.old.me.0).at_hand ≡ Some (holding_in result.seat.me.0) }
+        ensures reads { seat.new.me ≡ (Receives (with_hand None (receiver_in seat.old.me.0)), []) }
+        ensures hand { (receiver_in seat.old.me.0).at_hand ≡ Some (holding_in result.seat.me.0) }
         ensures held { IsHeldSeat result.node result.number result.item result.seat.me }
     {
         let line = steps::load_line(nodes, seat, node);
@@ -386,7 +387,7 @@ impl NodeReader {
 
     /// The number of its mailbox, from 0.
     pub fn mailbox(&self) -> u64
-        ensures { result ≡ (reader_of self.now).mailbox }
+        ensures { result ≡ (receiver_of self.now).mailbox }
     {
         self.mailbox
     }
@@ -394,14 +395,14 @@ impl NodeReader {
     /// Takes an item of any sender, which was not taken before, and is held from then on. `Empty`: all is received of the
     /// senders that it took in. `Busy`: something may be on its way, and some sender was not taken in.
     pub fn take(&mut self) -> Took<NodeHeld>
-        ensures same { table_of_reader self.new ≡ table_of_reader self.old }
-        ensures took { MatchTook result (λ h. (table_of_held h ≡ table_of_reader self.old) × HasTaken (holding_of h) (reader_of self.old) (reader_of self.new)) (WasWhole (reader_of self.old) (reader_of self.new)) (WasAwaited (reader_of self.old) (reader_of self.new)) }
-        ensures begins { BeginsAt (reader_of self.new) }
+        ensures same { table_of_receiver self.new ≡ table_of_receiver self.old }
+        ensures took { MatchTook result (HasTakenItem self.old self.new) (WasWhole (receiver_of self.old) (receiver_of self.new)) (WasAwaited (receiver_of self.old) (receiver_of self.new)) }
+        ensures begins { BeginsAt (receiver_of self.new) }
     {
         let (took, tail) = take_from(&self.nodes, &mut self.seat, self.mailbox, self.tail);
         self.tail = tail;
         match took {
-            Took::Held(node) => Took::Held(NodeReader::hold(&self.nodes, &mut self.seat, node)),
+            Took::Held(node) => Took::Held(NodeReceiver::hold(&self.nodes, &mut self.seat, node)),
             Took::Empty => Took::Empty,
             Took::Busy => Took::Busy,
         }
@@ -409,12 +410,12 @@ impl NodeReader {
 
     /// Gives an item back, which was held, and with it the node that it stood in.
     pub fn give_back(&mut self, held: NodeHeld)
-        requires table { table_of_held held ≡ table_of_reader self.old }
-        requires mailbox { (holding_of held).mailbox ≡ (reader_of self.old).mailbox }
-        ensures same { table_of_reader self.new ≡ table_of_reader self.old }
-        ensures given { (reader_of self.new).given ≡ (reader_of self.old).given ++ entry_of (holding_of held) ∷ [] }
-        ensures kept { HasKept (reader_of self.old) (reader_of self.new) }
-        ensures held { IsHeldAt (reader_of self.old) (holding_of held) }
+        requires table { table_of_held held ≡ table_of_receiver self.old }
+        requires mailbox { (holding_of held).mailbox ≡ (receiver_of self.old).mailbox }
+        ensures same { table_of_receiver self.new ≡ table_of_receiver self.old }
+        ensures given { (receiver_of self.new).given ≡ (receiver_of self.old).given ++ entry_of (holding_of held) ∷ [] }
+        ensures kept { HasKept (receiver_of self.old) (receiver_of self.new) }
+        ensures held { IsHeldAt (receiver_of self.old) (holding_of held) }
     {
         let NodeHeld {
             seat,
@@ -426,13 +427,13 @@ impl NodeReader {
         steps::give_back(&self.nodes, &mut self.seat, node);
     }
 
-    /// Takes in a sender that has ended in its mailbox: from then on the reader knows what it sent there.
+    /// Takes in a sender that has ended in its mailbox: from then on the receiver knows what it sent there.
     pub fn take_in(&mut self, sender: NodeSender)
-        requires table { table_of_sender sender ≡ table_of_reader self.old }
-        requires ended { has_ended (sender_of sender) (reader_of self.old).mailbox ≡ true }
-        ensures same { table_of_reader self.new ≡ table_of_reader self.old }
-        ensures known { reader_of self.new ≡ with_taken_in (sender_of sender) (reader_of self.old) }
-        ensures begins { BeginsAt (reader_of self.new) }
+        requires table { table_of_sender sender ≡ table_of_receiver self.old }
+        requires ended { has_ended (sender_of sender) (receiver_of self.old).mailbox ≡ true }
+        ensures same { table_of_receiver self.new ≡ table_of_receiver self.old }
+        ensures known { receiver_of self.new ≡ with_taken_in (sender_of sender) (receiver_of self.old) }
+        ensures begins { BeginsAt (receiver_of self.new) }
     {
         let seat = sender.leave();
         steps::take_in(&self.nodes, &mut self.seat, seat);
@@ -452,35 +453,35 @@ impl NodeHeld {
 }
 
 impl NodeTally {
-    ghost use Rattle.node_table.specs.Views.{reader_of, sender_of, table_of_reader, table_of_sender, table_of_tally, tally_of};
+    ghost use Rattle.node_table.specs.Views.{receiver_of, sender_of, table_of_receiver, table_of_sender, table_of_tally, tally_of};
 
     /// A table of 1 to 8 senders, each with 1 to 64 ring nodes, and of 1 to 16,384 mailboxes: its senders by number, its
-    /// readers by mailbox, and its tally. The only call that takes memory.
+    /// receivers by mailbox, and its tally. The only call that takes memory.
     pub fn open(
         alloc: Global,
         shape: Shape,
-    ) -> Result<(Vec<NodeSender>, Vec<NodeReader>, NodeTally), AllocError>
+    ) -> Result<(Vec<NodeSender>, Vec<NodeReceiver>, NodeTally), AllocError>
         requires { IsSmall shape }
-        ensures senders { IfOk result (λ r. vec_len r.0 ≡ shape.senders) }
-        ensures readers { IfOk result (λ r. vec_len r.1 ≡ shape.mailboxes) }
-        ensures each_sender { IfOk result (λ r. (p : ℕ) → p < shape.senders → HoldsAt (λ s. (table_of_sender s ≡ table_of_tally r.2) × (sender_of s ≡ new_sender shape p)) (vec_items r.0) p) }
-        ensures each_reader { IfOk result (λ r. (b : ℕ) → b < shape.mailboxes → HoldsAt (λ s. (table_of_reader s ≡ table_of_tally r.2) × (reader_of s ≡ new_reader_seat shape b)) (vec_items r.1) b) }
+        ensures senders_count { IfOk result (λ r. vec_len r.0 ≡ shape.senders) }
+        ensures receivers_count { IfOk result (λ r. vec_len r.1 ≡ shape.mailboxes) }
+        ensures senders { IfOk result (λ r. (p : ℕ) → p < shape.senders → HoldsAt (λ s. (table_of_sender s ≡ table_of_tally r.2) × (sender_of s ≡ new_sender shape p)) (vec_items r.0) p) }
+        ensures receivers { IfOk result (λ r. (b : ℕ) → b < shape.mailboxes → HoldsAt (λ s. (table_of_receiver s ≡ table_of_tally r.2) × (receiver_of s ≡ new_receiver shape b)) (vec_items r.1) b) }
         ensures tally { IfOk result (λ r. tally_of r.2 ≡ opened_tally shape (shape.senders + shape.mailboxes)) }
     {
         let (nodes, mut seat) = open_nodes(alloc, shape)?;
         let senders = NodeSender::deal_all(alloc, &nodes, &mut seat)?;
-        let readers = NodeReader::deal_all(alloc, &nodes, &mut seat)?;
-        Ok((senders, readers, NodeTally { nodes, seat }))
+        let receivers = NodeReceiver::deal_all(alloc, &nodes, &mut seat)?;
+        Ok((senders, receivers, NodeTally { nodes, seat }))
     }
 
-    /// Gathers the reader of a mailbox: what that received is known from then on.
-    pub fn gather(&mut self, reader: NodeReader)
-        requires table { table_of_reader reader ≡ table_of_tally self.old }
+    /// Gathers the receiver of a mailbox: what that received is known from then on.
+    pub fn gather(&mut self, receiver: NodeReceiver)
+        requires table { table_of_receiver receiver ≡ table_of_tally self.old }
         ensures same { table_of_tally self.new ≡ table_of_tally self.old }
-        ensures gathered { tally_of self.new ≡ with_reader (reader_of reader) (tally_of self.old) }
+        ensures gathered { tally_of self.new ≡ with_receiver (receiver_of receiver) (tally_of self.old) }
         ensures begins { TallyBegins (tally_of self.new) }
     {
-        steps::gather(&self.nodes, &mut self.seat, reader.seat);
+        steps::gather(&self.nodes, &mut self.seat, receiver.seat);
         steps::tally_look(&self.nodes, &mut self.seat);
     }
 

@@ -39,11 +39,12 @@ pub struct SenderSeat {
     pub filled: LinkedList<(u64, Item)>,
 }
 
-/// What the reader of a mailbox knows: where it is, what it passed, gave back and received, what it has at hand, and the
+/// What the receiver of a mailbox knows: where it is, what it passed, gave back and received, what it has at hand, and the
 /// senders that it took in. No value of it is made.
-pub struct ReaderSeat {
+pub struct ReceiverSeat {
     pub shape: Shape,
     pub mailbox: u64,
+    /// Where it is in a take: the reader of `queue_core`, whose steps a receiver makes.
     pub reader: Reader,
     pub passed: LinkedList<Entry>,
     pub given: LinkedList<Entry>,
@@ -52,21 +53,21 @@ pub struct ReaderSeat {
     pub taken_in: LinkedList<SenderSeat>,
 }
 
-/// What the tally knows: how many seats it has dealt, what the readers knew that it gathered, and the senders that it
+/// What the tally knows: how many seats it has dealt, what the receivers knew that it gathered, and the senders that it
 /// took in. No value of it is made.
 pub struct TallySeat {
     pub shape: Shape,
     pub dealt: u64,
-    pub gathered: LinkedList<ReaderSeat>,
+    pub gathered: LinkedList<ReceiverSeat>,
     pub taken_in: LinkedList<SenderSeat>,
 }
 
 /// What a seat knows.
 pub enum Known {
-    /// A sender or a reader that has not begun, by its place in the order of dealing: the senders come first.
+    /// A sender or a receiver that has not begun, by its place in the order of dealing: the senders come first.
     Dealt(Shape, u64),
     Sends(SenderSeat),
-    Reads(ReaderSeat),
+    Receives(ReceiverSeat),
     /// An item that was taken and not given back.
     Holds(Holding),
     Tallies(TallySeat),

@@ -7,12 +7,20 @@ ghost use Rattle.queue_core.specs.declared.reader.ReaderPoint.TheVariants as rea
 ghost use Rattle.queue_core.specs.declared.sender.SenderPoint.TheVariants as sends;
 ghost use Rattle.queue_core.specs.StoredWords.{amount_word, line_word};
 ghost use Rattle.node_table.specs.declared.seats.Holding.{Holding as AHolding};
-ghost use Rattle.node_table.specs.declared.seats.Known.TheVariants.{Gone, Reads, Sends};
+ghost use Rattle.node_table.specs.declared.seats.Known.TheVariants.{Gone, Receives, Sends};
 ghost use Rattle.node_table.specs.Layout.{IsTableOf, first_of, nodes_in, slot_of, stub_of};
 ghost use Rattle.node_table.specs.Rule.{KeepsNodes, nodes_opened};
-ghost use Rattle.node_table.specs.Asks.{HasAtHand, IsDealing, IsEnding, IsGathering, IsHandingOut, IsPosting, IsReading, IsResting, IsSending, IsSlotless, IsTakingBack, IsTakingIn, IsTally, IsTallying, IsUnread, after_look, after_swap_on, reader_in, sender_in, tally_in};
-ghost use Rattle.node_table.specs.Tells.{BeginsAt, HasLoadedHead, HasLoadedNext, IsHeldAt, LoadsHead, LoadsNext, TallyBegins, after_amount_at, after_deal, after_give, after_hand, after_line_at, after_link_at, after_null_at, dealt, filling, gathered, hand_of, in_slot, new_reader_seat, new_sender, posting, reading_at, taken_back, taken_in, tallied};
-ghost use Rattle.node_table.specs.Tells.{tells_begin_reading, tells_give_back, tells_give_slot, tells_load_amount, tells_load_head, tells_load_line, tells_load_next, tells_load_turn, tells_look, tells_store_amount, tells_store_line, tells_store_link, tells_store_null, tells_stub_link, tells_stub_null, tells_stub_swap, tells_swap_head, tells_take_slot, tells_tally};
+ghost use Rattle.node_table.specs.Asks.{HasAtHand, IsDealing, IsEnding, IsGathering, IsHandingOut, IsPosting, IsReading, IsResting};
+ghost use Rattle.node_table.specs.Asks.{IsSending, IsDealtSender, IsTakingBack, IsTakingIn, IsTally, IsTallying, IsDealtReceiver};
+ghost use Rattle.node_table.specs.Asks.{after_look, after_swap_on, receiver_in, sender_in, tally_in};
+ghost use Rattle.node_table.specs.Tells.{BeginsAt, HasLoadedHead, HasLoadedNext, IsHeldAt, LoadsHead, LoadsNext, TallyBegins};
+ghost use Rattle.node_table.specs.Tells.{after_amount_at, after_deal, after_give, after_hand, after_line_at, after_link_at};
+ghost use Rattle.node_table.specs.Tells.{after_null_at, dealt, filling, gathered, hand_of, in_slot, new_receiver};
+ghost use Rattle.node_table.specs.Tells.{new_sender, posting, reading_at, taken_back, taken_in, tallied};
+ghost use Rattle.node_table.specs.Tells.{tells_begin_receiving, tells_give_back, tells_give_slot, tells_load_amount};
+ghost use Rattle.node_table.specs.Tells.{tells_load_head, tells_load_line, tells_load_next, tells_load_turn, tells_look};
+ghost use Rattle.node_table.specs.Tells.{tells_store_amount, tells_store_line, tells_store_link, tells_store_null, tells_stub_link};
+ghost use Rattle.node_table.specs.Tells.{tells_stub_null, tells_stub_swap, tells_swap_head, tells_take_slot, tells_tally};
 
 use crate::layout::{
     amount_word_of, first_of, head_word, line_word_of, next_word, slot_of, stub_of, turn_word,
@@ -40,7 +48,7 @@ impl Split<Known> for DealSeat {
     ghost right = { dealt };
 }
 
-/// What a reader has at hand gets a seat of its own.
+/// What a receiver has at hand gets a seat of its own.
 struct HandOut;
 
 impl Split<Known> for HandOut {
@@ -57,7 +65,7 @@ impl Join<Known> for TakeBack {
     ghost spent = { Gone };
 }
 
-/// A reader takes a sender in.
+/// A receiver takes a sender in.
 struct TakeIn;
 
 impl Join<Known> for TakeIn {
@@ -66,10 +74,10 @@ impl Join<Known> for TakeIn {
     ghost spent = { Gone };
 }
 
-/// The tally gathers a reader.
-struct GatherReader;
+/// The tally gathers a receiver.
+struct GatherReceiver;
 
-impl Join<Known> for GatherReader {
+impl Join<Known> for GatherReceiver {
     ghost both = { gathered };
 
     ghost spent = { Gone };
@@ -97,10 +105,10 @@ impl Play<Posting, Known> for GiveSlot {
     ghost then = { tells_give_slot };
 }
 
-struct BeginReading;
+struct BeginReceiving;
 
-impl Play<Posting, Known> for BeginReading {
-    ghost then = { tells_begin_reading };
+impl Play<Posting, Known> for BeginReceiving {
+    ghost then = { tells_begin_receiving };
 }
 
 struct LoadTurn;
@@ -212,7 +220,7 @@ pub struct Nodes {
     ghost table: { IsTableOf shape board.shared.key board.shared.table_id.words },
 }
 
-/// The tally deals the next seat: the senders come first, then the readers.
+/// The tally deals the next seat: the senders come first, then the receivers.
 pub fn deal_seat(nodes: &Nodes, tally: &mut NodeSeat) -> NodeSeat
     requires seat { tally.old.table_id ≡ nodes.now.board.shared.table_id }
     requires at { IsDealing tally.old.me }
@@ -222,44 +230,47 @@ pub fn deal_seat(nodes: &Nodes, tally: &mut NodeSeat) -> NodeSeat
     nodes.board.shared.split_seat::<DealSeat>(tally)
 }
 
-/// What a reader has at hand gets a seat of its own.
-pub fn hand_out(nodes: &Nodes, reader: &mut NodeSeat) -> NodeSeat
-    requires seat { reader.old.table_id ≡ nodes.now.board.shared.table_id }
-    requires at { IsHandingOut reader.old.me }
-    ensures same { (reader.new.table_id ≡ reader.old.table_id) × (result.table_id ≡ reader.old.table_id) }
-    ensures handed { (reader.new.me ≡ (after_hand reader.old.me.0, [])) × (result.me ≡ (hand_of reader.old.me.0, [])) }
+/// What a receiver has at hand gets a seat of its own.
+pub fn hand_out(nodes: &Nodes, receiver: &mut NodeSeat) -> NodeSeat
+    requires seat { receiver.old.table_id ≡ nodes.now.board.shared.table_id }
+    requires at { IsHandingOut receiver.old.me }
+    ensures same { (receiver.new.table_id ≡ receiver.old.table_id) × (result.table_id ≡ receiver.old.table_id) }
+    ensures handed { (receiver.new.me ≡ (after_hand receiver.old.me.0, [])) × (result.me ≡ (hand_of receiver.old.me.0, [])) }
 {
-    nodes.board.shared.split_seat::<HandOut>(reader)
+    nodes.board.shared.split_seat::<HandOut>(receiver)
 }
 
-/// A reader takes back what was handed out.
-pub fn take_back(nodes: &Nodes, reader: &mut NodeSeat, held: NodeSeat)
-    requires seat { (reader.old.table_id ≡ nodes.now.board.shared.table_id) × (held.table_id ≡ nodes.now.board.shared.table_id) }
-    requires at { IsTakingBack reader.old.me held.me }
-    ensures same { reader.new.table_id ≡ reader.old.table_id }
-    ensures taken { reader.new.me ≡ (taken_back reader.old.me.0 held.me.0, []) }
+/// A receiver takes back what was handed out.
+pub fn take_back(nodes: &Nodes, receiver: &mut NodeSeat, held: NodeSeat)
+    requires seat { (receiver.old.table_id ≡ nodes.now.board.shared.table_id) × (held.table_id ≡ nodes.now.board.shared.table_id) }
+    requires at { IsTakingBack receiver.old.me held.me }
+    ensures same { receiver.new.table_id ≡ receiver.old.table_id }
+    ensures taken { receiver.new.me ≡ (taken_back receiver.old.me.0 held.me.0, []) }
 {
-    nodes.board.shared.join_seat::<TakeBack>(reader, held);
+    nodes.board.shared.join_seat::<TakeBack>(receiver, held);
 }
 
-/// A reader takes a sender in.
-pub fn take_in(nodes: &Nodes, reader: &mut NodeSeat, sender: NodeSeat)
-    requires seat { (reader.old.table_id ≡ nodes.now.board.shared.table_id) × (sender.table_id ≡ nodes.now.board.shared.table_id) }
-    requires at { IsTakingIn reader.old.me sender.me }
-    ensures same { reader.new.table_id ≡ reader.old.table_id }
-    ensures taken { reader.new.me ≡ (taken_in reader.old.me.0 sender.me.0, []) }
+/// A receiver takes a sender in.
+pub fn take_in(nodes: &Nodes, receiver: &mut NodeSeat, sender: NodeSeat)
+    requires seat { (receiver.old.table_id ≡ nodes.now.board.shared.table_id) × (sender.table_id ≡ nodes.now.board.shared.table_id) }
+    requires at { IsTakingIn receiver.old.me sender.me }
+    ensures same { receiver.new.table_id ≡ receiver.old.table_id }
+    ensures taken { receiver.new.me ≡ (taken_in receiver.old.me.0 sender.me.0, []) }
 {
-    nodes.board.shared.join_seat::<TakeIn>(reader, sender);
+    nodes.board.shared.join_seat::<TakeIn>(receiver, sender);
 }
 
-/// The tally gathers a reader: what that received is known to the tally.
-pub fn gather(nodes: &Nodes, tally: &mut NodeSeat, reader: NodeSeat)
-    requires seat { (tally.old.table_id ≡ nodes.now.board.shared.table_id) × (reader.table_id ≡ nodes.now.board.shared.table_id) }
-    requires at { IsGathering tally.old.me reader.me }
+/// The tally gathers a receiver: what that received is known to the tally.
+pub fn gather(nodes: &Nodes, tally: &mut NodeSeat, receiver: NodeSeat)
+    requires seat { (tally.old.table_id ≡ nodes.now.board.shared.table_id) × (receiver.table_id ≡ nodes.now.board.shared.table_id) }
+    requires at { IsGathering tally.old.me receiver.me }
     ensures same { tally.new.table_id ≡ tally.old.table_id }
-    ensures taken { tally.new.me ≡ (gathered tally.old.me.0 reader.me.0, []) }
+    ensures taken { tally.new.me ≡ (gathered tally.old.me.0 receiver.me.0, []) }
 {
-    nodes.board.shared.join_seat::<GatherReader>(tally, reader);
+    nodes
+        .board
+        .shared
+        .join_seat::<GatherReceiver>(tally, receiver);
 }
 
 /// The tally takes a sender in: what the sender sent in each mailbox is known to the tally.
@@ -275,21 +286,21 @@ pub fn tally_in(nodes: &Nodes, tally: &mut NodeSeat, sender: NodeSeat)
 /// A sender begins, and takes its slot.
 pub fn take_slot(nodes: &Nodes, seat: &mut NodeSeat, number: u64)
     requires seat { seat.old.table_id ≡ nodes.now.board.shared.table_id }
-    requires at { IsSlotless nodes.now.shape number seat.old.me }
+    requires at { IsDealtSender nodes.now.shape number seat.old.me }
     ensures same { seat.new.table_id ≡ seat.old.table_id }
     ensures told { seat.new.me ≡ (Sends (new_sender nodes.now.shape number), (slot_of number, in_slot seat.new.me.1) ∷ []) }
 {
     nodes.board.shared.load::<TakeSlot>(seat, 0);
 }
 
-/// The reader of a mailbox begins.
-pub fn begin_reading(nodes: &Nodes, seat: &mut NodeSeat, mailbox: u64)
+/// The receiver of a mailbox begins.
+pub fn begin_receiving(nodes: &Nodes, seat: &mut NodeSeat, mailbox: u64)
     requires seat { seat.old.table_id ≡ nodes.now.board.shared.table_id }
-    requires at { IsUnread nodes.now.shape mailbox seat.old.me }
+    requires at { IsDealtReceiver nodes.now.shape mailbox seat.old.me }
     ensures same { seat.new.table_id ≡ seat.old.table_id }
-    ensures told { seat.new.me ≡ (Reads (new_reader_seat nodes.now.shape mailbox), []) }
+    ensures told { seat.new.me ≡ (Receives (new_receiver nodes.now.shape mailbox), []) }
 {
-    nodes.board.shared.load::<BeginReading>(seat, 0);
+    nodes.board.shared.load::<BeginReceiving>(seat, 0);
 }
 
 /// A sender lays a post into its slot, and loads the turn of its next ring node. Answers whether that node is free; if so
@@ -418,15 +429,15 @@ pub fn give_slot(nodes: &Nodes, seat: &mut NodeSeat)
     nodes.board.shared.load::<GiveSlot>(seat, 0);
 }
 
-/// The reader loads the next of its tail.
+/// The receiver loads the next of its tail.
 pub fn load_next(nodes: &Nodes, seat: &mut NodeSeat, tail: u64) -> u64
     requires seat { seat.old.table_id ≡ nodes.now.board.shared.table_id }
     requires tail { tail < nodes_in nodes.now.shape }
     requires at { (mailbox : ℕ) × IsReading LoadsNext nodes.now.shape mailbox tail seat.old.me }
-    requires free { (reader_in seat.old.me.0).at_hand ≡ None }
+    requires free { (receiver_in seat.old.me.0).at_hand ≡ None }
     ensures same { seat.new.table_id ≡ seat.old.table_id }
-    ensures reads { seat.new.me ≡ (Reads (reader_in seat.new.me.0), []) }
-    ensures told { HasLoadedNext result (reader_in seat.old.me.0) (reader_in seat.new.me.0) }
+    ensures reads { seat.new.me ≡ (Receives (receiver_in seat.new.me.0), []) }
+    ensures told { HasLoadedNext result (receiver_in seat.old.me.0) (receiver_in seat.new.me.0) }
 {
     let word = next_word(tail);
     nodes.board.shared.load::<LoadNext>(seat, word)
@@ -438,8 +449,8 @@ pub fn load_head(nodes: &Nodes, seat: &mut NodeSeat, mailbox: u64) -> u64
     requires there { mailbox < nodes.now.shape.mailboxes }
     requires at { (tail : ℕ) × IsReading LoadsHead nodes.now.shape mailbox tail seat.old.me }
     ensures same { seat.new.table_id ≡ seat.old.table_id }
-    ensures reads { seat.new.me ≡ (Reads (reader_in seat.new.me.0), []) }
-    ensures told { HasLoadedHead result (reader_in seat.old.me.0) (reader_in seat.new.me.0) }
+    ensures reads { seat.new.me ≡ (Receives (receiver_in seat.new.me.0), []) }
+    ensures told { HasLoadedHead result (receiver_in seat.old.me.0) (receiver_in seat.new.me.0) }
 {
     let word = head_word(&nodes.shape, mailbox);
     nodes.board.shared.load::<LoadHead>(seat, word)
@@ -452,7 +463,7 @@ pub fn stub_null(nodes: &Nodes, seat: &mut NodeSeat, mailbox: u64, stub: u64)
     requires stub { stub ≡ stub_of nodes.now.shape mailbox }
     requires at { (tail : ℕ) × IsReading (λ point. point ≡ reads.Null) nodes.now.shape mailbox tail seat.old.me }
     ensures same { seat.new.table_id ≡ seat.old.table_id }
-    ensures told { seat.new.me ≡ (Reads (reading_at reads.Swap (reader_in seat.old.me.0)), []) }
+    ensures told { seat.new.me ≡ (Receives (reading_at reads.Swap (receiver_in seat.old.me.0)), []) }
 {
     let word = next_word(stub);
     nodes.board.shared.store::<StubNull>(seat, word, NULL);
@@ -465,7 +476,7 @@ pub fn stub_swap(nodes: &Nodes, seat: &mut NodeSeat, mailbox: u64, stub: u64) ->
     requires stub { stub ≡ stub_of nodes.now.shape mailbox }
     requires at { (tail : ℕ) × IsReading (λ point. point ≡ reads.Swap) nodes.now.shape mailbox tail seat.old.me }
     ensures same { seat.new.table_id ≡ seat.old.table_id }
-    ensures told { seat.new.me ≡ (Reads (reading_at (reads.Link result) (reader_in seat.old.me.0)), []) }
+    ensures told { seat.new.me ≡ (Receives (reading_at (reads.Link result) (receiver_in seat.old.me.0)), []) }
     ensures before { result < nodes_in nodes.now.shape }
 {
     let word = head_word(&nodes.shape, mailbox);
@@ -481,7 +492,7 @@ pub fn stub_link(nodes: &Nodes, seat: &mut NodeSeat, mailbox: u64, before: u64, 
     requires stub { stub ≡ stub_of nodes.now.shape mailbox }
     requires at { (tail : ℕ) × IsReading (λ point. point ≡ reads.Link before) nodes.now.shape mailbox tail seat.old.me }
     ensures same { seat.new.table_id ≡ seat.old.table_id }
-    ensures told { seat.new.me ≡ (Reads (reading_at reads.Last (reader_in seat.old.me.0)), []) }
+    ensures told { seat.new.me ≡ (Receives (reading_at reads.Last (receiver_in seat.old.me.0)), []) }
 {
     let word = next_word(before);
     let link = link_to(stub);
@@ -495,7 +506,7 @@ pub fn load_line(nodes: &Nodes, seat: &mut NodeSeat, node: u64) -> u64
     requires at { HasAtHand nodes.now.shape node seat.old.me }
     ensures same { seat.new.table_id ≡ seat.old.table_id }
     ensures told { seat.new.me ≡ seat.old.me }
-    ensures found { (h : AHolding) → (reader_in seat.old.me.0).at_hand ≡ Some h → result ≡ line_word h.item }
+    ensures found { (h : AHolding) → (receiver_in seat.old.me.0).at_hand ≡ Some h → result ≡ line_word h.item }
 {
     let word = line_word_of(node);
     nodes.board.shared.load::<LoadLine>(seat, word)
@@ -508,7 +519,7 @@ pub fn load_amount(nodes: &Nodes, seat: &mut NodeSeat, node: u64) -> u64
     requires at { HasAtHand nodes.now.shape node seat.old.me }
     ensures same { seat.new.table_id ≡ seat.old.table_id }
     ensures told { seat.new.me ≡ seat.old.me }
-    ensures found { (h : AHolding) → (reader_in seat.old.me.0).at_hand ≡ Some h → result ≡ amount_word h.item }
+    ensures found { (h : AHolding) → (receiver_in seat.old.me.0).at_hand ≡ Some h → result ≡ amount_word h.item }
 {
     let word = amount_word_of(node);
     nodes.board.shared.load::<LoadAmount>(seat, word)
@@ -520,8 +531,8 @@ pub fn give_back(nodes: &Nodes, seat: &mut NodeSeat, node: u64)
     requires node { node < nodes_in nodes.now.shape }
     requires at { HasAtHand nodes.now.shape node seat.old.me }
     ensures same { seat.new.table_id ≡ seat.old.table_id }
-    ensures told { seat.new.me ≡ (Reads (after_give (reader_in seat.old.me.0).at_hand (reader_in seat.old.me.0)), []) }
-    ensures held { (h : AHolding) → (reader_in seat.old.me.0).at_hand ≡ Some h → IsHeldAt (reader_in seat.old.me.0) h }
+    ensures told { seat.new.me ≡ (Receives (after_give (receiver_in seat.old.me.0).at_hand (receiver_in seat.old.me.0)), []) }
+    ensures held { (h : AHolding) → (receiver_in seat.old.me.0).at_hand ≡ Some h → IsHeldAt (receiver_in seat.old.me.0) h }
 {
     let word = turn_word(node);
     nodes.board.shared.fetch_add::<GiveBack>(seat, word, 1);
@@ -530,15 +541,15 @@ pub fn give_back(nodes: &Nodes, seat: &mut NodeSeat, node: u64)
 /// It looks at a word that nobody writes: what it received of each sender that it took in is the first part of what the sender sent.
 pub fn look_again(nodes: &Nodes, seat: &mut NodeSeat)
     requires seat { seat.old.table_id ≡ nodes.now.board.shared.table_id }
-    requires at { seat.old.me ≡ (Reads (reader_in seat.old.me.0), []) }
+    requires at { seat.old.me ≡ (Receives (receiver_in seat.old.me.0), []) }
     ensures same { seat.new.table_id ≡ seat.old.table_id }
     ensures told { seat.new.me ≡ seat.old.me }
-    ensures begins { BeginsAt (reader_in seat.old.me.0) }
+    ensures begins { BeginsAt (receiver_in seat.old.me.0) }
 {
     nodes.board.shared.load::<Look>(seat, 0);
 }
 
-/// The tally looks at a word that nobody writes: what each gathered reader received of each sender that was taken in is the first part of what the sender sent there.
+/// The tally looks at a word that nobody writes: what each gathered receiver received of each sender that was taken in is the first part of what the sender sent there.
 pub fn tally_look(nodes: &Nodes, seat: &mut NodeSeat)
     requires seat { seat.old.table_id ≡ nodes.now.board.shared.table_id }
     requires at { IsTally seat.old.me }

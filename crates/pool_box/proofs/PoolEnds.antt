@@ -4,7 +4,7 @@ use Rattle.std.specs.Prelude.{slice_index_or}
 use Rattle.std.proofs.lemmas.Bool.{cases_eq, eq-eqb, ne_eqb}
 use Rattle.queue_core.specs.declared.item.Item.{Item}
 use Rattle.node_table.specs.Seats.{items_in}
-use Rattle.node_table.proofs.Sends.{items_other, items_own}
+use Rattle.node_table.proofs.SenderSteps.{items_other, items_own}
 use Rattle.pool_box.specs.Pools.{put_at}
 
 -- a function has another value at one place, and the old ones elsewhere

@@ -5,7 +5,8 @@ use Rattle.queue_core.specs.declared.item.Item.TheVariants.{End, Post}
 use Rattle.queue_core.specs.Items.{IsInRange}
 use Rattle.queue_core.specs.Items.{IsFirstOf}
 
--- a sender: its pool, how many mailboxes that has, its number, how many of its first posts are never refused, how many it has left and how many it has sent over all mailboxes, in which it has ended, and what it has sent in each, in order
+-- a sender: its pool, how many mailboxes that has, its number, how many of its first posts are never refused, how many
+-- it has left and how many it has sent over all mailboxes, in which it has ended, and what it has sent in each, in order
 pub record SenderView (Name : Type 0) : Type 0 where
   pub pool : Name
   pub mailboxes : ℕ
@@ -43,7 +44,16 @@ put_at place value f at = cond (at == place) value (f at)
 module _ {Name : Type 0} where
   -- a sender, a receiver and the tally of a pool that was just opened
   abbrev pub opened_sender : Name → (mailboxes number nodes most : ℕ) → SenderView Name
-  opened_sender pool mailboxes number nodes most = record { pool = pool; mailboxes = mailboxes; number = number; nodes = nodes; left = most; posted = 0; is_ended = λ mailbox. false; sent = λ mailbox. [] }
+  opened_sender pool mailboxes number nodes most = record {
+    pool = pool;
+    mailboxes = mailboxes;
+    number = number;
+    nodes = nodes;
+    left = most;
+    posted = 0;
+    is_ended = λ mailbox. false;
+    sent = λ mailbox. [];
+  }
 
   abbrev pub opened_receiver : Name → (mailbox senders : ℕ) → ReceiverView Name
   opened_receiver pool mailbox senders = record { pool = pool; mailbox = mailbox; senders = senders; got = λ number. [] }

@@ -1,7 +1,8 @@
 //! What every pool does, whatever it is made of.
 ghost use Rattle.std.specs.Prelude.{unsigned_abs, ◌≡◌, ◌<◌, ◌≤◌, ℕ, false, HoldsAt, IfOk, vec_items, vec_len};
 ghost use Rattle.queue_core.specs.Matches.{MatchPosted, MatchTook};
-ghost use Rattle.pool_box.specs.Pools.{Begins, HasEndedEverywhere, HasGained, HeldView, ReceiverView, SenderView, TallyView, WasFull, opened_receiver, opened_sender, opened_tally, with_end, with_post, with_receiver, with_sender};
+ghost use Rattle.pool_box.specs.Pools.{Begins, HasEndedEverywhere, HasGained, HeldView, ReceiverView, SenderView, TallyView, WasFull};
+ghost use Rattle.pool_box.specs.Pools.{opened_receiver, opened_sender, opened_tally, with_end, with_post, with_receiver, with_sender};
 
 use queue_core::{Item, Posted, Took};
 use std::alloc::{AllocError, Global};

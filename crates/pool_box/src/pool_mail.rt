@@ -4,7 +4,7 @@ ghost use Rattle.queue_core.specs.Matches.{MatchPosted, MatchTook};
 ghost use Rattle.node_table.specs.Views.{sender_of as sender_seat};
 
 use crate::pool::Pool;
-use node_table::{NodeHeld, NodeReader, NodeSender, NodeTally, Shape};
+use node_table::{NodeHeld, NodeReceiver, NodeSender, NodeTally, Shape};
 use queue_core::{Item, Posted, Took};
 use std::alloc::{AllocError, Global};
 
@@ -23,7 +23,7 @@ pub struct PoolSender {
 }
 
 /// The receiver of a mailbox of a `PoolMail`.
-pub type PoolReceiver = NodeReader;
+pub type PoolReceiver = NodeReceiver;
 
 /// An item that was taken from a `PoolMail`.
 pub type PoolHeld = NodeHeld;

@@ -1,7 +1,7 @@
 -- StoreLink in a pool: the link of its mailbox. The node that is written is in no other mailbox.
 use Rattle.std.proofs.Common.{◌≡◌, ◌∙◌, ◌≢◌, ◌<◌, ◌+◌, ◌*◌, ◌%◌, ◌++◌, ◌∷◌, [], ℕ, true, false, List, length, not, ap, sym, refl, subst, inl, inr, arith, get_or-set_other, get_or-set_same}
 use Rattle.std.specs.Prelude.{◌==◌, ◌&&◌, ◌||◌, slice_index_or}
-use Rattle.std.proofs.lemmas.Bool.{and_from, and_right, cases_Bool, cases_eq, cases_lt, false≢true, not_from_false, not_from_true, or_right}
+use Rattle.std.proofs.lemmas.Bool.{and_from, and_right, cases_Bool, cases_eq, false≢true, not_from_false, not_from_true, or_right}
 use Rattle.std.proofs.lemmas.Nat.{mul-add-lt}
 use Rattle.queue_core.specs.declared.entry.Entry.{Entry}
 use Rattle.queue_core.specs.declared.entry.Entry.TheVariants.{Of, Stub}
@@ -29,6 +29,7 @@ use Rattle.queue_core.proofs.BoxFrame.{box_stays}
 use Rattle.queue_core.proofs.BoxLink.{all_exchanged as box_all_exchanged, before_is as box_before_is, before_stands as box_before_stands, flies_else as box_flies_else, flies_own as box_flies_own, full as box_full, link_box as box_link_box, linked as box_linked, may as box_may, owed as box_owed}
 use Rattle.queue_core.proofs.CountLemmas.{count_one_more, count_same}
 use Rattle.queue_core.proofs.EventsKeep.{holds_after}
+use Rattle.queue_core.proofs.Generations.{same_block}
 use Rattle.queue_core.proofs.MailboxHolds.{Holds}
 use Rattle.queue_core.proofs.PoolNodes.{before_stubs, no_others, nodes_apart, number_is}
 use Rattle.queue_core.proofs.PooledKept.{field_kept, sender_within}
@@ -38,17 +39,11 @@ use Rattle.queue_core.proofs.PoolPosts.{PostsHold, box_leads, box_other, box_own
 use Rattle.queue_core.proofs.StepLemmas.{link_is, mapped}
 
 -- each sender and mailbox has a place of its own
-end_places : (mailboxes d b s p : ℕ) → d < mailboxes → b < mailboxes → s * mailboxes + d ≡ p * mailboxes + b → (s ≡ p) × (d ≡ b)
-end_places mailboxes d b s p d_low b_low same = elim (cases_lt s p) [
-  | inl below ↦ absurd (omega (arith, same, mul-add-lt s mailboxes d p below d_low))
-  | inr no_less ↦ elim (cases_lt p s) [
-    | inl above ↦ absurd (omega (arith, same, mul-add-lt p mailboxes b s above b_low))
-    | inr no_more ↦
-        let is : s ≡ p = omega (arith, no_less, no_more) in
-        let rows : s * mailboxes ≡ p * mailboxes = ap (λ (k : ℕ). k * mailboxes) is in
-        (is, omega (arith, same, rows))
-  ]
-]
+pub end_places : (mailboxes d b s p : ℕ) → d < mailboxes → b < mailboxes → s * mailboxes + d ≡ p * mailboxes + b → (s ≡ p) × (d ≡ b)
+end_places mailboxes d b s p d_low b_low same =
+    let is : s ≡ p = same_block mailboxes s p d b d_low b_low same in
+    let rows : s * mailboxes ≡ p * mailboxes = ap (λ (k : ℕ). k * mailboxes) is in
+    (is, omega (arith, same, rows))
 
 module _ (c : Pooled) (ok : IsPooled c) (events : List (ℕ × Event)) (q : Pool) (leads : PoolLeads c.ring events q) (shows : ShowsPool c q) (b p : ℕ) (low : b < length c.heads) (item : Item) (before : ℕ) (at : point_in c b p ≡ sends.Link item before) where
   abbrev m : Mailbox

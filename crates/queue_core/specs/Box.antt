@@ -1,4 +1,6 @@
--- How one mailbox of a table shows the abstract one, whatever else the table has: its links, the words of its items, its end marks and what its reader holds. It says nothing of how often a sender has posted, or how often a node was given back: these may be common to many mailboxes.
+-- How one mailbox of a table shows the abstract one, whatever else the table has: its links, the words of its items,
+-- its end marks and what its reader holds. It says nothing of how often a sender has posted, or how often a node was
+-- given back: these may be common to many mailboxes.
 use Rattle.std.specs.Prelude.{ℕ, ◌≡◌, ◌<◌, ◌≤◌, ◌↔◌, Bool, true, false, [], length, slice_index_or, ⊤}
 use Rattle.queue_core.specs.declared.entry.Entry.{Entry}
 use Rattle.queue_core.specs.declared.entry.Entry.TheVariants.{Of, Stub}

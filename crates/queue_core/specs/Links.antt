@@ -11,7 +11,9 @@ use Rattle.queue_core.specs.Mailbox.{Mailbox, is_among, item_at, left_entries}
 use Rattle.queue_core.specs.Chain.{IsChain, entry_at}
 use Rattle.queue_core.specs.StoredWords.{null}
 
--- What the links of one mailbox are: the node that each entry stands in, the word of the link of each node, the head, and where its senders and its reader are. A mailbox among others over the same nodes hands in other functions: a sender is at rest in all of them but that of its call.
+-- What the links of one mailbox are: the node that each entry stands in, the word of the link of each node, the head,
+-- and where its senders and its reader are. A mailbox among others over the same nodes hands in other functions: a
+-- sender is at rest in all of them but that of its call.
 pub record Links : Type 0 where
   pub node : Entry → ℕ
   pub next : ℕ → ℕ

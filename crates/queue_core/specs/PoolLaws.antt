@@ -53,7 +53,8 @@ ShowsAfterIn (Some event) ring b q n = MayIn ring q b event × ShowsPool n (afte
 
 -- Where a core shows a pool that events lead to, it shows after a step in a mailbox what the event of the step leads to from there.
 abbrev pub PoolStepShows : (b : ℕ) → Step → Type 0
-PoolStepShows b s = (events : List (ℕ × Event)) (q : Pool) (c n : Pooled) → b < length c.heads → IsPooled c → PoolLeads c.ring events q → ShowsPool c q → stepped_in c b s ≡ Some n → ShowsAfterIn (event_in c q b s) c.ring b q n
+PoolStepShows b s = (events : List (ℕ × Event)) (q : Pool) (c n : Pooled) → b < length c.heads → IsPooled c → PoolLeads c.ring events q → ShowsPool c q
+    → stepped_in c b s ≡ Some n → ShowsAfterIn (event_in c q b s) c.ring b q n
 
 -- A sender in no call, which has not ended in the mailbox, finds its next ring node free exactly where it may fill it. Then all that ever stood in it was given back, in whichever mailbox.
 abbrev pub PoolLoadTurnTells : Type 0
@@ -105,8 +106,10 @@ AllPoolRunsShow = (senders mailboxes ring most : ℕ) → 0 < senders → sender
     → (steps : List PoolStep) (c : Pooled) → Follows steps (opening_pooled senders mailboxes ring most) c
     → (q : Pool) × PoolLeads ring (pool_events_along steps (opening_pooled senders mailboxes ring most) opening_pool) q × ShowsPool c q × IsPooled c × ((b : ℕ) → IsReceivedInOrder ring (q.boxes b))
 
--- A mailbox alone is a pool of one. Whatever steps are made in it from the opening on: their events lead to it by the rule of a mailbox alone, the core shows it and is one of those that the laws speak of, and it is received in order.
+-- A mailbox alone is a pool of one. Whatever steps are made in it from the opening on: their events lead to it by the
+-- rule of a mailbox alone, the core shows it and is one of those that the laws speak of, and it is received in order.
 abbrev pub AllRunsShow : Type 0
 AllRunsShow = (senders ring : ℕ) → 0 < senders → senders ≤ MOST_SENDERS → 0 < ring → ring ≤ MOST_NODES
     → (steps : List Step) (c : Pooled) → Follows (map in_first steps) (opening_pooled senders 1 ring MOST_POSTS) c
-    → (q : Pool) × Leads ring (events_in 0 (pool_events_along (map in_first steps) (opening_pooled senders 1 ring MOST_POSTS) opening_pool)) (q.boxes 0) × ShowsPool c q × IsPooled c × IsReceivedInOrder ring (q.boxes 0)
+    → (q : Pool) × Leads ring (events_in 0 (pool_events_along (map in_first steps) (opening_pooled senders 1 ring MOST_POSTS) opening_pool)) (q.boxes 0)
+    × ShowsPool c q × IsPooled c × IsReceivedInOrder ring (q.boxes 0)

@@ -1,5 +1,7 @@
--- The table of steps of a pool's core: where each is due, in the mailbox that is named, and what it leaves. A step that is not due has no outcome, and a sender in a call in another mailbox makes none in this one.
-use Rattle.std.specs.Prelude.{ℕ, ℤ, unsigned_abs, ◌≡◌, ◌++◌, ◌∷◌, [], List, length, ◌==◌, ◌+◌, ◌-◌, ◌/◌, ◌&&◌, ◌^◌, ◌%◌, Bool, true, false, not, nat_lt, nat_le, Option, None, Some, option_map, if◌then◌else◌}
+-- The table of steps of a pool's core: where each is due, in the mailbox that is named, and what it leaves. A step that
+-- is not due has no outcome, and a sender in a call in another mailbox makes none in this one.
+use Rattle.std.specs.Prelude.{ℕ, ℤ, unsigned_abs, ◌≡◌, ◌++◌, ◌∷◌, [], List, length, ◌==◌, ◌+◌, ◌-◌, ◌/◌, ◌&&◌, ◌^◌, ◌%◌, Bool}
+use Rattle.std.specs.Prelude.{true, false, not, nat_lt, nat_le, Option, None, Some, option_map, if◌then◌else◌}
 use Rattle.queue_core.specs.declared.TheConstants.{MOST_AMOUNT, MOST_POSTS}
 use Rattle.queue_core.specs.declared.item.Item.{Item}
 use Rattle.queue_core.specs.declared.item.Item.TheVariants.{Post, End}
@@ -16,7 +18,8 @@ use Rattle.queue_core.specs.declared.step.Step.TheVariants as step
 use Rattle.queue_core.specs.declared.step.PoolStep.{PoolStep}
 use Rattle.queue_core.specs.Items.{is_end}
 use Rattle.queue_core.specs.StoredWords.{amount_word, line_word, link_to, null}
-use Rattle.queue_core.specs.Pooled.{Pooled, has_ended_in, head_in, is_held_in, node_at, node_of, point_in, reader_in, sender_at, stub_in, with_end, with_head, with_holder, with_node, with_point, with_reader, with_sender}
+use Rattle.queue_core.specs.Pooled.{Pooled, has_ended_in, head_in, is_held_in, node_at, node_of, point_in, reader_in, sender_at, stub_in}
+use Rattle.queue_core.specs.Pooled.{with_end, with_head, with_holder, with_node, with_point, with_reader, with_sender}
 
 -- ---- the steps of a sender
 

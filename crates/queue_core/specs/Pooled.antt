@@ -1,5 +1,8 @@
--- The core of a pool: the words of several mailboxes, and the program points of their senders and readers, after Vyukov's intrusive queue of many producers and one consumer. They have one table of nodes, with a head, a stub and a reader for each mailbox.
-use Rattle.std.specs.Prelude.{ℕ, unsigned_abs, ◌≡◌, ◌<◌, ◌≤◌, ◌==◌, ◌+◌, ◌*◌, ◌%◌, Bool, false, true, List, All, Option, length, map, None, Some, replicate, slice_index_or, slice_set, ⊤, if◌then◌else◌}
+-- The core of a pool: the words of several mailboxes, and the program points of their senders and readers, after
+-- Vyukov's intrusive queue of many producers and one consumer. They have one table of nodes, with a head, a stub and a
+-- reader for each mailbox.
+use Rattle.std.specs.Prelude.{ℕ, unsigned_abs, ◌≡◌, ◌<◌, ◌≤◌, ◌==◌, ◌+◌, ◌*◌, ◌%◌, Bool, false, true, List, All, Option}
+use Rattle.std.specs.Prelude.{length, map, None, Some, replicate, slice_index_or, slice_set, ⊤, if◌then◌else◌}
 use Rattle.std.specs.List.{range_with_len}
 use Rattle.queue_core.specs.declared.TheConstants.{MOST_AMOUNT, MOST_MAILBOXES, MOST_NODES, MOST_POOL_POSTS, MOST_POSTS, MOST_SENDERS}
 use Rattle.queue_core.specs.declared.item.Item.{Item}

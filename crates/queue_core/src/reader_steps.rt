@@ -5,7 +5,9 @@ ghost use Rattle.queue_core.specs.declared.step.Stepped.TheVariants.{Moved, NotN
 ghost use Rattle.queue_core.specs.Pooled.{IsPooled, reader_in};
 ghost use Rattle.queue_core.specs.declared.item.Took.TheVariants.{Busy};
 ghost use Rattle.queue_core.specs.declared.reader.ReaderPoint.TheVariants.{NodeHead, Second, StubHead};
-ghost use Rattle.queue_core.specs.PoolSteps.{answers, give_back, goes_to, has_next as next_is, is_at_stub as at_stub, is_last as at_last, load_head, load_next, may_use as may_be_used, passes, stub_link_at, stub_null_at, stub_swap_at, takes};
+ghost use Rattle.queue_core.specs.PoolSteps.{answers, give_back, goes_to, has_next as next_is, is_at_stub as at_stub};
+ghost use Rattle.queue_core.specs.PoolSteps.{is_last as at_last, load_head, load_next, may_use as may_be_used, passes};
+ghost use Rattle.queue_core.specs.PoolSteps.{stub_link_at, stub_null_at, stub_swap_at, takes};
 
 use crate::item::Took;
 use crate::reader::{Reader, ReaderPoint};

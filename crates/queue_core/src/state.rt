@@ -2,7 +2,9 @@
 
 ghost use Rattle.std.specs.Prelude.{◌≡◌, ◌+◌, ◌*◌, ◌<◌, ◌≤◌, IfOk, false, length};
 ghost use Rattle.queue_core.specs.declared.TheConstants.{MOST_MAILBOXES, MOST_NODES, MOST_SENDERS};
-ghost use Rattle.queue_core.specs.Pooled.{IsPooled, first_node, has_ended_in, head_in, holder_of, is_held_in, node_at, node_of as node_for, nodes_of_each, opening_pooled, point_in as point_seen, reader_in, sender_at, stub_in, with_end, with_head, with_holder, with_node, with_point, with_reader, with_sender};
+ghost use Rattle.queue_core.specs.Pooled.{IsPooled, first_node, has_ended_in, head_in, holder_of, is_held_in, node_at, node_of as node_for};
+ghost use Rattle.queue_core.specs.Pooled.{nodes_of_each, opening_pooled, point_in as point_seen, reader_in, sender_at, stub_in, with_end};
+ghost use Rattle.queue_core.specs.Pooled.{with_head, with_holder, with_node, with_point, with_reader, with_sender};
 ghost use Rattle.queue_core.specs.PoolSteps.{answers, goes_to};
 
 use crate::item::{Item, Took};

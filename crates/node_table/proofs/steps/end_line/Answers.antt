@@ -1,6 +1,6 @@
 use Rattle.std.proofs.Common.{◌∙◌}
 use Rattle.node_table.specs.Tells.{in_slot}
-use Rattle.node_table.proofs.SendCalls.{ends_line, slot_first}
+use Rattle.node_table.proofs.SenderCalls.{ends_line, slot_first}
 use Rattle.node_table.proofs.steps.end_line.Goals as goal
 
 pub exchange-requires : goal.exchange-requires

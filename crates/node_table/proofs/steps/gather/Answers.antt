@@ -9,6 +9,6 @@ pub join_seat-requires : goal.join_seat-requires
 join_seat-requires c =
     let nodes = c.args.nodes.now in
     let tally = c.args.tally.now in
-    let other = c.args.reader in
+    let other = c.args.receiver in
     let at = c.requires.at in
-    (c.requires.seat.0, c.requires.seat.1, ap (λ (x : Me Posting Known). x.1) at.reader, omega (arith, nodes.table.wide), gathers_in nodes.board.shared.key tally.id tally.me other.id other.me at)
+    (c.requires.seat.0, c.requires.seat.1, ap (λ (x : Me Posting Known). x.1) at.receiver, omega (arith, nodes.table.wide), gathers_in nodes.board.shared.key tally.id tally.me other.id other.me at)

@@ -1,5 +1,5 @@
 use Rattle.std.proofs.Common.{arith}
-use Rattle.node_table.proofs.ReadCalls.{adds_turn}
+use Rattle.node_table.proofs.ReceiverCalls.{adds_turn}
 use Rattle.node_table.proofs.steps.give_back.Goals as goal
 
 pub fetch_add-requires : goal.fetch_add-requires

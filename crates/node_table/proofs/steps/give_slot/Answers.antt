@@ -1,4 +1,4 @@
-use Rattle.node_table.proofs.SendCalls.{gives_slot}
+use Rattle.node_table.proofs.SenderCalls.{gives_slot}
 use Rattle.node_table.proofs.steps.give_slot.Goals as goal
 
 pub load-requires : goal.load-requires

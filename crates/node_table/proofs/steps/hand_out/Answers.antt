@@ -5,5 +5,5 @@ use Rattle.node_table.proofs.steps.hand_out.Goals as goal
 pub split_seat-requires : goal.split_seat-requires
 split_seat-requires c =
     let nodes = c.args.nodes.now in
-    let reader = c.args.reader.now in
-    (c.requires.seat, omega (arith, nodes.table.wide), hands nodes.board.shared.key reader.id reader.me c.requires.at)
+    let receiver = c.args.receiver.now in
+    (c.requires.seat, omega (arith, nodes.table.wide), hands nodes.board.shared.key receiver.id receiver.me c.requires.at)

@@ -1,5 +1,5 @@
 use Rattle.std.proofs.Common.{arith}
-use Rattle.node_table.proofs.ReadCalls.{loads_head}
+use Rattle.node_table.proofs.ReceiverCalls.{loads_head}
 use Rattle.node_table.proofs.steps.load_head.Goals as goal
 
 pub load-requires : goal.load-requires

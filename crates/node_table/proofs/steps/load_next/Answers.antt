@@ -1,5 +1,5 @@
 use Rattle.std.proofs.Common.{arith}
-use Rattle.node_table.proofs.ReadCalls.{loads_next}
+use Rattle.node_table.proofs.ReceiverCalls.{loads_next}
 use Rattle.node_table.proofs.steps.load_next.Goals as goal
 
 pub load-requires : goal.load-requires

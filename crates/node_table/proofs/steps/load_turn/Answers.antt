@@ -1,7 +1,7 @@
 use Rattle.std.proofs.Common.{◌≡◌, ◌∙◌, w64, to_z, of_z}
 use Rattle.std.proofs.lemmas.Int.{to_z-of_z}
 use Rattle.node_table.specs.Tells.{in_slot}
-use Rattle.node_table.proofs.SendCalls.{loads_turn, slot_first}
+use Rattle.node_table.proofs.SenderCalls.{loads_turn, slot_first}
 use Rattle.node_table.proofs.steps.load_turn.Goals as goal
 
 pub exchange-requires : goal.exchange-requires

@@ -1,4 +1,4 @@
-use Rattle.node_table.proofs.SendCalls.{stores_amount}
+use Rattle.node_table.proofs.SenderCalls.{stores_amount}
 use Rattle.node_table.proofs.steps.store_amount.Goals as goal
 
 pub store-requires : goal.store-requires

@@ -1,5 +1,5 @@
 use Rattle.std.proofs.Common.{◌+◌}
-use Rattle.node_table.proofs.SendCalls.{stores_line}
+use Rattle.node_table.proofs.SenderCalls.{stores_line}
 use Rattle.node_table.proofs.steps.store_line.Goals as goal
 
 pub store-requires : goal.store-requires

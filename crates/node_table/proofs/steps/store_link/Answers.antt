@@ -1,4 +1,4 @@
-use Rattle.node_table.proofs.SendCalls.{stores_link}
+use Rattle.node_table.proofs.SenderCalls.{stores_link}
 use Rattle.node_table.proofs.steps.store_link.Goals as goal
 
 pub store-requires : goal.store-requires

@@ -1,4 +1,4 @@
-use Rattle.node_table.proofs.SendCalls.{stores_null}
+use Rattle.node_table.proofs.SenderCalls.{stores_null}
 use Rattle.node_table.proofs.steps.store_null.Goals as goal
 
 pub store-requires : goal.store-requires

@@ -1,5 +1,5 @@
 use Rattle.std.proofs.Common.{arith}
-use Rattle.node_table.proofs.ReadCalls.{links_stub}
+use Rattle.node_table.proofs.ReceiverCalls.{links_stub}
 use Rattle.node_table.proofs.steps.stub_link.Goals as goal
 
 pub store-requires : goal.store-requires

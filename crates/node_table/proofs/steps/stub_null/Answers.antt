@@ -1,5 +1,5 @@
 use Rattle.std.proofs.Common.{arith}
-use Rattle.node_table.proofs.ReadCalls.{nulls_stub}
+use Rattle.node_table.proofs.ReceiverCalls.{nulls_stub}
 use Rattle.node_table.proofs.steps.stub_null.Goals as goal
 
 pub store-requires : goal.store-requires

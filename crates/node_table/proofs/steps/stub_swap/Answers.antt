@@ -1,5 +1,5 @@
 use Rattle.std.proofs.Common.{arith}
-use Rattle.node_table.proofs.ReadCalls.{swaps_stub}
+use Rattle.node_table.proofs.ReceiverCalls.{swaps_stub}
 use Rattle.node_table.proofs.steps.stub_swap.Goals as goal
 
 pub swap-requires : goal.swap-requires

@@ -1,4 +1,4 @@
-use Rattle.node_table.proofs.SendCalls.{swaps_head}
+use Rattle.node_table.proofs.SenderCalls.{swaps_head}
 use Rattle.node_table.proofs.steps.swap_head.Goals as goal
 
 pub swap-requires : goal.swap-requires

@@ -8,7 +8,7 @@ use Rattle.node_table.proofs.steps.take_back.Goals as goal
 pub join_seat-requires : goal.join_seat-requires
 join_seat-requires c =
     let nodes = c.args.nodes.now in
-    let reader = c.args.reader.now in
+    let receiver = c.args.receiver.now in
     let other = c.args.held in
     let at = c.requires.at in
-    (c.requires.seat.0, c.requires.seat.1, ap (λ (x : Me Posting Known). x.1) at.held, omega (arith, nodes.table.wide), gets_back nodes.board.shared.key reader.id reader.me other.id other.me at)
+    (c.requires.seat.0, c.requires.seat.1, ap (λ (x : Me Posting Known). x.1) at.held, omega (arith, nodes.table.wide), gets_back nodes.board.shared.key receiver.id receiver.me other.id other.me at)

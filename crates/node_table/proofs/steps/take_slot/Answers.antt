@@ -1,4 +1,4 @@
-use Rattle.node_table.proofs.SendCalls.{takes_slot}
+use Rattle.node_table.proofs.SenderCalls.{takes_slot}
 use Rattle.node_table.proofs.steps.take_slot.Goals as goal
 
 pub load-requires : goal.load-requires

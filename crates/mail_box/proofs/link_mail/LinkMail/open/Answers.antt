@@ -8,7 +8,7 @@ use Rattle.node_table.specs.declared.seats.SenderSeat.{SenderSeat}
 use Rattle.node_table.specs.declared.seats.Shape.{Shape}
 use Rattle.node_table.specs.Seats.{items_in}
 use Rattle.node_table.specs.Tells.{new_sender}
-use Rattle.node_table.specs.Views.{Name, sender_of as sender_seat, table_of_reader, table_of_sender, table_of_tally}
+use Rattle.node_table.specs.Views.{Name, sender_of as sender_seat, table_of_receiver, table_of_sender, table_of_tally}
 use Rattle.node_table.proofs.SeatLists.{seats_more}
 use Rattle.mail_box.specs.declared.link_mail.LinkSender.{LinkSender}
 use Rattle.mail_box.specs.Mails.{opened_sender}
@@ -28,7 +28,7 @@ invariant_of-push c =
     let t = YieldsList-turn (YieldsList-from_vec {s = c.into_iter-sender-iterator.result} c.in_ok-opened.opened.items gives.0 (gives.1 ∙ long)) c.loop-sender.yielded c.loop-sender.sender-iterator c.loop-sender.yielded_by c.next.result c.next.new.self c.in-Some.sender c.in-Some.is c.next.ensures.steps in
     let number : ℕ = length c.loop-sender.yielded in
     let new : sender_seat c.in-Some.sender ≡ new_sender shape number =
-    subst (λ (s : NodeSender). sender_seat s ≡ new_sender shape number) (sym t.1) (c.in_ok-opened.ensures.each_sender number (omega (arith, t.0, long, c.in_ok-opened.ensures.senders)) c.in-Some.sender).1 in
+    subst (λ (s : NodeSender). sender_seat s ≡ new_sender shape number) (sym t.1) (c.in_ok-opened.ensures.senders number (omega (arith, t.0, long, c.in_ok-opened.ensures.senders_count)) c.in-Some.sender).1 in
     let count : (sender_seat c.in-Some.sender).caller.count ≡ 0 = ap (λ (v : SenderSeat). v.caller.count) new in record {
       one = ap (λ (v : SenderSeat). v.shape.mailboxes) new;
       few = omega (arith, count, c.requires.most);
@@ -44,7 +44,7 @@ loop-sender-preserved c =
     let t = YieldsList-turn (YieldsList-from_vec {s = c.into_iter-sender-iterator.result} c.in_ok-opened.opened.items gives.0 (gives.1 ∙ long)) c.loop-sender.yielded c.loop-sender.sender-iterator c.loop-sender.yielded_by c.next.result c.next.new.self c.in-Some.sender c.in-Some.is c.next.ensures.steps in
     let number : ℕ = length c.loop-sender.yielded in
     let its = subst (λ (s : NodeSender). (table_of_sender s ≡ table_of_tally c.in_ok-opened.tally) × (sender_seat s ≡ new_sender shape number)) (sym t.1)
-    (c.in_ok-opened.ensures.each_sender number (omega (arith, t.0, long, c.in_ok-opened.ensures.senders)) c.in-Some.sender) in
+    (c.in_ok-opened.ensures.senders number (omega (arith, t.0, long, c.in_ok-opened.ensures.senders_count)) c.in-Some.sender) in
     let more : length (c.loop-sender.yielded ++ c.in-Some.sender ∷ []) ≡ number + 1 = length_push c.loop-sender.yielded c.in-Some.sender in
     let was = c.loop-sender.invariant in record {
       count = search rules;
@@ -57,6 +57,6 @@ returns-clause-senders c =
     let gives = c.into_iter-sender-iterator.ensures.into_iter_gives in
     let long : vec_len c.in_ok-opened.opened ≡ length c.in_ok-opened.opened.items = search rules in
     let t = YieldsList-end (YieldsList-from_vec {s = c.into_iter-sender-iterator.result} c.in_ok-opened.opened.items gives.0 (gives.1 ∙ long)) c.loop-sender.yielded c.loop-sender.sender-iterator c.loop-sender.yielded_by c.next.result c.next.new.self c.in-None.is c.next.ensures.steps in
-    let one : table_of_reader c.swap_remove-reader.result ≡ table_of_tally c.in_ok-opened.tally =
-    ap table_of_reader c.swap_remove-reader.ensures.value ∙ (c.in_ok-opened.ensures.each_reader 0 (omega arith) c.swap_remove-reader.result).0 in
-    λ i low d. c.loop-sender.invariant.opened i (omega (arith, low, t.1, long, c.in_ok-opened.ensures.senders)) d ∙ ap (λ (n : Name). opened_sender n i c.args.nodes c.args.most) (sym one)
+    let one : table_of_receiver c.swap_remove-receiver.result ≡ table_of_tally c.in_ok-opened.tally =
+    ap table_of_receiver c.swap_remove-receiver.ensures.value ∙ (c.in_ok-opened.ensures.receivers 0 (omega arith) c.swap_remove-receiver.result).0 in
+    λ i low d. c.loop-sender.invariant.opened i (omega (arith, low, t.1, long, c.in_ok-opened.ensures.senders_count)) d ∙ ap (λ (n : Name). opened_sender n i c.args.nodes c.args.most) (sym one)

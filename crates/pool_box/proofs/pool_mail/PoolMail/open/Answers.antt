@@ -26,7 +26,7 @@ invariant_of-push c =
     let t = YieldsList-turn (YieldsList-from_vec {s = c.into_iter-sender-iterator.result} c.in_ok-opened.opened.items gives.0 (gives.1 ∙ long)) c.loop-sender.yielded c.loop-sender.sender-iterator c.loop-sender.yielded_by c.next.result c.next.new.self c.in-Some.sender c.in-Some.is c.next.ensures.steps in
     let number : ℕ = length c.loop-sender.yielded in
     let new : sender_seat c.in-Some.sender ≡ new_sender shape number =
-    subst (λ (s : NodeSender). sender_seat s ≡ new_sender shape number) (sym t.1) (c.in_ok-opened.ensures.each_sender number (omega (arith, t.0, long, c.in_ok-opened.ensures.senders)) c.in-Some.sender).1 in
+    subst (λ (s : NodeSender). sender_seat s ≡ new_sender shape number) (sym t.1) (c.in_ok-opened.ensures.senders number (omega (arith, t.0, long, c.in_ok-opened.ensures.senders_count)) c.in-Some.sender).1 in
     let count : (sender_seat c.in-Some.sender).caller.count ≡ 0 = ap (λ (v : SenderSeat). v.caller.count) new in record {
       few = omega (arith, count, c.requires.most);
       flags = rw new (search rules);
@@ -40,7 +40,7 @@ loop-sender-preserved c =
     let t = YieldsList-turn (YieldsList-from_vec {s = c.into_iter-sender-iterator.result} c.in_ok-opened.opened.items gives.0 (gives.1 ∙ long)) c.loop-sender.yielded c.loop-sender.sender-iterator c.loop-sender.yielded_by c.next.result c.next.new.self c.in-Some.sender c.in-Some.is c.next.ensures.steps in
     let number : ℕ = length c.loop-sender.yielded in
     let its = subst (λ (s : NodeSender). (table_of_sender s ≡ table_of_tally c.in_ok-opened.tally) × (sender_seat s ≡ new_sender shape number)) (sym t.1)
-    (c.in_ok-opened.ensures.each_sender number (omega (arith, t.0, long, c.in_ok-opened.ensures.senders)) c.in-Some.sender) in
+    (c.in_ok-opened.ensures.senders number (omega (arith, t.0, long, c.in_ok-opened.ensures.senders_count)) c.in-Some.sender) in
     let more : length (c.loop-sender.yielded ++ c.in-Some.sender ∷ []) ≡ number + 1 = length_push c.loop-sender.yielded c.in-Some.sender in
     let was = c.loop-sender.invariant in record {
       count = search rules;
@@ -53,11 +53,11 @@ returns-clause-count c =
     let gives = c.into_iter-sender-iterator.ensures.into_iter_gives in
     let long : vec_len c.in_ok-opened.opened ≡ length c.in_ok-opened.opened.items = search rules in
     let t = YieldsList-end (YieldsList-from_vec {s = c.into_iter-sender-iterator.result} c.in_ok-opened.opened.items gives.0 (gives.1 ∙ long)) c.loop-sender.yielded c.loop-sender.sender-iterator c.loop-sender.yielded_by c.next.result c.next.new.self c.in-None.is c.next.ensures.steps in
-    (c.loop-sender.invariant.count ∙ (t.1 ∙ (sym long ∙ c.in_ok-opened.ensures.senders)), c.in_ok-opened.ensures.readers)
+    (c.loop-sender.invariant.count ∙ (t.1 ∙ (sym long ∙ c.in_ok-opened.ensures.senders_count)), c.in_ok-opened.ensures.receivers_count)
 
 pub returns-clause-senders : goal.returns-clause-senders
 returns-clause-senders c =
     let gives = c.into_iter-sender-iterator.ensures.into_iter_gives in
     let long : vec_len c.in_ok-opened.opened ≡ length c.in_ok-opened.opened.items = search rules in
     let t = YieldsList-end (YieldsList-from_vec {s = c.into_iter-sender-iterator.result} c.in_ok-opened.opened.items gives.0 (gives.1 ∙ long)) c.loop-sender.yielded c.loop-sender.sender-iterator c.loop-sender.yielded_by c.next.result c.next.new.self c.in-None.is c.next.ensures.steps in
-    λ i low. c.loop-sender.invariant.opened i (omega (arith, low, t.1, long, c.in_ok-opened.ensures.senders))
+    λ i low. c.loop-sender.invariant.opened i (omega (arith, low, t.1, long, c.in_ok-opened.ensures.senders_count))

@@ -15,9 +15,9 @@ use Rattle.node_table.specs.declared.seats.SenderSeat.{SenderSeat}
 use Rattle.node_table.specs.declared.seats.Shape.{Shape}
 use Rattle.node_table.specs.Layout.{IsTableOf, amount_word_of, first_of, head_word, line_word_of, next_word, nodes_in, slot_of, turn_word}
 use Rattle.node_table.specs.Rule.{KeepsNodes}
-use Rattle.node_table.specs.Asks.{IsEnding, IsPosting, IsResting, IsSending, IsSlotless, sender_in}
+use Rattle.node_table.specs.Asks.{IsEnding, IsPosting, IsResting, IsSending, IsDealtSender, sender_in}
 use Rattle.node_table.specs.Tells.{in_slot, node_of, posting, tells_give_slot, tells_load_turn, tells_store_amount, tells_store_line, tells_store_link, tells_store_null, tells_swap_head, tells_take_slot}
-use Rattle.node_table.proofs.Sends.{amount_stores, end_stores, head_swaps, line_stores, link_stores, null_stores, slot_gives, slot_takes, turn_loads}
+use Rattle.node_table.proofs.SenderSteps.{amount_stores, end_stores, head_swaps, line_stores, link_stores, null_stores, slot_gives, slot_takes, turn_loads}
 
 -- ---- a seat that has its slot
 
@@ -75,7 +75,7 @@ module _ (shape key : Shape) (words : ℕ) (table : IsTableOf shape key words) (
 
     -- ---- a sender begins, and is done: it loads the first word, which nobody writes
 
-    pub takes_slot : (number : ℕ) → IsSlotless shape number me → Loads me 0 tells_take_slot
+    pub takes_slot : (number : ℕ) → IsDealtSender shape number me → Loads me 0 tells_take_slot
     takes_slot number at = loads tells_take_slot (λ n. n) _ me 0 0 (sym at.0) refl (omega (arith, table.wide)) (slot_takes shape slots id shape number at.1)
 
     pub gives_slot : IsResting me → Loads me 0 tells_give_slot

@@ -43,19 +43,20 @@ use Rattle.queue_core.proofs.PoolTells.{give_back_tells}
 use Rattle.queue_core.proofs.StepLemmas.{chosen}
 use Rattle.node_table.specs.declared.seats.Holding.{Holding}
 use Rattle.node_table.specs.declared.seats.Known.{Known}
-use Rattle.node_table.specs.declared.seats.Known.TheVariants.{Reads}
+use Rattle.node_table.specs.declared.seats.Known.TheVariants.{Receives}
 use Rattle.node_table.specs.declared.seats.Posting.{Posting}
-use Rattle.node_table.specs.declared.seats.ReaderSeat.{ReaderSeat}
+use Rattle.node_table.specs.declared.seats.ReceiverSeat.{ReceiverSeat}
 use Rattle.node_table.specs.declared.seats.Shape.{Shape}
 use Rattle.node_table.specs.Layout.{next_word, nodes_in, stub_of}
 use Rattle.node_table.specs.Rule.{KeepsNodes}
 use Rattle.queue_core.specs.Items.{IsInRange}
-use Rattle.node_table.specs.Seats.{AreTakenIn, Owned, Has, IsAlone, IsHolding, IsReaderSeat}
+use Rattle.node_table.specs.Seats.{AreTakenIn, Owned, Has, IsAlone, IsHolding, IsReceiverSeat}
 use Rattle.node_table.specs.Seats.Owned.{Node, Part}
 use Rattle.node_table.specs.Tells.{HasLoadedNext, HasTakenNode, IsAwaitedAt, LoadsNext, past_node, past_stub, with_reader_at, without_next, without_next_at}
 use Rattle.node_table.proofs.Owned.{at_within}
-use Rattle.node_table.proofs.Holdings.{known_held, not_taken}
-use Rattle.node_table.proofs.Readers.{but_reader, ButReader, fits_on, gone_on, holds, later_held, later_own, low, moved, nodes_are, own, reader_else, reader_set, readers_low, same_node, seat_after, still_holding, stub_is}
+use Rattle.node_table.proofs.AtHandSteps.{known_held, not_taken}
+use Rattle.node_table.proofs.AfterEvent.{later_held, later_own}
+use Rattle.node_table.proofs.ReceiverFrame.{but_reader, ButReader, fits_on, gone_on, holds, low, moved, nodes_are, own, reader_else, reader_set, readers_low, same_node, seat_after, still_holding, stub_is}
 use Rattle.node_table.proofs.TakenIn.{begins_now, find_awaited, nothing_flies, tail_alone}
 use Rattle.node_table.proofs.Words.{look_words}
 
@@ -155,7 +156,7 @@ alone_next m stub r point =
 
 -- ---- the rule
 
-module _ (shape : Shape) (id : ℕ) (v : ReaderSeat) (s : State Posting Known) (kept : KeepsNodes shape s) (seen : get_elem? s.views id ≡ some (Reads v)) (at : LoadsNext v.reader.point) where
+module _ (shape : Shape) (id : ℕ) (v : ReceiverSeat) (s : State Posting Known) (kept : KeepsNodes shape s) (seen : get_elem? s.views id ≡ some (Receives v)) (at : LoadsNext v.reader.point) where
   abbrev c : Pooled
   c = kept.core
 
@@ -168,7 +169,7 @@ module _ (shape : Shape) (id : ℕ) (v : ReaderSeat) (s : State Posting Known) (
   abbrev m : Mailbox
   m = q.boxes b
 
-  abbrev mine : IsReaderSeat c q v
+  abbrev mine : IsReceiverSeat c q v
   mine = own shape s kept id v seen
 
   abbrev reader : Reader
@@ -192,9 +193,9 @@ module _ (shape : Shape) (id : ℕ) (v : ReaderSeat) (s : State Posting Known) (
   links : ShowLinks (links_in c q b) m
   links = (kept.mail.shows.boxes b there).links
 
-  -- the tail and the stub are those that the reader knows
+  -- the tail and the stub are those that the receiver knows
   tail_is : reader.tail ≡ v.reader.tail
-  tail_is = ap (λ (r : Reader). r.tail) mine.reader
+  tail_is = ap (λ (r : Reader). r.tail) mine.its_mailbox.reader
 
   -- what is found is the next of the tail
   found_is : found ≡ next
@@ -207,13 +208,13 @@ module _ (shape : Shape) (id : ℕ) (v : ReaderSeat) (s : State Posting Known) (
   small : found ≤ nodes_in v.shape
   small = omega (arith, found_is, next_within c kept.mail.pooled reader.tail, nodes_are shape s kept id v seen)
 
-  -- the reader is where the next is loaded
+  -- the receiver is where the next is loaded
   loads : LoadsNext reader.point
-  loads = subst LoadsNext (ap (λ (r : Reader). r.point) (sym mine.reader)) at
+  loads = subst LoadsNext (ap (λ (r : Reader). r.point) (sym mine.its_mailbox.reader)) at
 
   -- the rule where the seat knows more
-  abbrev KeepsThen : ReaderSeat → Type 0
-  KeepsThen w = KeepsNodes shape record { words = set s.words (next_word v.reader.tail) found; homes = s.homes; views = set s.views id (Reads w) }
+  abbrev KeepsThen : ReceiverSeat → Type 0
+  KeepsThen w = KeepsNodes shape record { words = set s.words (next_word v.reader.tail) found; homes = s.homes; views = set s.views id (Receives w) }
 
   -- ---- null is found
 
@@ -222,7 +223,7 @@ module _ (shape : Shape) (id : ℕ) (v : ReaderSeat) (s : State Posting Known) (
     none : has_next b c ≡ false
     none = ap not (eq-eqb next 0 (sym found_is ∙ zero))
 
-    abbrev without : ReaderSeat
+    abbrev without : ReceiverSeat
     without = with_reader_at (without_next (stub_of v.shape b) v.reader) v
 
     -- once all senders were taken in, the tail alone is left
@@ -241,8 +242,8 @@ module _ (shape : Shape) (id : ℕ) (v : ReaderSeat) (s : State Posting Known) (
           event_is = ap (λ t. if t then Some Pass else None) none;
           same = but_reader shape s kept id v seen None n.heads n.nodes n.holders n.readers refl (reader_else shape s kept id v seen r) refl refl;
           are_words = look_words shape c s.words kept.words n (next_word v.reader.tail) refl refl;
-          reader_is = reader_set shape s kept id v seen r ∙ (λ i. without_next (stub_here i) (mine.reader i));
-          passed_is = mine.passed;
+          reader_is = reader_set shape s kept id v seen r ∙ (λ i. without_next (stub_here i) (mine.its_mailbox.reader i));
+          passed_is = mine.its_mailbox.passed;
           given_is = refl;
           got_is = refl;
           held = λ p k held. held;
@@ -302,9 +303,9 @@ module _ (shape : Shape) (id : ℕ) (v : ReaderSeat) (s : State Posting Known) (
       second_due : stepped_in c b steps.LoadNext ≡ Some second
       second_due = stub_due c q b has is reader.point loads links.reader.at_tail
 
-      -- and the reader looks for a next once more
+      -- and the receiver looks for a next once more
       second_is : reader_in second b ≡ record v.reader { point = reads.Second; tail = found - 1 }
-      second_is = twice past ∙ ((λ i. record (on_is i) { point = reads.Second }) ∙ (λ i. record (mine.reader i) { point = reads.Second; tail = sym found_is i - 1 }))
+      second_is = twice past ∙ ((λ i. record (on_is i) { point = reads.Second }) ∙ (λ i. record (mine.its_mailbox.reader i) { point = reads.Second; tail = sym found_is i - 1 }))
 
       -- the rule is kept
       stub_kept : KeepsThen (past_stub (found - 1) v)
@@ -314,7 +315,7 @@ module _ (shape : Shape) (id : ℕ) (v : ReaderSeat) (s : State Posting Known) (
         same = but_reader shape s kept id v seen (Some Pass) second.heads second.nodes second.holders second.readers refl (twice_else past) refl refl;
         are_words = look_words shape c s.words kept.words second (next_word v.reader.tail) refl refl;
         reader_is = second_is;
-        passed_is = passed_then c.ring m its (links_in c q b) links Stub stub_first ∙ ap (λ xs. xs ++ Stub ∷ []) mine.passed;
+        passed_is = passed_then c.ring m its (links_in c q b) links Stub stub_first ∙ ap (λ xs. xs ++ Stub ∷ []) mine.its_mailbox.passed;
         given_is = refl;
         got_is = got_then c.ring m its (links_in c q b) links Stub stub_first ∙ append-nil (got m);
         held = held_then c.ring m its (links_in c q b) links Stub stub_first;
@@ -337,7 +338,7 @@ module _ (shape : Shape) (id : ℕ) (v : ReaderSeat) (s : State Posting Known) (
       abbrev held_now : Reader
       held_now = record (reader_in (passes b c) b) { point = reads.Rest; last = Some (took.Held reader.tail) }
 
-      -- what the reader has at hand then
+      -- what the receiver has at hand then
       abbrev h : Holding
       h = record { shape = v.shape; mailbox = b; node = v.reader.tail; sender = p; place = k; item = item_at m p k }
 
@@ -356,14 +357,14 @@ module _ (shape : Shape) (id : ℕ) (v : ReaderSeat) (s : State Posting Known) (
       held_is : IsHeld (after Pass m) p k
       held_is = held_first c.ring m its (links_in c q b) links p k first
 
-      -- all but the reader is as it was
+      -- all but the receiver is as it was
       same : ButReader c n q q' b
       same = but_reader shape s kept id v seen (Some Pass) n.heads n.nodes n.holders n.readers refl (twice_else held_now) refl refl
 
-      -- so the reader has it at hand
+      -- so the receiver has it at hand
       at_hand : IsHolding n q' h
       at_hand = record {
-        shape = fits_on c n q q' b same v.shape mine.shape;
+        shape = fits_on c n q q' b same v.shape mine.its_mailbox.shape;
         mailbox = there;
         held = subst (λ m. IsHeld m p k) (sym (later_own q b (Some Pass))) held_is;
         node = same_node c n q q' b same b p k ∙ node_is;
@@ -372,7 +373,7 @@ module _ (shape : Shape) (id : ℕ) (v : ReaderSeat) (s : State Posting Known) (
 
       -- and has passed it
       passed_is : passed_entries (after Pass m) ≡ v.passed ++ Of p k ∷ []
-      passed_is = passed_then c.ring m its (links_in c q b) links (Of p k) first ∙ ap (λ xs. xs ++ Of p k ∷ []) mine.passed
+      passed_is = passed_then c.ring m its (links_in c q b) links (Of p k) first ∙ ap (λ xs. xs ++ Of p k ∷ []) mine.its_mailbox.passed
 
       -- the node is one of the sender's
       block_is : v.reader.tail / (v.shape.ring + v.shape.mailboxes) ≡ p
@@ -381,15 +382,15 @@ module _ (shape : Shape) (id : ℕ) (v : ReaderSeat) (s : State Posting Known) (
           let place = place_of c.ring (q.posts p) b (item_at m p k) k in
           let under = place_low c ok q (posts_after c.ring ok.some_nodes kept.events q kept.mail.leads) (holds shape s kept id v seen) b there (q.posts p) (item_at m p k) k in
           ap (λ (n : ℕ). n / (v.shape.ring + v.shape.mailboxes)) (sym node_is)
-          ∙ ((λ i. node_in c q b (Of p k) / (sym mine.shape.ring i + sym mine.shape.mailboxes i)) ∙ div-mul-add p (c.ring + length c.heads) place under)
+          ∙ ((λ i. node_in c q b (Of p k) / (sym mine.its_mailbox.shape.ring i + sym mine.its_mailbox.shape.mailboxes i)) ∙ div-mul-add p (c.ring + length c.heads) place under)
 
       -- an entry that was held, in whichever mailbox, stands in another node
       node_else : (g : Holding) → IsHolding c q g → ¬ (v.reader.tail ≡ g.node)
       node_else g was same =
           give_back_tells kept.events q c g.mailbox g.sender g.place kept.mail.pooled kept.mail.leads kept.mail.shows was.mailbox was.held b there (Of p k) is_left (node_is ∙ (same ∙ sym was.node))
 
-      -- the reader has one node more, which nobody had
-      has_more : (thing : Owned) → Has (Reads (past_node (found - 1) h v)) thing → Has (Reads v) thing ⊎ ((a : ℕ) × (thing ≡ Node a) × ((g : Holding) → IsHolding c q g → ¬ (a ≡ g.node)))
+      -- the receiver has one node more, which nobody had
+      has_more : (thing : Owned) → Has (Receives (past_node (found - 1) h v)) thing → Has (Receives v) thing ⊎ ((a : ℕ) × (thing ≡ Node a) × ((g : Holding) → IsHolding c q g → ¬ (a ≡ g.node)))
       has_more (Part part) has = inl has
       has_more (Node a) has =
           let same : h ≡ has.0 = let both = has.1 in cc in
@@ -405,8 +406,8 @@ module _ (shape : Shape) (id : ℕ) (v : ReaderSeat) (s : State Posting Known) (
         seat = seat_after shape s kept id v seen (Some Pass) n same (record { point = reads.Rest; tail = found - 1; last = Some (took.Held v.reader.tail) }) (v.passed ++ Of p k ∷ []) v.given (v.got ++ (p, item_at m p k) ∷ []) (Some h) record {
           reader_is = twice held_now ∙ ((λ i. record (on_is i) { point = reads.Rest; last = Some (took.Held reader.tail) }) ∙ (λ i. record { point = reads.Rest; tail = sym found_is i - 1; last = Some (took.Held (tail_is i)) }));
           passed_is = passed_is;
-          given_is = mine.given;
-          got_is = got_then c.ring m its (links_in c q b) links (Of p k) first ∙ ap (λ xs. xs ++ (p, item_at m p k) ∷ []) mine.got;
+          given_is = mine.its_mailbox.given;
+          got_is = got_then c.ring m its (links_in c q b) links (Of p k) first ∙ ap (λ xs. xs ++ (p, item_at m p k) ∷ []) mine.its_mailbox.got;
           holding = λ g hand. let same : h ≡ g = cc in subst (λ (g : Holding). IsHolding n q' g × (g.mailbox ≡ b)) same (at_hand, refl);
           alone = λ all. tt;
         };
@@ -414,7 +415,7 @@ module _ (shape : Shape) (id : ℕ) (v : ReaderSeat) (s : State Posting Known) (
         new = has_more;
       }
 
-      -- and this is what the reader knows then
+      -- and this is what the receiver knows then
       taken : HasTakenNode (found - 1) v (past_node (found - 1) h v)
       taken =
           let ok = kept.mail.pooled in record {
@@ -424,17 +425,17 @@ module _ (shape : Shape) (id : ℕ) (v : ReaderSeat) (s : State Posting Known) (
             mailbox = refl;
             node = refl;
             block = block_is;
-            within = omega (arith, mine.shape.senders, in_table c ok q (posts_after c.ring ok.some_nodes kept.events q kept.mail.leads) (holds shape s kept id v seen) (no_others c q kept.mail.shows) b p k stands);
+            within = omega (arith, mine.its_mailbox.shape.senders, in_table c ok q (posts_after c.ring ok.some_nodes kept.events q kept.mail.leads) (holds shape s kept id v seen) (no_others c q kept.mail.shows) b p k stands);
             ranged = All-get_or IsInRange (m.items p) k End stands.0 (kept.mail.ranged b p);
-            fresh = not_taken m v.passed mine.passed p k (left_unpassed c.ring m its p k is_left);
-            kept = known_held (after Pass m) (v.passed ++ Of p k ∷ []) passed_is p k v.given mine.given held_is;
-            begins = begins_now shape _ node_kept id (past_node (found - 1) h v) (set_here s.views id (Reads (past_node (found - 1) h v)) (at_within s.views id (Reads v) seen));
+            fresh = not_taken m v.passed mine.its_mailbox.passed p k (left_unpassed c.ring m its p k is_left);
+            kept = known_held (after Pass m) (v.passed ++ Of p k ∷ []) passed_is p k v.given mine.its_mailbox.given held_is;
+            begins = begins_now shape _ node_kept id (past_node (found - 1) h v) (set_here s.views id (Receives (past_node (found - 1) h v)) (at_within s.views id (Receives v) seen));
           }
 
   -- ---- what it tells
 
   abbrev Result : Type 0
-  Result = (w : ReaderSeat) × KeepsThen w × HasLoadedNext found v w
+  Result = (w : ReceiverSeat) × KeepsThen w × HasLoadedNext found v w
 
   -- the three cases: null is found, a link at the stub, or one at a node
   at_none : found ≡ 0 → Result

@@ -1,4 +1,4 @@
--- What a reader has at hand: its words are its item's, and when it is given back the rule of a table of nodes is kept.
+-- What a receiver has at hand: its words are its item's, and when it is given back the rule of a table of nodes is kept.
 use Rattle.std.proofs.Common.{◌≡◌, ◌∙◌, ◌<◌, ◌++◌, ◌∷◌, ◌⊎◌, ◌+◌, ◌%◌, ◌^◌, ℕ, [], List, None, Some, true, false, length, not, get_or, set, ap, sym, refl, subst, inl, inr, arith}
 use Rattle.std.specs.Prelude.{if◌then◌else◌}
 use Rattle.std.proofs.lemmas.Bool.{cases_eq, false≢true}
@@ -34,19 +34,20 @@ use Rattle.queue_core.proofs.PoolPosts.{posts_after}
 use Rattle.queue_core.proofs.PoolTells.{held_tells}
 use Rattle.node_table.specs.declared.seats.Holding.{Holding}
 use Rattle.node_table.specs.declared.seats.Known.{Known}
-use Rattle.node_table.specs.declared.seats.Known.TheVariants.{Reads}
+use Rattle.node_table.specs.declared.seats.Known.TheVariants.{Receives}
 use Rattle.node_table.specs.declared.seats.Posting.{Posting}
-use Rattle.node_table.specs.declared.seats.ReaderSeat.{ReaderSeat}
+use Rattle.node_table.specs.declared.seats.ReceiverSeat.{ReceiverSeat}
 use Rattle.node_table.specs.declared.seats.Shape.{Shape}
 use Rattle.node_table.specs.Layout.{amount_word_of, line_word_of, turn_word}
 use Rattle.node_table.specs.Rule.{KeepsNodes}
-use Rattle.node_table.specs.Seats.{Owned, Has, IsAlone, IsHolding, IsReaderSeat, own_entries}
+use Rattle.node_table.specs.Seats.{Owned, Has, IsAlone, IsHolding, IsReceiverSeat, own_entries}
 use Rattle.node_table.specs.Seats.Owned.{Node, Part}
 use Rattle.node_table.specs.Tells.{IsHeldAt, after_give}
-use Rattle.node_table.proofs.Readers.{ButReader, but_reader, holds, later_other, later_own, low, moved, own, seat_after, still_holding}
+use Rattle.node_table.proofs.AfterEvent.{later_other, later_own}
+use Rattle.node_table.proofs.ReceiverFrame.{ButReader, but_reader, holds, low, moved, own, seat_after, still_holding}
 use Rattle.node_table.proofs.Words.{turn_words}
 
--- ---- an entry of a sender, by what the reader knows
+-- ---- an entry of a sender, by what the receiver knows
 
 -- it is among those of senders where it is among all
 own_among : (p k : ℕ) (xs : List Entry) → is_among (Of p k) (own_entries xs) ≡ is_among (Of p k) xs
@@ -72,9 +73,9 @@ module _ (m : Mailbox) (passed : List Entry) (passed_is : passed_entries m ≡ p
 pub held_stands : (ring : ℕ) (m : Mailbox) → Holds ring m → (p k : ℕ) → IsHeld m p k → IsStanding m (Of p k)
 held_stands ring m holds p k held = (item_within m p (holds.turns p) k (among_first (Of p k) m.passed m.order held.passed), held.kept)
 
--- ---- the reader's seat
+-- ---- the receiver's seat
 
-module _ (shape : Shape) (id : ℕ) (v : ReaderSeat) (s : State Posting Known) (kept : KeepsNodes shape s) (seen : get_elem? s.views id ≡ some (Reads v)) where
+module _ (shape : Shape) (id : ℕ) (v : ReceiverSeat) (s : State Posting Known) (kept : KeepsNodes shape s) (seen : get_elem? s.views id ≡ some (Receives v)) where
   abbrev c : Pooled
   c = kept.core
 
@@ -87,22 +88,22 @@ module _ (shape : Shape) (id : ℕ) (v : ReaderSeat) (s : State Posting Known) (
   abbrev m : Mailbox
   m = q.boxes b
 
-  abbrev mine : IsReaderSeat c q v
+  abbrev mine : IsReceiverSeat c q v
   mine = own shape s kept id v seen
 
   -- its mailbox is there
   there : b < length c.heads
   there = low shape s kept id v seen
 
-  -- a load changes neither a word nor what the reader knows
-  pub look_kept : (i : ℕ) → KeepsNodes shape record { words = set s.words i (get_or s.words i 0); homes = s.homes; views = set s.views id (Reads v) }
-  look_kept i = subst (λ (x : List ℕ × List Known). KeepsNodes shape record { words = x.0; homes = s.homes; views = x.1 }) (λ j. (sym (set-get_or s.words i 0) j, sym (set_again s.views id (Reads v) seen) j)) kept
+  -- a load changes neither a word nor what the receiver knows
+  pub look_kept : (i : ℕ) → KeepsNodes shape record { words = set s.words i (get_or s.words i 0); homes = s.homes; views = set s.views id (Receives v) }
+  look_kept i = subst (λ (x : List ℕ × List Known). KeepsNodes shape record { words = x.0; homes = s.homes; views = x.1 }) (λ j. (sym (set-get_or s.words i 0) j, sym (set_again s.views id (Receives v) seen) j)) kept
 
   module _ (h : Holding) (hand : v.at_hand ≡ Some h) where
     abbrev entry : Entry
     entry = Of h.sender h.place
 
-    -- it is held in the reader's mailbox
+    -- it is held in the receiver's mailbox
     held : IsHeld m h.sender h.place × (node_in c q b entry ≡ h.node) × (item_at m h.sender h.place ≡ h.item)
     held =
         let was = mine.at_hand h hand in
@@ -136,9 +137,9 @@ module _ (shape : Shape) (id : ℕ) (v : ReaderSeat) (s : State Posting Known) (
 
     -- ---- GiveBack
 
-    -- what is at hand is held, by what the reader knows
+    -- what is at hand is held, by what the receiver knows
     pub hand_held : (g : Holding) → v.at_hand ≡ Some g → IsHeldAt v g
-    hand_held g too = subst (IsHeldAt v) (hand_is g too) (known_held m v.passed mine.passed h.sender h.place v.given mine.given held.0)
+    hand_held g too = subst (IsHeldAt v) (hand_is g too) (known_held m v.passed mine.its_mailbox.passed h.sender h.place v.given mine.its_mailbox.given held.0)
 
     module _ (at : v.reader.point ≡ reads.Rest) where
       -- one more turn of its node
@@ -157,15 +158,15 @@ module _ (shape : Shape) (id : ℕ) (v : ReaderSeat) (s : State Posting Known) (
       abbrev word : ℕ
       word = (get_or s.words (turn_word h.node) 0 + 1) % 2 ^ 64
 
-      -- the reader holds the node
+      -- the receiver holds the node
       used : may_use reads.Rest b h.node c ≡ true
       used = ((kept.mail.shows.boxes b there).held h.node).1 (h.sender, h.place, held.0, held.1)
 
       -- and may give it back
       due : stepped_in c b (steps.GiveBack h.node) ≡ Some n
-      due = ap (λ b. if b then Some n else None) (ap (λ point. may_use point b h.node c) (ap (λ (r : Reader). r.point) mine.reader ∙ at) ∙ used)
+      due = ap (λ b. if b then Some n else None) (ap (λ point. may_use point b h.node c) (ap (λ (r : Reader). r.point) mine.its_mailbox.reader ∙ at) ∙ used)
 
-      -- what is given back is what the reader has at hand
+      -- what is given back is what the receiver has at hand
       event_is : event_in c q b (steps.GiveBack h.node) ≡ Some event
       event_is =
           let its = holds shape s kept id v seen b in
@@ -174,7 +175,7 @@ module _ (shape : Shape) (id : ℕ) (v : ReaderSeat) (s : State Posting Known) (
           (held_stands c.ring m its found.0 found.1 found.2) (held_stands c.ring m its h.sender h.place held.0) (found.3 ∙ sym held.1) in
           found.4 ∙ ap (λ e. gives_back (e ∷ [])) same
 
-      -- all but the reader is as it was
+      -- all but the receiver is as it was
       same : ButReader c n q q' b
       same = but_reader shape s kept id v seen (Some event) n.heads n.nodes n.holders n.readers refl (λ d other. refl) refl refl
 
@@ -197,22 +198,22 @@ module _ (shape : Shape) (id : ℕ) (v : ReaderSeat) (s : State Posting Known) (
       ])
 
       -- it has what it had, but for what was at hand
-      has_less : (thing : Owned) → Has (Reads (after_give (Some h) v)) thing → Has (Reads v) thing ⊎ ((a : ℕ) × (thing ≡ Node a) × ((g : Holding) → IsHolding c q g → ¬ (a ≡ g.node)))
+      has_less : (thing : Owned) → Has (Receives (after_give (Some h) v)) thing → Has (Receives v) thing ⊎ ((a : ℕ) × (thing ≡ Node a) × ((g : Holding) → IsHolding c q g → ¬ (a ≡ g.node)))
       has_less (Part part) has = inl has
       has_less (Node node) has = let none = has.1 in cc
 
       -- So the rule is kept.
-      pub give_kept : KeepsNodes shape record { words = set s.words (turn_word h.node) word; homes = s.homes; views = set s.views id (Reads (after_give (Some h) v)) }
+      pub give_kept : KeepsNodes shape record { words = set s.words (turn_word h.node) word; homes = s.homes; views = set s.views id (Receives (after_give (Some h) v)) }
       give_kept = moved shape s kept id v seen (steps.GiveBack h.node) (Some event) n _ (after_give (Some h) v) record {
         due = due;
         event_is = event_is;
         same = same;
         are_words = turn_words shape c s.words kept.words n h.node node_low turned refl refl word (ap (λ (k : ℕ). (k + 1) % 2 ^ 64) (kept.words.turn h.node node_low)) refl refl refl;
         seat = seat_after shape s kept id v seen (Some event) n same v.reader v.passed (v.given ++ entry ∷ []) v.got None record {
-          reader_is = mine.reader;
-          passed_is = mine.passed;
-          given_is = ap (λ xs. xs ++ entry ∷ []) mine.given;
-          got_is = mine.got;
+          reader_is = mine.its_mailbox.reader;
+          passed_is = mine.its_mailbox.passed;
+          given_is = ap (λ xs. xs ++ entry ∷ []) mine.its_mailbox.given;
+          got_is = mine.its_mailbox.got;
           holding = λ g none. cc;
           alone = λ all. subst (IsAlone (after event m)) (sym at) tt;
         };

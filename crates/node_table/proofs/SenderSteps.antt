@@ -6,7 +6,6 @@ use Rattle.std.proofs.lemmas.Bool.{cases_Bool, cases_eq, cases_lt, eq-eqb, false
 use Rattle.std.proofs.lemmas.Bool.Decides.{nat_tests}
 use Rattle.std.proofs.lemmas.List.{append-nil, get_or-replicate, get_or_past, length-replicate, length-set, map-append}
 use Rattle.std.proofs.lemmas.List.Elements.{All-push, filter-append}
-use Rattle.std.proofs.lemmas.Nat.{mul-add-lt}
 use mathlib.Core.Option.{none, some}
 use lib.ListN.{get_elem?}
 use Rattle.atomic_table.specs.Table.{State, gives, keeps, step, takes, Allows}
@@ -32,6 +31,7 @@ use Rattle.queue_core.specs.PoolSteps.{after_sent, amount_due, end_line, ends, i
 use Rattle.queue_core.specs.PoolLaws.{event_in}
 use Rattle.queue_core.proofs.PooledKept.{head_keeps, node_within, sender_keeps}
 use Rattle.queue_core.proofs.PoolFree.{all_sent, count_is, free_tells, not_ended}
+use Rattle.queue_core.proofs.PoolLink.{end_places}
 use Rattle.queue_core.proofs.PoolPosts.{box_other, box_own, each_box, fills as items_fill, posts_after, same_field}
 use Rattle.node_table.specs.declared.seats.Known.{Known}
 use Rattle.node_table.specs.declared.seats.Known.TheVariants.{Dealt, Sends}
@@ -44,7 +44,8 @@ use Rattle.queue_core.specs.Items.{IsInRange}
 use Rattle.node_table.specs.Seats.{IsDealtSeat, IsNewSender, IsSenderSeat, has_ended, items_in}
 use Rattle.node_table.specs.Tells.{after_amount_at, after_link_at, after_sending, after_turn, after_null_at, after_swap_at, at_point, filling, found_full, is_free_at, new_sender, node_of as seat_node, posting, tells_give_slot, tells_load_turn, tells_store_amount, tells_store_line, tells_store_link, tells_store_null, tells_swap_head, tells_take_slot}
 use Rattle.node_table.proofs.Owned.{at_within}
-use Rattle.node_table.proofs.Senders.{CoreButSender, IsHome, PoolButSender, box_exchanged, box_holds, box_linked, core_but, core_still, its_posts, its_within, later_in, moved, own, pool_but, pool_filled, pool_still, put_together, stood, told, went_on}
+use Rattle.node_table.proofs.AfterEvent.{later_in}
+use Rattle.node_table.proofs.SenderFrame.{CoreButSender, IsHome, PoolButSender, box_exchanged, box_holds, box_linked, core_but, core_still, its_posts, its_within, moved, own, pool_but, pool_filled, pool_still, put_together, stood, told, went_on}
 use Rattle.node_table.proofs.Words.{amount_words, head_words, line_words, look_words, next_words, stub_there}
 
 -- ---- what a sender has filled, with one item more
@@ -66,19 +67,6 @@ module _ (d b : ℕ) (item : Item) (filled : List (ℕ × Item)) where
   items_other there = items_more ∙ rw (ne_eqb b d (λ e. there (sym e))) (append-nil (items_in d filled))
 
 -- ---- where a sender ends
-
--- each sender and mailbox has a place of its own
-end_places : (mailboxes d b r p : ℕ) → d < mailboxes → b < mailboxes → r * mailboxes + d ≡ p * mailboxes + b → (r ≡ p) × (d ≡ b)
-end_places mailboxes d b r p d_low b_low same = elim (cases_lt r p) [
-  | inl below ↦ absurd (omega (arith, same, mul-add-lt r mailboxes d p below d_low))
-  | inr no_less ↦ elim (cases_lt p r) [
-    | inl above ↦ absurd (omega (arith, same, mul-add-lt p mailboxes b r above b_low))
-    | inr no_more ↦
-        let is : r ≡ p = omega (arith, no_less, no_more) in
-        let rows : r * mailboxes ≡ p * mailboxes = ap (λ (k : ℕ). k * mailboxes) is in
-        (is, omega (arith, same, rows))
-  ]
-]
 
 -- its flags once an item is sent
 abbrev flags_after : SenderSeat → Item → List Bool

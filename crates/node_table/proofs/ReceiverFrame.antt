@@ -1,7 +1,6 @@
--- What a step of the reader of a mailbox has to show, so that the rule of a table of nodes is kept.
-use Rattle.std.proofs.Common.{◌≡◌, ◌∙◌, ◌<◌, ◌+◌, ◌*◌, ◌++◌, ◌∷◌, ◌⊎◌, [], ℕ, All, List, Option, None, Some, suc, length, set, ap, sym, refl, subst, inl, inr, arith, get_or-set_other, get_or-set_same}
+-- What a step of the receiver of a mailbox has to show, so that the rule of a table of nodes is kept.
+use Rattle.std.proofs.Common.{◌≡◌, ◌∙◌, ◌<◌, ◌+◌, ◌*◌, ◌∷◌, ◌⊎◌, [], ℕ, All, List, Option, Some, suc, length, set, ap, sym, refl, subst, inl, inr, arith, get_or-set_other, get_or-set_same}
 use Rattle.std.specs.Prelude.{slice_index_or, true}
-use Rattle.std.proofs.lemmas.Bool.{cases_eq}
 use Rattle.std.proofs.lemmas.List.Elements.{All-cons, All-weaker}
 use mathlib.Core.Option.{Option as Slot, some}
 use lib.ListN.{get_elem?}
@@ -16,83 +15,35 @@ use Rattle.queue_core.specs.declared.sender.Caller.{Caller}
 use Rattle.queue_core.specs.declared.step.Step.{Step}
 use Rattle.queue_core.specs.declared.words.Node.{Node as Word}
 use Rattle.queue_core.specs.Mailbox.{IsHeld, Mailbox, got, passed_entries}
-use Rattle.queue_core.specs.Events.{Event, after}
-use Rattle.queue_core.specs.Pool.{Pool, PoolLeads, after_in}
-use Rattle.queue_core.specs.Pool.PoolLeads.{more}
+use Rattle.queue_core.specs.Events.{Event}
+use Rattle.queue_core.specs.Pool.{Pool, PoolLeads}
 use Rattle.queue_core.specs.Pooled.{Pooled, has_ended_in, new_reader, reader_in, sender_at, stub_in, with_reader}
-use Rattle.queue_core.specs.PoolShows.{ShowsPool, node_in, place_of}
+use Rattle.queue_core.specs.PoolShows.{node_in, place_of}
 use Rattle.queue_core.specs.PoolLaws.{ShowsAfterIn, event_in}
 use Rattle.queue_core.specs.PoolSteps.{stepped_in}
 use Rattle.queue_core.proofs.MailboxHolds.{Holds}
 use Rattle.queue_core.proofs.PoolKept.{holds_in}
-use Rattle.queue_core.proofs.PoolPosts.{box_other, box_own, same_field}
 use Rattle.queue_core.proofs.PoolRuns.{step_shows_in}
 use Rattle.queue_core.proofs.PoolStepsKeep.{keeps_step_in}
 use Rattle.node_table.specs.declared.seats.Holding.{Holding}
 use Rattle.node_table.specs.declared.seats.Known.{Known}
-use Rattle.node_table.specs.declared.seats.Known.TheVariants.{Dealt, Sends, Reads, Holds as holds_item, Tallies, Gone}
+use Rattle.node_table.specs.declared.seats.Known.TheVariants.{Dealt, Sends, Receives, Holds as holds_item, Tallies, Gone}
 use Rattle.node_table.specs.declared.seats.Posting.{Posting}
-use Rattle.node_table.specs.declared.seats.ReaderSeat.{ReaderSeat}
+use Rattle.node_table.specs.declared.seats.ReceiverSeat.{ReceiverSeat}
 use Rattle.node_table.specs.declared.seats.SenderSeat.{SenderSeat}
 use Rattle.node_table.specs.declared.seats.Shape.{Shape}
 use Rattle.node_table.specs.declared.seats.TallySeat.{TallySeat}
 use Rattle.node_table.specs.Layout.{nodes_in, stub_of}
 use Rattle.node_table.specs.Rule.{AreWords, KeepsNodes}
 use Rattle.queue_core.specs.Items.{IsInRange}
-use Rattle.node_table.specs.Seats.{AreTakenIn, Owned, Has, HasShape, IsAlone, IsGathered, IsHolding, IsNew, IsPartOf, IsReaderSeat, IsSeat, IsSenderSeat, IsTakenIn, IsTallySeat, reader_part}
+use Rattle.node_table.specs.Seats.{AreTakenIn, Owned, Has, HasShape, IsAlone, KnowsMailbox, IsHolding, IsNew, IsPartOf, IsReceiverSeat, IsSeat, IsSenderSeat, IsTakenIn, IsTallySeat, receiver_part}
 use Rattle.node_table.specs.Seats.Owned.{Node, Part}
+use Rattle.node_table.proofs.AfterEvent.{events_after, later, later_held, later_in, later_items, later_other, later_own, told_leads, told_shows}
 use Rattle.node_table.proofs.Owned.{apart_set, other_has_not}
 
--- ---- the pool after an event, or after none
+-- ---- where the receiver of one mailbox alone goes on
 
-abbrev pub later : Option Event → Mailbox → Mailbox
-later None m = m
-later (Some event) m = after event m
-
-abbrev pub later_in : (event : Option Event) (b : ℕ) → Pool → Pool
-later_in None b q = q
-later_in (Some event) b q = after_in b event q
-
--- the events, with that of a step in the mailbox
-abbrev pub events_after : (event : Option Event) (b : ℕ) → List (ℕ × Event) → List (ℕ × Event)
-events_after None b events = events
-events_after (Some event) b events = events ++ (b, event) ∷ []
-
-module _ (q : Pool) (b : ℕ) where
-  -- in its mailbox it is what comes of the event
-  pub later_own : (event : Option Event) → (later_in event b q).boxes b ≡ later event (q.boxes b)
-  later_own None = refl
-  later_own (Some event) = box_own q b event
-
-  -- and the others are as they were
-  pub later_other : (event : Option Event) (d : ℕ) → ¬ (d ≡ b) → (later_in event b q).boxes d ≡ q.boxes d
-  later_other None d other = refl
-  later_other (Some event) d other = box_other q b event d other
-
-  -- where the event changes no items of its mailbox, it changes none
-  pub later_items : (event : Option Event) → (later event (q.boxes b)).items ≡ (q.boxes b).items → (d : ℕ) → ((later_in event b q).boxes d).items ≡ (q.boxes d).items
-  later_items None same d = refl
-  later_items (Some event) same d = same_field (λ m. m.items) q b event same d
-
-  -- what was held is held still, where it is so in the mailbox of the event
-  pub later_held : (event : Option Event) → ((p k : ℕ) → IsHeld (q.boxes b) p k → IsHeld (later event (q.boxes b)) p k) → (d p k : ℕ) → IsHeld (q.boxes d) p k → IsHeld ((later_in event b q).boxes d) p k
-  later_held event still d p k held = elim (cases_eq d b) [
-    | inl same ↦ subst (λ (d : ℕ). IsHeld ((later_in event b q).boxes d) p k) (sym same) (subst (λ m. IsHeld m p k) (sym (later_own event)) (still p k (subst (λ (d : ℕ). IsHeld (q.boxes d) p k) same held)))
-    | inr other ↦ subst (λ m. IsHeld m p k) (sym (later_other event d other)) held
-  ]
-
-  -- what the law of a step tells
-  pub told_leads : (event : Option Event) (ring : ℕ) (n : Pooled) (events : List (ℕ × Event)) → PoolLeads ring events q → ShowsAfterIn event ring b q n → PoolLeads ring (events_after event b events) (later_in event b q)
-  told_leads None ring n events leads told = leads
-  told_leads (Some event) ring n events leads told = more events q b event leads told.0
-
-  pub told_shows : (event : Option Event) (ring : ℕ) (n : Pooled) → ShowsAfterIn event ring b q n → ShowsPool n (later_in event b q)
-  told_shows None ring n told = told
-  told_shows (Some event) ring n told = told.1
-
--- ---- where the reader of one mailbox alone goes on
-
--- what senders and the readers of other mailboxes know of is as it was
+-- what senders and the receivers of other mailboxes know of is as it was
 pub record ButReader (c n : Pooled) (q q' : Pool) (b : ℕ) : Type 0 where
   pub ring : n.ring ≡ c.ring
   pub most : n.most ≡ c.most
@@ -164,8 +115,8 @@ module _ (c n : Pooled) (q q' : Pool) (b : ℕ) (same : ButReader c n q q' b) wh
       items = λ d. (λ i. same.items d i turn) ∙ x.items d;
       slot = x.slot;
     };
-    reader = λ d low is.
-        let x = was.reader d low is in
+    receiver = λ d low is.
+        let x = was.receiver d low is in
         let apart : ¬ (d ≡ b) = λ e. other (omega (arith, is, e)) in record {
           reader = same.readers d apart ∙ (x.reader ∙ ap new_reader (sym (same_stub d)));
           passed = ap passed_entries (same.boxes d apart) ∙ x.passed;
@@ -173,8 +124,8 @@ module _ (c n : Pooled) (q q' : Pool) (b : ℕ) (same : ButReader c n q q' b) wh
         };
   }
 
-  -- what is known of a reader of another mailbox that was gathered
-  gathered_stays : (a : ReaderSeat) → ¬ (a.mailbox ≡ b) → IsGathered c q a → IsGathered n q' a
+  -- what is known of a receiver of another mailbox that was gathered
+  gathered_stays : (a : ReceiverSeat) → ¬ (a.mailbox ≡ b) → KnowsMailbox c q a → KnowsMailbox n q' a
   gathered_stays a other was =
       let box = same.boxes a.mailbox other in record {
         shape = fits_on a.shape was.shape;
@@ -185,20 +136,20 @@ module _ (c n : Pooled) (q q' : Pool) (b : ℕ) (same : ButReader c n q q' b) wh
         got = ap got box ∙ was.got;
       }
 
-  -- the part of the reader, whose seat this is not
+  -- the part of the receiver, whose seat this is not
   abbrev part : ℕ
   part = length c.senders + (b + 1)
 
-  -- a reader that has another part reads another mailbox
-  other_part : (a : ReaderSeat) → HasShape a.shape c → ¬ (part ≡ reader_part a.shape a.mailbox) → ¬ (a.mailbox ≡ b)
+  -- a receiver that has another part reads another mailbox
+  other_part : (a : ReceiverSeat) → HasShape a.shape c → ¬ (part ≡ receiver_part a.shape a.mailbox) → ¬ (a.mailbox ≡ b)
   other_part a fits apart is = apart (omega (arith, fits.senders, is))
 
-  -- so what is known of gathered readers stays so, where none of them is this one
-  all_stay : (rs : List ReaderSeat) → ¬ IsPartOf rs part → All (IsGathered c q) rs → All (IsGathered n q') rs
+  -- so what is known of gathered receivers stays so, where none of them is this one
+  all_stay : (rs : List ReceiverSeat) → ¬ IsPartOf rs part → All (KnowsMailbox c q) rs → All (KnowsMailbox n q') rs
   all_stay [] apart all = λ k d low. absurd (omega (arith, low))
   all_stay (r ∷ rs) apart all =
       let first = all 0 r (omega arith) in
-      All-cons (IsGathered n q') r rs (gathered_stays r (other_part r first.shape (λ is. apart (inl is))) first) (all_stay rs (λ is. apart (inr is)) (λ k d low. all (suc k) d (omega (arith, low))))
+      All-cons (KnowsMailbox n q') r rs (gathered_stays r (other_part r first.shape (λ is. apart (inl is))) first) (all_stay rs (λ is. apart (inr is)) (λ k d low. all (suc k) d (omega (arith, low))))
 
   -- what the tally knows
   tally_stays : (homes : List (Slot Posting)) (a : TallySeat) → ¬ Has (Tallies a) (Part part) → IsTallySeat c q homes a → IsTallySeat n q' homes a
@@ -218,15 +169,10 @@ module _ (c n : Pooled) (q q' : Pool) (b : ℕ) (same : ButReader c n q q' b) wh
     new = new_stays homes shape turn (λ is. apart (omega (arith, is, was.shape_is.senders))) was.new;
   }
   seat_stays homes (Sends a) apart still was = sender_stays a was
-  seat_stays homes (Reads a) apart still was =
-      let other : ¬ (a.mailbox ≡ b) = other_part a was.shape (λ is. apart (inl is)) in
+  seat_stays homes (Receives a) apart still was =
+      let other : ¬ (a.mailbox ≡ b) = other_part a was.its_mailbox.shape (λ is. apart (inl is)) in
       let box = same.boxes a.mailbox other in record {
-        shape = fits_on a.shape was.shape;
-        within = was.within;
-        reader = same.readers a.mailbox other ∙ was.reader;
-        passed = ap passed_entries box ∙ was.passed;
-        given = ap (λ (m : Mailbox). m.given) box ∙ was.given;
-        got = ap got box ∙ was.got;
+        its_mailbox = gathered_stays a other was.its_mailbox;
         at_hand = λ g hand. let held = was.at_hand g hand in (still g (g, hand, refl) held.0, held.1);
         taken_in = All-weaker (IsTakenIn c q) (IsTakenIn n q') taken_stays a.taken_in was.taken_in;
         ended = was.ended;
@@ -240,14 +186,14 @@ module _ (c n : Pooled) (q q' : Pool) (b : ℕ) (same : ButReader c n q q' b) wh
 held_has : (c : Pooled) (q : Pool) (homes : List (Slot Posting)) (d : Known) (n : ℕ) → IsSeat c q homes d → Has d (Node n) → (g : Holding) × IsHolding c q g × (g.node ≡ n)
 held_has c q homes (Dealt shape turn) n is has = absurd has
 held_has c q homes (Sends a) n is has = absurd has
-held_has c q homes (Reads a) n is has = (has.0, (is.at_hand has.0 has.1).0, has.2)
+held_has c q homes (Receives a) n is has = (has.0, (is.at_hand has.0 has.1).0, has.2)
 held_has c q homes (holds_item g) n is has = (g, is, has)
 held_has c q homes (Tallies a) n is has = absurd has
 held_has c q homes Gone n is has = absurd has
 
--- ---- a step of the reader
+-- ---- a step of the receiver
 
-module _ (shape : Shape) (s : State Posting Known) (kept : KeepsNodes shape s) (id : ℕ) (v : ReaderSeat) (seen : get_elem? s.views id ≡ some (Reads v)) where
+module _ (shape : Shape) (s : State Posting Known) (kept : KeepsNodes shape s) (id : ℕ) (v : ReceiverSeat) (seen : get_elem? s.views id ≡ some (Receives v)) where
   abbrev c : Pooled
   c = kept.core
 
@@ -260,13 +206,13 @@ module _ (shape : Shape) (s : State Posting Known) (kept : KeepsNodes shape s) (
   abbrev m : Mailbox
   m = q.boxes b
 
-  -- what the reader knows is so
-  pub own : IsReaderSeat c q v
-  own = kept.seats id (Reads v) seen
+  -- what the receiver knows is so
+  pub own : IsReceiverSeat c q v
+  own = kept.seats id (Receives v) seen
 
   -- its mailbox is there
   pub low : b < length c.heads
-  low = omega (arith, own.within, own.shape.mailboxes)
+  low = omega (arith, own.its_mailbox.within, own.its_mailbox.shape.mailboxes)
 
   -- and has its reader
   pub readers_low : b < length c.readers
@@ -276,13 +222,13 @@ module _ (shape : Shape) (s : State Posting Known) (kept : KeepsNodes shape s) (
   pub holds : (d : ℕ) → Holds c.ring (q.boxes d)
   holds = holds_in c kept.mail.pooled kept.events q kept.mail.leads kept.mail.shows b low
 
-  -- the stub, by what the reader knows
+  -- the stub, by what the receiver knows
   pub stub_is : stub_in c b ≡ stub_of v.shape b
-  stub_is i = own.shape.senders i * (own.shape.ring i + own.shape.mailboxes i) + b
+  stub_is i = own.its_mailbox.shape.senders i * (own.its_mailbox.shape.ring i + own.its_mailbox.shape.mailboxes i) + b
 
-  -- how many nodes there are, by what the reader knows
+  -- how many nodes there are, by what the receiver knows
   pub nodes_are : length c.nodes ≡ nodes_in v.shape
-  nodes_are = kept.mail.pooled.nodes ∙ (λ i. own.shape.senders i * (own.shape.ring i + own.shape.mailboxes i) + own.shape.mailboxes i)
+  nodes_are = kept.mail.pooled.nodes ∙ (λ i. own.its_mailbox.shape.senders i * (own.its_mailbox.shape.ring i + own.its_mailbox.shape.mailboxes i) + own.its_mailbox.shape.mailboxes i)
 
   -- a core whose senders are as they were, and the readers of other mailboxes
   pub but_reader : (event : Option Event) (heads : List ℕ) (nodes : List Word) (holders : List (Option ℕ)) (readers : List Reader) → length heads ≡ length c.heads
@@ -307,17 +253,17 @@ module _ (shape : Shape) (s : State Posting Known) (kept : KeepsNodes shape s) (
   pub reader_else : (r : Reader) (d : ℕ) → ¬ (d ≡ b) → reader_in (with_reader b r c) d ≡ reader_in c d
   reader_else r d other = get_or-set_other c.readers b d r _ other
 
-  -- The step is due, and it leaves all but the reader of the mailbox as it was. What others hold is held still, and what the reader has then it had before, or it is the holding of a node that nobody had.
-  pub record Moves (x : Step) (event : Option Event) (n : Pooled) (words : List ℕ) (w : ReaderSeat) : Type 0 where
+  -- The step is due, and it leaves all but the receiver of the mailbox as it was. What others hold is held still, and what the receiver has then it had before, or it is the holding of a node that nobody had.
+  pub record Moves (x : Step) (event : Option Event) (n : Pooled) (words : List ℕ) (w : ReceiverSeat) : Type 0 where
     pub due : stepped_in c b x ≡ Some n
     pub event_is : event_in c q b x ≡ event
     pub same : ButReader c n q (later_in event b q) b
     pub are_words : AreWords shape n words
-    pub seat : IsReaderSeat n (later_in event b q) w
-    pub others : (g : Holding) → ¬ Has (Reads v) (Node g.node) → IsHolding c q g → IsHolding n (later_in event b q) g
-    pub new : (thing : Owned) → Has (Reads w) thing → Has (Reads v) thing ⊎ ((a : ℕ) × (thing ≡ Node a) × ((g : Holding) → IsHolding c q g → ¬ (a ≡ g.node)))
+    pub seat : IsReceiverSeat n (later_in event b q) w
+    pub others : (g : Holding) → ¬ Has (Receives v) (Node g.node) → IsHolding c q g → IsHolding n (later_in event b q) g
+    pub new : (thing : Owned) → Has (Receives w) thing → Has (Receives v) thing ⊎ ((a : ℕ) × (thing ≡ Node a) × ((g : Holding) → IsHolding c q g → ¬ (a ≡ g.node)))
 
-  module _ (x : Step) (event : Option Event) (n : Pooled) (words : List ℕ) (w : ReaderSeat) (moves : Moves x event n words w) where
+  module _ (x : Step) (event : Option Event) (n : Pooled) (words : List ℕ) (w : ReceiverSeat) (moves : Moves x event n words w) where
     abbrev q' : Pool
     q' = later_in event b q
 
@@ -325,18 +271,18 @@ module _ (shape : Shape) (s : State Posting Known) (kept : KeepsNodes shape s) (
     told : ShowsAfterIn event c.ring b q n
     told = subst (λ e. ShowsAfterIn e c.ring b q n) moves.event_is (step_shows_in b x kept.events q c n low kept.mail.pooled kept.mail.leads kept.mail.shows moves.due)
 
-    -- another seat is not the reader's
-    not_its : (j : ℕ) (d : Known) → ¬ (j ≡ id) → get_elem? s.views j ≡ some d → (thing : Owned) → Has (Reads v) thing → ¬ Has d thing
-    not_its j d other there = other_has_not s.views kept.apart id (Reads v) seen j d other there
+    -- another seat is not the receiver's
+    not_its : (j : ℕ) (d : Known) → ¬ (j ≡ id) → get_elem? s.views j ≡ some d → (thing : Owned) → Has (Receives v) thing → ¬ Has d thing
+    not_its j d other there = other_has_not s.views kept.apart id (Receives v) seen j d other there
 
     -- what another seat knows stays so
     stays : (j : ℕ) (d : Known) → ¬ (j ≡ id) → get_elem? s.views j ≡ some d → IsSeat n q' s.homes d
     stays j d other there =
-        let part_is : length c.senders + (b + 1) ≡ reader_part v.shape b = ap (λ (k : ℕ). k + (b + 1)) own.shape.senders in
+        let part_is : length c.senders + (b + 1) ≡ receiver_part v.shape b = ap (λ (k : ℕ). k + (b + 1)) own.its_mailbox.shape.senders in
         seat_stays c n q q' b moves.same s.homes d (not_its j d other there (Part (length c.senders + (b + 1))) (inl part_is)) (λ g has. moves.others g (λ mine. not_its j d other there (Node g.node) mine has)) (kept.seats j d there)
 
-    -- what the reader has then, no other seat has
-    fresh : (thing : Owned) → Has (Reads w) thing → (j : ℕ) (d : Known) → ¬ (j ≡ id) → get_elem? s.views j ≡ some d → ¬ Has d thing
+    -- what the receiver has then, no other seat has
+    fresh : (thing : Owned) → Has (Receives w) thing → (j : ℕ) (d : Known) → ¬ (j ≡ id) → get_elem? s.views j ≡ some d → ¬ Has d thing
     fresh thing has j d other there has_d = elim (moves.new thing has) [
       | inl mine ↦ not_its j d other there thing mine has_d
       | inr node ↦
@@ -345,7 +291,7 @@ module _ (shape : Shape) (s : State Posting Known) (kept : KeepsNodes shape s) (
     ]
 
     -- So the rule is kept.
-    pub moved : KeepsNodes shape record { words = words; homes = s.homes; views = set s.views id (Reads w) }
+    pub moved : KeepsNodes shape record { words = words; homes = s.homes; views = set s.views id (Receives w) }
     moved = record {
       events = events_after event b kept.events;
       pool = q';
@@ -358,16 +304,16 @@ module _ (shape : Shape) (s : State Posting Known) (kept : KeepsNodes shape s) (
         ranged = λ d p. subst (λ (items : ℕ → List Item). All IsInRange (items p)) (sym (moves.same.items d)) (kept.mail.ranged d p);
       };
       words = moves.are_words;
-      seats = λ j d e. elim (at_set s.views id j (Reads w) d e) [
+      seats = λ j d e. elim (at_set s.views id j (Receives w) d e) [
         | inl mine ↦ subst (IsSeat n q' s.homes) mine.1 moves.seat
         | inr old ↦ stays j d old.0 old.1
       ];
-      apart = apart_set s.views kept.apart id (Reads v) seen (Reads w) fresh;
+      apart = apart_set s.views kept.apart id (Receives v) seen (Receives w) fresh;
     }
 
-  -- ---- what the reader knows after a step
+  -- ---- what the receiver knows after a step
 
-  abbrev pub seat_with : Reader → (passed given : List Entry) → List (ℕ × Item) → Option Holding → ReaderSeat
+  abbrev pub seat_with : Reader → (passed given : List Entry) → List (ℕ × Item) → Option Holding → ReceiverSeat
   seat_with reader passed given received hand =
       record { shape = v.shape; mailbox = v.mailbox; reader = reader; passed = passed; given = given; got = received; at_hand = hand; taken_in = v.taken_in }
 
@@ -380,17 +326,19 @@ module _ (shape : Shape) (s : State Posting Known) (kept : KeepsNodes shape s) (
     pub holding : (h : Holding) → hand ≡ Some h → IsHolding n (later_in event b q) h × (h.mailbox ≡ b)
     pub alone : AreTakenIn v → IsAlone (later event m) reader.point
 
-  -- With that it knows what a reader knows.
+  -- With that it knows what a receiver knows.
   pub seat_after : (event : Option Event) (n : Pooled) → ButReader c n q (later_in event b q) b → (reader : Reader) (passed given : List Entry) (received : List (ℕ × Item)) (hand : Option Holding) → Knows event n reader passed given received hand
-      → IsReaderSeat n (later_in event b q) (seat_with reader passed given received hand)
+      → IsReceiverSeat n (later_in event b q) (seat_with reader passed given received hand)
   seat_after event n same reader passed given received hand knows =
       let box = later_own q b event in record {
-        shape = fits_on c n q (later_in event b q) b same v.shape own.shape;
-        within = own.within;
-        reader = knows.reader_is;
-        passed = ap passed_entries box ∙ knows.passed_is;
-        given = ap (λ (m : Mailbox). m.given) box ∙ knows.given_is;
-        got = ap got box ∙ knows.got_is;
+        its_mailbox = record {
+          shape = fits_on c n q (later_in event b q) b same v.shape own.its_mailbox.shape;
+          within = own.its_mailbox.within;
+          reader = knows.reader_is;
+          passed = ap passed_entries box ∙ knows.passed_is;
+          given = ap (λ (m : Mailbox). m.given) box ∙ knows.given_is;
+          got = ap got box ∙ knows.got_is;
+        };
         at_hand = knows.holding;
         taken_in = All-weaker (IsTakenIn c q) (IsTakenIn n (later_in event b q)) (taken_stays c n q (later_in event b q) b same) v.taken_in own.taken_in;
         ended = own.ended;
@@ -399,7 +347,7 @@ module _ (shape : Shape) (s : State Posting Known) (kept : KeepsNodes shape s) (
 
   -- ---- a step that takes nothing and gives nothing back
 
-  -- The reader goes on, and has at hand what it had.
+  -- The receiver goes on, and has at hand what it had.
   pub record GoesOn (x : Step) (event : Option Event) (n : Pooled) (words : List ℕ) (reader : Reader) (passed : List Entry) : Type 0 where
     pub due : stepped_in c b x ≡ Some n
     pub event_is : event_in c q b x ≡ event
@@ -414,7 +362,7 @@ module _ (shape : Shape) (s : State Posting Known) (kept : KeepsNodes shape s) (
 
   -- So the rule is kept.
   pub gone_on : (x : Step) (event : Option Event) (n : Pooled) (words : List ℕ) (reader : Reader) (passed : List Entry) → GoesOn x event n words reader passed
-      → KeepsNodes shape record { words = words; homes = s.homes; views = set s.views id (Reads (seat_with reader passed v.given v.got v.at_hand)) }
+      → KeepsNodes shape record { words = words; homes = s.homes; views = set s.views id (Receives (seat_with reader passed v.given v.got v.at_hand)) }
   gone_on x event n words reader passed goes =
       let still : (g : Holding) → IsHolding c q g → IsHolding n (later_in event b q) g = λ g was. still_holding c n q (later_in event b q) b goes.same g was (later_held q b event goes.held g.mailbox g.sender g.place was.held) in
       moved x event n words (seat_with reader passed v.given v.got v.at_hand) record {
@@ -425,8 +373,8 @@ module _ (shape : Shape) (s : State Posting Known) (kept : KeepsNodes shape s) (
         seat = seat_after event n goes.same reader passed v.given v.got v.at_hand record {
           reader_is = goes.reader_is;
           passed_is = goes.passed_is;
-          given_is = goes.given_is ∙ own.given;
-          got_is = goes.got_is ∙ own.got;
+          given_is = goes.given_is ∙ own.its_mailbox.given;
+          got_is = goes.got_is ∙ own.its_mailbox.got;
           holding = λ h hand. let was = own.at_hand h hand in (still h was.0, was.1);
           alone = goes.alone;
         };
@@ -435,6 +383,6 @@ module _ (shape : Shape) (s : State Posting Known) (kept : KeepsNodes shape s) (
       }
     where
       -- it has what it had
-      still_has : (thing : Owned) → Has (Reads (seat_with reader passed v.given v.got v.at_hand)) thing → Has (Reads v) thing ⊎ ((a : ℕ) × (thing ≡ Node a) × ((g : Holding) → IsHolding c q g → ¬ (a ≡ g.node)))
+      still_has : (thing : Owned) → Has (Receives (seat_with reader passed v.given v.got v.at_hand)) thing → Has (Receives v) thing ⊎ ((a : ℕ) × (thing ≡ Node a) × ((g : Holding) → IsHolding c q g → ¬ (a ≡ g.node)))
       still_has (Part its) has = inl has
       still_has (Node node) has = inl has

@@ -21,9 +21,8 @@ use Rattle.queue_core.specs.Mailbox.{IsHeld, Mailbox, got, is_among, item_at, pa
 use Rattle.queue_core.specs.Events.{Event, MayExchange, MayFill, after}
 use Rattle.queue_core.specs.Events.Event.{Exchange, Fill, Link}
 use Rattle.queue_core.specs.Pool.{MayFillIn, Pool, PoolLeads, after_in, events_in, post_at}
-use Rattle.queue_core.specs.Pool.PoolLeads.{more}
 use Rattle.queue_core.specs.Pooled.{Pooled, first_node, has_ended_in, reader_in, sender_at}
-use Rattle.queue_core.specs.PoolShows.{ShowsPool, number_in, place_of}
+use Rattle.queue_core.specs.PoolShows.{number_in, place_of}
 use Rattle.queue_core.specs.PoolSteps.{stepped_in}
 use Rattle.queue_core.specs.PoolLaws.{ShowsAfterIn, event_in}
 use Rattle.queue_core.proofs.Entries.{among_first, same_received}
@@ -36,16 +35,17 @@ use Rattle.queue_core.proofs.PoolRuns.{step_shows_in}
 use Rattle.queue_core.proofs.PoolStepsKeep.{keeps_step_in}
 use Rattle.node_table.specs.declared.seats.Holding.{Holding}
 use Rattle.node_table.specs.declared.seats.Known.{Known}
-use Rattle.node_table.specs.declared.seats.Known.TheVariants.{Dealt, Sends, Reads, Holds as HoldsOne, Tallies, Gone}
+use Rattle.node_table.specs.declared.seats.Known.TheVariants.{Dealt, Sends, Receives, Holds as HoldsOne, Tallies, Gone}
 use Rattle.node_table.specs.declared.seats.Posting.{Posting}
 use Rattle.node_table.specs.declared.seats.SenderSeat.{SenderSeat}
 use Rattle.node_table.specs.declared.seats.Shape.{Shape}
 use Rattle.node_table.specs.Rule.{AreWords, IsNodeMail, KeepsNodes}
 use Rattle.queue_core.specs.Items.{IsInRange}
-use Rattle.node_table.specs.Seats.{Owned, Has, HasShape, IsGathered, IsHolding, IsNew, IsPartIn, IsSeat, IsSenderSeat, IsTakenIn, items_in, known_in, sender_part}
+use Rattle.node_table.specs.Seats.{Owned, Has, HasShape, KnowsMailbox, IsHolding, IsNew, IsPartIn, IsSeat, IsSenderSeat, IsTakenIn, items_in, known_in, sender_part}
 use Rattle.node_table.specs.Seats.Owned.{Part, Node}
+use Rattle.node_table.proofs.AfterEvent.{events_after, later_in, told_leads, told_shows}
 use Rattle.node_table.proofs.Owned.{apart_still, other_has_not}
-use Rattle.node_table.specs.declared.seats.ReaderSeat.{ReaderSeat}
+use Rattle.node_table.specs.declared.seats.ReceiverSeat.{ReceiverSeat}
 use Rattle.node_table.specs.Layout.{slot_of}
 
 -- ---- what a sender's step leaves as it was
@@ -185,7 +185,7 @@ module _ (ring : ℕ) (some_nodes : 0 < ring) (q : Pool) (b p : ℕ) where
 abbrev pub IsHome : List (Slot Posting) → ℕ → Type 0
 IsHome homes r = (laid : Posting) × (get_elem? homes (slot_of r) ≡ some (some laid))
 
--- the part of a sender whose items a reader knows is the reader's
+-- the part of a sender whose items a receiver knows is the receiver's
 part_known : (b : ℕ) (ws : List SenderSeat) (p : ℕ) (items : List Item) → known_in b ws p ≡ Some items → IsPartIn ws (sender_part p)
 part_known b [] p items none = cc
 part_known b (w ∷ ws) p items known = elim (cases_Bool (p == w.number)) [
@@ -232,8 +232,8 @@ module _ (c n : Pooled) (q q' : Pool) (p : ℕ) (core : CoreButSender c n p) (po
   all_taken_stay (w ∷ ws) none was =
       All-cons (IsTakenIn n q') w ws (taken_stays w (λ same. none (inl (ap (λ (k : ℕ). k + 1) (sym same)))) (All-head (IsTakenIn c q) w ws was)) (all_taken_stay ws (λ part. none (inr part)) (All-tail (IsTakenIn c q) w ws was))
 
-  -- what is known of a reader that was gathered
-  gathered_stays : (r : ReaderSeat) → IsGathered c q r → IsGathered n q' r
+  -- what is known of a receiver that was gathered
+  gathered_stays : (r : ReceiverSeat) → KnowsMailbox c q r → KnowsMailbox n q' r
   gathered_stays r was =
       let box = pool.boxes r.mailbox in record {
         shape = shape_stays r.shape was.shape;
@@ -255,8 +255,8 @@ module _ (c n : Pooled) (q q' : Pool) (p : ℕ) (core : CoreButSender c n p) (po
             items = λ b. (pool.boxes b).items turn other ∙ new.items b;
             slot = at_home turn other new.slot;
           };
-      reader = λ b low is.
-          let new = was.reader b low is in record {
+      receiver = λ b low is.
+          let new = was.receiver b low is in record {
             reader = core.readers b ∙ (new.reader ∙ (λ i. record { point = reads.Rest; tail = sym core.senders i * (sym core.ring i + sym core.heads i) + b; last = None }));
             passed = (pool.boxes b).passed ∙ new.passed;
             given = (pool.boxes b).given ∙ new.given;
@@ -268,24 +268,19 @@ module _ (c n : Pooled) (q q' : Pool) (p : ℕ) (core : CoreButSender c n p) (po
     stays_but_sender in_table (Dealt shape turn) apart was =
         record { shape_is = shape_stays shape was.shape_is; within = was.within; new = new_stays shape turn (λ same. apart (ap (λ (k : ℕ). k + 1) (sym same))) was.new }
     stays_but_sender in_table (Sends v) apart was = sender_stays v (λ same. apart (ap (λ (k : ℕ). k + 1) (sym same))) was
-    stays_but_sender in_table (Reads v) apart was =
-        let box = pool.boxes v.mailbox in record {
-          shape = shape_stays v.shape was.shape;
-          within = was.within;
-          reader = core.readers v.mailbox ∙ was.reader;
-          passed = box.passed ∙ was.passed;
-          given = box.given ∙ was.given;
-          got = box.got ∙ was.got;
+    stays_but_sender in_table (Receives v) apart was =
+        record {
+          its_mailbox = gathered_stays v was.its_mailbox;
           at_hand = λ h is. let held = was.at_hand h is in (holding_stays h held.0, held.1);
           taken_in = all_taken_stay v.taken_in (λ part. apart (inr part)) was.taken_in;
           ended = was.ended;
-          alone = λ all. let mine = all p (omega (arith, in_table, was.shape.senders)) in absurd (apart (inr (part_known v.mailbox v.taken_in p mine.0 mine.1)));
+          alone = λ all. let mine = all p (omega (arith, in_table, was.its_mailbox.shape.senders)) in absurd (apart (inr (part_known v.mailbox v.taken_in p mine.0 mine.1)));
         }
     stays_but_sender in_table (HoldsOne h) apart was = holding_stays h was
     stays_but_sender in_table (Tallies v) apart was = record {
       shape = shape_stays v.shape was.shape;
       waiting = λ turn late low. new_stays v.shape turn (λ same. apart (inr (inl (omega (arith, same, late))))) (was.waiting turn late low);
-      gathered = All-weaker (IsGathered c q) (IsGathered n q') gathered_stays v.gathered was.gathered;
+      gathered = All-weaker (KnowsMailbox c q) (KnowsMailbox n q') gathered_stays v.gathered was.gathered;
       taken_in = all_taken_stay v.taken_in (λ part. apart (inr (inr (inr part)))) was.taken_in;
       ended = was.ended;
     }
@@ -317,24 +312,6 @@ module _ (shape : Shape) (s : State Posting Known) (kept : KeepsNodes shape s) (
   }
 
 -- ---- a step of the core
-
--- the events after a step in a mailbox, and the pool that they lead to
-abbrev pub events_after : Option Event → (b : ℕ) → List (ℕ × Event) → List (ℕ × Event)
-events_after None b events = events
-events_after (Some event) b events = events ++ (b, event) ∷ []
-
-abbrev pub later_in : Option Event → (b : ℕ) → Pool → Pool
-later_in None b q = q
-later_in (Some event) b q = after_in b event q
-
--- what the law of a step tells of them
-told_leads : (event : Option Event) (ring b : ℕ) (events : List (ℕ × Event)) (q : Pool) (n : Pooled) → ShowsAfterIn event ring b q n → PoolLeads ring events q → PoolLeads ring (events_after event b events) (later_in event b q)
-told_leads None ring b events q n told leads = leads
-told_leads (Some event) ring b events q n told leads = more events q b event leads told.0
-
-told_shows : (event : Option Event) (ring b : ℕ) (q : Pool) (n : Pooled) → ShowsAfterIn event ring b q n → ShowsPool n (later_in event b q)
-told_shows None ring b q n told = told
-told_shows (Some event) ring b q n told = told.1
 
 module _ (shape : Shape) (s : State Posting Known) (kept : KeepsNodes shape s) (id : ℕ) (v : SenderSeat) (seen : get_elem? s.views id ≡ some (Sends v)) where
   abbrev c : Pooled
@@ -374,8 +351,8 @@ module _ (shape : Shape) (s : State Posting Known) (kept : KeepsNodes shape s) (
       mail_now ranged = record {
         fits = shape_stays c n q (later_in event b q) p core pool shape kept.mail.fits;
         pooled = keeps_step_in c n b x kept.mail.pooled there due;
-        leads = subst (λ (r : ℕ). PoolLeads r (events_after event b kept.events) (later_in event b q)) (sym core.ring) (told_leads event c.ring b kept.events q n told kept.mail.leads);
-        shows = told_shows event c.ring b q n told;
+        leads = subst (λ (r : ℕ). PoolLeads r (events_after event b kept.events) (later_in event b q)) (sym core.ring) (told_leads q b event c.ring n kept.events kept.mail.leads told);
+        shows = told_shows q b event c.ring n told;
         ranged = λ d r. elim (cases_eq r p) [
           | inl same ↦ subst (λ (r : ℕ). All IsInRange (((later_in event b q).boxes d).items r)) (sym same) (ranged d)
           | inr other ↦ subst (λ xs. All IsInRange xs) (sym ((pool.boxes d).items r other)) (kept.mail.ranged d r)

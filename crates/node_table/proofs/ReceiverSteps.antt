@@ -1,4 +1,4 @@
--- The steps of a reader keep the rule of a table of nodes.
+-- The steps of a receiver keep the rule of a table of nodes.
 use Rattle.std.proofs.Common.{◌≡◌, ◌∙◌, ◌<◌, ◌≤◌, ◌+◌, ◌-◌, ◌%◌, ◌^◌, ◌++◌, ◌∷◌, ℕ, Bool, true, false, [], None, Some, length, get_or, set, ap, sym, refl, subst, inl, inr, arith, length-set}
 use Rattle.std.specs.Prelude.{◌==◌, if◌then◌else◌}
 use Rattle.std.specs.List.{filter_map}
@@ -32,17 +32,17 @@ use Rattle.queue_core.proofs.PoolTells.{head_tells}
 use Rattle.queue_core.proofs.StepLemmas.{chosen}
 use Rattle.node_table.specs.declared.seats.Holding.{Holding}
 use Rattle.node_table.specs.declared.seats.Known.{Known}
-use Rattle.node_table.specs.declared.seats.Known.TheVariants.{Reads}
+use Rattle.node_table.specs.declared.seats.Known.TheVariants.{Receives}
 use Rattle.node_table.specs.declared.seats.Posting.{Posting}
-use Rattle.node_table.specs.declared.seats.ReaderSeat.{ReaderSeat}
+use Rattle.node_table.specs.declared.seats.ReceiverSeat.{ReceiverSeat}
 use Rattle.node_table.specs.declared.seats.Shape.{Shape}
 use Rattle.node_table.specs.Layout.{amount_word_of, head_word, line_word_of, next_word, nodes_in, stub_of, turn_word}
 use Rattle.node_table.specs.Rule.{AreWords, KeepsNodes}
-use Rattle.node_table.specs.Seats.{IsAlone, IsReaderSeat, got_in}
+use Rattle.node_table.specs.Seats.{IsAlone, IsReceiverSeat, got_in}
 use Rattle.node_table.specs.Tells.{HasLoadedHead, IsAwaitedAt, IsWholeAt, LoadsHead, LoadsNext, after_give, after_head, after_head_at, reading_at, tells_give_back, tells_load_amount, tells_load_head, tells_load_line, tells_load_next, tells_stub_link, tells_stub_null, tells_stub_swap, with_reader_at}
-use Rattle.node_table.proofs.Holdings.{amount_found, give_kept, hand_held, line_found, look_kept}
-use Rattle.node_table.proofs.Next.{next_kept}
-use Rattle.node_table.proofs.Readers.{but_reader, gone_on, holds, low, nodes_are, own, reader_else, reader_set, stub_is}
+use Rattle.node_table.proofs.AtHandSteps.{amount_found, give_kept, hand_held, line_found, look_kept}
+use Rattle.node_table.proofs.LoadNextStep.{next_kept}
+use Rattle.node_table.proofs.ReceiverFrame.{but_reader, gone_on, holds, low, nodes_are, own, reader_else, reader_set, stub_is}
 use Rattle.node_table.proofs.TakenIn.{find_awaited, head_alone, known_sent, one_entry}
 use Rattle.node_table.proofs.Words.{head_words, look_words, next_words, stub_there}
 
@@ -64,7 +64,7 @@ head_due c b point =
 
 -- ---- LoadHead, and the steps that put the stub in
 
-module _ (shape : Shape) (id : ℕ) (v : ReaderSeat) (s : State Posting Known) (kept : KeepsNodes shape s) (seen : get_elem? s.views id ≡ some (Reads v)) where
+module _ (shape : Shape) (id : ℕ) (v : ReceiverSeat) (s : State Posting Known) (kept : KeepsNodes shape s) (seen : get_elem? s.views id ≡ some (Receives v)) where
   abbrev c : Pooled
   c = kept.core
 
@@ -77,7 +77,7 @@ module _ (shape : Shape) (id : ℕ) (v : ReaderSeat) (s : State Posting Known) (
   abbrev m : Mailbox
   m = q.boxes b
 
-  abbrev mine : IsReaderSeat c q v
+  abbrev mine : IsReceiverSeat c q v
   mine = own shape s kept id v seen
 
   abbrev reader : Reader
@@ -94,7 +94,7 @@ module _ (shape : Shape) (id : ℕ) (v : ReaderSeat) (s : State Posting Known) (
   links : ShowLinks (links_in c q b) m
   links = (kept.mail.shows.boxes b there).links
 
-  -- the stub, the point, the tail and the head, by what the reader knows
+  -- the stub, the point, the tail and the head, by what the receiver knows
   stub_here : stub ≡ stub_of v.shape b
   stub_here = stub_is shape s kept id v seen
 
@@ -102,10 +102,10 @@ module _ (shape : Shape) (id : ℕ) (v : ReaderSeat) (s : State Posting Known) (
   stub_low = stub_there shape c kept.mail.fits kept.mail.pooled b there
 
   point_is : reader.point ≡ v.reader.point
-  point_is = ap (λ (r : Reader). r.point) mine.reader
+  point_is = ap (λ (r : Reader). r.point) mine.its_mailbox.reader
 
   tail_is : reader.tail ≡ v.reader.tail
-  tail_is = ap (λ (r : Reader). r.tail) mine.reader
+  tail_is = ap (λ (r : Reader). r.tail) mine.its_mailbox.reader
 
   head_is : get_or s.words (head_word shape b) 0 ≡ head_in c b
   head_is = kept.words.head b there
@@ -119,7 +119,7 @@ module _ (shape : Shape) (id : ℕ) (v : ReaderSeat) (s : State Posting Known) (
 
   -- the rule where the reader is elsewhere, and a word is another
   abbrev KeepsThen : Reader → (i word : ℕ) → Type 0
-  KeepsThen reader i word = KeepsNodes shape record { words = set s.words i word; homes = s.homes; views = set s.views id (Reads (with_reader_at reader v)) }
+  KeepsThen reader i word = KeepsNodes shape record { words = set s.words i word; homes = s.homes; views = set s.views id (Receives (with_reader_at reader v)) }
 
   -- ---- LoadHead
 
@@ -156,8 +156,8 @@ module _ (shape : Shape) (id : ℕ) (v : ReaderSeat) (s : State Posting Known) (
           event_is = refl;
           same = but_reader shape s kept id v seen None n.heads n.nodes n.holders n.readers refl (else_is r) refl refl;
           are_words = look_words shape c s.words kept.words n (head_word shape b) refl refl;
-          reader_is = set_is r ∙ (λ i. after_head (sym head_is i) (mine.reader i));
-          passed_is = mine.passed;
+          reader_is = set_is r ∙ (λ i. after_head (sym head_is i) (mine.its_mailbox.reader i));
+          passed_is = mine.its_mailbox.passed;
           given_is = refl;
           got_is = refl;
           held = λ p k held. held;
@@ -177,7 +177,7 @@ module _ (shape : Shape) (id : ℕ) (v : ReaderSeat) (s : State Posting Known) (
         let at_stub : reader.tail ≡ stub = subst (IsTailAt (links_in c q b) m) (point_is ∙ stubbed) links.reader.at_tail in
         let last : is_last b c ≡ true = eq-eqb (head_in c b) (link_to reader.tail) (sym head_is ∙ (same ∙ ap link_to (sym tail_is))) in
         let only = head_tells kept.events q c b kept.mail.pooled kept.mail.leads kept.mail.shows there at_stub last in
-        ap (λ pairs. got_in pairs p) (sym mine.got) ∙ (all_received c.ring m (holds shape s kept id v seen b) p (ap (entries_of p) only) ∙ known_sent shape s kept id v seen p items known)
+        ap (λ pairs. got_in pairs p) (sym mine.its_mailbox.got) ∙ (all_received c.ring m (holds shape s kept id v seen b) p (ap (entries_of p) only) ∙ known_sent shape s kept id v seen p items known)
 
     -- so this is what it tells
     head_told : HasLoadedHead found v (with_reader_at (after_head found v.reader) v)
@@ -198,8 +198,8 @@ module _ (shape : Shape) (id : ℕ) (v : ReaderSeat) (s : State Posting Known) (
           same = but_reader shape s kept id v seen None n.heads n.nodes n.holders n.readers refl (else_is (record reader { point = reads.Swap })) refl refl;
           are_words = subst (λ x. AreWords shape n (set s.words (next_word x) null)) stub_here
               (next_words shape c s.words kept.words n stub in_nodes node refl refl null refl refl refl refl);
-          reader_is = set_is (record reader { point = reads.Swap }) ∙ ap (λ (r : Reader). record r { point = reads.Swap }) mine.reader;
-          passed_is = mine.passed;
+          reader_is = set_is (record reader { point = reads.Swap }) ∙ ap (λ (r : Reader). record r { point = reads.Swap }) mine.its_mailbox.reader;
+          passed_is = mine.its_mailbox.passed;
           given_is = refl;
           got_is = refl;
           held = λ p k held. held;
@@ -233,8 +233,8 @@ module _ (shape : Shape) (id : ℕ) (v : ReaderSeat) (s : State Posting Known) (
           event_is = refl;
           same = but_reader shape s kept id v seen (Some StubIn) swapped.heads swapped.nodes swapped.holders swapped.readers (length-set c.heads b (link_to stub)) (else_is linking) refl refl;
           are_words = head_words shape c s.words kept.words swapped b (stub_of v.shape b + 1) there stub_low (ap (λ (x : ℕ). set c.heads b (x + 1)) stub_here) refl;
-          reader_is = set_is linking ∙ (λ i. record (mine.reader i) { point = reads.Link (sym head_is i - 1) });
-          passed_is = passed ∙ mine.passed;
+          reader_is = set_is linking ∙ (λ i. record (mine.its_mailbox.reader i) { point = reads.Link (sym head_is i - 1) });
+          passed_is = passed ∙ mine.its_mailbox.passed;
           given_is = refl;
           got_is = ap (filter_map (received_at m)) passed;
           held = λ p k held. (held_kept c.ring m its Stub swap_may p k).0 held;
@@ -263,51 +263,51 @@ module _ (shape : Shape) (id : ℕ) (v : ReaderSeat) (s : State Posting Known) (
           event_is = refl;
           same = but_reader shape s kept id v seen (Some StubLink) n.heads n.nodes n.holders n.readers refl (else_is (record reader { point = reads.Last })) refl refl;
           are_words = next_words shape c s.words kept.words n before in_nodes node refl refl (stub_of v.shape b + 1) (ap link_to (sym stub_here)) refl refl refl;
-          reader_is = set_is (record reader { point = reads.Last }) ∙ ap (λ (r : Reader). record r { point = reads.Last }) mine.reader;
-          passed_is = mine.passed;
+          reader_is = set_is (record reader { point = reads.Last }) ∙ ap (λ (r : Reader). record r { point = reads.Last }) mine.its_mailbox.reader;
+          passed_is = mine.its_mailbox.passed;
           given_is = refl;
           got_is = refl;
           held = λ p k held. record { passed = held.passed; kept = held.kept };
           alone = λ all. subst (IsAlone m) at (mine.alone all);
         }
 
-module _ (shape : Shape) (slots id : ℕ) (v : ReaderSeat) where
-  pub next_loads : LoadsNext v.reader.point → Allows (KeepsNodes shape) slots id (Reads v, []) (next_word v.reader.tail) (λ n. n) (tells_load_next (step slots (next_word v.reader.tail) 0 0 none) (Reads v, []))
-  next_loads at s kept deep seen small = let next = next_kept shape id v s kept seen at in (Reads next.0, keeps, tt, next.1, (next.0, refl, next.2))
+module _ (shape : Shape) (slots id : ℕ) (v : ReceiverSeat) where
+  pub next_loads : LoadsNext v.reader.point → Allows (KeepsNodes shape) slots id (Receives v, []) (next_word v.reader.tail) (λ n. n) (tells_load_next (step slots (next_word v.reader.tail) 0 0 none) (Receives v, []))
+  next_loads at s kept deep seen small = let next = next_kept shape id v s kept seen at in (Receives next.0, keeps, tt, next.1, (next.0, refl, next.2))
 
-  pub head_loads : LoadsHead v.reader.point → Allows (KeepsNodes shape) slots id (Reads v, []) (head_word shape v.mailbox) (λ n. n) (tells_load_head (step slots (head_word shape v.mailbox) 0 0 none) (Reads v, []))
+  pub head_loads : LoadsHead v.reader.point → Allows (KeepsNodes shape) slots id (Receives v, []) (head_word shape v.mailbox) (λ n. n) (tells_load_head (step slots (head_word shape v.mailbox) 0 0 none) (Receives v, []))
   head_loads at s kept deep seen small =
-      let w : ReaderSeat = with_reader_at (after_head (get_or s.words (head_word shape v.mailbox) 0) v.reader) v in
-      (Reads w, keeps, tt, head_kept shape id v s kept seen at, (w, refl, head_told shape id v s kept seen at))
+      let w : ReceiverSeat = with_reader_at (after_head (get_or s.words (head_word shape v.mailbox) 0) v.reader) v in
+      (Receives w, keeps, tt, head_kept shape id v s kept seen at, (w, refl, head_told shape id v s kept seen at))
 
   pub stub_nulls : v.reader.point ≡ reads.Null
-      → Allows (KeepsNodes shape) slots id (Reads v, []) (next_word (stub_of v.shape v.mailbox)) (λ _. null) (λ _. tells_stub_null (step slots (next_word (stub_of v.shape v.mailbox)) null 0 none) (Reads v, []) null)
+      → Allows (KeepsNodes shape) slots id (Receives v, []) (next_word (stub_of v.shape v.mailbox)) (λ _. null) (λ _. tells_stub_null (step slots (next_word (stub_of v.shape v.mailbox)) null 0 none) (Receives v, []) null)
   stub_nulls at s kept deep seen small =
-      let w : ReaderSeat = reading_at reads.Swap v in
-      (Reads w, keeps, tt, null_kept shape id v s kept seen at, (w, refl, refl))
+      let w : ReceiverSeat = reading_at reads.Swap v in
+      (Receives w, keeps, tt, null_kept shape id v s kept seen at, (w, refl, refl))
 
   pub stub_swaps : v.reader.point ≡ reads.Swap
-      → Allows (KeepsNodes shape) slots id (Reads v, []) (head_word shape v.mailbox) (λ _. stub_of v.shape v.mailbox + 1) (tells_stub_swap (step slots (head_word shape v.mailbox) (stub_of v.shape v.mailbox + 1) 0 none) (Reads v, []))
+      → Allows (KeepsNodes shape) slots id (Receives v, []) (head_word shape v.mailbox) (λ _. stub_of v.shape v.mailbox + 1) (tells_stub_swap (step slots (head_word shape v.mailbox) (stub_of v.shape v.mailbox + 1) 0 none) (Receives v, []))
   stub_swaps at s kept deep seen small =
-      let w : ReaderSeat = reading_at (reads.Link (get_or s.words (head_word shape v.mailbox) 0 - 1)) v in
+      let w : ReceiverSeat = reading_at (reads.Link (get_or s.words (head_word shape v.mailbox) 0 - 1)) v in
       let found = swap_found shape id v s kept seen at in
-      (Reads w, keeps, tt, swap_kept shape id v s kept seen at, (w, refl, (refl, found.0, found.1)))
+      (Receives w, keeps, tt, swap_kept shape id v s kept seen at, (w, refl, (refl, found.0, found.1)))
 
   pub stub_links : (before : ℕ) → v.reader.point ≡ reads.Link before
-      → Allows (KeepsNodes shape) slots id (Reads v, []) (next_word before) (λ _. stub_of v.shape v.mailbox + 1) (λ _. tells_stub_link (step slots (next_word before) (stub_of v.shape v.mailbox + 1) 0 none) (Reads v, []) (stub_of v.shape v.mailbox + 1))
+      → Allows (KeepsNodes shape) slots id (Receives v, []) (next_word before) (λ _. stub_of v.shape v.mailbox + 1) (λ _. tells_stub_link (step slots (next_word before) (stub_of v.shape v.mailbox + 1) 0 none) (Receives v, []) (stub_of v.shape v.mailbox + 1))
   stub_links before at s kept deep seen small =
-      let w : ReaderSeat = reading_at reads.Last v in
-      (Reads w, keeps, tt, link_kept shape id v s kept seen before at, (w, refl, refl))
+      let w : ReceiverSeat = reading_at reads.Last v in
+      (Receives w, keeps, tt, link_kept shape id v s kept seen before at, (w, refl, refl))
 
   -- what is at hand
   module _ (h : Holding) (hand : v.at_hand ≡ Some h) (at : v.reader.point ≡ reads.Rest) where
-    pub line_loads : Allows (KeepsNodes shape) slots id (Reads v, []) (line_word_of h.node) (λ n. n) (tells_load_line (step slots (line_word_of h.node) 0 0 none) (Reads v, []))
-    line_loads s kept deep seen small = (Reads v, keeps, tt, look_kept shape id v s kept seen (line_word_of h.node), (v, refl, (refl, line_found shape id v s kept seen h hand)))
+    pub line_loads : Allows (KeepsNodes shape) slots id (Receives v, []) (line_word_of h.node) (λ n. n) (tells_load_line (step slots (line_word_of h.node) 0 0 none) (Receives v, []))
+    line_loads s kept deep seen small = (Receives v, keeps, tt, look_kept shape id v s kept seen (line_word_of h.node), (v, refl, (refl, line_found shape id v s kept seen h hand)))
 
-    pub amount_loads : Allows (KeepsNodes shape) slots id (Reads v, []) (amount_word_of h.node) (λ n. n) (tells_load_amount (step slots (amount_word_of h.node) 0 0 none) (Reads v, []))
-    amount_loads s kept deep seen small = (Reads v, keeps, tt, look_kept shape id v s kept seen (amount_word_of h.node), (v, refl, (refl, amount_found shape id v s kept seen h hand)))
+    pub amount_loads : Allows (KeepsNodes shape) slots id (Receives v, []) (amount_word_of h.node) (λ n. n) (tells_load_amount (step slots (amount_word_of h.node) 0 0 none) (Receives v, []))
+    amount_loads s kept deep seen small = (Receives v, keeps, tt, look_kept shape id v s kept seen (amount_word_of h.node), (v, refl, (refl, amount_found shape id v s kept seen h hand)))
 
-    pub turn_adds : Allows (KeepsNodes shape) slots id (Reads v, []) (turn_word h.node) (λ n. (n + 1) % 2 ^ 64) (tells_give_back (step slots (turn_word h.node) 1 0 none) (Reads v, []))
+    pub turn_adds : Allows (KeepsNodes shape) slots id (Receives v, []) (turn_word h.node) (λ n. (n + 1) % 2 ^ 64) (tells_give_back (step slots (turn_word h.node) 1 0 none) (Receives v, []))
     turn_adds s kept deep seen small =
-        let w : ReaderSeat = after_give (Some h) v in
-        (Reads w, keeps, tt, give_kept shape id v s kept seen h hand at, (w, refl, (ap (λ o. after_give o v) (sym hand), hand_held shape id v s kept seen h hand)))
+        let w : ReceiverSeat = after_give (Some h) v in
+        (Receives w, keeps, tt, give_kept shape id v s kept seen h hand at, (w, refl, (ap (λ o. after_give o v) (sym hand), hand_held shape id v s kept seen h hand)))

@@ -1,7 +1,7 @@
 use Rattle.std.proofs.Common.{◌∙◌, ◌<◌, ap, arith, refl, subst, sym}
 use Rattle.std.specs.Arc.{arc_value}
 use Rattle.node_table.specs.declared.steps.Nodes.{Nodes}
-use Rattle.node_table.proofs.nodes.NodeReader.deal_all.Goals as goal
+use Rattle.node_table.proofs.nodes.NodeReceiver.deal_all.Goals as goal
 
 pub deal_seat-seat-requires-clause-seat : goal.deal_seat-seat-requires-clause-seat
 deal_seat-seat-requires-clause-seat c = c.loop-mailbox.invariant.same ∙ (c.requires.seated ∙ ap (λ (n : Nodes). n.board.shared.table_id) (sym c.deref-in-loop-mailbox.ensures))
