@@ -63,7 +63,7 @@ works.cwr: parties in force: 6
 works.cwr: accounts, the residue'"'"'s included: 7
 '
 check 'a check' 0 "${facts}usage.csv: usage lines: 9
-usage.csv: OPEN, divided: lines 6, amount 557912, to the residue 10000
+usage.csv: divided: lines 6, amount 557912, to the residue 10000
 usage.csv: WORK, not registered: lines 1, amount 300
 usage.csv: LAND, territory not in the table: lines 1, amount 750
 usage.csv: OVER, claims over 100.06 per cent: lines 1, amount 5000
@@ -73,13 +73,18 @@ usage.csv: territory 999 is not in the table: lines 1, amount 750
 # Reversed whole, the list has the same lines again with the opposite amounts.
 { cat usage.csv; tail -n +2 usage.csv | sed 's/,\([0-9]*\)$/,-\1/'; } >reversed.csv
 check 'a check of lines that are taken back' 0 "${facts}reversed.csv: usage lines: 18
-reversed.csv: OPEN, divided: lines 12, amount 0, to the residue 0
+reversed.csv: divided: lines 12, amount 0, to the residue 0
 reversed.csv: WORK, not registered: lines 2, amount 0
 reversed.csv: LAND, territory not in the table: lines 2, amount 0
 reversed.csv: OVER, claims over 100.06 per cent: lines 2, amount 0
 reversed.csv: work 'NT0009' is not registered: lines 2, amount 0
 reversed.csv: territory 999 is not in the table: lines 2, amount 0
 " '' "$program" check --usage reversed.csv --tis territories.csv --cwr works.cwr
+# An exclusion and two parties are mistyped.
+sed 's/E0840/E0841/' works.cwr >mistyped.cwr
+printf 'party,payee\nRIVER,OKAFOR\nMOOM,BIGSKY\nNT0001,BIGSKY\n' >mistyped.csv
+check 'a check that remarks what a run passes over' 0 'mistyped.cwr: remark: share lines whose territory is not in the table: 1, the first in line 6\nmistyped.csv: remark: rows whose party no registration in force has: 2, the first in row 2\n' '' \
+    bash -c '"$0" check --tis territories.csv --payees mistyped.csv --cwr mistyped.cwr --usage usage.csv | grep remark' "$program"
 head -n 1 territories.csv >none.csv
 check 'a check of files of another kind' 0 "none.csv: territories: 0
 usage.csv: works with a registration in force: 0
@@ -88,7 +93,7 @@ usage.csv: parties in force: 0
 usage.csv: accounts, the residue's included: 1
 usage.csv: remark: no line is an NWR or REV
 usage.csv: usage lines: 9
-usage.csv: OPEN, divided: lines 0, amount 0, to the residue 0
+usage.csv: divided: lines 0, amount 0, to the residue 0
 usage.csv: WORK, not registered: lines 9, amount 563962
 usage.csv: LAND, territory not in the table: lines 0, amount 0
 usage.csv: OVER, claims over 100.06 per cent: lines 0, amount 0

@@ -108,7 +108,8 @@ fn table(
     sound
 }
 
-fn territories(sheet: &mut Sheet, bytes: &[u8]) {
+/// The codes of the sound rows.
+fn territories(sheet: &mut Sheet, bytes: &[u8]) -> HashSet<u16> {
     let mut known = HashSet::new();
     let many = (5, "there are more than 2048 rows".into());
     let count = table(sheet, bytes, &["code", "groups"], 2048, many, |row| {
@@ -126,11 +127,12 @@ fn territories(sheet: &mut Sheet, bytes: &[u8]) {
         Ok(())
     });
     sheet.fact("territories", count);
+    known
 }
 
-/// The payees of the sound rows.
-fn payees(sheet: &mut Sheet, bytes: &[u8]) -> Payees {
-    let mut payees = Payees::new();
+/// The payees of the sound rows, and the parties in the order of these rows.
+fn payees(sheet: &mut Sheet, bytes: &[u8]) -> (Payees, Vec<Vec<u8>>) {
+    let (mut payees, mut parties) = (Payees::new(), Vec::new());
     let many = (4, "there are more than 65536 rows".into());
     let count = table(sheet, bytes, &["party", "payee"], 65_536, many, |row| {
         let field = |n: usize| name(row[n]).filter(|text| text.len() <= LONGEST);
@@ -143,10 +145,11 @@ fn payees(sheet: &mut Sheet, bytes: &[u8]) -> Payees {
             return Err((3, format!("party {} has an earlier row", shown(row[0]))));
         }
         payees.insert(party.to_vec(), payee.to_vec());
+        parties.push(party.to_vec());
         Ok(())
     });
     sheet.fact("parties with a payee", count);
-    payees
+    (payees, parties)
 }
 
 /// The party of a share line whose shares begin at a place, after so many others of its registration.
@@ -192,12 +195,21 @@ fn short(line: &[u8]) -> Wrong {
     (1, format!("record {} {text}", shown(&line[..3])))
 }
 
+/// What the sound lines of a CWR file have.
+struct Found<'a> {
+    /// The territory of each share line of a registration, with the number of the line.
+    territories: Vec<(usize, u16)>,
+    /// The parties of the registrations in force.
+    parties: BTreeSet<&'a [u8]>,
+}
+
 /// `payees` are those of the sound rows; the accounts are told where all rows are sound.
-fn registrations(sheet: &mut Sheet, bytes: &[u8], payees: &Payees, all: bool) {
+fn registrations<'a>(sheet: &mut Sheet, bytes: &'a [u8], payees: &Payees, all: bool) -> Found<'a> {
     // Of each work the parties of the share lines of its last registration; and the work of the open one.
     let mut works: BTreeMap<&[u8], Vec<&[u8]>> = BTreeMap::new();
     let mut open: Option<&[u8]> = None;
     let mut registrations = 0;
+    let mut territories = Vec::new();
     for (n, line) in bytes.split(|&b| b == b'\n').enumerate() {
         let line = line.strip_suffix(b"\r").unwrap_or(line);
         let done = match line.get(..3) {
@@ -210,7 +222,10 @@ fn registrations(sheet: &mut Sheet, bytes: &[u8], payees: &Payees, all: bool) {
                 Some(work) => {
                     let parties = works.get_mut(work).unwrap();
                     let shares = if kind == b"SPT" { 34 } else { 28 };
-                    party_of(line, shares, parties.len()).map(|party| parties.push(party))
+                    party_of(line, shares, parties.len()).map(|party| {
+                        parties.push(party);
+                        territories.push((n + 1, code(&line[shares + 16..shares + 20]).unwrap()));
+                    })
                 }
                 None => Ok(()),
             },
@@ -238,6 +253,16 @@ fn registrations(sheet: &mut Sheet, bytes: &[u8], payees: &Payees, all: bool) {
     }
     if registrations == 0 {
         sheet.remark("no line is an NWR or REV");
+    }
+    Found { territories, parties }
+}
+
+/// A remark on lines or rows of a kind, by their numbers, where there are any.
+fn remark_on(path: &str, what: &str, kind: &str, numbers: impl Iterator<Item = usize>) -> String {
+    let numbers: Vec<usize> = numbers.collect();
+    match numbers.first() {
+        Some(first) => format!("{path}: remark: {what}: {}, the first in {kind} {first}\n", numbers.len()),
+        None => String::new(),
     }
 }
 
@@ -336,7 +361,7 @@ fn summary(tis_file: File, payees: &Payees, cwr_file: File, usage_file: File) ->
 
     let of = |reason: u8| by_reason[reason as usize];
     let mut told = vec![
-        format!("OPEN, divided: {}, to the residue {to_the_residue}", of(OPEN)),
+        format!("divided: {}, to the residue {to_the_residue}", of(OPEN)),
         format!("WORK, not registered: {}", of(WORK)),
         format!("LAND, territory not in the table: {}", of(LAND)),
         format!("OVER, claims over 100.06 per cent: {}", of(OVER)),
@@ -363,16 +388,17 @@ pub type File<'a> = (&'a str, &'a [u8]);
 /// The report, and whether no file has a fault.
 pub fn check(tis: File, payees_file: Option<File>, cwr: File, usage_file: File) -> (String, bool) {
     let mut sheets = vec![Sheet::new(tis.0, "row")];
-    territories(&mut sheets[0], tis.1);
-    let (mut table, mut all) = (Payees::new(), true);
+    let known = territories(&mut sheets[0], tis.1);
+    let (mut table, mut paid, mut all) = (Payees::new(), Vec::new(), true);
     if let Some((path, bytes)) = payees_file {
         let mut sheet = Sheet::new(path, "row");
-        table = payees(&mut sheet, bytes);
+        (table, paid) = payees(&mut sheet, bytes);
         all = sheet.faults == 0;
         sheets.push(sheet);
     }
     let mut sheet = Sheet::new(cwr.0, "line");
-    registrations(&mut sheet, cwr.1, &table, all);
+    let found = registrations(&mut sheet, cwr.1, &table, all);
+    let registered = sheet.faults == 0;
     sheets.push(sheet);
     let mut sheet = Sheet::new(usage_file.0, "row");
     usage(&mut sheet, usage_file.1);
@@ -387,6 +413,15 @@ pub fn check(tis: File, payees_file: Option<File>, cwr: File, usage_file: File) 
     }
     for sheet in sheets.iter().filter(|sheet| sheet.faults == 0) {
         text += &sheet.facts;
+    }
+    if registered && sheets[0].faults == 0 {
+        let unknown = found.territories.iter().filter(|(_, land)| !known.contains(land)).map(|line| line.0);
+        text += &remark_on(cwr.0, "share lines whose territory is not in the table", "line", unknown);
+    }
+    if let (Some((path, _)), true) = (payees_file, registered && all) {
+        let unused = paid.iter().enumerate().filter(|(_, party)| !found.parties.contains(&party[..]));
+        let numbers = unused.map(|(n, _)| n + 1);
+        text += &remark_on(path, "rows whose party no registration in force has", "row", numbers);
     }
     let sound = sheets.iter().all(|sheet| sheet.faults == 0);
     if sound {

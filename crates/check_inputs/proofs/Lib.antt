@@ -1,3 +1,4 @@
 pub mod GoingOn
 pub mod Reporting
+pub mod Tallied
 pub mod Telling

@@ -1,11 +1,17 @@
 -- A report, put together from its four files and what a run makes of them.
-use Rattle.std.proofs.Common.{◌≡◌, ◌++◌, ◌∙◌, [], ℕ, List, Bool, Option, Some, None, true, false, append_assoc, length, refl}
+use Rattle.std.proofs.Common.{◌≡◌, ◌++◌, ◌∙◌, ◌∷◌, [], ℕ, List, Bool, Option, Some, None, true, false, ap, append_assoc, arith, length, refl}
 use Rattle.std.specs.Prelude.{◌==◌, ◌&&◌}
 use Rattle.std.specs.Option.{option_map, option_map_or}
+use Rattle.std.proofs.lemmas.List.{length_push}
+use Rattle.cwr_share.proofs.CwrReadings.{file_read_whole}
+use Rattle.cwr_share.specs.CwrFile.{AreSound}
+use Rattle.cwr_share.specs.Registered.{Registered}
+use Rattle.cwr_share.specs.declared.cwr_fault.CwrFault.{CwrFault}
+use Rattle.cwr_share.specs.declared.cwr_fault.CwrFault.TheVariants.{Accounts}
 use Rattle.check_inputs.specs.Checked.{IsReportOn, path_if_given, payee_facts}
 use Rattle.check_inputs.specs.SoFar.{Adds, GoesOn}
-use Rattle.check_inputs.specs.Found.{Files, Found, IsFoundIn, is_sound}
-use Rattle.check_inputs.specs.Report.{Paths, cwr_facts, cwr_line, fault_lines, payee_line, payees_facts, tis_facts, tis_line, totals_text, usage_facts, usage_line}
+use Rattle.check_inputs.specs.Found.{AreRegistrationsWithout, Files, Found, IsFoundIn, is_sound}
+use Rattle.check_inputs.specs.Report.{Paths, cwr_facts, cwr_line, fault_lines, payee_line, payees_facts, payees_remark, territories_remark, tis_facts, tis_line, totals_text, usage_facts, usage_line}
 use Rattle.check_inputs.specs.declared.report.File.{File}
 use Rattle.check_inputs.specs.declared.report.Sheet.{Sheet}
 
@@ -16,9 +22,10 @@ all_four true true false d = refl
 all_four true false c d = refl
 all_four false b c d = refl
 
--- five texts, one after another
-all_in_order : (none a b c d e one two three four five : List ℕ) → none ≡ [] → one ≡ none ++ a → two ≡ one ++ b → three ≡ two ++ c → four ≡ three ++ d → five ≡ four ++ e → five ≡ a ++ b ++ c ++ d ++ e
-all_in_order none a b c d e one two three four five is w x y z v = rw (v, z, y, x, w, is) (simp (append_assoc) refl)
+-- seven texts, one after another
+all_in_order : (none a b c d e f g one two three four five six seven : List ℕ) → none ≡ [] → one ≡ none ++ a → two ≡ one ++ b → three ≡ two ++ c → four ≡ three ++ d → five ≡ four ++ e → six ≡ five ++ f
+    → seven ≡ six ++ g → seven ≡ a ++ b ++ c ++ d ++ e ++ f ++ g
+all_in_order none a b c d e f g one two three four five six seven is w x y z v u t = rw (t, u, v, z, y, x, w, is) (simp (append_assoc) refl)
 
 -- four texts, one after another
 in_order : (none a b c d one two three four : List ℕ) → none ≡ [] → one ≡ none ++ a → two ≡ one ++ b → three ≡ two ++ c → four ≡ three ++ d → four ≡ a ++ b ++ c ++ d
@@ -31,7 +38,7 @@ pub sound_of_four : (found : Found) (none one two three four : Sheet) → none.i
 sound_of_four found none one two three four so_far first second third fourth =
     rw (fourth, third, second, first, so_far) (all_four (length found.of_territories == 0) (length found.of_payees == 0) (length found.of_registrations == 0) (length found.of_usage == 0))
 
-pub put_together : (paths : Paths) (files : Files) (found : Found) (none one two three four five : Sheet) (text : List ℕ) (sound : Bool)
+pub put_together : (paths : Paths) (files : Files) (found : Found) (none one two three four five six seven : Sheet) (text : List ℕ) (sound : Bool)
     → (none.faults.items ≡ []) × (none.facts.items ≡ []) × (none.is_sound ≡ true)
     → GoesOn none one (length found.of_territories) (fault_lines (tis_line paths.territories) paths.territories found.of_territories) (tis_facts paths.territories (length found.of_territories) found.table)
     → GoesOn one two (length found.of_payees) (fault_lines (payee_line paths.payees) paths.payees found.of_payees)
@@ -39,18 +46,21 @@ pub put_together : (paths : Paths) (files : Files) (found : Found) (none one two
     → GoesOn two three (length found.of_registrations) (fault_lines (cwr_line paths.registrations) paths.registrations found.of_registrations)
     (cwr_facts paths.registrations files.registrations (length found.of_registrations) (length found.of_payees) found.registered)
     → GoesOn three four (length found.of_usage) (fault_lines (usage_line paths.usage) paths.usage found.of_usage) (usage_facts paths.usage (length found.of_usage) found.lines)
-    → Adds four five (option_map_or (totals_text paths.territories paths.registrations paths.usage (length found.lines)) found.totals [])
-    → IsFoundIn files found → (text ≡ five.faults.items ++ five.facts.items) × (sound ≡ five.is_sound) → IsReportOn paths files text sound
-put_together paths files found none one two three four five text sound begun first second third fourth last is (written, told) = record {
+    → Adds four five (territories_remark paths.registrations files.registrations (length found.of_registrations) (length found.of_territories) found.table)
+    → Adds five six (payees_remark paths.payees (length found.of_payees) (length found.of_registrations) found.rows found.registered)
+    → Adds six seven (option_map_or (totals_text paths.territories paths.registrations paths.usage (length found.lines)) found.totals [])
+    → IsFoundIn files found → (text ≡ seven.faults.items ++ seven.facts.items) × (sound ≡ seven.is_sound) → IsReportOn paths files text sound
+put_together paths files found none one two three four five six seven text sound begun first second third fourth fifth sixth last is (written, told) = record {
   found = found;
   inputs = is;
   written =
       written
       ∙ rw (
-        last.in_words ∙ in_order none.faults.items _ _ _ _ one.faults.items two.faults.items three.faults.items four.faults.items begun.0 first.in_words second.in_words third.in_words fourth.in_words,
-        all_in_order none.facts.items _ _ _ _ _ one.facts.items two.facts.items three.facts.items four.facts.items five.facts.items begun.1 first.in_numbers second.in_numbers third.in_numbers fourth.in_numbers last.in_numbers,
+        last.in_words ∙ sixth.in_words ∙ fifth.in_words ∙ in_order none.faults.items _ _ _ _ one.faults.items two.faults.items three.faults.items four.faults.items begun.0 first.in_words second.in_words third.in_words fourth.in_words,
+        all_in_order none.facts.items _ _ _ _ _ _ _ one.facts.items two.facts.items three.facts.items four.facts.items five.facts.items six.facts.items seven.facts.items begun.1 first.in_numbers second.in_numbers third.in_numbers
+            fourth.in_numbers fifth.in_numbers sixth.in_numbers last.in_numbers,
       ) refl;
-  told = told ∙ last.sound ∙ sound_of_four found none one two three four begun.2 first.sound second.sound third.sound fourth.sound;
+  told = told ∙ last.sound ∙ sixth.sound ∙ fifth.sound ∙ sound_of_four found none one two three four begun.2 first.sound second.sound third.sound fourth.sound;
 }
 
 -- what is said of a table of payees, by whether it is there
@@ -58,3 +68,10 @@ pub facts_given : (file : Option File) (faults : ℕ) (rows : List (List ℕ × 
     → payee_facts file faults rows ≡ option_map_or (λ _. payees_facts (path_if_given file) faults rows) (option_map (λ file. file.bytes.items) file) []
 facts_given None faults rows = refl
 facts_given (Some file) faults rows = refl
+
+-- a CWR file of which no line is left out has sound lines
+pub sound_without : (rows : List (List ℕ × List ℕ)) (lines : List (List ℕ)) (out : List (List ℕ × CwrFault)) (registered : Option Registered) → AreRegistrationsWithout rows lines out registered
+    → length out ≡ 0 → AreSound lines
+sound_without rows lines [] (Some registered) (whole, _) none = (file_read_whole rows lines registered whole).sound
+sound_without rows lines [] None many none = absurd (omega (arith, ap length many.last, length_push many.faults ([], Accounts)))
+sound_without rows lines (e ∷ out) registered is none = absurd (omega (arith, none))

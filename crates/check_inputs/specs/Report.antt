@@ -1,9 +1,10 @@
 -- The report on the inputs of a run: every fault, and what is in the files that have none.
-use Rattle.std.specs.Prelude.{ℕ, ◌-◌, ◌==◌, ◌&&◌, ◌++◌, [], List, Option, codes, count_by, decimal, flat_map, if◌then◌else◌, length, nat_lt, not, take}
+use Rattle.std.specs.Prelude.{ℕ, ◌-◌, ◌==◌, ◌&&◌, ◌++◌, ◌∷◌, [], List, Option, codes, count_by, decimal, flat_map, if◌then◌else◌, length, nat_lt, not, take}
 use Rattle.std.specs.Fmt.{signed_decimal}
 use Rattle.std.specs.Option.{option_map_or}
 use Rattle.cwr_share.specs.CwrFile as cwr
 use Rattle.cwr_share.specs.Lines.{lines_of}
+use Rattle.cwr_share.specs.PassedOver.{unknown_lines, unused_rows}
 use Rattle.cwr_share.specs.PayeeTable as payees
 use Rattle.cwr_share.specs.Records.{opens_registration}
 use Rattle.cwr_share.specs.Registered.{Registered}
@@ -83,6 +84,26 @@ abbrev pub usage_facts : (path : List ℕ) → (faults : ℕ) → List UsageLine
 usage_facts path faults lines =
     if_none faults (fact_line path (codes "usage lines") (length lines) ++ if_none (length lines) (remark_line path (codes "there are no usage lines")))
 
+-- of a kind of lines or rows that a run passes over: how many there are, and the number of the first
+abbrev pub tally_line : (path what kind : List ℕ) → List ℕ → List ℕ
+tally_line path what kind [] = []
+tally_line path what kind (first ∷ later) =
+    remark_line path (what ++ codes ": " ++ decimal (length (first ∷ later)) ++ codes ", the first in " ++ kind ++ decimal first)
+
+-- a text about two files that have so many faults: there is one where neither has any
+abbrev pub if_neither : (faults others : ℕ) → List ℕ → List ℕ
+if_neither faults others text = if (faults == 0) && (others == 0) then text else []
+
+-- share lines of registrations, replaced ones too, whose territory the table does not have
+abbrev pub territories_remark : (path bytes : List ℕ) → (faults tis_faults : ℕ) → List (ℕ × List ℕ) → List ℕ
+territories_remark path bytes faults tis_faults table =
+    if_neither faults tis_faults (tally_line path (codes "share lines whose territory is not in the table") (codes "line ") (unknown_lines table (lines_of bytes)))
+
+-- rows of a table of payees whose party no registration in force has
+abbrev pub payees_remark : (path : List ℕ) → (faults cwr_faults : ℕ) → List (List ℕ × List ℕ) → Option Registered → List ℕ
+payees_remark path faults cwr_faults rows registered =
+    if_neither faults cwr_faults (option_map_or (λ registered. tally_line path (codes "rows whose party no registration in force has") (codes "row ") (unused_rows registered rows)) registered [])
+
 -- a work without a registration, and a territory that the table has not
 abbrev pub work_line : (path : List ℕ) → List ℕ × Total → List ℕ
 work_line path e = total_line path (around (codes "work '") e.0 (codes "' is not registered")) e.1 []
@@ -92,7 +113,7 @@ territory_line path e = total_line path (codes "territory " ++ decimal e.0 ++ co
 
 -- the lines that are divided, and what of them is the residue's
 abbrev pub divided_line : (path : List ℕ) → Totals → List ℕ
-divided_line path totals = total_line path (codes "OPEN, divided") totals.divided (codes ", to the residue " ++ signed_decimal totals.residue)
+divided_line path totals = total_line path (codes "divided") totals.divided (codes ", to the residue " ++ signed_decimal totals.residue)
 
 -- the lines of each reason
 abbrev pub reasons_text : (path : List ℕ) → Totals → List ℕ
@@ -111,13 +132,15 @@ totals_text territories registrations usage lines totals =
     ++ (if nat_lt 0 lines && (totals.unregistered.lines == lines) then remark_line registrations (codes "it has the work of no usage line") else [])
     ++ (if nat_lt 0 lines && not totals.knows_a_territory then remark_line territories (codes "it has the territory of no usage line") else [])
 
--- what is in the files that have no fault; nothing is said of a table of payees that is not there
+-- what is in the files that have no fault, and what of it a run passes over; nothing is said of a table of payees that is not there
 abbrev pub facts_text : Paths → Files → Found → List ℕ
 facts_text paths files found =
     tis_facts paths.territories (length found.of_territories) found.table
     ++ option_map_or (λ _. payees_facts paths.payees (length found.of_payees) found.rows) files.payees []
     ++ cwr_facts paths.registrations files.registrations (length found.of_registrations) (length found.of_payees) found.registered
     ++ usage_facts paths.usage (length found.of_usage) found.lines
+    ++ territories_remark paths.registrations files.registrations (length found.of_registrations) (length found.of_territories) found.table
+    ++ payees_remark paths.payees (length found.of_payees) (length found.of_registrations) found.rows found.registered
     ++ option_map_or (totals_text paths.territories paths.registrations paths.usage (length found.lines)) found.totals []
 
 -- the report

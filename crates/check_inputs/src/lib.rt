@@ -5,6 +5,7 @@
 pub mod laws;
 mod messages;
 mod reading;
+mod remarks;
 mod report;
 mod summary;
 mod told;

@@ -3,6 +3,7 @@
 ghost use Rattle.std.specs.Option.{option_map, option_map_or};
 ghost use Rattle.std.specs.Prelude.{◌≡◌, ◌++◌, [], ◌==◌, ◌&&◌, ℕ, List, IfOk, OnOk, Option, codes, count_by, length, string_bytes};
 ghost use Rattle.csv_table.specs.Table.{rows_of};
+ghost use Rattle.cwr_share.specs.CwrFile.{AreSound};
 ghost use Rattle.cwr_share.specs.Lines.{lines_of};
 ghost use Rattle.cwr_share.specs.Records.{opens_registration};
 ghost use Rattle.cwr_share.specs.Registered.{Registered};
@@ -18,9 +19,11 @@ ghost use Rattle.check_inputs.specs.Checked.{IsReportOn, files_of, path_if_given
 ghost use Rattle.check_inputs.specs.Found.{ArePayeesWithout, AreRegistrationsWithout, AreTotalsIfSound};
 ghost use Rattle.check_inputs.specs.Messages.{fact_line, remark_line};
 ghost use Rattle.check_inputs.specs.SoFar.{Adds, GoesOn};
-ghost use Rattle.check_inputs.specs.Report.{cwr_facts, cwr_line, cwr_numbers, fault_lines, if_none, payee_line, tis_facts, tis_line, totals_text, usage_facts, usage_line};
+ghost use Rattle.check_inputs.specs.Report.{cwr_facts, cwr_line, cwr_numbers, fault_lines, if_none, payee_line, payees_remark, territories_remark};
+ghost use Rattle.check_inputs.specs.Report.{tis_facts, tis_line, totals_text, usage_facts, usage_line};
 
 use crate::reading::{read_cwr, read_payees, read_tis, read_usage};
+use crate::remarks::{add_payees_remark, add_territories_remark};
 use crate::summary::{Paths, add_totals};
 use crate::told::Told;
 use crate::words::{add_fact, add_remark};
@@ -50,7 +53,7 @@ pub struct File {
 
 /// Reports on the inputs of a run: a table of territories, a table of payees where there is one, a CWR file and a usage list. Each is
 /// read whatever stands in the others, past each row or line that is refused. The report has the first hundred faults of each, what is in
-/// those that have none, and, where none has a fault, what a run makes of the usage lines.
+/// those that have none, what a run passes over in them, and, where none has a fault, what a run makes of the usage lines.
 pub fn check(
     alloc: Global,
     tis: &File,
@@ -65,10 +68,12 @@ pub fn check(
         facts: Vec::new(alloc),
         is_sound: true,
     };
-    let territories = sheet.tis(alloc, tis)?;
+    let (territories, tis_faults) = sheet.tis(alloc, tis)?;
     let (rows, payee_faults) = sheet.payees(alloc, payees)?;
-    let registry = sheet.cwr(alloc, cwr, &rows, payee_faults)?;
+    let (registry, cwr_faults) = sheet.cwr(alloc, cwr, &rows, payee_faults)?;
     let lines = sheet.usage(alloc, usage)?;
+    sheet.territories_remark(cwr, cwr_faults, &territories, tis_faults)?;
+    sheet.payees_remark(payees, payee_faults, &rows, &registry, cwr_faults)?;
     let paths = Paths {
         territories: tis.path.as_str(),
         registrations: cwr.path.as_str(),
@@ -90,10 +95,11 @@ struct Sheet {
 }
 
 impl Sheet {
-    /// Adds a table of territories.
-    fn tis(&mut self, alloc: Global, file: &File) -> Result<TisTable, AllocError>
-        ensures { IfOk result (λ table. (out : List (List (List ℕ) × TisFault)) × tis.IsReadWithout (rows_of file.now.bytes.items) out table
-            × GoesOn self.old self.new (length out) (fault_lines (tis_line (string_bytes file.now.path)) (string_bytes file.now.path) out) (tis_facts (string_bytes file.now.path) (length out) table)) }
+    /// Adds a table of territories, and answers how many faults it has.
+    fn tis(&mut self, alloc: Global, file: &File) -> Result<(TisTable, u64), AllocError>
+        ensures { IfOk result (λ read. (out : List (List (List ℕ) × TisFault)) × tis.IsReadWithout (rows_of file.now.bytes.items) out read.0 × (read.1 ≡ length out)
+            × GoesOn self.old self.new (length out) (fault_lines (tis_line (string_bytes file.now.path)) (string_bytes file.now.path) out)
+            (tis_facts (string_bytes file.now.path) (length out) read.0)) }
     {
         let path = file.path.as_str();
         let (told, table) = read_tis(alloc, path, file.bytes.as_slice())?;
@@ -105,7 +111,7 @@ impl Sheet {
             "territories",
             table.len() as u64,
         )?;
-        Ok(table)
+        Ok((table, told.count))
     }
 
     /// Adds a table of payees, where there is one, and answers how many faults it has.
@@ -119,34 +125,73 @@ impl Sheet {
         Ok((rows, told.count))
     }
 
-    /// Adds a CWR file, where the table of payees has so many faults.
+    /// Adds a CWR file, where the table of payees has so many faults, and answers how many it has.
     fn cwr(
         &mut self,
         alloc: Global,
         file: &File,
         payees: &Payees,
         payee_faults: u64,
-    ) -> Result<Option<Registry>, AllocError>
-        ensures { IfOk result (λ registered. (out : List (List ℕ × CwrFault)) × AreRegistrationsWithout payees.now (lines_of file.now.bytes.items) out registered
+    ) -> Result<(Option<Registry>, u64), AllocError>
+        ensures { IfOk result (λ read. (out : List (List ℕ × CwrFault)) × AreRegistrationsWithout payees.now (lines_of file.now.bytes.items) out read.0 × (read.1 ≡ length out)
             × GoesOn self.old self.new (length out) (fault_lines (cwr_line (string_bytes file.now.path)) (string_bytes file.now.path) out)
-            (cwr_facts (string_bytes file.now.path) file.now.bytes.items (length out) payee_faults registered)) }
+            (cwr_facts (string_bytes file.now.path) file.now.bytes.items (length out) payee_faults read.0)) }
     {
         let (told, registry) = read_cwr(alloc, file.path.as_str(), file.bytes.as_slice(), payees)?;
         self.add_faults(&told)?;
         add_cwr_facts(&mut self.facts, file, told.count, payee_faults, &registry)?;
-        Ok(registry)
+        Ok((registry, told.count))
     }
 
     /// Adds a usage list.
     fn usage(&mut self, alloc: Global, file: &File) -> Result<Usage, AllocError>
         ensures { IfOk result (λ lines. (out : List (List (List ℕ) × LineFault)) × usage.IsReadWithout (rows_of file.now.bytes.items) out lines
-            × GoesOn self.old self.new (length out) (fault_lines (usage_line (string_bytes file.now.path)) (string_bytes file.now.path) out) (usage_facts (string_bytes file.now.path) (length out) lines)) }
+            × GoesOn self.old self.new (length out) (fault_lines (usage_line (string_bytes file.now.path)) (string_bytes file.now.path) out)
+            (usage_facts (string_bytes file.now.path) (length out) lines)) }
     {
         let path = file.path.as_str();
         let (told, lines) = read_usage(alloc, path, file.bytes.as_slice())?;
         self.add_faults(&told)?;
         add_usage_facts(&mut self.facts, told.count, path, lines.len() as u64)?;
         Ok(lines)
+    }
+
+    /// Remarks on share lines whose territory the table does not have, where the two files have so many faults.
+    fn territories_remark(
+        &mut self,
+        file: &File,
+        faults: u64,
+        table: &TisTable,
+        tis_faults: u64,
+    ) -> Result<(), AllocError>
+        requires { faults ≡ 0 → AreSound (lines_of file.now.bytes.items) }
+        ensures { OnOk result (Adds self.old self.new (territories_remark (string_bytes file.now.path) file.now.bytes.items faults tis_faults table.now)) }
+    {
+        add_territories_remark(
+            &mut self.facts,
+            file.path.as_str(),
+            file.bytes.as_slice(),
+            faults,
+            tis_faults,
+            table,
+        )?;
+        Ok(())
+    }
+
+    /// Remarks on rows of payees whose party no registration in force has, where the two files have so many faults.
+    fn payees_remark(
+        &mut self,
+        file: &Option<File>,
+        faults: u64,
+        rows: &Payees,
+        registry: &Option<Registry>,
+        cwr_faults: u64,
+    ) -> Result<(), AllocError>
+        ensures { OnOk result (Adds self.old self.new (payees_remark (path_if_given file.now) faults cwr_faults rows.now registry.now)) }
+    {
+        let path = path_or_none(file);
+        add_payees_remark(&mut self.facts, path, faults, cwr_faults, rows, registry)?;
+        Ok(())
     }
 
     /// Adds what a run makes of the lines, where no file has a fault.
@@ -240,6 +285,16 @@ fn read_payees_if_given<'a>(
     }
 }
 
+/// The path of a file that need not be there.
+fn path_or_none(file: &Option<File>) -> &str
+    ensures { result.now ≡ path_if_given file.now }
+{
+    match file {
+        Some(file) => file.path.as_str(),
+        None => "",
+    }
+}
+
 /// Adds what is in a table of payees, where there is one that has no fault.
 fn add_payee_facts(
     text: &mut Vec<u8>,
@@ -325,7 +380,8 @@ fn add_usage_facts(
     path: &str,
     lines: u64,
 ) -> Result<(), AllocError>
-    ensures { OnOk result (text.new.items ≡ text.old.items ++ if_none faults (fact_line path.now (codes "usage lines") lines ++ if_none lines (remark_line path.now (codes "there are no usage lines")))) }
+    ensures { OnOk result (text.new.items ≡ text.old.items ++ if_none faults (fact_line path.now (codes "usage lines") lines
+        ++ if_none lines (remark_line path.now (codes "there are no usage lines")))) }
 {
     if faults > 0 {
         return Ok(());

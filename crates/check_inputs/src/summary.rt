@@ -93,7 +93,7 @@ fn add_divided(text: &mut Vec<u8>, path: &str, totals: &Totals<'_>) -> Result<()
     ensures { OnOk result (text.new.items ≡ text.old.items ++ divided_line path.now totals.now) }
 {
     add_path(text, path)?;
-    add(text, "OPEN, divided")?;
+    add(text, "divided")?;
     add_lines(text, totals.divided)?;
     add(text, ", to the residue ")?;
     add_residue(text, totals)?;

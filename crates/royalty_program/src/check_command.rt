@@ -16,10 +16,12 @@ whatever stands in the others, past each row or line that a run would refuse.
 
 The answer has a line for each fault, the first hundred of each file, as
   usage.csv: row 3: amount '12,5' is not a whole number from -1000000000000 to 1000000000000 (fault 5)
-and then how many there are of what is in the files without a fault. Where no file has a fault, it
-has how many usage lines are divided (OPEN) and how many are not (WORK, LAND, OVER), what they come
-to, and the unregistered works and the unknown territories with most money. The first fault is the
-one for which a run refuses the files. Status 0: no file has a fault; 1: one has.
+and then how many there are of what is in the files without a fault, and remarks on what a run
+passes over: share lines whose territory is not in the table, and payees of parties that nobody is.
+Where no file has a fault, it has how many usage lines are divided and how many are not (WORK, LAND,
+OVER), what they come to, and the unregistered works and the unknown territories with most money.
+The first fault is the one for which a run refuses the files. Status 0: no file has a fault; 1: one
+has.
 
 Example:
   royalty_run check --tis territories.csv --cwr works.cwr --usage usage.csv";

@@ -49,7 +49,8 @@ pub record AreHashed {K : Type 0} (eq : K → K → Bool) (key : UsageLine → K
 
 -- how two of them stand: by the hash, and where that is the same by the key
 abbrev pub in_order_of_hash : {K : Type 0} → (K → K → Ordering) → (UsageLine → K) → List UsageLine → Hashed → Hashed → Ordering
-in_order_of_hash cmp key lines hashed other = ordering_then (nat_cmp hashed.hash other.hash) (option_cmp cmp (option_map key (slice_get lines hashed.place)) (option_map key (slice_get lines other.place)))
+in_order_of_hash cmp key lines hashed other =
+    ordering_then (nat_cmp hashed.hash other.hash) (option_cmp cmp (option_map key (slice_get lines hashed.place)) (option_map key (slice_get lines other.place)))
 
 -- each amount is of the key of the one before it, or of a key that had none before
 abbrev pub StandTogether : {K : Type 0} → (K → K → Bool) → List (K × ℤ) → Type 0

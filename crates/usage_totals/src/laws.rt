@@ -42,8 +42,10 @@ pub fn law_those_shown_have_most_money()
 /// The works and the territories that are shown are determined, with their order: by the same
 /// territories and registrations the same lines have one answer.
 pub fn law_those_shown_are_determined()
-    ensures works { (table : List (ℕ × List ℕ)) (registered : Registered) (lines : List UsageLine) (totals other : Totals) → AreTotalsOf table registered lines totals → AreTotalsOf table registered lines other
+    ensures works { (table : List (ℕ × List ℕ)) (registered : Registered) (lines : List UsageLine) (totals other : Totals)
+        → AreTotalsOf table registered lines totals → AreTotalsOf table registered lines other
         → totals.works.items ≡ other.works.items }
-    ensures territories { (table : List (ℕ × List ℕ)) (registered : Registered) (lines : List UsageLine) (totals other : Totals) → AreTotalsOf table registered lines totals → AreTotalsOf table registered lines other
+    ensures territories { (table : List (ℕ × List ℕ)) (registered : Registered) (lines : List UsageLine) (totals other : Totals)
+        → AreTotalsOf table registered lines totals → AreTotalsOf table registered lines other
         → totals.territories.items ≡ other.territories.items }
 {}

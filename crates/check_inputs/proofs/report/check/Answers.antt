@@ -1,12 +1,18 @@
-use Rattle.std.proofs.Common.{length, refl, subst, true}
+use Rattle.std.proofs.Common.{◌∙◌, length, refl, subst, sym, true}
 use Rattle.std.specs.Prelude.{Bool}
 use Rattle.std.proofs.lemmas.Result.{IfOk-weaker}
 use Rattle.check_inputs.specs.Checked.{IsReportOn, files_of, paths_of}
 use Rattle.check_inputs.specs.Found.{AreTotalsIfSound, Found, IsFoundIn}
 use Rattle.check_inputs.specs.declared.report.Checked.{Checked}
 use Rattle.check_inputs.specs.declared.report.Sheet.{Sheet}
-use Rattle.check_inputs.proofs.Reporting.{facts_given, put_together, sound_of_four}
+use Rattle.cwr_share.specs.Lines.{lines_of}
+use Rattle.check_inputs.proofs.Reporting.{facts_given, put_together, sound_of_four, sound_without}
 use Rattle.check_inputs.proofs.report.check.Goals as goal
+
+pub territories_remark-requires : goal.territories_remark-requires
+territories_remark-requires c none =
+    let (of_cwr, is_cwr, so_many, third) = c.in_ok-registry.ensures in
+    sound_without c.in_ok-rows.rows (lines_of c.args.cwr.now.bytes.items) of_cwr c.in_ok-registry.registry is_cwr (sym so_many ∙ none)
 
 pub returns : goal.returns
 returns c =
@@ -14,10 +20,12 @@ returns c =
     let payees = c.args.payees.now in
     let cwr = c.args.cwr.now in
     let usage = c.args.usage.now in
-    let (of_tis, is_tis, first) = c.in_ok-territories.ensures in
+    let (of_tis, is_tis, so_many_rows, first) = c.in_ok-territories.ensures in
     let (of_payees, is_payees, so_many, second) = c.in_ok-rows.ensures in
-    let (of_cwr, is_cwr, third) = c.in_ok-registry.ensures in
+    let (of_cwr, is_cwr, so_many_lines, third) = c.in_ok-registry.ensures in
     let (of_usage, is_usage, fourth) = c.in_ok-lines.ensures in
+    let fifth = rw (so_many_lines, so_many_rows) at c.in_ok-territories_remark.ensures in
+    let sixth = rw (so_many, so_many_lines) at c.in_ok-payees_remark.ensures in
     let (totals, are_totals, last) = c.in_ok-totals.ensures in
     let found : Found = record {
       of_territories = of_tis;
@@ -31,7 +39,7 @@ returns c =
       totals = totals;
     } in
     let none : Sheet = record { faults = c.new.result; facts = c.new-2.result; is_sound = true } in
-    let so_far = sound_of_four found none c.tis.new.self c.payees.new.self c.cwr.new.self c.usage.new.self refl first.sound second.sound third.sound fourth.sound in
+    let so_far = sixth.sound ∙ fifth.sound ∙ sound_of_four found none c.tis.new.self c.payees.new.self c.cwr.new.self c.usage.new.self refl first.sound second.sound third.sound fourth.sound in
     let is : IsFoundIn (files_of tis payees cwr usage) found = record {
       territories = is_tis;
       payees = is_payees;
@@ -40,7 +48,7 @@ returns c =
       totals = subst (λ (sound : Bool). AreTotalsIfSound sound found.table found.registered found.lines totals) so_far are_totals;
     } in
     IfOk-weaker c.finish.result _ (λ (checked : Checked). IsReportOn (paths_of tis payees cwr usage) (files_of tis payees cwr usage) checked.text.items checked.is_sound)
-    (λ checked whole. put_together (paths_of tis payees cwr usage) (files_of tis payees cwr usage) found none c.tis.new.self c.payees.new.self c.cwr.new.self c.usage.new.self c.totals.new.self checked.text.items
-    checked.is_sound (c.new.ensures.items, c.new-2.ensures.items, refl) first (rw (facts_given payees (length of_payees) c.in_ok-rows.rows) at second) (rw so_many at third) fourth
+    (λ checked whole. put_together (paths_of tis payees cwr usage) (files_of tis payees cwr usage) found none c.tis.new.self c.payees.new.self c.cwr.new.self c.usage.new.self c.territories_remark.new.self c.payees_remark.new.self c.totals.new.self checked.text.items
+    checked.is_sound (c.new.ensures.items, c.new-2.ensures.items, refl) first (rw (facts_given payees (length of_payees) c.in_ok-rows.rows) at second) (rw so_many at third) fourth fifth sixth
     (rw (c.as_str.ensures.value, c.as_str-2.ensures.value, c.as_str-3.ensures.value) at last) is whole)
     c.finish.ensures
