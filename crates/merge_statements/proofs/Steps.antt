@@ -19,18 +19,18 @@ kind_of (Ended lines) kind fits = absurd fits
 
 -- the first byte of a row is the letter of its kind
 abbrev Begins : List ℕ → Type 0
-Begins kind = (whose third fourth : List ℕ) → get_or (text_of_row (row_of kind whose third fourth)) 0 0 ≡ get_or kind 0 0
+Begins kind = (payee_or_reason usage_or_count amount_or_total : List ℕ) → get_or (text_of_row (row_of kind payee_or_reason usage_or_count amount_or_total)) 0 0 ≡ get_or kind 0 0
 
 begins : (kind : List ℕ) → IsKind kind → Begins kind
 begins kind is = elim is [
-  | inl l ↦ subst Begins (sym l) (λ whose third fourth. refl)
+  | inl l ↦ subst Begins (sym l) (λ payee_or_reason usage_or_count amount_or_total. refl)
   | inr others ↦ elim others [
-    | inl s ↦ subst Begins (sym s) (λ whose third fourth. refl)
+    | inl s ↦ subst Begins (sym s) (λ payee_or_reason usage_or_count amount_or_total. refl)
     | inr more ↦ elim more [
-      | inl m ↦ subst Begins (sym m) (λ whose third fourth. refl)
+      | inl m ↦ subst Begins (sym m) (λ payee_or_reason usage_or_count amount_or_total. refl)
       | inr last ↦ elim last [
-        | inl t ↦ subst Begins (sym t) (λ whose third fourth. refl)
-        | inr r ↦ subst Begins (sym r) (λ whose third fourth. refl)
+        | inl t ↦ subst Begins (sym t) (λ payee_or_reason usage_or_count amount_or_total. refl)
+        | inr r ↦ subst Begins (sym r) (λ payee_or_reason usage_or_count amount_or_total. refl)
       ]
     ]
   ]
@@ -41,7 +41,7 @@ module _ (at next : At) (row : List (List ℕ)) (follows : Follows at row next) 
   lettered : get_or (text_of_row row) 0 0 ≡ get_or follows.kind 0 0
   lettered =
       ap (λ (r : List (List ℕ)). get_or (text_of_row r) 0 0) follows.form
-      ∙ begins follows.kind (kind_of at.place follows.kind follows.fits.kind_fits) follows.whose follows.third follows.fourth
+      ∙ begins follows.kind (kind_of at.place follows.kind follows.fits.kind_fits) follows.payee_or_reason follows.usage_or_count follows.amount_or_total
 
   -- so by its first byte its kind is known
   other : (name kind : List ℕ) → follows.kind ≡ kind → get_or (text_of_row row) 0 0 ≡ get_or name 0 0 → get_or kind 0 0 ≡ get_or name 0 0
@@ -82,12 +82,12 @@ module _ (at next : At) (row : List (List ℕ)) (follows : Follows at row next) 
       let l = a_portion first in
       let (amount, sound, written, leads) = follows.leads.portion l in
       record {
-        payee = follows.whose;
-        portion = record { usage = follows.third; amount = amount };
-        form = follows.form ∙ (λ i. row_of (l i) follows.whose follows.third (written i));
-        due = follows.fits.whose_fits.payee l;
-        sound = (follows.fits.third_fits.usage (inl l), sound);
-        count = (follows.fits.fourth_fits.amount (inl l)).0;
+        payee = follows.payee_or_reason;
+        portion = record { usage = follows.usage_or_count; amount = amount };
+        form = follows.form ∙ (λ i. row_of (l i) follows.payee_or_reason follows.usage_or_count (written i));
+        due = follows.fits.payee_or_reason_fits.payee l;
+        sound = (follows.fits.usage_or_count_fits.usage (inl l), sound);
+        count = (follows.fits.amount_or_total_fits.amount (inl l)).0;
         leads = leads;
       }
 
@@ -96,10 +96,10 @@ module _ (at next : At) (row : List (List ℕ)) (follows : Follows at row next) 
       let m = a_rest first in
       let (amount, sound, written, leads) = follows.leads.rest m in
       record {
-        what = record { reason = follows.whose; usage = follows.third; amount = amount };
-        form = follows.form ∙ (λ i. row_of (m i) follows.whose follows.third (written i));
-        sound = (follows.fits.whose_fits.reason m, follows.fits.third_fits.usage (inr m), sound);
-        count = (follows.fits.fourth_fits.amount (inr m)).0;
+        what = record { reason = follows.payee_or_reason; usage = follows.usage_or_count; amount = amount };
+        form = follows.form ∙ (λ i. row_of (m i) follows.payee_or_reason follows.usage_or_count (written i));
+        sound = (follows.fits.payee_or_reason_fits.reason m, follows.fits.usage_or_count_fits.usage (inr m), sound);
+        count = (follows.fits.amount_or_total_fits.amount (inr m)).0;
         leads = leads;
       }
 
@@ -109,7 +109,7 @@ module _ (at next : At) (row : List (List ℕ)) (follows : Follows at row next) 
       let fits = subst (λ (place : Place). KindFits place follows.kind) within follows.fits.kind_fits in
       let s : follows.kind ≡ codes "S" = elim fits [ inl l ↦ absurd (differs (lettered ∙ ap (λ (k : List ℕ). get_or k 0 0) l)) | inr s ↦ s ] in
       record {
-        form = follows.form ∙ (λ i. row_of (s i) (follows.fits.whose_fits.same s i) (follows.fits.third_fits.count (inl s) i) (follows.fits.fourth_fits.sum (inl s) i));
+        form = follows.form ∙ (λ i. row_of (s i) (follows.fits.payee_or_reason_fits.same s i) (follows.fits.usage_or_count_fits.count (inl s) i) (follows.fits.amount_or_total_fits.sum (inl s) i));
         leads = follows.leads.sum s;
       }
 
@@ -132,7 +132,7 @@ module _ (at next : At) (row : List (List ℕ)) (follows : Follows at row next) 
   rests_sum_passed first =
       let t = a_rests_sum first in
       record {
-        form = follows.form ∙ (λ i. row_of (t i) (follows.fits.whose_fits.none (inl t) i) (follows.fits.third_fits.count (inr t) i) (follows.fits.fourth_fits.sum (inr t) i));
+        form = follows.form ∙ (λ i. row_of (t i) (follows.fits.payee_or_reason_fits.none (inl t) i) (follows.fits.usage_or_count_fits.count (inr t) i) (follows.fits.amount_or_total_fits.sum (inr t) i));
         leads = follows.leads.rests t;
       }
 
@@ -144,6 +144,6 @@ module _ (at next : At) (row : List (List ℕ)) (follows : Follows at row next) 
       record {
         lines = lines;
         few = few;
-        form = follows.form ∙ (λ i. row_of (r i) (follows.fits.whose_fits.none (inr r) i) (written i) (follows.fits.fourth_fits.all r i));
+        form = follows.form ∙ (λ i. row_of (r i) (follows.fits.payee_or_reason_fits.none (inr r) i) (written i) (follows.fits.amount_or_total_fits.all r i));
         leads = leads;
       }
