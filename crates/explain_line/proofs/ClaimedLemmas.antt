@@ -9,14 +9,11 @@ use Rattle.std.proofs.lemmas.List.Elements.{filter-append}
 use Rattle.std.proofs.lemmas.List.Sums.{sum_by-cons}
 use Rattle.line_split.proofs.Enumerated.{enumerated_from_more}
 use Rattle.line_split.specs.declared.usage.Right.{Right}
+use Rattle.cwr_share.proofs.ClaimLemmas.{no_line}
 use Rattle.cwr_share.specs.ClaimsOn.{claim_of, claims_among, deciding, share_for}
 use Rattle.cwr_share.specs.Registrations.{ShareLine}
 use Rattle.explain_line.specs.Claimed.{claimed_by}
 use Rattle.explain_line.specs.Explanation.{decides}
-
--- no share line
-abbrev pub nothing : ShareLine
-nothing = record { interest = 0; party = []; performing = 0; mechanical = 0; synchronisation = 0; includes = false; territory = 0 }
 
 claim_cons : (table : List (ℕ × List ℕ)) (land : ℕ) (right : Right) (pay : List ℕ → List ℕ) (payee : List ℕ) (share : ShareLine) (later : List ShareLine)
     → claim_of table land right pay (share ∷ later) payee ≡ claimed_by table land right pay payee share later + claim_of table land right pay later payee
@@ -34,12 +31,12 @@ claim_cons table land right pay payee share later = by (decides table land share
 -- the claim of a payee from a place on
 pub claim_from : (table : List (ℕ × List ℕ)) (land : ℕ) (right : Right) (pay : List ℕ → List ℕ) (payee : List ℕ) (shares : List ShareLine) (place : ℕ) → place < length shares
     → claim_of table land right pay (drop place shares) payee
-    ≡ claimed_by table land right pay payee (get_or shares place nothing) (drop (place + 1) shares) + claim_of table land right pay (drop (place + 1) shares) payee
+    ≡ claimed_by table land right pay payee (get_or shares place no_line) (drop (place + 1) shares) + claim_of table land right pay (drop (place + 1) shares) payee
 claim_from table land right pay payee shares place within =
     let next : suc place ≡ place + 1 = omega arith in
-    ap (λ (l : List ShareLine). claim_of table land right pay l payee) (drop-cons shares place nothing within)
-    ∙ (claim_cons table land right pay payee (get_or shares place nothing) (drop (suc place) shares)
-    ∙ ap (λ (n : ℕ). claimed_by table land right pay payee (get_or shares place nothing) (drop n shares) + claim_of table land right pay (drop n shares) payee) next)
+    ap (λ (l : List ShareLine). claim_of table land right pay l payee) (drop-cons shares place no_line within)
+    ∙ (claim_cons table land right pay payee (get_or shares place no_line) (drop (suc place) shares)
+    ∙ ap (λ (n : ℕ). claimed_by table land right pay payee (get_or shares place no_line) (drop n shares) + claim_of table land right pay (drop n shares) payee) next)
 
 -- no share lines are left at the end
 pub claim_end : (table : List (ℕ × List ℕ)) (land : ℕ) (right : Right) (pay : List ℕ → List ℕ) (payee : List ℕ) (shares : List ShareLine) (place : ℕ) → length shares ≤ place

@@ -1,10 +1,14 @@
 -- What one share line adds to a claim.
-use Rattle.std.specs.Prelude.{ℕ, ◌&&◌, List, if◌then◌else◌, nat_eq}
+use Rattle.std.specs.Prelude.{ℕ, ◌≡◌, ◌&&◌, List, if◌then◌else◌, map, nat_eq}
 use Rattle.std.specs.Cmp.Lexicographic.{pointwise}
 use Rattle.cwr_share.specs.ClaimsOn.{share_for}
 use Rattle.cwr_share.specs.Registrations.{ShareLine}
 use Rattle.line_split.specs.declared.usage.Right.{Right}
 use Rattle.explain_line.specs.Explanation.{decides}
+
+-- these are the payees of the share lines
+abbrev pub ArePayeesOf : (pay : List ℕ → List ℕ) → (payees : List (List ℕ)) → (shares : List ShareLine) → Type 0
+ArePayeesOf pay payees shares = payees ≡ map (λ share. pay share.party) shares
 
 -- its share to that of a payee, where it is the payee's and decides
 abbrev pub claimed_by : List (ℕ × List ℕ) → (land : ℕ) → Right → (pay : List ℕ → List ℕ) → (payee : List ℕ) → ShareLine → (later : List ShareLine) → ℕ

@@ -3,7 +3,7 @@ use Rattle.std.specs.Prelude.{ℕ, ℤ, ◌≡◌, ◌<◌, ◌+◌, ◌⊎◌, 
 use Rattle.std.specs.Fmt.{signed_decimal}
 use Rattle.std.specs.List.{enumerate_from, list_any}
 use Rattle.std.specs.Option.{option_map_or}
-use Rattle.csv_table.specs.Written.{text_of}
+use Rattle.csv_table.specs.Written.{text_of, text_of_row}
 use Rattle.cwr_share.specs.ClaimsOn.{claims_by, claims_on, covers, is_alike, reason_against}
 use Rattle.cwr_share.specs.Filed.{last_opening, numbers_from, recorded_share, shares_from}
 use Rattle.cwr_share.specs.Lines.{lines_of}
@@ -20,6 +20,13 @@ use Rattle.line_split.specs.declared.reason.Reason.{Reason}
 use Rattle.line_split.specs.declared.usage.Right.{Right}
 use Rattle.line_split.specs.declared.usage.Right.TheVariants.{P, M, S}
 use Rattle.run_inputs.specs.Inputs.{IsReading}
+
+-- a row was added to a text, or several were
+abbrev pub AddsRow : (old new : List ℕ) → List (List ℕ) → Type 0
+AddsRow old new row = new ≡ old ++ text_of_row row
+
+abbrev pub AddsRows : (old new : List ℕ) → List (List (List ℕ)) → Type 0
+AddsRows old new rows = new ≡ old ++ text_of rows
 
 abbrev pub right_text : Right → List ℕ
 right_text P = codes "P"
@@ -46,12 +53,17 @@ registration_row line reason = codes "N" ∷ option_map_or decimal line [] ∷ o
 abbrev pub decides : List (ℕ × List ℕ) → (land : ℕ) → ShareLine → (later : List ShareLine) → Bool
 decides table land share later = covers table land share && not (list_any (λ other. is_alike share other && covers table land other) later)
 
+-- the fields of a share line: the number of its line, its interest, party and payee, its share, whether it includes, its territory, and
+-- whether that contains the land and the line decides
+abbrev pub share_fields : (number interest : ℕ) → (party payee : List ℕ) → (recorded : ℕ) → (mark : List ℕ) → (territory : ℕ) → (covers decides : List ℕ) → List (List ℕ)
+share_fields number interest party payee recorded mark territory covers decides =
+    codes "C" ∷ decimal number ∷ decimal interest ∷ party ∷ payee ∷ decimal recorded ∷ mark ∷ decimal territory ∷ covers ∷ decides ∷ []
+
 -- a share line of a registration, by its place, for a land and a right
 abbrev pub share_row : List (ℕ × List ℕ) → Registered → (land : ℕ) → Right → (numbers : List ℕ) → (shares : List ShareLine) → ℕ × ShareLine → List (List ℕ)
 share_row table registered land right numbers shares e =
-    codes "C" ∷ decimal (slice_index numbers e.0) ∷ decimal e.1.interest ∷ e.1.party ∷ payee_of registered.payees e.1.party
-    ∷ decimal (recorded_share right e.1) ∷ mark_text e.1.includes ∷ decimal e.1.territory
-    ∷ yes_or_no (covers table land e.1) ∷ yes_or_no (decides table land e.1 (drop (e.0 + 1) shares)) ∷ []
+    share_fields (slice_index numbers e.0) e.1.interest e.1.party (payee_of registered.payees e.1.party) (recorded_share right e.1) (mark_text e.1.includes)
+    e.1.territory (yes_or_no (covers table land e.1)) (yes_or_no (decides table land e.1 (drop (e.0 + 1) shares)))
 
 -- an account with its payee, which the residue's has none of
 abbrev pub payee_at : Registered → (account : ℕ) → List ℕ
@@ -76,6 +88,11 @@ base_row size claims =
 abbrev pub portion_shown : (amount : ℤ) → (claims : List (ℕ × ℕ)) → ℕ × (ℕ × ℕ) → ℕ × ℤ
 portion_shown amount claims e = (e.1.0, with_sign_of amount (portion_of (unsigned_abs amount) (base_of claims) (participants_of claims) e.0 e.1.1))
 
+-- the fields of a participant: its account and payee, its share, its quota and what that leaves, its rank, and its portion
+abbrev pub participant_fields : (account : ℕ) → (payee : List ℕ) → (share quota remainder rank : ℕ) → (portion : ℤ) → List (List ℕ)
+participant_fields account payee share quota remainder rank portion =
+    codes "P" ∷ decimal account ∷ payee ∷ decimal share ∷ decimal quota ∷ decimal remainder ∷ decimal rank ∷ signed_decimal portion ∷ []
+
 -- and how it comes to that; ranks count from 1
 abbrev pub participant_row : Registered → (amount : ℤ) → (claims : List (ℕ × ℕ)) → ℕ × (ℕ × ℕ) → List (List ℕ)
 participant_row registered amount claims e =
@@ -83,9 +100,8 @@ participant_row registered amount claims e =
     let base = base_of claims in
     let participants = participants_of claims in
     let shown = portion_shown amount claims e in
-    codes "P" ∷ decimal shown.0 ∷ payee_at registered shown.0 ∷ decimal e.1.1 ∷ decimal (quota_of size base e.1.1) ∷ decimal (remainder_of size base e.1.1)
-    ∷ decimal (rank_of (contenders_of size base participants) (e.0, remainder_of size base e.1.1) + 1)
-    ∷ signed_decimal shown.1 ∷ []
+    participant_fields shown.0 (payee_at registered shown.0) e.1.1 (quota_of size base e.1.1) (remainder_of size base e.1.1)
+    (rank_of (contenders_of size base participants) (e.0, remainder_of size base e.1.1) + 1) shown.1
 
 -- the accounts and portions of these rows
 abbrev pub portions_shown : (amount : ℤ) → (claims : List (ℕ × ℕ)) → List (ℕ × ℤ)

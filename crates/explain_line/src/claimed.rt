@@ -6,7 +6,7 @@ ghost use Rattle.cwr_share.specs.ClaimsOn.{claim_of as claim_by, covers, is_alik
 ghost use Rattle.cwr_share.specs.Payees.{payee_of};
 ghost use Rattle.cwr_share.specs.Registrations.{ShareLine};
 ghost use Rattle.cwr_share.specs.declared.TheConstants.{MOST_SHARES};
-ghost use Rattle.explain_line.specs.Claimed.{claimed_by};
+ghost use Rattle.explain_line.specs.Claimed.{ArePayeesOf, claimed_by};
 ghost use Rattle.explain_line.specs.Explanation.{decides as is_deciding};
 
 use cwr_share::{Registry, ShareRecord};
@@ -58,7 +58,7 @@ pub(crate) fn payees_by<'a>(
     registry: &'a Registry,
     shares: &'a [ShareRecord],
 ) -> Result<Vec<&'a [u8]>, AllocError>
-    ensures { IfOk result (λ payees. map (λ payee. payee.now) payees.items ≡ map (λ share. payee_of registry.now.payees share.party) shares.now) }
+    ensures { IfOk result (λ payees. ArePayeesOf (payee_of registry.now.payees) (map (λ payee. payee.now) payees.items) shares.now) }
 {
     let mut payees = Vec::with_capacity(alloc, shares.len())?;
     for share in shares {
@@ -78,7 +78,7 @@ pub(crate) fn claim_of(
 ) -> u32
     requires few { length shares.now ≤ MOST_SHARES }
     requires payees { length payees.now ≡ length shares.now }
-    ensures { (pay : List ℕ → List ℕ) → map (λ p. p.now) payees.now ≡ map (λ share. pay share.party) shares.now → result ≡ claim_by tis.now land right pay shares.now payee.now }
+    ensures { (pay : List ℕ → List ℕ) → ArePayeesOf pay (map (λ p. p.now) payees.now) shares.now → result ≡ claim_by tis.now land right pay shares.now payee.now }
 {
     let mut claim: u32 = 0;
     for place in 0..shares.len() {
@@ -99,7 +99,8 @@ fn claimed_at(
 ) -> u32
     requires place { place < length shares.now }
     requires payees { length payees.now ≡ length shares.now }
-    ensures claimed { (pay : List ℕ → List ℕ) (d : ShareLine) → map (λ p. p.now) payees.now ≡ map (λ share. pay share.party) shares.now → result ≡ claimed_by tis.now land right pay payee.now (slice_index_or shares.now place d) (drop (place + 1) shares.now) }
+    ensures claimed { (pay : List ℕ → List ℕ) (d : ShareLine) → ArePayeesOf pay (map (λ p. p.now) payees.now) shares.now
+        → result ≡ claimed_by tis.now land right pay payee.now (slice_index_or shares.now place d) (drop (place + 1) shares.now) }
     ensures small { result ≤ u16.MAX }
 {
     if payees[place] == payee && decides(tis, land, shares, place) {

@@ -1,16 +1,16 @@
 //! The rows of an explanation.
 
-ghost use Rattle.std.specs.Prelude.{◌≡◌, ◌≤◌, ◌<◌, ◌+◌, ◌++◌, ◌∷◌, [], ℕ, List, OnOk, IfSome, Option, codes, decimal, drop, length, map, slice_index, slice_index_or, unsigned_abs};
+ghost use Rattle.std.specs.Prelude.{◌≡◌, ◌≤◌, ◌<◌, ◌+◌, ◌∷◌, [], ℕ, List, OnOk, IfSome, Option, codes, decimal, drop, length, map, slice_index, slice_index_or, unsigned_abs};
 ghost use Rattle.std.specs.Fmt.{signed_decimal};
 ghost use Rattle.std.specs.List.{enumerate_from};
 ghost use Rattle.std.specs.Option.{option_map_or};
-ghost use Rattle.csv_table.specs.Written.{text_of, text_of_row};
 ghost use Rattle.cwr_share.specs.ClaimsOn.{claim_of as claim_by, claims_among};
 ghost use Rattle.cwr_share.specs.Filed.{IsFiled};
 ghost use Rattle.cwr_share.specs.Payees.{payee_of};
 ghost use Rattle.cwr_share.specs.Registrations.{ShareLine};
 ghost use Rattle.cwr_share.specs.declared.TheConstants.{MOST_SHARES};
-ghost use Rattle.explain_line.specs.Explanation.{base_row, claim_row, division_rows, line_row, mark_text, participant_row, payee_at, registration_rows, right_text, share_row, yes_or_no};
+ghost use Rattle.explain_line.specs.Explanation.{AddsRow, AddsRows, base_row, claim_row, division_rows, line_row, mark_text, participant_fields};
+ghost use Rattle.explain_line.specs.Explanation.{participant_row, payee_at, registration_rows, right_text, share_fields, share_row, yes_or_no};
 ghost use Rattle.line_split.specs.Claims.{participants_of};
 ghost use Rattle.line_split.specs.ReasonTexts.{reason_text};
 ghost use Rattle.line_split.specs.Signs.{with_sign_of};
@@ -29,7 +29,7 @@ use tis_tree::{Code, TisTable};
 
 /// The usage line.
 pub(crate) fn write_line(rows: &mut RowWriter, row: u64, line: &Line<'_>) -> Result<(), AllocError>
-    ensures { OnOk result (rows.new.text ≡ rows.old.text ++ text_of_row (line_row row (usage_line_of line.now))) }
+    ensures { OnOk result (AddsRow rows.old.text rows.new.text (line_row row (usage_line_of line.now))) }
 {
     write_line_fields(
         rows,
@@ -51,7 +51,7 @@ fn write_line_fields<'a>(
     right: &'a [u8],
     amount: i64,
 ) -> Result<(), AllocError>
-    ensures { OnOk result (rows.new.text ≡ rows.old.text ++ text_of_row (codes "U" ∷ decimal row ∷ usage.now ∷ work.now ∷ decimal territory ∷ right.now ∷ signed_decimal amount ∷ [])) }
+    ensures { OnOk result (AddsRow rows.old.text rows.new.text (codes "U" ∷ decimal row ∷ usage.now ∷ work.now ∷ decimal territory ∷ right.now ∷ signed_decimal amount ∷ [])) }
 {
     let mut number = Buffer::new();
     let mut code = Buffer::new();
@@ -92,7 +92,7 @@ pub(crate) fn write_filed(
     requires land { land ≡ line.now.territory }
     requires few { IfSome filed.now (λ filed. length filed.shares.items ≤ MOST_SHARES) }
     ensures { (file : List (List ℕ)) → IsFiled file line.now.work.now filed.now
-        → OnOk result (rows.new.text ≡ rows.old.text ++ text_of (registration_rows tis.now registry.now file (usage_line_of line.now) reason)) }
+        → OnOk result (AddsRows rows.old.text rows.new.text (registration_rows tis.now registry.now file (usage_line_of line.now) reason)) }
 {
     let reason = reason_word(reason).as_bytes();
     let Some(filed) = filed else {
@@ -119,7 +119,7 @@ fn write_registration<'a>(
     line: &'a [u8],
     reason: &'a [u8],
 ) -> Result<(), AllocError>
-    ensures { OnOk result (rows.new.text ≡ rows.old.text ++ text_of_row (codes "N" ∷ line.now ∷ reason.now ∷ [])) }
+    ensures { OnOk result (AddsRow rows.old.text rows.new.text (codes "N" ∷ line.now ∷ reason.now ∷ [])) }
 {
     rows.row(&[b"N", line, reason])
 }
@@ -144,7 +144,7 @@ fn write_shares(
     numbers: &[u64],
     shares: &[ShareRecord],
 ) -> Result<(), AllocError>
-    ensures { OnOk result (rows.new.text ≡ rows.old.text ++ text_of (map (share_row tis.now registry.now land right numbers.now shares.now) (enumerate_from 0 shares.now))) }
+    ensures { OnOk result (AddsRows rows.old.text rows.new.text (map (share_row tis.now registry.now land right numbers.now shares.now) (enumerate_from 0 shares.now))) }
 {
     for place in 0..shares.len() {
         write_share(rows, tis, registry, land, right, numbers, shares, place)?;
@@ -164,7 +164,7 @@ fn write_share(
     place: usize,
 ) -> Result<(), AllocError>
     requires { place < length shares.now }
-    ensures { (d : ShareLine) → OnOk result (rows.new.text ≡ rows.old.text ++ text_of_row (share_row tis.now registry.now land right numbers.now shares.now (place, slice_index_or shares.now place d))) }
+    ensures { (d : ShareLine) → OnOk result (AddsRow rows.old.text rows.new.text (share_row tis.now registry.now land right numbers.now shares.now (place, slice_index_or shares.now place d))) }
 {
     let share = &shares[place];
     let party = share.party();
@@ -194,7 +194,7 @@ fn write_share_fields<'a>(
     covers: &'a [u8],
     decides: &'a [u8],
 ) -> Result<(), AllocError>
-    ensures { OnOk result (rows.new.text ≡ rows.old.text ++ text_of_row (codes "C" ∷ decimal number ∷ decimal interest ∷ party.now ∷ payee.now ∷ decimal recorded ∷ mark.now ∷ decimal territory ∷ covers.now ∷ decides.now ∷ [])) }
+    ensures { OnOk result (AddsRow rows.old.text rows.new.text (share_fields number interest party.now payee.now recorded mark.now territory covers.now decides.now)) }
 {
     let mut line = Buffer::new();
     let mut place = Buffer::new();
@@ -247,7 +247,8 @@ fn write_claims(
     shares: &[ShareRecord],
 ) -> Result<(), AllocError>
     requires { length shares.now ≤ MOST_SHARES }
-    ensures { OnOk result (rows.new.text ≡ rows.old.text ++ text_of (map (claim_row registry.now) (claims_among tis.now land right (payee_of registry.now.payees) shares.now (drop 1 registry.now.parties)))) }
+    ensures { OnOk result (AddsRows rows.old.text rows.new.text (map (claim_row registry.now)
+        (claims_among tis.now land right (payee_of registry.now.payees) shares.now (drop 1 registry.now.parties)))) }
 {
     let payees = payees_by(alloc, registry, shares)?;
     for account in 1..registry.accounts() {
@@ -267,7 +268,7 @@ fn write_claim(
     payee: &[u8],
     claim: u32,
 ) -> Result<(), AllocError>
-    ensures { OnOk result (rows.new.text ≡ rows.old.text ++ text_of_row (codes "A" ∷ decimal account ∷ payee.now ∷ decimal claim ∷ [])) }
+    ensures { OnOk result (AddsRow rows.old.text rows.new.text (codes "A" ∷ decimal account ∷ payee.now ∷ decimal claim ∷ [])) }
 {
     let mut number = Buffer::new();
     let mut digits = Buffer::new();
@@ -287,7 +288,7 @@ pub(crate) fn write_division(
     claims: &Claims,
 ) -> Result<(), AllocError>
     requires { unsigned_abs amount ≤ MOST_AMOUNT }
-    ensures { OnOk result (rows.new.text ≡ rows.old.text ++ text_of (division_rows registry.now amount claims.now.list)) }
+    ensures { OnOk result (AddsRows rows.old.text rows.new.text (division_rows registry.now amount claims.now.list)) }
 {
     write_base(rows, amount.unsigned_abs(), claims)?;
     for place in 0..claims.list().len() + 1 {
@@ -299,7 +300,7 @@ pub(crate) fn write_division(
 /// What a share is a share of, the residue's share, and how many units the quotas leave.
 fn write_base(rows: &mut RowWriter, size: u64, claims: &Claims) -> Result<(), AllocError>
     requires { size ≤ MOST_AMOUNT }
-    ensures { OnOk result (rows.new.text ≡ rows.old.text ++ text_of_row (base_row size claims.now.list)) }
+    ensures { OnOk result (AddsRow rows.old.text rows.new.text (base_row size claims.now.list)) }
 {
     let residue = working_of(size, claims, claims.list().len()).share;
     let mut base = Buffer::new();
@@ -323,7 +324,8 @@ fn write_participant(
 ) -> Result<(), AllocError>
     requires in_range { unsigned_abs amount ≤ MOST_AMOUNT }
     requires place { place ≤ length claims.now.list }
-    ensures { (d : ℕ × ℕ) → OnOk result (rows.new.text ≡ rows.old.text ++ text_of_row (participant_row registry.now amount claims.now.list (place, slice_index_or (participants_of claims.now.list) place d))) }
+    ensures { (d : ℕ × ℕ) → OnOk result (AddsRow rows.old.text rows.new.text (participant_row registry.now amount claims.now.list
+        (place, slice_index_or (participants_of claims.now.list) place d))) }
 {
     let account = account_at(claims, place);
     let working = working_of(amount.unsigned_abs(), claims, place);
@@ -340,7 +342,7 @@ fn write_participant_fields<'a>(
     portion: i64,
 ) -> Result<(), AllocError>
     requires { working.rank < 1000 }
-    ensures { OnOk result (rows.new.text ≡ rows.old.text ++ text_of_row (codes "P" ∷ decimal account ∷ payee.now ∷ decimal working.share ∷ decimal working.quota ∷ decimal working.remainder ∷ decimal (working.rank + 1) ∷ signed_decimal portion ∷ [])) }
+    ensures { OnOk result (AddsRow rows.old.text rows.new.text (participant_fields account payee.now working.share working.quota working.remainder (working.rank + 1) portion)) }
 {
     let mut number = Buffer::new();
     let mut share = Buffer::new();

@@ -4,7 +4,6 @@ use Rattle.std.specs.Prelude.{◌==◌, if◌then◌else◌}
 use Rattle.std.specs.Cmp.Lexicographic.{pointwise}
 use Rattle.std.specs.List.{find, prefix_len, take_while}
 use Rattle.std.specs.Option.{option_map, option_map_or}
-use Rattle.std.proofs.Math.Seq.{get_or-append_seam, take-append_seam}
 use Rattle.std.proofs.lemmas.Bool.{false≢true}
 use Rattle.std.proofs.lemmas.List.{get_or_append_left, length-append, take-append-drop}
 use Rattle.std.proofs.lemmas.List.Elements.{All-cons, All-contains, All-from_get_or, All-head, All-map, All-nil, All-push, All-same, All-tail, All-weaker, Contains-get_or}
@@ -12,6 +11,7 @@ use Rattle.std.proofs.lemmas.List.Sorted.{All-permutation, IsPermutation-reverse
 use Rattle.std.proofs.lemmas.List.Sums.{take_while-cons}
 use Rattle.std.proofs.lemmas.Option.{none-some}
 use Rattle.csv_table.specs.Forms.{IsPrintableByte}
+use Rattle.csv_table.proofs.InTurn.{sound_at}
 use Rattle.cwr_share.specs.CwrFile.{AreSound, IsFileOf, IsSound}
 use Rattle.cwr_share.specs.Fields.{IsFilled, field_of, trimmed, without_spaces_before}
 use Rattle.cwr_share.specs.PayeeTable.{payee_row_of}
@@ -81,13 +81,6 @@ party_named line is = record {
 abbrev HasName : ShareLine → Type 0
 HasName line = IsName line.party
 
--- a line of sound ones is sound
-sound_at : (lines before : List (List ℕ)) (line : List ℕ) (after : List (List ℕ)) → lines ≡ before ++ line ∷ after → AreSound lines → IsSound before line
-sound_at lines before line after split sound =
-    let within : length before < length (before ++ line ∷ after) = rw length-append (omega arith) in
-    let here = subst AreSound split sound (length before) within in
-    rw (take-append_seam before (line ∷ after), get_or-append_seam before line after []) at here
-
 -- the share lines of a registration among sound lines have names
 module _ (lines earlier : List (List ℕ)) (opening : List ℕ) (sound : AreSound lines) (opens : opens_registration opening ≡ true) where
   abbrev AreNamed : List (List ℕ) → Type 0
@@ -110,7 +103,7 @@ module _ (lines earlier : List (List ℕ)) (opening : List ℕ) (sound : AreSoun
 
       on : (told : Bool) → is_share_line line ≡ told → All HasName (share_lines_of (body ++ line ∷ []))
       on true share =
-          let party = ((sound_at lines (earlier ++ opening ∷ body) line after split sound).share body (stands_by earlier opening body opens stays) share).party in
+          let party = ((sound_at IsSound lines (earlier ++ opening ∷ body) line after split sound).share body (stands_by earlier opening body opens stays) share).party in
           All-same HasName (share_lines_of (body ++ line ∷ [])) _ (share_lines_yes body line share) (All-push HasName (share_lines_of body) _ others (party_named line party))
       on false other = All-same HasName (share_lines_of (body ++ line ∷ [])) (share_lines_of body) (share_lines_no body line other) others
 

@@ -7,7 +7,7 @@ use Rattle.line_split.proofs.OneTable.{one_table}
 use Rattle.line_split.specs.UsageLine.{UsageLine}
 use Rattle.settle_run.specs.Settled.{AreStatementsFor, AreStatementsOf}
 use Rattle.settle_run.proofs.OneText.{AnswerAlike, one_text, read_alike, statements_alike}
-use Rattle.merge_laws.specs.Month.{AreLinesOf, AreStatementsOfAll}
+use Rattle.merge_laws.specs.WholeList.{AreLinesOf, AreStatementsOfAll}
 
 itself : (registered : Registered) → AnswerAlike registered registered
 itself registered = record { works = λ work. refl; parties = refl; payees = λ party. refl }

@@ -29,7 +29,7 @@ use Rattle.merge_statements.specs.Merged.{AreMerged, IsMergeOf, portions_of}
 use Rattle.merge_statements.specs.Statements.{AreStatements, IsName, Portion, Rest, Statement, Statements, text_of_statements, total_of, total_of_rests}
 use Rattle.merge_statements.proofs.Merges.{AreTogether, are_together, one_list_of_parts, one_whole}
 use Rattle.merge_statements.proofs.OneMerge.{HasPortion, differs, first_kept, portions_in}
-use Rattle.merge_laws.specs.Month.{AreLinesOf, AreStatementsOfAll}
+use Rattle.merge_laws.specs.WholeList.{AreLinesOf, AreStatementsOfAll}
 use Rattle.merge_laws.proofs.Limits.{all_statements, payees_rise}
 use Rattle.merge_laws.proofs.Runs.{IsSaid, names_named, names_rise, text_said}
 use Rattle.merge_laws.proofs.Said.{from_book, made_of, portions_by, rests_by, rows_said, said_of, statements_by, statements_from, statements_with, sums_said}

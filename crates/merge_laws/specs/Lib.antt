@@ -1,1 +1,1 @@
-pub mod Month
+pub mod WholeList

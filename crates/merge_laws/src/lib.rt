@@ -3,7 +3,7 @@
 #![tactic(auto)]
 
 ghost use Rattle.std.specs.Prelude.{◌≡◌, ◌<◌, ◌≤◌, ◌∷◌, ◌↔◌, [], ℕ, All, List, Option, length, map};
-ghost use Rattle.merge_laws.specs.Month.{AreStatementsOfAll};
+ghost use Rattle.merge_laws.specs.WholeList.{AreStatementsOfAll};
 ghost use Rattle.merge_statements.specs.Merged.{IsMergeOf};
 ghost use Rattle.merge_statements.specs.Statements.{AreStatements, Statements, text_of_statements};
 ghost use Rattle.settle_run.specs.Settled.{AreStatementsOf};

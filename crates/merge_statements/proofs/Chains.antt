@@ -55,13 +55,13 @@ same_count : (one other : ℕ) → IsCount one → IsCount other → decimal one
 same_count one other small low same =
     sym (decimal_back one (omega (arith, small))) ∙ (ap number_of same ∙ decimal_back other (omega (arith, low)))
 
-one_lead : (at next other : At) (kind whose third fourth : List ℕ) → IsKind kind → Leads at kind whose third fourth next → Leads at kind whose third fourth other → next ≡ other
-one_lead at next other kind whose third fourth is leads goes = elim is [
+one_lead : (at next other : At) (kind payee_or_reason usage_or_count amount_or_total : List ℕ) → IsKind kind → Leads at kind payee_or_reason usage_or_count amount_or_total next → Leads at kind payee_or_reason usage_or_count amount_or_total other → next ≡ other
+one_lead at next other kind payee_or_reason usage_or_count amount_or_total is leads goes = elim is [
   | inl l ↦
       let (amount, sound, written, to) = leads.portion l in
       let (size, fair, wrote, on) = goes.portion l in
       let same = same_amount amount size sound fair (sym written ∙ wrote) in
-      to ∙ ((λ i. record { place = Within (count_at at.place + 1) (sum_at at.place +ℤ same i); payee = whose; portions = at.portions + 1; total = at.total }) ∙ sym on)
+      to ∙ ((λ i. record { place = Within (count_at at.place + 1) (sum_at at.place +ℤ same i); payee = payee_or_reason; portions = at.portions + 1; total = at.total }) ∙ sym on)
   | inr others ↦ elim others [
     | inl s ↦ leads.sum s ∙ sym (goes.sum s)
     | inr more ↦ elim more [
@@ -91,18 +91,14 @@ pub record IsSameStep (row other : List (List ℕ)) (rest behind : List ℕ) (ne
 pub same_step : (at next to : At) (row other : List (List ℕ)) (rest behind : List ℕ) → Follows at row next → Follows at other to → text_of_row row ++ rest ≡ text_of_row other ++ behind
     → IsSameStep row other rest behind next to
 same_step at next to row other rest behind one goes same =
-    let is = same_row (row_of one.kind one.whose one.third one.fourth) (row_of goes.kind goes.whose goes.third goes.fourth) rest behind
+    let is = same_row (row_of one.kind one.payee_or_reason one.usage_or_count one.amount_or_total) (row_of goes.kind goes.payee_or_reason goes.usage_or_count goes.amount_or_total) rest behind
     ((λ i. text_of_row (sym one.form i) ++ rest) ∙ (same ∙ (λ i. text_of_row (goes.form i) ++ behind))) in
-    let kinds : one.kind ≡ goes.kind = ap (λ (r : List (List ℕ)). get_or r 0 []) is.0 in
-    let whoses : one.whose ≡ goes.whose = ap (λ (r : List (List ℕ)). get_or r 1 []) is.0 in
-    let thirds : one.third ≡ goes.third = ap (λ (r : List (List ℕ)). get_or r 2 []) is.0 in
-    let fourths : one.fourth ≡ goes.fourth = ap (λ (r : List (List ℕ)). get_or r 3 []) is.0 in
-    let leads : Leads at one.kind one.whose one.third one.fourth to =
+    let leads : Leads at one.kind one.payee_or_reason one.usage_or_count one.amount_or_total to =
     subst (λ (r : List (List ℕ)). Leads at (get_or r 0 []) (get_or r 1 []) (get_or r 2 []) (get_or r 3 []) to) (sym is.0) goes.leads in
     record {
       rows = one.form ∙ (is.0 ∙ sym goes.form);
       left = is.1;
-      place = one_lead at next to one.kind one.whose one.third one.fourth (kind_of at.place one.kind one.fits.kind_fits) one.leads leads;
+      place = one_lead at next to one.kind one.payee_or_reason one.usage_or_count one.amount_or_total (kind_of at.place one.kind one.fits.kind_fits) one.leads leads;
     }
 
 -- ---- fields without line feeds
@@ -208,14 +204,14 @@ pub record IsLineOf (row : List (List ℕ)) (line : List ℕ) : Type 0 where
   pub none : list_any is_feed line ≡ false
   pub short : length line < 32768
 
-row_line : (kind whose third fourth : List ℕ) → IsPiece 100 kind → IsPiece 100 whose → IsPiece 100 third → IsPiece 100 fourth
-    → IsLineOf (row_of kind whose third fourth) (row_body default_writer (row_of kind whose third fourth))
+row_line : (kind payee_or_reason usage_or_count amount_or_total : List ℕ) → IsPiece 100 kind → IsPiece 100 payee_or_reason → IsPiece 100 usage_or_count → IsPiece 100 amount_or_total
+    → IsLineOf (row_of kind payee_or_reason usage_or_count amount_or_total) (row_body default_writer (row_of kind payee_or_reason usage_or_count amount_or_total))
 unfolding is_blank
-row_line kind whose third fourth is_kind is_whose is_third is_fourth =
-    let last = fields_piece 0 fourth [] is_fourth no_fields in
-    let more = fields_piece 203 third (fourth ∷ []) is_third last in
-    let others = fields_piece 406 whose (third ∷ fourth ∷ []) is_whose more in
-    let all = joined 202 609 (field_text default_writer kind) (fields_text default_writer (whose ∷ third ∷ fourth ∷ [])) (field_piece kind is_kind) others in
+row_line kind payee_or_reason usage_or_count amount_or_total is_kind is_whose is_third is_fourth =
+    let last = fields_piece 0 amount_or_total [] is_fourth no_fields in
+    let more = fields_piece 203 usage_or_count (amount_or_total ∷ []) is_third last in
+    let others = fields_piece 406 payee_or_reason (usage_or_count ∷ amount_or_total ∷ []) is_whose more in
+    let all = joined 202 609 (field_text default_writer kind) (fields_text default_writer (payee_or_reason ∷ usage_or_count ∷ amount_or_total ∷ [])) (field_piece kind is_kind) others in
     record { bytes = refl; none = all.none; short = omega (arith, all.short) }
 
 -- ---- what holds at every place
@@ -229,12 +225,12 @@ pub record IsSound (at : At) : Type 0 where
 pub first_sound : IsSound at_first
 first_sound = record { few = omega arith; sum = omega arith; total = omega arith; payee = nothing_piece [] refl }
 
-payee_piece : (place : Place) (last whose : List ℕ) → IsPiece 100 last → IsPayeeAt place last whose → IsPiece 100 whose
-payee_piece Between last whose is due = name_piece whose due.0
-payee_piece (Within count sum) last whose is due = subst (IsPiece 100) (sym due) is
-payee_piece (Resting count sum) last whose is due = name_piece whose due.0
-payee_piece Summed last whose is due = name_piece whose due.0
-payee_piece (Ended lines) last whose is due = name_piece whose due.0
+payee_piece : (place : Place) (last payee_or_reason : List ℕ) → IsPiece 100 last → IsPayeeAt place last payee_or_reason → IsPiece 100 payee_or_reason
+payee_piece Between last payee_or_reason is due = name_piece payee_or_reason due.0
+payee_piece (Within count sum) last payee_or_reason is due = subst (IsPiece 100) (sym due) is
+payee_piece (Resting count sum) last payee_or_reason is due = name_piece payee_or_reason due.0
+payee_piece Summed last payee_or_reason is due = name_piece payee_or_reason due.0
+payee_piece (Ended lines) last payee_or_reason is due = name_piece payee_or_reason due.0
 
 module _ (at next : At) (row : List (List ℕ)) (sound : IsSound at) (follows : Follows at row next) where
   counted : IsCount (count_at at.place)
@@ -252,34 +248,34 @@ module _ (at next : At) (row : List (List ℕ)) (sound : IsSound at) (follows : 
   size_fits : (amount : ℤ) (text : List ℕ) → IsAmount amount → text ≡ signed_decimal amount → IsPiece 100 text
   size_fits amount text sound written = amount_field amount text (omega (arith, sound.1)) written
 
-  row_is_line : IsLineOf (row_of follows.kind follows.whose follows.third follows.fourth) (row_body default_writer (row_of follows.kind follows.whose follows.third follows.fourth))
+  row_is_line : IsLineOf (row_of follows.kind follows.payee_or_reason follows.usage_or_count follows.amount_or_total) (row_body default_writer (row_of follows.kind follows.payee_or_reason follows.usage_or_count follows.amount_or_total))
   row_is_line =
       let fits = follows.fits in
       elim (kind_of at.place follows.kind fits.kind_fits) [
         | inl l ↦
-            let (amount, size, written) = (fits.fourth_fits.amount (inl l)).1 in
-            row_line follows.kind follows.whose follows.third follows.fourth (of_kind (codes "L") l (record { none = refl; short = omega arith }))
-            (payee_piece at.place at.payee follows.whose sound.payee (fits.whose_fits.payee l)) (name_piece follows.third (fits.third_fits.usage (inl l))) (size_fits amount follows.fourth size written)
+            let (amount, size, written) = (fits.amount_or_total_fits.amount (inl l)).1 in
+            row_line follows.kind follows.payee_or_reason follows.usage_or_count follows.amount_or_total (of_kind (codes "L") l (record { none = refl; short = omega arith }))
+            (payee_piece at.place at.payee follows.payee_or_reason sound.payee (fits.payee_or_reason_fits.payee l)) (name_piece follows.usage_or_count (fits.usage_or_count_fits.usage (inl l))) (size_fits amount follows.amount_or_total size written)
         | inr others ↦ elim others [
           | inl s ↦
-              row_line follows.kind follows.whose follows.third follows.fourth (of_kind (codes "S") s (record { none = refl; short = omega arith }))
-              (subst (IsPiece 100) (sym (fits.whose_fits.same s)) sound.payee) (count_field (count_at at.place) follows.third counted (fits.third_fits.count (inl s)))
-              (amount_field (sum_at at.place) follows.fourth summed (fits.fourth_fits.sum (inl s)))
+              row_line follows.kind follows.payee_or_reason follows.usage_or_count follows.amount_or_total (of_kind (codes "S") s (record { none = refl; short = omega arith }))
+              (subst (IsPiece 100) (sym (fits.payee_or_reason_fits.same s)) sound.payee) (count_field (count_at at.place) follows.usage_or_count counted (fits.usage_or_count_fits.count (inl s)))
+              (amount_field (sum_at at.place) follows.amount_or_total summed (fits.amount_or_total_fits.sum (inl s)))
           | inr more ↦ elim more [
             | inl m ↦
-                let (amount, size, written) = (fits.fourth_fits.amount (inr m)).1 in
-                row_line follows.kind follows.whose follows.third follows.fourth (of_kind (codes "M") m (record { none = refl; short = omega arith }))
-                (reason_piece follows.whose (fits.whose_fits.reason m)) (name_piece follows.third (fits.third_fits.usage (inr m))) (size_fits amount follows.fourth size written)
+                let (amount, size, written) = (fits.amount_or_total_fits.amount (inr m)).1 in
+                row_line follows.kind follows.payee_or_reason follows.usage_or_count follows.amount_or_total (of_kind (codes "M") m (record { none = refl; short = omega arith }))
+                (reason_piece follows.payee_or_reason (fits.payee_or_reason_fits.reason m)) (name_piece follows.usage_or_count (fits.usage_or_count_fits.usage (inr m))) (size_fits amount follows.amount_or_total size written)
             | inr last ↦ elim last [
               | inl t ↦
-                  row_line follows.kind follows.whose follows.third follows.fourth (of_kind (codes "T") t (record { none = refl; short = omega arith }))
-                  (nothing_piece follows.whose (fits.whose_fits.none (inl t))) (count_field (count_at at.place) follows.third counted (fits.third_fits.count (inr t)))
-                  (amount_field (sum_at at.place) follows.fourth summed (fits.fourth_fits.sum (inr t)))
+                  row_line follows.kind follows.payee_or_reason follows.usage_or_count follows.amount_or_total (of_kind (codes "T") t (record { none = refl; short = omega arith }))
+                  (nothing_piece follows.payee_or_reason (fits.payee_or_reason_fits.none (inl t))) (count_field (count_at at.place) follows.usage_or_count counted (fits.usage_or_count_fits.count (inr t)))
+                  (amount_field (sum_at at.place) follows.amount_or_total summed (fits.amount_or_total_fits.sum (inr t)))
               | inr r ↦
-                  let (lines, few, written) = fits.third_fits.lines r in
-                  row_line follows.kind follows.whose follows.third follows.fourth (of_kind (codes "R") r (record { none = refl; short = omega arith }))
-                  (nothing_piece follows.whose (fits.whose_fits.none (inr r))) (count_field lines follows.third few written)
-                  (amount_field at.total follows.fourth all_summed (fits.fourth_fits.all r))
+                  let (lines, few, written) = fits.usage_or_count_fits.lines r in
+                  row_line follows.kind follows.payee_or_reason follows.usage_or_count follows.amount_or_total (of_kind (codes "R") r (record { none = refl; short = omega arith }))
+                  (nothing_piece follows.payee_or_reason (fits.payee_or_reason_fits.none (inr r))) (count_field lines follows.usage_or_count few written)
+                  (amount_field at.total follows.amount_or_total all_summed (fits.amount_or_total_fits.all r))
             ]
           ]
         ]
@@ -288,8 +284,8 @@ module _ (at next : At) (row : List (List ℕ)) (sound : IsSound at) (follows : 
   -- the row that stands there is one short line
   pub stands_as_line : (line : List ℕ) × IsLineOf row line
   stands_as_line = (
-    row_body default_writer (row_of follows.kind follows.whose follows.third follows.fourth),
-    subst (λ (r : List (List ℕ)). IsLineOf r (row_body default_writer (row_of follows.kind follows.whose follows.third follows.fourth))) (sym follows.form) row_is_line,
+    row_body default_writer (row_of follows.kind follows.payee_or_reason follows.usage_or_count follows.amount_or_total),
+    subst (λ (r : List (List ℕ)). IsLineOf r (row_body default_writer (row_of follows.kind follows.payee_or_reason follows.usage_or_count follows.amount_or_total))) (sym follows.form) row_is_line,
   )
 
   portion_sound : (place : Place) (payee : List ℕ) (amount : ℤ) → IsAmount amount → IsCount (at.portions + 1) → count_at place ≡ count_at at.place + 1
@@ -323,15 +319,15 @@ module _ (at next : At) (row : List (List ℕ)) (sound : IsSound at) (follows : 
         | inl l ↦
             let (amount, size, written, to) = follows.leads.portion l in
             subst IsSound (sym to)
-            (portion_sound (Within (count_at at.place + 1) (sum_at at.place +ℤ amount)) follows.whose amount size (fits.fourth_fits.amount (inl l)).0 refl refl
-            (payee_piece at.place at.payee follows.whose sound.payee (fits.whose_fits.payee l)))
+            (portion_sound (Within (count_at at.place + 1) (sum_at at.place +ℤ amount)) follows.payee_or_reason amount size (fits.amount_or_total_fits.amount (inl l)).0 refl refl
+            (payee_piece at.place at.payee follows.payee_or_reason sound.payee (fits.payee_or_reason_fits.payee l)))
         | inr others ↦ elim others [
           | inl s ↦ subst IsSound (sym (follows.leads.sum s)) (sum_sound Between refl refl)
           | inr more ↦ elim more [
             | inl m ↦
                 let (amount, size, written, to) = follows.leads.rest m in
                 subst IsSound (sym to)
-                (portion_sound (Resting (count_at at.place + 1) (sum_at at.place +ℤ amount)) at.payee amount size (fits.fourth_fits.amount (inr m)).0 refl refl sound.payee)
+                (portion_sound (Resting (count_at at.place + 1) (sum_at at.place +ℤ amount)) at.payee amount size (fits.amount_or_total_fits.amount (inr m)).0 refl refl sound.payee)
             | inr last ↦ elim last [
               | inl t ↦ subst IsSound (sym (follows.leads.rests t)) (sum_sound Summed refl refl)
               | inr r ↦

@@ -1,7 +1,8 @@
 -- Texts are passed over to their ends.
 use Rattle.std.proofs.Common.{◌≡◌, ◌∙◌, ◌+◌, ◌+ℤ◌, ◌++◌, ◌∷◌, ℕ, ℤ, pos, List, [], Option, length, map, ap, sym, refl, subst, arith, codes}
 use Rattle.std.specs.Io.KnownBytes.{Appends, Consumes}
-use Rattle.std.proofs.lemmas.List.{append-nil, length-append, map-append}
+use Rattle.std.proofs.KnownBytes.{Appends-nil, Appends-trans, Consumes-trans}
+use Rattle.std.proofs.lemmas.List.{append-nil, length-append}
 use Rattle.std.proofs.lemmas.List.Sums.{sum_by-append}
 use Rattle.std.proofs.lemmas.Grind.{flat_map-append}
 use Rattle.csv_table.specs.Written.{text_of, text_of_row}
@@ -11,7 +12,7 @@ use Rattle.merge_statements.specs.SoFar.TakesEach.{none as none_of}
 use Rattle.merge_statements.specs.Places.{At}
 use Rattle.merge_statements.specs.Statements.{IsCount, Rest, rest_row, rests_rows, total_of_rests, total_row}
 use Rattle.merge_statements.proofs.Taking.{takes_push}
-use Rattle.merge_statements.proofs.Passing.{appends_more, consumes_more, none_appended}
+use Rattle.merge_statements.proofs.Passing.{elements_more, text_more}
 
 pub ending_written : (old between new : Unread) (before after : Option (List ℕ)) (count : ℕ) (total : ℤ) (lines : ℕ) → WritesRests old between before after count total
     → EndsText between new lines → WritesEnding old new before after count total lines
@@ -22,7 +23,7 @@ ending_written old between new before after count total lines was end = record {
     few = end.few;
     few_rests = subst IsCount (ap (λ (at : At). at.portions) was.at) was.few;
     consumed = subst (λ (t : List ℕ). Consumes old.left new.left t) text
-        (consumes_more old.left between.left new.left (text_of (rests_rows was.rests)) (text_of_row last) was.consumed
+        (Consumes-trans old.left between.left new.left (text_of (rests_rows was.rests)) (text_of_row last) was.consumed
         (subst (λ (all : ℤ). Consumes between.left new.left (text_of_row (total_row (codes "R") [] lines all))) (ap (λ (at : At). at.total) was.at) end.consumed));
     ended = end.ended;
   };
@@ -39,7 +40,7 @@ ending_written old between new before after count total lines was end = record {
     last = total_row (codes "R") [] lines (old.at.total +ℤ total_of_rests was.rests)
 
     text : text_of (rests_rows was.rests) ++ text_of_row last ≡ text_of (rests_rows was.rests ++ last ∷ [])
-    text = ap (λ (l : List ℕ). text_of (rests_rows was.rests) ++ l) (sym (append-nil (text_of_row last))) ∙ sym (flat_map-append text_of_row (rests_rows was.rests) (last ∷ []))
+    text = text_more (rests_rows was.rests) last
 
 pub no_ends : (before : Option (List ℕ)) → EndsEach [] [] before before 0 (pos 0) 0
 no_ends before = record {
@@ -50,7 +51,7 @@ no_ends before = record {
   few = omega arith;
   all_lines = refl;
   few_lines = omega arith;
-  written = none_appended before;
+  written = Appends-nil before;
 }
 
 rests_more : (endings : List Ending) (ending : Ending) → rests_of (endings ++ ending ∷ []) ≡ rests_of endings ++ ending.rests
@@ -59,9 +60,6 @@ rests_more endings ending =
 
 lines_more : (endings : List Ending) (ending : Ending) → lines_of (endings ++ ending ∷ []) ≡ lines_of endings + ending.lines
 lines_more endings ending = sum_by-append (λ (e : Ending). e.lines) endings (ending ∷ []) ∙ omega arith
-
-text_joined : (xs ys : List Rest) → text_of (map rest_row xs) ++ text_of (map rest_row ys) ≡ text_of (map rest_row (xs ++ ys))
-text_joined xs ys = sym (flat_map-append text_of_row (map rest_row xs) (map rest_row ys)) ∙ ap text_of (sym (map-append rest_row xs ys))
 
 pub ends_more : (old new : Unread) (olds news : List Unread) (before middle after : Option (List ℕ)) (so_far own count : ℕ) (rest sum total : ℤ) (lines more all : ℕ)
     → EndsEach olds news before middle so_far rest lines → WritesEnding old new middle after own sum more
@@ -77,6 +75,6 @@ ends_more old new olds news before middle after so_far own count rest sum total 
       few = few;
       all_lines = omega (arith, lined, was.all_lines, one.all_lines, lines_more was.endings one.ending);
       few_lines = few_lines;
-      written = subst (λ (t : List ℕ). Appends before after t) (text_joined (rests_of was.endings) one.ending.rests ∙ ap (λ (l : List Rest). text_of (map rest_row l)) (sym joined))
-          (appends_more before middle after (text_of (map rest_row (rests_of was.endings))) (text_of (map rest_row one.ending.rests)) was.written one.written);
+      written = subst (λ (t : List ℕ). Appends before after t) (elements_more rest_row (rests_of was.endings) one.ending.rests ∙ ap (λ (l : List Rest). text_of (map rest_row l)) (sym joined))
+          (Appends-trans before middle after (text_of (map rest_row (rests_of was.endings))) (text_of (map rest_row one.ending.rests)) was.written one.written);
     }

@@ -8,7 +8,7 @@ use Rattle.merge_statements.specs.Refused.{AreRows, BeginsWithNoRow, BeginsWithW
 use Rattle.merge_statements.specs.Refused.AreRows.{none as no_rows, more as more_rows}
 use Rattle.merge_statements.specs.Wrong.{IsWrongAt}
 use Rattle.merge_statements.specs.declared.refusal.StatementFault.{StatementFault}
-use Rattle.merge_statements.specs.declared.refusal.StatementFault.TheVariants.{End, Fourth, Kind, Row, Third, Whose}
+use Rattle.merge_statements.specs.declared.refusal.StatementFault.TheVariants.{AmountOrTotal, End, Kind, PayeeOrReason, Row, UsageOrCount}
 use Rattle.merge_statements.specs.declared.walk.Place.{Place}
 use Rattle.merge_statements.specs.declared.walk.Place.TheVariants.{Ended}
 use Rattle.merge_statements.specs.declared.walk.Wrong.{Wrong}
@@ -25,28 +25,28 @@ some_byte : (line : List ℕ) (rest : List ℕ) → ¬ ((line ++ 10 ∷ []) ++ r
 some_byte line rest none = omega (arith, ap length none, length-append (line ++ 10 ∷ []) rest, length-append line (10 ∷ []))
 
 -- the row that a text begins with
-begins_as : (at : At) (text : List ℕ) (field : Wrong) (begins : BeginsWithWrong at text field) → text ≡ text_of_row (row_of begins.kind begins.whose begins.third begins.fourth) ++ begins.rest
+begins_as : (at : At) (text : List ℕ) (field : Wrong) (begins : BeginsWithWrong at text field) → text ≡ text_of_row (row_of begins.kind begins.payee_or_reason begins.usage_or_count begins.amount_or_total) ++ begins.rest
 begins_as at text field begins =
     begins.begins.bytes ∙ (sym (append_assoc begins.line (10 ∷ []) begins.rest) ∙ ap (λ (l : List ℕ). l ++ begins.rest) (sym begins.row))
 
 -- a row that fits has no field that does not
 pub none_wrong : (at next : At) (row : List (List ℕ)) (rest behind : List ℕ) (text : List ℕ) → Follows at row next → text ≡ text_of_row row ++ rest
-    → (field : Wrong) (kind whose third fourth : List ℕ) → text ≡ text_of_row (row_of kind whose third fourth) ++ behind → ¬ (field ≡ wrong.Memory) → ¬ IsWrongAt at kind whose third fourth field
-none_wrong at next row rest behind text follows is field kind whose third fourth begins known wrong_at =
-    let same = same_row (row_of kind whose third fourth) (row_of follows.kind follows.whose follows.third follows.fourth) behind rest
+    → (field : Wrong) (kind payee_or_reason usage_or_count amount_or_total : List ℕ) → text ≡ text_of_row (row_of kind payee_or_reason usage_or_count amount_or_total) ++ behind → ¬ (field ≡ wrong.Memory) → ¬ IsWrongAt at kind payee_or_reason usage_or_count amount_or_total field
+none_wrong at next row rest behind text follows is field kind payee_or_reason usage_or_count amount_or_total begins known wrong_at =
+    let same = same_row (row_of kind payee_or_reason usage_or_count amount_or_total) (row_of follows.kind follows.payee_or_reason follows.usage_or_count follows.amount_or_total) behind rest
     (sym begins ∙ (is ∙ ap (λ (r : List (List ℕ)). text_of_row r ++ rest) follows.form)) in
     by field known (subst (λ (r : List (List ℕ)). IsWrongAt at (get_or r 0 []) (get_or r 1 []) (get_or r 2 []) (get_or r 3 []) field) same.0 wrong_at)
   where
-    by : (field : Wrong) → ¬ (field ≡ wrong.Memory) → ¬ IsWrongAt at follows.kind follows.whose follows.third follows.fourth field
+    by : (field : Wrong) → ¬ (field ≡ wrong.Memory) → ¬ IsWrongAt at follows.kind follows.payee_or_reason follows.usage_or_count follows.amount_or_total field
     by wrong.Kind known not = not follows.fits.kind_fits
-    by wrong.Whose known not = not.1 follows.fits.whose_fits
-    by wrong.Third known not = not.2 follows.fits.third_fits
-    by wrong.Fourth known not = not.3 follows.fits.fourth_fits
+    by wrong.PayeeOrReason known not = not.1 follows.fits.payee_or_reason_fits
+    by wrong.UsageOrCount known not = not.2 follows.fits.usage_or_count_fits
+    by wrong.AmountOrTotal known not = not.3 follows.fits.amount_or_total_fits
     by wrong.Memory known not = known refl
 
-row_some : (kind whose third fourth rest : List ℕ) → ¬ (text_of_row (row_of kind whose third fourth) ++ rest ≡ [])
+row_some : (kind payee_or_reason usage_or_count amount_or_total rest : List ℕ) → ¬ (text_of_row (row_of kind payee_or_reason usage_or_count amount_or_total) ++ rest ≡ [])
 unfolding is_blank
-row_some kind whose third fourth rest = some_byte (row_body default_writer (row_of kind whose third fourth)) rest
+row_some kind payee_or_reason usage_or_count amount_or_total rest = some_byte (row_body default_writer (row_of kind payee_or_reason usage_or_count amount_or_total)) rest
 
 -- where a row can stand, nothing is wrong
 no_fault_here : (at next : At) (row : List (List ℕ)) (rest text : List ℕ) (number : ℕ) (fault : StatementFault) → IsSound at → Follows at row next → text ≡ text_of_row row ++ rest
@@ -55,7 +55,7 @@ no_fault_here at next row rest text number fault sound follows is = by fault
   where
     wrong_field : (field : Wrong) → ¬ (field ≡ wrong.Memory) → ¬ BeginsWithWrong at text field
     wrong_field field known begins =
-        none_wrong at next row rest begins.rest text follows is field begins.kind begins.whose begins.third begins.fourth (begins_as at text field begins) known begins.wrong_at
+        none_wrong at next row rest begins.rest text follows is field begins.kind begins.payee_or_reason begins.usage_or_count begins.amount_or_total (begins_as at text field begins) known begins.wrong_at
 
     by : (fault : StatementFault) → ¬ IsFaultFrom at number text fault
     by (Row r) none =
@@ -64,23 +64,23 @@ no_fault_here at next row rest text number fault sound follows is = by fault
         (record { bytes = is ∙ (ap (λ (l : List ℕ). l ++ rest) of.bytes ∙ append_assoc line (10 ∷ []) rest); one = of.none; short = of.short })
         (ap length follows.form) of.bytes
     by (Kind r) begins = wrong_field wrong.Kind (λ e. true≢false (ap is_field e)) begins.1
-    by (Whose r) begins = wrong_field wrong.Whose (λ e. true≢false (ap is_field e)) begins.1
-    by (Third r) begins = wrong_field wrong.Third (λ e. true≢false (ap is_field e)) begins.1
-    by (Fourth r) begins = wrong_field wrong.Fourth (λ e. true≢false (ap is_field e)) begins.1
+    by (PayeeOrReason r) begins = wrong_field wrong.PayeeOrReason (λ e. true≢false (ap is_field e)) begins.1
+    by (UsageOrCount r) begins = wrong_field wrong.UsageOrCount (λ e. true≢false (ap is_field e)) begins.1
+    by (AmountOrTotal r) begins = wrong_field wrong.AmountOrTotal (λ e. true≢false (ap is_field e)) begins.1
     by (End r) ends =
         let (line, of) = stands_as_line at next row sound follows in
         some_byte line rest (ap (λ (l : List ℕ). l ++ rest) (sym of.bytes) ∙ (sym is ∙ ends.1))
 
 none_begins : (at : At) (field : Wrong) → ¬ BeginsWithWrong at [] field
-none_begins at field begins = row_some begins.kind begins.whose begins.third begins.fourth begins.rest (sym (begins_as at [] field begins))
+none_begins at field begins = row_some begins.kind begins.payee_or_reason begins.usage_or_count begins.amount_or_total begins.rest (sym (begins_as at [] field begins))
 
 -- nor where a text of statements ends
 no_fault_at_end : (at : At) (number lines : ℕ) (fault : StatementFault) → at.place ≡ Ended lines → ¬ IsFaultFrom at number [] fault
 no_fault_at_end at number lines (Row r) ended none = omega (arith, none.1)
 no_fault_at_end at number lines (Kind r) ended begins = none_begins at wrong.Kind begins.1
-no_fault_at_end at number lines (Whose r) ended begins = none_begins at wrong.Whose begins.1
-no_fault_at_end at number lines (Third r) ended begins = none_begins at wrong.Third begins.1
-no_fault_at_end at number lines (Fourth r) ended begins = none_begins at wrong.Fourth begins.1
+no_fault_at_end at number lines (PayeeOrReason r) ended begins = none_begins at wrong.PayeeOrReason begins.1
+no_fault_at_end at number lines (UsageOrCount r) ended begins = none_begins at wrong.UsageOrCount begins.1
+no_fault_at_end at number lines (AmountOrTotal r) ended begins = none_begins at wrong.AmountOrTotal begins.1
 no_fault_at_end at number lines (End r) ended ends = ends.2 lines ended
 
 -- behind the last row stands none
@@ -112,40 +112,40 @@ no_fault text fault lines is sound =
 -- ---- one fault
 
 -- of a row's fields one is the first that does not fit
-one_field : (at : At) (kind whose third fourth : List ℕ) (field other : Wrong) → is_field field ≡ true → is_field other ≡ true → IsWrongAt at kind whose third fourth field
-    → IsWrongAt at kind whose third fourth other → field ≡ other
-one_field at kind whose third fourth wrong.Kind wrong.Kind known is not is_not = refl
-one_field at kind whose third fourth wrong.Kind wrong.Whose known is not is_not = absurd (not is_not.0)
-one_field at kind whose third fourth wrong.Kind wrong.Third known is not is_not = absurd (not is_not.0)
-one_field at kind whose third fourth wrong.Kind wrong.Fourth known is not is_not = absurd (not is_not.0)
-one_field at kind whose third fourth wrong.Whose wrong.Kind known is not is_not = absurd (is_not not.0)
-one_field at kind whose third fourth wrong.Whose wrong.Whose known is not is_not = refl
-one_field at kind whose third fourth wrong.Whose wrong.Third known is not is_not = absurd (not.1 is_not.1)
-one_field at kind whose third fourth wrong.Whose wrong.Fourth known is not is_not = absurd (not.1 is_not.1)
-one_field at kind whose third fourth wrong.Third wrong.Kind known is not is_not = absurd (is_not not.0)
-one_field at kind whose third fourth wrong.Third wrong.Whose known is not is_not = absurd (is_not.1 not.1)
-one_field at kind whose third fourth wrong.Third wrong.Third known is not is_not = refl
-one_field at kind whose third fourth wrong.Third wrong.Fourth known is not is_not = absurd (not.2 is_not.2)
-one_field at kind whose third fourth wrong.Fourth wrong.Kind known is not is_not = absurd (is_not not.0)
-one_field at kind whose third fourth wrong.Fourth wrong.Whose known is not is_not = absurd (is_not.1 not.1)
-one_field at kind whose third fourth wrong.Fourth wrong.Third known is not is_not = absurd (is_not.2 not.2)
-one_field at kind whose third fourth wrong.Fourth wrong.Fourth known is not is_not = refl
-one_field at kind whose third fourth wrong.Memory other known is not is_not = absurd (true≢false (sym known))
-one_field at kind whose third fourth field wrong.Memory known is not is_not = absurd (true≢false (sym is))
+one_field : (at : At) (kind payee_or_reason usage_or_count amount_or_total : List ℕ) (field other : Wrong) → is_field field ≡ true → is_field other ≡ true → IsWrongAt at kind payee_or_reason usage_or_count amount_or_total field
+    → IsWrongAt at kind payee_or_reason usage_or_count amount_or_total other → field ≡ other
+one_field at kind payee_or_reason usage_or_count amount_or_total wrong.Kind wrong.Kind known is not is_not = refl
+one_field at kind payee_or_reason usage_or_count amount_or_total wrong.Kind wrong.PayeeOrReason known is not is_not = absurd (not is_not.0)
+one_field at kind payee_or_reason usage_or_count amount_or_total wrong.Kind wrong.UsageOrCount known is not is_not = absurd (not is_not.0)
+one_field at kind payee_or_reason usage_or_count amount_or_total wrong.Kind wrong.AmountOrTotal known is not is_not = absurd (not is_not.0)
+one_field at kind payee_or_reason usage_or_count amount_or_total wrong.PayeeOrReason wrong.Kind known is not is_not = absurd (is_not not.0)
+one_field at kind payee_or_reason usage_or_count amount_or_total wrong.PayeeOrReason wrong.PayeeOrReason known is not is_not = refl
+one_field at kind payee_or_reason usage_or_count amount_or_total wrong.PayeeOrReason wrong.UsageOrCount known is not is_not = absurd (not.1 is_not.1)
+one_field at kind payee_or_reason usage_or_count amount_or_total wrong.PayeeOrReason wrong.AmountOrTotal known is not is_not = absurd (not.1 is_not.1)
+one_field at kind payee_or_reason usage_or_count amount_or_total wrong.UsageOrCount wrong.Kind known is not is_not = absurd (is_not not.0)
+one_field at kind payee_or_reason usage_or_count amount_or_total wrong.UsageOrCount wrong.PayeeOrReason known is not is_not = absurd (is_not.1 not.1)
+one_field at kind payee_or_reason usage_or_count amount_or_total wrong.UsageOrCount wrong.UsageOrCount known is not is_not = refl
+one_field at kind payee_or_reason usage_or_count amount_or_total wrong.UsageOrCount wrong.AmountOrTotal known is not is_not = absurd (not.2 is_not.2)
+one_field at kind payee_or_reason usage_or_count amount_or_total wrong.AmountOrTotal wrong.Kind known is not is_not = absurd (is_not not.0)
+one_field at kind payee_or_reason usage_or_count amount_or_total wrong.AmountOrTotal wrong.PayeeOrReason known is not is_not = absurd (is_not.1 not.1)
+one_field at kind payee_or_reason usage_or_count amount_or_total wrong.AmountOrTotal wrong.UsageOrCount known is not is_not = absurd (is_not.2 not.2)
+one_field at kind payee_or_reason usage_or_count amount_or_total wrong.AmountOrTotal wrong.AmountOrTotal known is not is_not = refl
+one_field at kind payee_or_reason usage_or_count amount_or_total wrong.Memory other known is not is_not = absurd (true≢false (sym known))
+one_field at kind payee_or_reason usage_or_count amount_or_total field wrong.Memory known is not is_not = absurd (true≢false (sym is))
 
 one_field_of : (at : At) (text : List ℕ) (field other : Wrong) → is_field field ≡ true → is_field other ≡ true → BeginsWithWrong at text field → BeginsWithWrong at text other → field ≡ other
 one_field_of at text field other known is begins goes =
-    let same = same_row (row_of goes.kind goes.whose goes.third goes.fourth) (row_of begins.kind begins.whose begins.third begins.fourth) goes.rest begins.rest
+    let same = same_row (row_of goes.kind goes.payee_or_reason goes.usage_or_count goes.amount_or_total) (row_of begins.kind begins.payee_or_reason begins.usage_or_count begins.amount_or_total) goes.rest begins.rest
     (sym (begins_as at text other goes) ∙ begins_as at text field begins) in
-    one_field at begins.kind begins.whose begins.third begins.fourth field other known is begins.wrong_at
+    one_field at begins.kind begins.payee_or_reason begins.usage_or_count begins.amount_or_total field other known is begins.wrong_at
     (subst (λ (r : List (List ℕ)). IsWrongAt at (get_or r 0 []) (get_or r 1 []) (get_or r 2 []) (get_or r 3 []) other) same.0 goes.wrong_at)
 
 -- the fault that a wrong field is
 abbrev fault_of : Wrong → ℕ → StatementFault
 fault_of wrong.Kind number = Kind number
-fault_of wrong.Whose number = Whose number
-fault_of wrong.Third number = Third number
-fault_of wrong.Fourth number = Fourth number
+fault_of wrong.PayeeOrReason number = PayeeOrReason number
+fault_of wrong.UsageOrCount number = UsageOrCount number
+fault_of wrong.AmountOrTotal number = AmountOrTotal number
 fault_of wrong.Memory number = End number
 
 -- a fault is no row, a wrong field or the end
@@ -162,13 +162,13 @@ IsOne at number text fault =
 is_one : (at : At) (number : ℕ) (text : List ℕ) (fault : StatementFault) → IsFaultFrom at number text fault → IsOne at number text fault
 is_one at number text (Row r) is = inl (ap Row is.0, is.1, is.2)
 is_one at number text (Kind r) is = inr (inl (record { field = wrong.Kind; known = refl; is = ap Kind is.0; begins = is.1 }))
-is_one at number text (Whose r) is = inr (inl (record { field = wrong.Whose; known = refl; is = ap Whose is.0; begins = is.1 }))
-is_one at number text (Third r) is = inr (inl (record { field = wrong.Third; known = refl; is = ap Third is.0; begins = is.1 }))
-is_one at number text (Fourth r) is = inr (inl (record { field = wrong.Fourth; known = refl; is = ap Fourth is.0; begins = is.1 }))
+is_one at number text (PayeeOrReason r) is = inr (inl (record { field = wrong.PayeeOrReason; known = refl; is = ap PayeeOrReason is.0; begins = is.1 }))
+is_one at number text (UsageOrCount r) is = inr (inl (record { field = wrong.UsageOrCount; known = refl; is = ap UsageOrCount is.0; begins = is.1 }))
+is_one at number text (AmountOrTotal r) is = inr (inl (record { field = wrong.AmountOrTotal; known = refl; is = ap AmountOrTotal is.0; begins = is.1 }))
 is_one at number text (End r) is = inr (inr (ap End is.0, is.1))
 
 no_row_and_wrong : (at : At) (text : List ℕ) (field : Wrong) → BeginsWithNoRow text → ¬ BeginsWithWrong at text field
-no_row_and_wrong at text field none begins = none begins.line begins.rest (row_of begins.kind begins.whose begins.third begins.fourth) begins.begins refl begins.row
+no_row_and_wrong at text field none begins = none begins.line begins.rest (row_of begins.kind begins.payee_or_reason begins.usage_or_count begins.amount_or_total) begins.begins refl begins.row
 
 wrong_and_end : (at : At) (text : List ℕ) (field : Wrong) → text ≡ [] → ¬ BeginsWithWrong at text field
 wrong_and_end at text field ends begins = none_begins at field (subst (λ (t : List ℕ). BeginsWithWrong at t field) ends begins)

@@ -17,7 +17,7 @@ use Rattle.merge_statements.specs.Refused.{AreRows, IsStatementText}
 use Rattle.merge_statements.specs.Refused.AreRows.{none as no_rows, more as more_rows}
 use Rattle.merge_statements.specs.declared.walk.Place.{Place}
 use Rattle.merge_statements.specs.declared.walk.Place.TheVariants.{Between, Ended, Resting, Summed, Within}
-use Rattle.merge_statements.proofs.WalkLemmas.{portion_leads, rest_leads, rests_fit, run_leads, sum_fits}
+use Rattle.merge_statements.proofs.WalkLemmas.{amount_fits, portion_leads, rest_leads, rests_fit, run_leads, sum_fits, usage_fits}
 use Rattle.merge_statements.proofs.Whole.{count_of}
 
 -- a place with all that is known there
@@ -30,73 +30,57 @@ letters one other same = ap (λ (k : List ℕ). get_or k 0 0) same
 
 -- ---- a row of each kind
 
-portion_fits : (at : At) (whose third fourth : List ℕ) (amount : ℤ) → KindFits at.place (codes "L") → IsPayeeAt at.place at.payee whose → IsName third → IsCount (at.portions + 1) → IsAmount amount
-    → fourth ≡ signed_decimal amount → Fits at (codes "L") whose third fourth
-portion_fits at whose third fourth amount fits due name few size written = record {
+portion_fits : (at : At) (payee_or_reason usage_or_count amount_or_total : List ℕ) (amount : ℤ) → KindFits at.place (codes "L") → IsPayeeAt at.place at.payee payee_or_reason → IsName usage_or_count → IsCount (at.portions + 1) → IsAmount amount
+    → amount_or_total ≡ signed_decimal amount → Fits at (codes "L") payee_or_reason usage_or_count amount_or_total
+portion_fits at payee_or_reason usage_or_count amount_or_total amount fits due name few size written = record {
   kind_fits = fits;
-  whose_fits = record {
+  payee_or_reason_fits = record {
     payee = λ l. due;
     same = λ s. absurd (omega (arith, letters (codes "L") (codes "S") s));
     reason = λ m. absurd (omega (arith, letters (codes "L") (codes "M") m));
     none = λ any. absurd (elim any [ inl t ↦ omega (arith, letters (codes "L") (codes "T") t) | inr r ↦ omega (arith, letters (codes "L") (codes "R") r) ]);
   };
-  third_fits = record {
-    usage = λ any. name;
-    count = λ any. absurd (elim any [ inl s ↦ omega (arith, letters (codes "L") (codes "S") s) | inr t ↦ omega (arith, letters (codes "L") (codes "T") t) ]);
-    lines = λ r. absurd (omega (arith, letters (codes "L") (codes "R") r));
-  };
-  fourth_fits = record {
-    amount = λ any. (few, (amount, size, written));
-    sum = λ any. absurd (elim any [ inl s ↦ omega (arith, letters (codes "L") (codes "S") s) | inr t ↦ omega (arith, letters (codes "L") (codes "T") t) ]);
-    all = λ r. absurd (omega (arith, letters (codes "L") (codes "R") r));
-  };
+  usage_or_count_fits = usage_fits at (codes "L") usage_or_count (inl refl) name;
+  amount_or_total_fits = amount_fits at (codes "L") amount_or_total (inl refl) (few, (amount, size, written));
 }
 
-rest_fits : (at : At) (whose third fourth : List ℕ) (amount : ℤ) → KindFits at.place (codes "M") → IsReason whose → IsName third → IsCount (at.portions + 1) → IsAmount amount
-    → fourth ≡ signed_decimal amount → Fits at (codes "M") whose third fourth
-rest_fits at whose third fourth amount fits reason name few size written = record {
+rest_fits : (at : At) (payee_or_reason usage_or_count amount_or_total : List ℕ) (amount : ℤ) → KindFits at.place (codes "M") → IsReason payee_or_reason → IsName usage_or_count → IsCount (at.portions + 1) → IsAmount amount
+    → amount_or_total ≡ signed_decimal amount → Fits at (codes "M") payee_or_reason usage_or_count amount_or_total
+rest_fits at payee_or_reason usage_or_count amount_or_total amount fits reason name few size written = record {
   kind_fits = fits;
-  whose_fits = record {
+  payee_or_reason_fits = record {
     payee = λ l. absurd (omega (arith, letters (codes "M") (codes "L") l));
     same = λ s. absurd (omega (arith, letters (codes "M") (codes "S") s));
     reason = λ m. reason;
     none = λ any. absurd (elim any [ inl t ↦ omega (arith, letters (codes "M") (codes "T") t) | inr r ↦ omega (arith, letters (codes "M") (codes "R") r) ]);
   };
-  third_fits = record {
-    usage = λ any. name;
-    count = λ any. absurd (elim any [ inl s ↦ omega (arith, letters (codes "M") (codes "S") s) | inr t ↦ omega (arith, letters (codes "M") (codes "T") t) ]);
-    lines = λ r. absurd (omega (arith, letters (codes "M") (codes "R") r));
-  };
-  fourth_fits = record {
-    amount = λ any. (few, (amount, size, written));
-    sum = λ any. absurd (elim any [ inl s ↦ omega (arith, letters (codes "M") (codes "S") s) | inr t ↦ omega (arith, letters (codes "M") (codes "T") t) ]);
-    all = λ r. absurd (omega (arith, letters (codes "M") (codes "R") r));
-  };
+  usage_or_count_fits = usage_fits at (codes "M") usage_or_count (inr refl) name;
+  amount_or_total_fits = amount_fits at (codes "M") amount_or_total (inr refl) (few, (amount, size, written));
 }
 
 run_fits : (at : At) (lines : ℕ) → at.place ≡ Summed → IsCount lines → Fits at (codes "R") [] (decimal lines) (signed_decimal at.total)
 run_fits at lines summed few = record {
   kind_fits = subst (λ (place : Place). KindFits place (codes "R")) (sym summed) refl;
-  whose_fits = record {
+  payee_or_reason_fits = record {
     payee = λ l. absurd (omega (arith, letters (codes "R") (codes "L") l));
     same = λ s. absurd (omega (arith, letters (codes "R") (codes "S") s));
     reason = λ m. absurd (omega (arith, letters (codes "R") (codes "M") m));
     none = λ any. refl;
   };
-  third_fits = record {
+  usage_or_count_fits = record {
     usage = λ any. absurd (elim any [ inl l ↦ omega (arith, letters (codes "R") (codes "L") l) | inr m ↦ omega (arith, letters (codes "R") (codes "M") m) ]);
     count = λ any. absurd (elim any [ inl s ↦ omega (arith, letters (codes "R") (codes "S") s) | inr t ↦ omega (arith, letters (codes "R") (codes "T") t) ]);
     lines = λ r. (lines, few, refl);
   };
-  fourth_fits = record {
+  amount_or_total_fits = record {
     amount = λ any. absurd (elim any [ inl l ↦ omega (arith, letters (codes "R") (codes "L") l) | inr m ↦ omega (arith, letters (codes "R") (codes "M") m) ]);
     sum = λ any. absurd (elim any [ inl s ↦ omega (arith, letters (codes "R") (codes "S") s) | inr t ↦ omega (arith, letters (codes "R") (codes "T") t) ]);
     all = λ r. refl;
   };
 }
 
-sum_leads : (at : At) (third fourth : List ℕ) → Leads at (codes "S") at.payee third fourth (there Between at.payee at.portions (at.total +ℤ sum_at at.place))
-sum_leads at third fourth = record {
+sum_leads : (at : At) (usage_or_count amount_or_total : List ℕ) → Leads at (codes "S") at.payee usage_or_count amount_or_total (there Between at.payee at.portions (at.total +ℤ sum_at at.place))
+sum_leads at usage_or_count amount_or_total = record {
   portion = λ l. absurd (omega (arith, letters (codes "S") (codes "L") l));
   sum = λ s. refl;
   rest = λ m. absurd (omega (arith, letters (codes "S") (codes "M") m));
@@ -104,8 +88,8 @@ sum_leads at third fourth = record {
   run = λ r. absurd (omega (arith, letters (codes "S") (codes "R") r));
 }
 
-rests_lead : (at : At) (third fourth : List ℕ) → Leads at (codes "T") [] third fourth (there Summed at.payee at.portions (at.total +ℤ sum_at at.place))
-rests_lead at third fourth = record {
+rests_lead : (at : At) (usage_or_count amount_or_total : List ℕ) → Leads at (codes "T") [] usage_or_count amount_or_total (there Summed at.payee at.portions (at.total +ℤ sum_at at.place))
+rests_lead at usage_or_count amount_or_total = record {
   portion = λ l. absurd (omega (arith, letters (codes "T") (codes "L") l));
   sum = λ s. absurd (omega (arith, letters (codes "T") (codes "S") s));
   rest = λ m. absurd (omega (arith, letters (codes "T") (codes "M") m));
@@ -117,9 +101,9 @@ portion_follows : (at : At) (payee : List ℕ) (portion : Portion) → KindFits 
     → Follows at (portion_row payee portion) (there (Within (count_at at.place + 1) (sum_at at.place +ℤ portion.amount)) payee (at.portions + 1) at.total)
 portion_follows at payee portion fits due sound few = record {
   kind = codes "L";
-  whose = payee;
-  third = portion.usage;
-  fourth = signed_decimal portion.amount;
+  payee_or_reason = payee;
+  usage_or_count = portion.usage;
+  amount_or_total = signed_decimal portion.amount;
   form = refl;
   fits = portion_fits at payee portion.usage (signed_decimal portion.amount) portion.amount fits due sound.0 few sound.1 refl;
   leads = portion_leads at _ (codes "L") payee portion.usage (signed_decimal portion.amount) portion.amount refl sound.1 refl refl;
@@ -129,9 +113,9 @@ rest_follows : (at : At) (rest : Rest) → KindFits at.place (codes "M") → IsR
     → Follows at (rest_row rest) (there (Resting (count_at at.place + 1) (sum_at at.place +ℤ rest.amount)) at.payee (at.portions + 1) at.total)
 rest_follows at rest fits sound few = record {
   kind = codes "M";
-  whose = rest.reason;
-  third = rest.usage;
-  fourth = signed_decimal rest.amount;
+  payee_or_reason = rest.reason;
+  usage_or_count = rest.usage;
+  amount_or_total = signed_decimal rest.amount;
   form = refl;
   fits = rest_fits at rest.reason rest.usage (signed_decimal rest.amount) rest.amount fits sound.0 sound.1 few sound.2 refl;
   leads = rest_leads at _ (codes "M") rest.reason rest.usage (signed_decimal rest.amount) rest.amount refl sound.2 refl refl;
@@ -140,9 +124,9 @@ rest_follows at rest fits sound few = record {
 sum_follows : (at : At) → KindFits at.place (codes "S") → Follows at (total_row (codes "S") at.payee (count_at at.place) (sum_at at.place)) (there Between at.payee at.portions (at.total +ℤ sum_at at.place))
 sum_follows at fits = record {
   kind = codes "S";
-  whose = at.payee;
-  third = decimal (count_at at.place);
-  fourth = signed_decimal (sum_at at.place);
+  payee_or_reason = at.payee;
+  usage_or_count = decimal (count_at at.place);
+  amount_or_total = signed_decimal (sum_at at.place);
   form = refl;
   fits = sum_fits at (codes "S") at.payee (decimal (count_at at.place)) (signed_decimal (sum_at at.place)) refl fits refl refl refl;
   leads = sum_leads at (decimal (count_at at.place)) (signed_decimal (sum_at at.place));
@@ -151,9 +135,9 @@ sum_follows at fits = record {
 rests_follow : (at : At) → KindFits at.place (codes "T") → Follows at (total_row (codes "T") [] (count_at at.place) (sum_at at.place)) (there Summed at.payee at.portions (at.total +ℤ sum_at at.place))
 rests_follow at fits = record {
   kind = codes "T";
-  whose = [];
-  third = decimal (count_at at.place);
-  fourth = signed_decimal (sum_at at.place);
+  payee_or_reason = [];
+  usage_or_count = decimal (count_at at.place);
+  amount_or_total = signed_decimal (sum_at at.place);
   form = refl;
   fits = rests_fit at (codes "T") [] (decimal (count_at at.place)) (signed_decimal (sum_at at.place)) refl fits refl refl refl;
   leads = rests_lead at (decimal (count_at at.place)) (signed_decimal (sum_at at.place));
@@ -162,9 +146,9 @@ rests_follow at fits = record {
 run_follows : (at : At) (lines : ℕ) → at.place ≡ Summed → IsCount lines → Follows at (total_row (codes "R") [] lines at.total) (there (Ended lines) at.payee at.portions at.total)
 run_follows at lines summed few = record {
   kind = codes "R";
-  whose = [];
-  third = decimal lines;
-  fourth = signed_decimal at.total;
+  payee_or_reason = [];
+  usage_or_count = decimal lines;
+  amount_or_total = signed_decimal at.total;
   form = refl;
   fits = run_fits at lines summed few;
   leads = run_leads at _ (codes "R") [] (decimal lines) (signed_decimal at.total) lines refl few refl refl;

@@ -1,7 +1,8 @@
 -- A payee's statement is passed over, portion by portion.
 use Rattle.std.proofs.Common.{Bool, true, false, ◌≡◌, ◌∙◌, ◌+◌, ◌+ℤ◌, ◌++◌, ◌∷◌, inl, inr, ℕ, ℤ, List, [], Option, Some, None, length, map, get_or, ap, sym, refl, subst, append_assoc, arith, codes}
 use Rattle.std.specs.Prelude.{if◌then◌else◌, slice_index_or}
-use Rattle.std.specs.Io.KnownBytes.{Appends, Consumes, Keeps, append_known, prepend_known}
+use Rattle.std.specs.Io.KnownBytes.{Appends, Consumes, Keeps, prepend_known}
+use Rattle.std.proofs.KnownBytes.{Appends-nil, Appends-trans, Consumes-nil, Consumes-trans}
 use Rattle.std.proofs.lemmas.List.{append-nil, length_push, map-append}
 use Rattle.std.proofs.lemmas.List.Elements.{All-cons, All-nil, All-push}
 use Rattle.std.proofs.lemmas.Grind.{flat_map-append}
@@ -9,7 +10,7 @@ use Rattle.csv.specs.Reading.{default_config, records}
 use Rattle.csv.specs.Writing.{read_back}
 use Rattle.csv_table.proofs.ReadBack.{rows_read_back}
 use Rattle.csv_table.specs.Written.{text_of, text_of_row}
-use Rattle.line_split.proofs.IntSums.{int_sum_by-append, none_plus}
+use Rattle.line_split.proofs.IntSums.{int_sum_by_push}
 use Rattle.merge_statements.specs.SoFar.{CanEnd, HasNext, HasRests, IsLooked, IsNext, IsPortionAt, IsRestAt, IsRestsSumAt, IsSumAt, IsWithin, PassesSum, ReadsOn, Steps, Unread, WritesRests, WritesStatement, total_of_portions}
 use Rattle.merge_statements.specs.Places.{At, IsPayeeAt, count_at, row_of, sum_at}
 use Rattle.merge_statements.specs.Statements.{IsCount, IsPortion, IsRest, Portion, Rest, Statement, portion_row, rest_row, total_of_rests, total_row}
@@ -35,42 +36,18 @@ second_in row = ap (λ (rows : List (List (List ℕ))). slice_index_or (first_ro
 pub second_same : (row other : List (List ℕ)) → text_of_row row ≡ text_of_row other → slice_index_or row 1 [] ≡ slice_index_or other 1 []
 second_same row other same = sym (second_in row) ∙ ap (λ (text : List ℕ). slice_index_or (first_row (records default_config (text ++ []))) 1 []) same ∙ second_in other
 
--- ---- known bytes
-
-pub none_consumed : (known : Option (List ℕ)) → Consumes known known []
-none_consumed None = tt
-none_consumed (Some xs) = refl
-
-pub none_appended : (known : Option (List ℕ)) → Appends known known []
-none_appended None = tt
-none_appended (Some xs) = sym (append-nil xs)
-
-pub consumes_more : (old between new : Option (List ℕ)) (first more : List ℕ) → Consumes old between first → Consumes between new more → Consumes old new (first ++ more)
-consumes_more None between new first more one two = tt
-consumes_more (Some xs) None new first more one two = absurd one
-consumes_more (Some xs) (Some ys) None first more one two = absurd two
-consumes_more (Some xs) (Some ys) (Some zs) first more one two = one ∙ (ap (λ (l : List ℕ). first ++ l) two ∙ sym (append_assoc first more zs))
-
-pub appends_more : (old between new : Option (List ℕ)) (first more : List ℕ) → Appends old between first → Appends between new more → Appends old new (first ++ more)
-appends_more None between new first more one two = tt
-appends_more (Some xs) None new first more one two = absurd one
-appends_more (Some xs) (Some ys) None first more one two = absurd two
-appends_more (Some xs) (Some ys) (Some zs) first more one two = two ∙ (ap (λ (l : List ℕ). l ++ more) one ∙ append_assoc xs first more)
-
 -- ---- the text of a row more
 
-text_more : (rows : List (List (List ℕ))) (row : List (List ℕ)) → text_of rows ++ text_of_row row ≡ text_of (rows ++ row ∷ [])
+pub text_more : (rows : List (List (List ℕ))) (row : List (List ℕ)) → text_of rows ++ text_of_row row ≡ text_of (rows ++ row ∷ [])
 text_more rows row = ap (λ (l : List ℕ). text_of rows ++ l) (sym (append-nil (text_of_row row))) ∙ sym (flat_map-append text_of_row rows (row ∷ []))
 
-pub portions_more : (payee : List ℕ) (portions : List Portion) (portion : Portion)
-    → text_of (map (portion_row payee) portions) ++ text_of_row (portion_row payee portion) ≡ text_of (map (portion_row payee) (portions ++ portion ∷ []))
-portions_more payee portions portion =
-    text_more (map (portion_row payee) portions) (portion_row payee portion) ∙ ap text_of (sym (map-append (portion_row payee) portions (portion ∷ [])))
+-- the same where each row is that of an element
+pub element_more : {X : Type 0} (row : X → List (List ℕ)) (xs : List X) (x : X) → text_of (map row xs) ++ text_of_row (row x) ≡ text_of (map row (xs ++ x ∷ []))
+element_more row xs x = text_more (map row xs) (row x) ∙ ap text_of (sym (map-append row xs (x ∷ [])))
 
-total_more : (portions : List Portion) (portion : Portion) → total_of_portions portions +ℤ portion.amount ≡ total_of_portions (portions ++ portion ∷ [])
-total_more portions portion =
-    ap (λ (n : ℤ). total_of_portions portions +ℤ n) (sym (none_plus portion.amount))
-    ∙ sym (int_sum_by-append (λ (p : Portion). p.amount) portions (portion ∷ []))
+-- and of many more
+pub elements_more : {X : Type 0} (row : X → List (List ℕ)) (xs ys : List X) → text_of (map row xs) ++ text_of (map row ys) ≡ text_of (map row (xs ++ ys))
+elements_more row xs ys = sym (flat_map-append text_of_row (map row xs) (map row ys)) ∙ ap text_of (sym (map-append row xs ys))
 
 -- ---- the first portion
 
@@ -122,7 +99,7 @@ pub more_within : (old between new : Unread) (before middle after : Option (List
 more_within old between new before middle after was first passed reads written =
     let same : p.payee ≡ was.payee = subst (λ (at : At). IsPayeeAt at.place at.payee p.payee) was.at p.due in
     let form : passed.row ≡ portion_row was.payee p.portion = p.form ∙ ap (λ (name : List ℕ). portion_row name p.portion) same in
-    let text = portions_more was.payee was.portions p.portion in
+    let text = element_more (portion_row was.payee) was.portions p.portion in
     record {
       payee = was.payee;
       portions = was.portions ++ p.portion ∷ [];
@@ -138,10 +115,10 @@ more_within old between new before middle after was first passed reads written =
         total = (was.at i).total;
       });
       consumed = subst (λ (t : List ℕ). Consumes old.left new.left t) text
-          (consumes_more old.left between.left new.left (text_of (map (portion_row was.payee) was.portions)) (text_of_row (portion_row was.payee p.portion)) was.consumed
+          (Consumes-trans old.left between.left new.left (text_of (map (portion_row was.payee) was.portions)) (text_of_row (portion_row was.payee p.portion)) was.consumed
           (subst (λ (row : List (List ℕ)). Consumes between.left new.left (text_of_row row)) form passed.consumed));
       written = subst (λ (t : List ℕ). Appends before after t) text
-          (appends_more before middle after (text_of (map (portion_row was.payee) was.portions)) (text_of_row (portion_row was.payee p.portion)) was.written
+          (Appends-trans before middle after (text_of (map (portion_row was.payee) was.portions)) (text_of_row (portion_row was.payee p.portion)) was.written
           (subst (λ (t : List ℕ). Appends middle after t) (sym passed.line ∙ ap text_of_row form) written));
       reads = λ start read. reads start (was.reads start read);
     }
@@ -153,7 +130,7 @@ more_within old between new before middle after was first passed reads written =
     count = ap (λ (at : At). count_at at.place + 1) was.at ∙ sym (length_push was.portions p.portion)
 
     sum : sum_at between.at.place +ℤ p.portion.amount ≡ total_of_portions (was.portions ++ p.portion ∷ [])
-    sum = ap (λ (at : At). sum_at at.place +ℤ p.portion.amount) was.at ∙ total_more was.portions p.portion
+    sum = ap (λ (at : At). sum_at at.place +ℤ p.portion.amount) was.at ∙ sym (int_sum_by_push (λ (p : Portion). p.amount) was.portions p.portion)
 
     all : between.at.portions + 1 ≡ old.at.portions + length (was.portions ++ p.portion ∷ [])
     all = omega (arith, ap (λ (at : At). at.portions) was.at, length_push was.portions p.portion)
@@ -176,7 +153,7 @@ statement_written old between new before after count total was end reads looked 
         sound = record { payee = was.name; some = was.some; portions = was.sound };
         consumed = subst (λ (t : List ℕ). Consumes old.left new.left t)
             (text_more (map (portion_row was.payee) was.portions) (total_row (codes "S") was.payee (length was.portions) (total_of_portions was.portions)))
-            (consumes_more old.left between.left new.left (text_of (map (portion_row was.payee) was.portions)) (text_of_row (total_row (codes "S") was.payee (length was.portions) (total_of_portions was.portions))) was.consumed
+            (Consumes-trans old.left between.left new.left (text_of (map (portion_row was.payee) was.portions)) (text_of_row (total_row (codes "S") was.payee (length was.portions) (total_of_portions was.portions))) was.consumed
             (subst (λ (row : List (List ℕ)). Consumes between.left new.left (text_of_row row)) form end.consumed));
         at = end.sum.leads ∙ (λ i. record {
           place = Between;
@@ -218,37 +195,30 @@ no_rests old before can = record {
   payee = refl;
   portions = omega arith;
   total = refl;
-  consumed = none_consumed old.left;
-  written = none_appended before;
+  consumed = Consumes-nil old.left;
+  written = Appends-nil before;
   among = inl can;
   reads = λ start read. read;
 }
-
-rests_text : (rests : List Rest) (rest : Rest) → text_of (map rest_row rests) ++ text_of_row (rest_row rest) ≡ text_of (map rest_row (rests ++ rest ∷ []))
-rests_text rests rest = text_more (map rest_row rests) (rest_row rest) ∙ ap text_of (sym (map-append rest_row rests (rest ∷ [])))
-
-rests_total : (rests : List Rest) (rest : Rest) → total_of_rests rests +ℤ rest.amount ≡ total_of_rests (rests ++ rest ∷ [])
-rests_total rests rest =
-    ap (λ (n : ℤ). total_of_rests rests +ℤ n) (sym (none_plus rest.amount)) ∙ sym (int_sum_by-append (λ (r : Rest). r.amount) rests (rest ∷ []))
 
 pub more_rests : (old between new : Unread) (before middle after : Option (List ℕ)) → HasRests old between before middle
     → get_or between.line 0 0 ≡ 77 → Steps between new → ReadsOn between new → Appends middle after between.line → HasRests old new before after
 more_rests old between new before middle after was first passed reads written =
     let r : IsRestAt between.at passed.row new.at = rest_passed between.at new.at passed.row passed.follows (ap (λ (text : List ℕ). get_or text 0 0) passed.line ∙ first) in
-    let text = rests_text was.rests r.what in
+    let text = element_more rest_row was.rests r.what in
     record {
       rests = was.rests ++ r.what ∷ [];
       sound = All-push IsRest was.rests r.what was.sound r.sound;
       count = ap (λ (at : At). count_at at.place) r.leads ∙ omega (arith, was.count, length_push was.rests r.what);
-      sum = ap (λ (at : At). sum_at at.place) r.leads ∙ (ap (λ (n : ℤ). n +ℤ r.what.amount) was.sum ∙ rests_total was.rests r.what);
+      sum = ap (λ (at : At). sum_at at.place) r.leads ∙ (ap (λ (n : ℤ). n +ℤ r.what.amount) was.sum ∙ sym (int_sum_by_push (λ (r : Rest). r.amount) was.rests r.what));
       payee = ap (λ (at : At). at.payee) r.leads ∙ was.payee;
       portions = ap (λ (at : At). at.portions) r.leads ∙ omega (arith, was.portions, length_push was.rests r.what);
       total = ap (λ (at : At). at.total) r.leads ∙ was.total;
       consumed = subst (λ (t : List ℕ). Consumes old.left new.left t) text
-          (consumes_more old.left between.left new.left (text_of (map rest_row was.rests)) (text_of_row (rest_row r.what)) was.consumed
+          (Consumes-trans old.left between.left new.left (text_of (map rest_row was.rests)) (text_of_row (rest_row r.what)) was.consumed
           (subst (λ (row : List (List ℕ)). Consumes between.left new.left (text_of_row row)) r.form passed.consumed));
       written = subst (λ (t : List ℕ). Appends before after t) text
-          (appends_more before middle after (text_of (map rest_row was.rests)) (text_of_row (rest_row r.what)) was.written
+          (Appends-trans before middle after (text_of (map rest_row was.rests)) (text_of_row (rest_row r.what)) was.written
           (subst (λ (t : List ℕ). Appends middle after t) (sym passed.line ∙ ap text_of_row r.form) written));
       among = inr (count_at between.at.place + 1, sum_at between.at.place +ℤ r.what.amount, ap (λ (at : At). at.place) r.leads);
       reads = λ start read. reads start (was.reads start read);
@@ -265,7 +235,7 @@ rests_written old between new before after count total was end =
       counted = end.counted ∙ was.count;
       sum = end.comes_to ∙ was.sum;
       consumed = subst (λ (t : List ℕ). Consumes old.left new.left t) (text_more (map rest_row was.rests) last)
-          (consumes_more old.left between.left new.left (text_of (map rest_row was.rests)) (text_of_row last) was.consumed
+          (Consumes-trans old.left between.left new.left (text_of (map rest_row was.rests)) (text_of_row last) was.consumed
           (subst (λ (row : List (List ℕ)). Consumes between.left new.left (text_of_row row)) form end.consumed));
       at = end.sum.leads ∙ (λ i. record {
         place = Summed;
@@ -276,11 +246,3 @@ rests_written old between new before after count total was end =
       few = subst IsCount (sym (ap (λ (at : At). at.portions) end.sum.leads)) end.few;
       written = was.written;
     }
-
--- ---- the last page
-
-pub page_passed : (known written flushed : Option (List ℕ)) (page : List ℕ) → Appends known written page → Keeps written flushed → Appends (append_known known page) flushed []
-page_passed None written flushed page passed kept = tt
-page_passed (Some xs) None flushed page passed kept = absurd passed
-page_passed (Some xs) (Some ys) None page passed kept = absurd kept
-page_passed (Some xs) (Some ys) (Some zs) page passed kept = kept ∙ (passed ∙ sym (append-nil (xs ++ page)))

@@ -31,13 +31,13 @@ with_portion portion (statement ∷ statements) = the_statement statement.payee 
 abbrev with_row : List (List ℕ) → Statements → Statements
 with_row row below =
     let kind = slice_index (slice_index_or row 0 []) 0 in
-    let whose = slice_index_or row 1 [] in
-    let third = slice_index_or row 2 [] in
+    let payee_or_reason = slice_index_or row 1 [] in
+    let usage_or_count = slice_index_or row 2 [] in
     let amount = signed_number_of (slice_index_or row 3 []) in
-    if kind == 76 then the_statements (with_portion (the_portion third amount) below.payees) below.rests below.lines below.amount
-    else if kind == 83 then the_statements (the_statement whose [] ∷ below.payees) below.rests below.lines below.amount
-    else if kind == 77 then the_statements below.payees (the_rest whose third amount ∷ below.rests) below.lines below.amount
-    else if kind == 82 then the_statements [] [] (number_of third) amount
+    if kind == 76 then the_statements (with_portion (the_portion usage_or_count amount) below.payees) below.rests below.lines below.amount
+    else if kind == 83 then the_statements (the_statement payee_or_reason [] ∷ below.payees) below.rests below.lines below.amount
+    else if kind == 77 then the_statements below.payees (the_rest payee_or_reason usage_or_count amount ∷ below.rests) below.lines below.amount
+    else if kind == 82 then the_statements [] [] (number_of usage_or_count) amount
     else below
 
 abbrev said_by : List (List (List ℕ)) → Statements

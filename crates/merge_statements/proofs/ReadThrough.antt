@@ -3,8 +3,9 @@ use Rattle.std.proofs.Common.{◌≡◌, ◌∙◌, ◌<◌, ◌+◌, ◌++◌, 
 use Rattle.std.specs.Prelude.{IfSome, drop, ⊤}
 use Rattle.std.specs.Io.KnownBytes.{Consumes, IsAtEnd}
 use Rattle.std.specs.List.{list_any}
-use Rattle.std.proofs.lemmas.List.{append-nil, length-append, take_all}
-use Rattle.std.proofs.lemmas.Grind.{flat_map-append}
+use Rattle.std.proofs.KnownBytes.{Consumes-nil, Consumes-trans}
+use Rattle.std.proofs.lemmas.List.{append-nil, length-append}
+use Rattle.std.proofs.lemmas.List.Folds.{list_any-append}
 use Rattle.csv_table.specs.Written.{text_of, text_of_row}
 use Rattle.merge_statements.specs.Buffered.{is_feed}
 use Rattle.merge_statements.specs.Places.{At, Follows, at_first, row_of}
@@ -22,7 +23,7 @@ use Rattle.merge_statements.specs.declared.walk.Place.TheVariants.{Ended}
 use Rattle.merge_statements.specs.declared.walk.Wrong.{Wrong}
 use Rattle.merge_statements.specs.declared.walk.Wrong.TheVariants as wrong
 use Rattle.merge_statements.proofs.FieldLemmas.{or-right}
-use Rattle.merge_statements.proofs.Passing.{consumes_more, none_consumed}
+use Rattle.merge_statements.proofs.Passing.{text_more}
 
 -- ---- line feeds
 
@@ -30,16 +31,11 @@ or_true : (b : Bool) → (b || true) ≡ true
 or_true true = refl
 or_true false = refl
 
--- a line feed stands in a text, and in its first bytes, where it ends a line of fewer
+-- the line feed of a line stands in the first bytes of its text, where the line has fewer
 feed_in : (n : ℕ) (line rest : List ℕ) → length line < n → list_any is_feed (take n (line ++ 10 ∷ rest)) ≡ true
 feed_in zero line rest short = absurd (omega (arith, short))
 feed_in (suc n) [] rest short = refl
 feed_in (suc n) (byte ∷ line) rest short = ap (λ b. is_feed byte || b) (feed_in n line rest (omega (arith, short))) ∙ or_true (is_feed byte)
-
-pub feed_found : (line rest : List ℕ) → list_any is_feed (line ++ 10 ∷ rest) ≡ true
-feed_found line rest =
-    let all : List ℕ = line ++ 10 ∷ rest in
-    subst (λ (text : List ℕ). list_any is_feed text ≡ true) (take_all (length all) all (omega arith)) (feed_in (length all) line rest (omega (arith, length-append line (10 ∷ rest))))
 
 -- the first line feed ends the first line
 pub one_line : (line other rest behind : List ℕ) → list_any is_feed line ≡ false → list_any is_feed other ≡ false → line ++ 10 ∷ rest ≡ other ++ 10 ∷ behind → line ≡ other
@@ -59,7 +55,7 @@ pub line_refused : (at : At) (number : ℕ) (left : Option (List ℕ)) (fault : 
 line_refused at number left (Refused error) is = tt
 line_refused at number None Unended is = tt
 line_refused at number (Some text) Unended is =
-    (refl, is.0, λ line rest row on four same. true≢false (sym (feed_found line rest) ∙ (ap (list_any is_feed) (sym on.bytes) ∙ is.1)))
+    (refl, is.0, λ line rest row on four same. true≢false (sym (list_any-append is_feed line (10 ∷ rest) ∙ or_true (list_any is_feed line)) ∙ (ap (list_any is_feed) (sym on.bytes) ∙ is.1)))
 line_refused at number None TooLong is = tt
 line_refused at number (Some text) TooLong is = (
   refl,
@@ -79,18 +75,18 @@ no_row_refused at number (Some text) (Some behind) line takes one none = (
       none row four (same ∙ ap (λ (l : List ℕ). l ++ 10 ∷ []) (one_line begun line rest behind on.one one (sym on.bytes ∙ (takes ∙ append_assoc line (10 ∷ []) behind)))),
 )
 
-begun_wrong : (at : At) (number : ℕ) (left new : Option (List ℕ)) (line kind whose third fourth : List ℕ) (field : Wrong) → Consumes left new (line ++ 10 ∷ [])
-    → list_any is_feed line ≡ false → length line < 32768 → text_of_row (row_of kind whose third fourth) ≡ line ++ 10 ∷ [] → IsWrongAt at kind whose third fourth field
+begun_wrong : (at : At) (number : ℕ) (left new : Option (List ℕ)) (line kind payee_or_reason usage_or_count amount_or_total : List ℕ) (field : Wrong) → Consumes left new (line ++ 10 ∷ [])
+    → list_any is_feed line ≡ false → length line < 32768 → text_of_row (row_of kind payee_or_reason usage_or_count amount_or_total) ≡ line ++ 10 ∷ [] → IsWrongAt at kind payee_or_reason usage_or_count amount_or_total field
     → IfSome left (λ text. (number ≡ number) × BeginsWithWrong at text field)
-begun_wrong at number None new line kind whose third fourth field takes one short is wrong_at = tt
-begun_wrong at number (Some text) None line kind whose third fourth field takes one short is wrong_at = absurd takes
-begun_wrong at number (Some text) (Some behind) line kind whose third fourth field takes one short is wrong_at = (
+begun_wrong at number None new line kind payee_or_reason usage_or_count amount_or_total field takes one short is wrong_at = tt
+begun_wrong at number (Some text) None line kind payee_or_reason usage_or_count amount_or_total field takes one short is wrong_at = absurd takes
+begun_wrong at number (Some text) (Some behind) line kind payee_or_reason usage_or_count amount_or_total field takes one short is wrong_at = (
   refl,
   record {
     kind = kind;
-    whose = whose;
-    third = third;
-    fourth = fourth;
+    payee_or_reason = payee_or_reason;
+    usage_or_count = usage_or_count;
+    amount_or_total = amount_or_total;
     line = line;
     rest = behind;
     begins = record { bytes = takes ∙ append_assoc line (10 ∷ []) behind; one = one; short = short };
@@ -99,19 +95,19 @@ begun_wrong at number (Some text) (Some behind) line kind whose third fourth fie
   },
 )
 
-pub field_refused : (at : At) (number : ℕ) (left new : Option (List ℕ)) (line kind whose third fourth : List ℕ) (field : Wrong) → Consumes left new (line ++ 10 ∷ [])
-    → list_any is_feed line ≡ false → length line < 32768 → text_of_row (row_of kind whose third fourth) ≡ line ++ 10 ∷ [] → IsWrongAt at kind whose third fourth field
+pub field_refused : (at : At) (number : ℕ) (left new : Option (List ℕ)) (line kind payee_or_reason usage_or_count amount_or_total : List ℕ) (field : Wrong) → Consumes left new (line ++ 10 ∷ [])
+    → list_any is_feed line ≡ false → length line < 32768 → text_of_row (row_of kind payee_or_reason usage_or_count amount_or_total) ≡ line ++ 10 ∷ [] → IsWrongAt at kind payee_or_reason usage_or_count amount_or_total field
     → IsRefusedFrom at number left (refusal_of_field field number)
-field_refused at number left new line kind whose third fourth wrong.Kind takes one short is wrong_at = begun_wrong at number left new line kind whose third fourth wrong.Kind takes one short is wrong_at
-field_refused at number left new line kind whose third fourth wrong.Whose takes one short is wrong_at = begun_wrong at number left new line kind whose third fourth wrong.Whose takes one short is wrong_at
-field_refused at number left new line kind whose third fourth wrong.Third takes one short is wrong_at = begun_wrong at number left new line kind whose third fourth wrong.Third takes one short is wrong_at
-field_refused at number left new line kind whose third fourth wrong.Fourth takes one short is wrong_at = begun_wrong at number left new line kind whose third fourth wrong.Fourth takes one short is wrong_at
-field_refused at number left new line kind whose third fourth wrong.Memory takes one short is wrong_at = tt
+field_refused at number left new line kind payee_or_reason usage_or_count amount_or_total wrong.Kind takes one short is wrong_at = begun_wrong at number left new line kind payee_or_reason usage_or_count amount_or_total wrong.Kind takes one short is wrong_at
+field_refused at number left new line kind payee_or_reason usage_or_count amount_or_total wrong.PayeeOrReason takes one short is wrong_at = begun_wrong at number left new line kind payee_or_reason usage_or_count amount_or_total wrong.PayeeOrReason takes one short is wrong_at
+field_refused at number left new line kind payee_or_reason usage_or_count amount_or_total wrong.UsageOrCount takes one short is wrong_at = begun_wrong at number left new line kind payee_or_reason usage_or_count amount_or_total wrong.UsageOrCount takes one short is wrong_at
+field_refused at number left new line kind payee_or_reason usage_or_count amount_or_total wrong.AmountOrTotal takes one short is wrong_at = begun_wrong at number left new line kind payee_or_reason usage_or_count amount_or_total wrong.AmountOrTotal takes one short is wrong_at
+field_refused at number left new line kind payee_or_reason usage_or_count amount_or_total wrong.Memory takes one short is wrong_at = tt
 
 -- ---- row by row
 
 pub none_read : (start : Option (List ℕ)) → IsReadTo start at_first start 1
-none_read start = record { rows = []; are = no_rows at_first; consumed = none_consumed start; counted = refl }
+none_read start = record { rows = []; are = no_rows at_first; consumed = Consumes-nil start; counted = refl }
 
 pub rows_push : (at middle last : At) (rows : List (List (List ℕ))) (row : List (List ℕ)) → AreRows at rows middle → Follows middle row last → AreRows at (rows ++ row ∷ []) last
 rows_push _ _ last _ row (no_rows at) follows = more_rows at last last row [] follows (no_rows last)
@@ -123,14 +119,12 @@ pub more_read : (start : Option (List ℕ)) (at next : At) (left new : Option (L
 more_read start at next left new number text was goes takes = record {
   rows = was.rows ++ goes.row ∷ [];
   are = rows_push at_first at next was.rows goes.row was.are goes.follows;
-  consumed = subst (λ (t : List ℕ). Consumes start new t) joined (consumes_more start left new (text_of was.rows) text was.consumed takes);
+  consumed = subst (λ (t : List ℕ). Consumes start new t) joined (Consumes-trans start left new (text_of was.rows) text was.consumed takes);
   counted = omega (arith, was.counted, length-append was.rows (goes.row ∷ []));
 }
   where
     joined : text_of was.rows ++ text ≡ text_of (was.rows ++ goes.row ∷ [])
-    joined =
-        ap (λ (l : List ℕ). text_of was.rows ++ l) (sym goes.same ∙ sym (append-nil (text_of_row goes.row)))
-        ∙ sym (flat_map-append text_of_row was.rows (goes.row ∷ []))
+    joined = ap (λ (l : List ℕ). text_of was.rows ++ l) (sym goes.same) ∙ text_more was.rows goes.row
 
 pub all_read : (start left : Option (List ℕ)) (at : At) (number lines : ℕ) → IsReadTo start at left number → IsAtEnd left → at.place ≡ Ended lines
     → IfSome start (λ text. IsStatementText text lines)

@@ -4,6 +4,7 @@ use Rattle.std.specs.Prelude.{IfSome, if◌then◌else◌}
 use Rattle.std.specs.Io.KnownBytes.{Consumes, IsAtEnd, Keeps, prepend_known}
 use Rattle.std.specs.List.{list_any}
 use Rattle.std.specs.Str.{bytes_eq}
+use Rattle.std.proofs.KnownBytes.{Consumes-kept, Consumes-nil}
 use Rattle.std.proofs.lemmas.Slice.Eq.{bytes_eq-Decides}
 use Rattle.std.proofs.lemmas.List.{get_or-map, length-map}
 use Rattle.std.proofs.lemmas.List.Elements.{All-cons, All-head, All-nil, All-tail}
@@ -19,11 +20,11 @@ use Rattle.merge_statements.specs.SoFar.AreRead.{none as none_were, more as more
 use Rattle.merge_statements.specs.SoFar.HavePassed.{none as no_passed, more as more_passed}
 use Rattle.merge_statements.specs.declared.refusal.Refusal.{Refusal}
 use Rattle.merge_statements.specs.declared.refusal.Refusal.TheVariants as refusal
-use Rattle.merge_statements.specs.declared.refusal.StatementFault.TheVariants.{End, Kind, Whose}
+use Rattle.merge_statements.specs.declared.refusal.StatementFault.TheVariants.{End, Kind, PayeeOrReason}
 use Rattle.merge_statements.specs.declared.walk.Place.{Place}
 use Rattle.merge_statements.specs.declared.walk.Place.TheVariants.{Between, Ended, Summed}
 use Rattle.merge_statements.specs.declared.walk.Wrong.TheVariants as wrong
-use Rattle.merge_statements.proofs.Passing.{none_consumed, opened}
+use Rattle.merge_statements.proofs.Passing.{opened}
 use Rattle.merge_statements.proofs.Chains.{same_row}
 use Rattle.merge_statements.proofs.ReadThrough.{field_refused, more_read, none_read, nothing_claimed, rest_refused}
 
@@ -77,16 +78,16 @@ without_row_refused part at number line left payee false is row ends needs =
     by (Some xs) ends = (refl, ends, still)
 
 -- a row at hand of a kind that cannot stand there
-pub kind_refused : (part : Unread) (at : At) (number : ℕ) (line : List ℕ) (left payee : Option (List ℕ)) (has_row : Bool) (kind whose third fourth : List ℕ)
-    → unread at number line left payee has_row ≡ part → has_row ≡ true → list_any is_feed line ≡ false → length line < 32768 → text_of_row (row_of kind whose third fourth) ≡ line ++ 10 ∷ []
+pub kind_refused : (part : Unread) (at : At) (number : ℕ) (line : List ℕ) (left payee : Option (List ℕ)) (has_row : Bool) (kind payee_or_reason usage_or_count amount_or_total : List ℕ)
+    → unread at number line left payee has_row ≡ part → has_row ≡ true → list_any is_feed line ≡ false → length line < 32768 → text_of_row (row_of kind payee_or_reason usage_or_count amount_or_total) ≡ line ++ 10 ∷ []
     → ((kind : List ℕ) → KindFits part.at.place kind → ¬ IsOfKind part kind) → RefusesRest part (refusal.Fault (Kind number))
-kind_refused part at number line left payee has_row kind whose third fourth is row one short same other =
+kind_refused part at number line left payee has_row kind payee_or_reason usage_or_count amount_or_total is row one short same other =
     with_row_refused part at number line left payee has_row (refusal.Fault (Kind number)) is row
-    (field_refused at number (prepend_known (line ++ 10 ∷ []) left) left line kind whose third fourth wrong.Kind (takes_first (line ++ 10 ∷ []) left) one short same unfit)
+    (field_refused at number (prepend_known (line ++ 10 ∷ []) left) left line kind payee_or_reason usage_or_count amount_or_total wrong.Kind (takes_first (line ++ 10 ∷ []) left) one short same unfit)
   where
     unfit : ¬ KindFits at.place kind
     unfit fits = other kind (subst (λ (p : Unread). KindFits p.at.place kind) is fits)
-        (whose, third, fourth, same ∙ (λ i. if (sym row i) then line ++ 10 ∷ [] else []) ∙ ap (λ (p : Unread). p.line) is)
+        (payee_or_reason, usage_or_count, amount_or_total, same ∙ (λ i. if (sym row i) then line ++ 10 ∷ [] else []) ∙ ap (λ (p : Unread). p.line) is)
 
 -- a field is not another
 pub is_not : (kind name letter : List ℕ) (differs : Bool) → differs ≡ not (bytes_eq kind name) → name ≡ letter → differs ≡ true → ¬ (kind ≡ letter)
@@ -103,19 +104,19 @@ is_that kind name letter differs told same so = (bytes_eq-Decides kind name).0 (
     by false is = absurd (true≢false (sym is))
 
 -- a row is of one kind
-pub one_kind : (line : List ℕ) (has_row : Bool) (kind whose third fourth k w t f : List ℕ) → has_row ≡ true → text_of_row (row_of kind whose third fourth) ≡ line ++ 10 ∷ []
+pub one_kind : (line : List ℕ) (has_row : Bool) (kind payee_or_reason usage_or_count amount_or_total k w t f : List ℕ) → has_row ≡ true → text_of_row (row_of kind payee_or_reason usage_or_count amount_or_total) ≡ line ++ 10 ∷ []
     → text_of_row (row_of k w t f) ≡ (if has_row then line ++ 10 ∷ [] else []) → kind ≡ k
-one_kind line has_row kind whose third fourth k w t f row same other =
-    let joined : text_of_row (row_of kind whose third fourth) ≡ text_of_row (row_of k w t f) = same ∙ (λ i. if (sym row i) then line ++ 10 ∷ [] else []) ∙ sym other in
-    ap (λ (r : List (List ℕ)). get_or r 0 []) (same_row (row_of kind whose third fourth) (row_of k w t f) [] [] (ap (λ (text : List ℕ). text ++ []) joined)).0
+one_kind line has_row kind payee_or_reason usage_or_count amount_or_total k w t f row same other =
+    let joined : text_of_row (row_of kind payee_or_reason usage_or_count amount_or_total) ≡ text_of_row (row_of k w t f) = same ∙ (λ i. if (sym row i) then line ++ 10 ∷ [] else []) ∙ sym other in
+    ap (λ (r : List (List ℕ)). get_or r 0 []) (same_row (row_of kind payee_or_reason usage_or_count amount_or_total) (row_of k w t f) [] [] (ap (λ (text : List ℕ). text ++ []) joined)).0
 
 -- or of a payee that cannot come next
-pub payee_refused : (part : Unread) (at : At) (number : ℕ) (line : List ℕ) (left payee : Option (List ℕ)) (has_row : Bool) (kind whose third fourth : List ℕ)
-    → unread at number line left payee has_row ≡ part → has_row ≡ true → list_any is_feed line ≡ false → length line < 32768 → text_of_row (row_of kind whose third fourth) ≡ line ++ 10 ∷ []
-    → part.at.place ≡ Between → kind ≡ codes "L" → ¬ IsPayeeAt at.place at.payee whose → RefusesRest part (refusal.Fault (Whose number))
-payee_refused part at number line left payee has_row kind whose third fourth is row one short same between portion none =
-    with_row_refused part at number line left payee has_row (refusal.Fault (Whose number)) is row
-    (field_refused at number (prepend_known (line ++ 10 ∷ []) left) left line kind whose third fourth wrong.Whose (takes_first (line ++ 10 ∷ []) left) one short same
+pub payee_refused : (part : Unread) (at : At) (number : ℕ) (line : List ℕ) (left payee : Option (List ℕ)) (has_row : Bool) (kind payee_or_reason usage_or_count amount_or_total : List ℕ)
+    → unread at number line left payee has_row ≡ part → has_row ≡ true → list_any is_feed line ≡ false → length line < 32768 → text_of_row (row_of kind payee_or_reason usage_or_count amount_or_total) ≡ line ++ 10 ∷ []
+    → part.at.place ≡ Between → kind ≡ codes "L" → ¬ IsPayeeAt at.place at.payee payee_or_reason → RefusesRest part (refusal.Fault (PayeeOrReason number))
+payee_refused part at number line left payee has_row kind payee_or_reason usage_or_count amount_or_total is row one short same between portion none =
+    with_row_refused part at number line left payee has_row (refusal.Fault (PayeeOrReason number)) is row
+    (field_refused at number (prepend_known (line ++ 10 ∷ []) left) left line kind payee_or_reason usage_or_count amount_or_total wrong.PayeeOrReason (takes_first (line ++ 10 ∷ []) left) one short same
     (subst (λ (place : Place). KindFits place kind) (sym (ap (λ (p : Unread). p.at.place) is ∙ between)) (inl portion), λ fits. none (fits.payee portion)))
 
 -- where a row is at hand, or one has to come
@@ -137,16 +138,16 @@ among_needs part among = λ empty lines ended. elim among [
 -- no kind of row that can stand among what nobody gets
 pub no_kind_here : (part : Unread) → IsAmongRests part → ¬ (get_or part.line 0 0 ≡ 77) → ¬ (get_or part.line 0 0 ≡ 84)
     → (kind : List ℕ) → KindFits part.at.place kind → ¬ IsOfKind part kind
-no_kind_here part among no_rest no_sum kind fits (whose, third, fourth, same) = elim among [
+no_kind_here part among no_rest no_sum kind fits (payee_or_reason, usage_or_count, amount_or_total, same) = elim among [
   | inl can ↦ elim (subst (λ (place : Place). KindFits place kind) can.between fits) [
-    | inl l ↦ can.no_portion (whose, third, fourth, (λ i. text_of_row (row_of (sym l i) whose third fourth)) ∙ same)
+    | inl l ↦ can.no_portion (payee_or_reason, usage_or_count, amount_or_total, (λ i. text_of_row (row_of (sym l i) payee_or_reason usage_or_count amount_or_total)) ∙ same)
     | inr other ↦ by other
   ]
   | inr resting ↦ by (subst (λ (place : Place). KindFits place kind) resting.2 fits)
 ]
   where
-    first : (k : List ℕ) → kind ≡ k → get_or part.line 0 0 ≡ get_or (text_of_row (row_of k whose third fourth)) 0 0
-    first k is = ap (λ (text : List ℕ). get_or text 0 0) (sym same ∙ (λ i. text_of_row (row_of (is i) whose third fourth)))
+    first : (k : List ℕ) → kind ≡ k → get_or part.line 0 0 ≡ get_or (text_of_row (row_of k payee_or_reason usage_or_count amount_or_total)) 0 0
+    first k is = ap (λ (text : List ℕ). get_or text 0 0) (sym same ∙ (λ i. text_of_row (row_of (is i) payee_or_reason usage_or_count amount_or_total)))
 
     by : (kind ≡ codes "M") ⊎ (kind ≡ codes "T") → ⊥
     by (inl m) = no_rest (first (codes "M") m)
@@ -166,13 +167,6 @@ step_refused part at next number behind line left payee true why is row follows 
     by : RefusesRest (unread at number line left payee true) why
     by = λ start read. rest_refused start left next (number + 1) why (stepped start at next number line left follows read) (subst (λ (k : ℕ). IsRefusedFrom next k left why) counted from)
 
--- bytes that are kept are still to come
-consumes_kept : (start left kept : Option (List ℕ)) (bytes : List ℕ) → Consumes start left bytes → Keeps left kept → Consumes start kept bytes
-consumes_kept None left kept bytes takes keeps = tt
-consumes_kept (Some xs) None kept bytes takes keeps = absurd takes
-consumes_kept (Some xs) (Some ys) None bytes takes keeps = absurd keeps
-consumes_kept (Some xs) (Some ys) (Some zs) bytes takes keeps = takes ∙ ap (λ (l : List ℕ). bytes ++ l) (sym keeps)
-
 pub step_reads : (part : Unread) (at next : At) (number behind : ℕ) (line new_line : List ℕ) (left new_left payee new_payee : Option (List ℕ)) (has_row found : Bool)
     → unread at number line left payee has_row ≡ part → has_row ≡ true → FollowsAs at (line ++ 10 ∷ []) next → behind ≡ number + 1
     → (found ≡ true → Consumes left new_left (new_line ++ 10 ∷ [])) → (found ≡ false → Keeps left new_left) → ReadsOn part (unread next behind new_line new_left new_payee found)
@@ -186,7 +180,7 @@ step_reads part at next number behind line new_line left new_left payee new_paye
         record {
           rows = was.rows;
           are = was.are;
-          consumed = consumes_kept start left (prepend_known (if found then new_line ++ 10 ∷ [] else []) new_left) (text_of was.rows) was.consumed (opened left left new_left new_line found refl more ends);
+          consumed = Consumes-kept start left (prepend_known (if found then new_line ++ 10 ∷ [] else []) new_left) (text_of was.rows) was.consumed (opened left left new_left new_line found refl more ends);
           counted = counted ∙ was.counted;
         }
 
@@ -196,7 +190,7 @@ pub opened_is_read : (from : Option (List ℕ)) (part : Unread) → part.at ≡ 
 opened_is_read from part at number left = subst (λ (a : At). IsReadTo from a part.left part.number) (sym at) (subst (λ (k : ℕ). IsReadTo from at_first part.left k) (sym number) by)
   where
     by : IsReadTo from at_first part.left 1
-    by = record { rows = []; are = no_rows at_first; consumed = consumes_kept from from part.left [] (none_consumed from) left; counted = refl }
+    by = record { rows = []; are = no_rows at_first; consumed = Consumes-kept from from part.left [] (Consumes-nil from) left; counted = refl }
 
 pub first_refused : (from left : Option (List ℕ)) (why : Refusal) → left ≡ from → IsRefusedFrom at_first 1 left why → IfSome from (λ text. IsRefusedFor text why)
 first_refused from left why same refused = rest_refused from from at_first 1 why (none_read from) (subst (λ (l : Option (List ℕ)). IsRefusedFrom at_first 1 l why) same refused)

@@ -9,6 +9,7 @@ use Rattle.std.specs.Ordering.{is_eq, ordering_reverse}
 use Rattle.std.specs.Str.{bytes_eq}
 use Rattle.std.specs.declared.cmp.Ordering.{Ordering}
 use Rattle.std.specs.declared.cmp.Ordering.TheVariants.{Less, Equal, Greater}
+use Rattle.std.proofs.KnownBytes.{Appends-nil, Appends-trans, Consumes-kept, Consumes-nil, Consumes-trans}
 use Rattle.std.proofs.lemmas.Int.{ints}
 use Rattle.std.proofs.lemmas.List.{append-nil, get_or-map, length-append, length-map}
 use Rattle.std.proofs.lemmas.List.Elements.{All-cons, All-head, All-nil, All-push, All-tail, filter-append}
@@ -18,7 +19,7 @@ use Rattle.std.proofs.lemmas.Map.Text.{is_eq-slice_cmp}
 use Rattle.std.proofs.lemmas.Slice.Eq.{bytes_eq-Decides}
 use Rattle.csv_table.specs.Written.{text_of, text_of_row}
 use Rattle.line_split.specs.Signs.{int_sum_by}
-use Rattle.line_split.proofs.IntSums.{int_sum_by-append, int_sum_by-cons, none_plus, plus_none}
+use Rattle.line_split.proofs.IntSums.{int_sum_by-append, int_sum_by-cons, int_sum_by_push, none_plus, plus_none}
 use Rattle.merge_statements.specs.SoFar.{AreMergedSoFar, AreOpen, HasLeast, HasPassed, HavePassed, IsBehind, IsNext, IsNextSound, PassesStatement, TakesEach, TakesOne, Unread, WritesAll, last_payee, order, payees_of, portions_in, total_of_portions}
 use Rattle.merge_statements.specs.SoFar.AreOpen.{none as no_open, more as more_open}
 use Rattle.merge_statements.specs.SoFar.HavePassed.{none as no_passed, more as more_passed}
@@ -27,7 +28,7 @@ use Rattle.merge_statements.specs.SoFar.TakesOne.{taken as taken_of, left as lef
 use Rattle.merge_statements.specs.Places.{At}
 use Rattle.merge_statements.specs.Statements.{IsCount, IsStatement, Portion, Statement, portion_row, statement_rows, total_of, total_row}
 use Rattle.merge_statements.specs.declared.walk.Place.TheVariants.{Between}
-use Rattle.merge_statements.proofs.Passing.{appends_more, consumes_more, none_appended}
+use Rattle.merge_statements.proofs.Passing.{text_more}
 use Rattle.merge_statements.proofs.ReadBack.{the_statement}
 
 -- ---- byte order
@@ -87,10 +88,6 @@ none_of_another payee last other = rw other refl
 all_of_own : (payee : List ℕ) (last : Statement) → bytes_eq last.payee payee ≡ true → portions_in payee (last ∷ []) ≡ last.portions
 all_of_own payee last own = rw own (append-nil last.portions)
 
-pub total_more : (statements : List Statement) (last : Statement) → int_sum_by total_of (statements ++ last ∷ []) ≡ int_sum_by total_of statements +ℤ total_of last
-total_more statements last =
-    int_sum_by-append total_of statements (last ∷ []) ∙ ap (λ (n : ℤ). int_sum_by total_of statements +ℤ n) (none_plus (total_of last))
-
 pub count_more : (statements : List Statement) (last : Statement)
     → sum_by (λ s. length s.portions) (statements ++ last ∷ []) ≡ sum_by (λ s. length s.portions) statements + length last.portions
 count_more statements last = sum_by-append (λ (s : Statement). length s.portions) statements (last ∷ []) ∙ omega arith
@@ -118,7 +115,7 @@ passed_more start old new done statement was passes =
         total = summed i;
       });
       consumed = subst (λ (t : List ℕ). Consumes start new.left t) (rows_more done statement)
-          (consumes_more start old.left new.left (text_of (flat_map statement_rows done)) (text_of (statement_rows statement)) was.consumed passes.consumed);
+          (Consumes-trans start old.left new.left (text_of (flat_map statement_rows done)) (text_of (statement_rows statement)) was.consumed passes.consumed);
       read = passes.reads start was.read;
       looked = passes.looked;
     }
@@ -127,18 +124,14 @@ passed_more start old new done statement was passes =
     counted = ap (λ (at : At). at.portions + length statement.portions) was.at ∙ sym (count_more done statement)
 
     summed : old.at.total +ℤ total_of statement ≡ int_sum_by total_of (done ++ statement ∷ [])
-    summed = ap (λ (at : At). at.total +ℤ total_of statement) was.at ∙ sym (total_more done statement)
+    summed = ap (λ (at : At). at.total +ℤ total_of statement) was.at ∙ sym (int_sum_by_push total_of done statement)
 
 -- ---- all texts
 
--- a list that is joined to nothing is nothing
-first_nothing : {X : Type 0} (xs ys : List X) → xs ++ ys ≡ [] → xs ≡ []
-first_nothing [] ys e = refl
-first_nothing (x ∷ xs) ys e = cc e
-
-second_nothing : {X : Type 0} (xs ys : List X) → xs ++ ys ≡ [] → ys ≡ []
-second_nothing [] ys e = e
-second_nothing (x ∷ xs) ys e = cc e
+-- lists that come to nothing together are nothing
+both_nothing : {X : Type 0} (xs ys : List X) → xs ++ ys ≡ [] → (xs ≡ []) × (ys ≡ [])
+both_nothing [] ys e = (refl, e)
+both_nothing (x ∷ xs) ys e = cc e
 
 -- what a payee's statements in all texts make of what was done
 record AreDone (payee : List ℕ) (starts : List (Option (List ℕ))) (news : List Unread) (dones : List (List Statement)) (portions : List Portion) : Type 0 where
@@ -167,7 +160,7 @@ one_done payee start old new done _ was (taken_of statement passes same) = recor
   own = λ other one nothing.
       portions_more other done statement
       ∙ ((λ i. nothing i ++ portions_in other (statement ∷ [])) ∙ all_of_own other statement (ap (λ (p : List ℕ). bytes_eq p other) same ∙ one));
-  sum = total_more done statement;
+  sum = int_sum_by_push total_of done statement;
 }
 one_done payee start old new done _ was (left_of other same) = record {
   more = done;
@@ -177,7 +170,7 @@ one_done payee start old new done _ was (left_of other same) = record {
   sum = sym (plus_none (int_sum_by total_of done));
 }
 
-moved : (a b c d : ℤ) → (a +ℤ b) +ℤ (c +ℤ d) ≡ (a +ℤ c) +ℤ (b +ℤ d)
+pub moved : (a b c d : ℤ) → (a +ℤ b) +ℤ (c +ℤ d) ≡ (a +ℤ c) +ℤ (b +ℤ d)
 moved a b c d = omega (arith, ints)
 
 all_done : (payee : List ℕ) (starts : List (Option (List ℕ))) (olds news : List Unread) (dones : List (List Statement)) (portions : List Portion) → HavePassed starts olds dones
@@ -196,9 +189,9 @@ all_done payee _ _ _ _ _ (more_passed start part done starts parts dones has hav
       more = first.more ∷ rest.more;
       passed = more_passed start new first.more starts news rest.more first.passed rest.passed;
       others = λ other apart. (λ i. first.others other apart i ++ rest.others other apart i);
-      own = λ other one nothing. (λ i.
-          first.own other one (first_nothing (portions_in other done) (flat_map (portions_in other) dones) nothing) i
-          ++ rest.own other one (second_nothing (portions_in other done) (flat_map (portions_in other) dones) nothing) i);
+      own = λ other one nothing.
+          let none = both_nothing (portions_in other done) (flat_map (portions_in other) dones) nothing in
+          (λ i. first.own other one none.0 i ++ rest.own other one none.1 i);
       sums =
           int_sum_by-cons (λ (d : List Statement). int_sum_by total_of d) first.more rest.more
           ∙ ((λ i. first.sum i +ℤ rest.sums i)
@@ -288,12 +281,12 @@ payee_merged starts olds news least before middle written after count own all to
   behind = subst (λ (last : List ℕ). All (IsBehind last) news) (sym (last_is was.whole statement)) (behind_least least olds news wrote.portions wrote.taken (has.least_of refl));
   portions = λ payee. portions_more payee was.whole statement ∙ by payee (bytes_eq least payee) refl;
   counted = omega (arith, counted, was.counted, wrote.counted, count_more was.whole statement);
-  sum = comes ∙ ((λ i. was.sum i +ℤ wrote.sum i) ∙ sym (total_more was.whole statement));
-  sums = total_more was.whole statement ∙ (ap (λ (n : ℤ). n +ℤ total_of statement) was.sums ∙ sym done.sums);
+  sum = comes ∙ ((λ i. was.sum i +ℤ wrote.sum i) ∙ sym (int_sum_by_push total_of was.whole statement));
+  sums = int_sum_by_push total_of was.whole statement ∙ (ap (λ (n : ℤ). n +ℤ total_of statement) was.sums ∙ sym done.sums);
   few = few;
   written = subst (λ (t : List ℕ). Appends before after t) (rows_more was.whole statement)
-      (appends_more before middle after (text_of (flat_map statement_rows was.whole)) (text_of (statement_rows statement)) was.written
-      (subst (λ (t : List ℕ). Appends middle after t) whole_text (appends_more middle written after (text_of (map (portion_row least) wrote.portions)) (text_of_row (total_row (codes "S") least own sum)) wrote.written ended)));
+      (Appends-trans before middle after (text_of (flat_map statement_rows was.whole)) (text_of (statement_rows statement)) was.written
+      (subst (λ (t : List ℕ). Appends middle after t) whole_text (Appends-trans middle written after (text_of (map (portion_row least) wrote.portions)) (text_of_row (total_row (codes "S") least own sum)) wrote.written ended)));
 }
   where
     at : IsFound olds least
@@ -325,8 +318,7 @@ payee_merged starts olds news least before middle written after count own all to
     whole_text : text_of (map (portion_row least) wrote.portions) ++ text_of_row (total_row (codes "S") least own sum) ≡ text_of (statement_rows statement)
     whole_text =
         ap (λ (row : List (List ℕ)). text_of (map (portion_row least) wrote.portions) ++ text_of_row row) (λ i. total_row (codes "S") least (wrote.counted i) (wrote.sum i))
-        ∙ ap (λ (l : List ℕ). text_of (map (portion_row least) wrote.portions) ++ l) (sym (append-nil (text_of_row (total_row (codes "S") least (length wrote.portions) (total_of_portions wrote.portions)))))
-        ∙ sym (flat_map-append text_of_row (map (portion_row least) wrote.portions) (total_row (codes "S") least (length wrote.portions) (total_of_portions wrote.portions) ∷ []))
+        ∙ text_more (map (portion_row least) wrote.portions) (total_row (codes "S") least (length wrote.portions) (total_of_portions wrote.portions))
 
 -- ---- before the first payee
 
@@ -344,23 +336,18 @@ none_merged starts parts before open_ = record {
   sum = refl;
   sums = nought starts parts open_;
   few = omega arith;
-  written = none_appended before;
+  written = Appends-nil before;
 }
   where
     dones : (starts : List (Option (List ℕ))) (parts : List Unread) → AreOpen starts parts → List (List Statement)
     dones _ _ no_open = []
     dones _ _ (more_open start part starts parts at left read looked others) = [] ∷ dones starts parts others
 
-    begun : (start left : Option (List ℕ)) → Keeps start left → Consumes start left []
-    begun None left keeps = tt
-    begun (Some xs) None keeps = absurd keeps
-    begun (Some xs) (Some ys) keeps = sym keeps
-
     passed : (starts : List (Option (List ℕ))) (parts : List Unread) (are : AreOpen starts parts) → HavePassed starts parts (dones starts parts are)
     passed _ _ no_open = no_passed
     passed _ _ (more_open start part starts parts at left read looked others) =
         more_passed start part [] starts parts (dones starts parts others)
-        record { sound = All-nil IsStatement; rising = tt; at = at; consumed = begun start part.left left; read = read; looked = looked } (passed starts parts others)
+        record { sound = All-nil IsStatement; rising = tt; at = at; consumed = Consumes-kept start start part.left [] (Consumes-nil start) left; read = read; looked = looked } (passed starts parts others)
 
     behind : (starts : List (Option (List ℕ))) (parts : List Unread) → AreOpen starts parts → All (IsBehind []) parts
     behind _ _ no_open = All-nil (IsBehind [])

@@ -1,5 +1,5 @@
 -- Which row was passed over, by its first byte and by where a reader stood.
-use Rattle.std.proofs.Common.{◌≡◌, ◌∙◌, ◌⊎◌, inl, inr, ℕ, ℤ, List, get_or, ap, sym, refl, subst, arith, codes}
+use Rattle.std.proofs.Common.{◌≡◌, ◌∙◌, ◌∷◌, ◌⊎◌, [], inl, inr, ℕ, ℤ, List, get_or, ap, sym, refl, subst, codes}
 use Rattle.csv_table.specs.Written.{text_of_row}
 use Rattle.merge_statements.specs.Places.{At, Follows, KindFits, row_of}
 use Rattle.merge_statements.specs.SoFar.{IsPortionAt, IsRestAt, IsRestsSumAt, IsRunAt, IsSumAt}
@@ -19,87 +19,65 @@ kind_of (Ended lines) kind fits = absurd fits
 
 -- the first byte of a row is the letter of its kind
 abbrev Begins : List ℕ → Type 0
-Begins kind = (whose third fourth : List ℕ) → get_or (text_of_row (row_of kind whose third fourth)) 0 0 ≡ get_or kind 0 0
+Begins kind = (payee_or_reason usage_or_count amount_or_total : List ℕ) → get_or (text_of_row (row_of kind payee_or_reason usage_or_count amount_or_total)) 0 0 ≡ get_or kind 0 0
 
-begins : (kind : List ℕ) → IsKind kind → Begins kind
-begins kind is = elim is [
-  | inl l ↦ subst Begins (sym l) (λ whose third fourth. refl)
+-- what holds of each kind
+each_kind : (P : List ℕ → Type 0) (kind : List ℕ) → IsKind kind → P (codes "L") → P (codes "S") → P (codes "M") → P (codes "T") → P (codes "R") → P kind
+each_kind P kind is of_l of_s of_m of_t of_r = elim is [
+  | inl l ↦ subst P (sym l) of_l
   | inr others ↦ elim others [
-    | inl s ↦ subst Begins (sym s) (λ whose third fourth. refl)
+    | inl s ↦ subst P (sym s) of_s
     | inr more ↦ elim more [
-      | inl m ↦ subst Begins (sym m) (λ whose third fourth. refl)
+      | inl m ↦ subst P (sym m) of_m
       | inr last ↦ elim last [
-        | inl t ↦ subst Begins (sym t) (λ whose third fourth. refl)
-        | inr r ↦ subst Begins (sym r) (λ whose third fourth. refl)
+        | inl t ↦ subst P (sym t) of_t
+        | inr r ↦ subst P (sym r) of_r
       ]
     ]
   ]
 ]
+
+begins : (kind : List ℕ) → IsKind kind → Begins kind
+begins kind is = each_kind Begins kind is (λ a b c. refl) (λ a b c. refl) (λ a b c. refl) (λ a b c. refl) (λ a b c. refl)
+
+-- and it has no other
+one_letter : (kind : List ℕ) → IsKind kind → kind ≡ get_or kind 0 0 ∷ []
+one_letter kind is = each_kind (λ k. k ≡ get_or k 0 0 ∷ []) kind is refl refl refl refl refl
 
 module _ (at next : At) (row : List (List ℕ)) (follows : Follows at row next) where
   -- the letter that a row begins with is that of its kind
   lettered : get_or (text_of_row row) 0 0 ≡ get_or follows.kind 0 0
   lettered =
       ap (λ (r : List (List ℕ)). get_or (text_of_row r) 0 0) follows.form
-      ∙ begins follows.kind (kind_of at.place follows.kind follows.fits.kind_fits) follows.whose follows.third follows.fourth
+      ∙ begins follows.kind (kind_of at.place follows.kind follows.fits.kind_fits) follows.payee_or_reason follows.usage_or_count follows.amount_or_total
 
   -- so by its first byte its kind is known
-  other : (name kind : List ℕ) → follows.kind ≡ kind → get_or (text_of_row row) 0 0 ≡ get_or name 0 0 → get_or kind 0 0 ≡ get_or name 0 0
-  other name kind is first = ap (λ (k : List ℕ). get_or k 0 0) (sym is) ∙ (sym lettered ∙ first)
-
-  a_portion : get_or (text_of_row row) 0 0 ≡ 76 → follows.kind ≡ codes "L"
-  a_portion first = elim (kind_of at.place follows.kind follows.fits.kind_fits) [
-    | inl l ↦ l
-    | inr others ↦ elim others [
-      | inl s ↦ absurd (omega (arith, other (codes "L") (codes "S") s first))
-      | inr more ↦ elim more [
-        | inl m ↦ absurd (omega (arith, other (codes "L") (codes "M") m first))
-        | inr last ↦ elim last [
-          | inl t ↦ absurd (omega (arith, other (codes "L") (codes "T") t first))
-          | inr r ↦ absurd (omega (arith, other (codes "L") (codes "R") r first))
-        ]
-      ]
-    ]
-  ]
-
-  a_rest : get_or (text_of_row row) 0 0 ≡ 77 → follows.kind ≡ codes "M"
-  a_rest first = elim (kind_of at.place follows.kind follows.fits.kind_fits) [
-    | inl l ↦ absurd (omega (arith, other (codes "M") (codes "L") l first))
-    | inr others ↦ elim others [
-      | inl s ↦ absurd (omega (arith, other (codes "M") (codes "S") s first))
-      | inr more ↦ elim more [
-        | inl m ↦ m
-        | inr last ↦ elim last [
-          | inl t ↦ absurd (omega (arith, other (codes "M") (codes "T") t first))
-          | inr r ↦ absurd (omega (arith, other (codes "M") (codes "R") r first))
-        ]
-      ]
-    ]
-  ]
+  kind_is : (letter : ℕ) → get_or (text_of_row row) 0 0 ≡ letter → follows.kind ≡ letter ∷ []
+  kind_is letter first = one_letter follows.kind (kind_of at.place follows.kind follows.fits.kind_fits) ∙ ap (λ (n : ℕ). n ∷ []) (sym lettered ∙ first)
 
   pub portion_passed : get_or (text_of_row row) 0 0 ≡ 76 → IsPortionAt at row next
   portion_passed first =
-      let l = a_portion first in
+      let l : follows.kind ≡ codes "L" = kind_is 76 first in
       let (amount, sound, written, leads) = follows.leads.portion l in
       record {
-        payee = follows.whose;
-        portion = record { usage = follows.third; amount = amount };
-        form = follows.form ∙ (λ i. row_of (l i) follows.whose follows.third (written i));
-        due = follows.fits.whose_fits.payee l;
-        sound = (follows.fits.third_fits.usage (inl l), sound);
-        count = (follows.fits.fourth_fits.amount (inl l)).0;
+        payee = follows.payee_or_reason;
+        portion = record { usage = follows.usage_or_count; amount = amount };
+        form = follows.form ∙ (λ i. row_of (l i) follows.payee_or_reason follows.usage_or_count (written i));
+        due = follows.fits.payee_or_reason_fits.payee l;
+        sound = (follows.fits.usage_or_count_fits.usage (inl l), sound);
+        count = (follows.fits.amount_or_total_fits.amount (inl l)).0;
         leads = leads;
       }
 
   pub rest_passed : get_or (text_of_row row) 0 0 ≡ 77 → IsRestAt at row next
   rest_passed first =
-      let m = a_rest first in
+      let m : follows.kind ≡ codes "M" = kind_is 77 first in
       let (amount, sound, written, leads) = follows.leads.rest m in
       record {
-        what = record { reason = follows.whose; usage = follows.third; amount = amount };
-        form = follows.form ∙ (λ i. row_of (m i) follows.whose follows.third (written i));
-        sound = (follows.fits.whose_fits.reason m, follows.fits.third_fits.usage (inr m), sound);
-        count = (follows.fits.fourth_fits.amount (inr m)).0;
+        what = record { reason = follows.payee_or_reason; usage = follows.usage_or_count; amount = amount };
+        form = follows.form ∙ (λ i. row_of (m i) follows.payee_or_reason follows.usage_or_count (written i));
+        sound = (follows.fits.payee_or_reason_fits.reason m, follows.fits.usage_or_count_fits.usage (inr m), sound);
+        count = (follows.fits.amount_or_total_fits.amount (inr m)).0;
         leads = leads;
       }
 
@@ -109,30 +87,15 @@ module _ (at next : At) (row : List (List ℕ)) (follows : Follows at row next) 
       let fits = subst (λ (place : Place). KindFits place follows.kind) within follows.fits.kind_fits in
       let s : follows.kind ≡ codes "S" = elim fits [ inl l ↦ absurd (differs (lettered ∙ ap (λ (k : List ℕ). get_or k 0 0) l)) | inr s ↦ s ] in
       record {
-        form = follows.form ∙ (λ i. row_of (s i) (follows.fits.whose_fits.same s i) (follows.fits.third_fits.count (inl s) i) (follows.fits.fourth_fits.sum (inl s) i));
+        form = follows.form ∙ (λ i. row_of (s i) (follows.fits.payee_or_reason_fits.same s i) (follows.fits.usage_or_count_fits.count (inl s) i) (follows.fits.amount_or_total_fits.sum (inl s) i));
         leads = follows.leads.sum s;
       }
 
-  a_rests_sum : get_or (text_of_row row) 0 0 ≡ 84 → follows.kind ≡ codes "T"
-  a_rests_sum first = elim (kind_of at.place follows.kind follows.fits.kind_fits) [
-    | inl l ↦ absurd (omega (arith, other (codes "T") (codes "L") l first))
-    | inr others ↦ elim others [
-      | inl s ↦ absurd (omega (arith, other (codes "T") (codes "S") s first))
-      | inr more ↦ elim more [
-        | inl m ↦ absurd (omega (arith, other (codes "T") (codes "M") m first))
-        | inr last ↦ elim last [
-          | inl t ↦ t
-          | inr r ↦ absurd (omega (arith, other (codes "T") (codes "R") r first))
-        ]
-      ]
-    ]
-  ]
-
   pub rests_sum_passed : get_or (text_of_row row) 0 0 ≡ 84 → IsRestsSumAt at row next
   rests_sum_passed first =
-      let t = a_rests_sum first in
+      let t : follows.kind ≡ codes "T" = kind_is 84 first in
       record {
-        form = follows.form ∙ (λ i. row_of (t i) (follows.fits.whose_fits.none (inl t) i) (follows.fits.third_fits.count (inr t) i) (follows.fits.fourth_fits.sum (inr t) i));
+        form = follows.form ∙ (λ i. row_of (t i) (follows.fits.payee_or_reason_fits.none (inl t) i) (follows.fits.usage_or_count_fits.count (inr t) i) (follows.fits.amount_or_total_fits.sum (inr t) i));
         leads = follows.leads.rests t;
       }
 
@@ -144,6 +107,6 @@ module _ (at next : At) (row : List (List ℕ)) (follows : Follows at row next) 
       record {
         lines = lines;
         few = few;
-        form = follows.form ∙ (λ i. row_of (r i) (follows.fits.whose_fits.none (inr r) i) (written i) (follows.fits.fourth_fits.all r i));
+        form = follows.form ∙ (λ i. row_of (r i) (follows.fits.payee_or_reason_fits.none (inr r) i) (written i) (follows.fits.amount_or_total_fits.all r i));
         leads = leads;
       }

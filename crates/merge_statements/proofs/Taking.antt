@@ -5,17 +5,17 @@ use Rattle.std.specs.Cmp.Lexicographic.{nat_list_cmp_total}
 use Rattle.std.specs.Io.KnownBytes.{Appends}
 use Rattle.std.specs.declared.cmp.Ordering.{Ordering}
 use Rattle.std.specs.declared.cmp.Ordering.TheVariants.{Less, Equal, Greater}
+use Rattle.std.proofs.KnownBytes.{Appends-nil, Appends-trans}
 use Rattle.std.proofs.Math.Seq.{take-length, take-suc}
-use Rattle.std.proofs.lemmas.List.{append-nil, get_or-set_other, length-append, length-set, map-append, take_all, take_more_set}
+use Rattle.std.proofs.lemmas.List.{append-nil, get_or-set_other, length-append, length-set, take_all, take_more_set}
 use Rattle.std.proofs.lemmas.List.Elements.{All-append, All-cons, All-nil, All-weaker}
-use Rattle.std.proofs.lemmas.Grind.{flat_map-append}
-use Rattle.csv_table.specs.Written.{text_of, text_of_row}
+use Rattle.csv_table.specs.Written.{text_of}
 use Rattle.line_split.proofs.IntSums.{int_sum_by-append}
 use Rattle.merge_statements.specs.SoFar.{HasLeast, HoldsOfFirst, IsNext, IsNextSound, TakesEach, TakesOne, Unread, WritesAll, WritesOne, WritesStatement, order}
 use Rattle.merge_statements.specs.SoFar.TakesEach.{none as none_of, more as more_of}
 use Rattle.merge_statements.specs.SoFar.TakesOne.{taken as taken_of, left as left_of}
 use Rattle.merge_statements.specs.Statements.{IsCount, IsPortion, Portion, portion_row}
-use Rattle.merge_statements.proofs.Passing.{appends_more, none_appended}
+use Rattle.merge_statements.proofs.Passing.{elements_more}
 
 -- ---- one text
 
@@ -46,7 +46,7 @@ none_written payee part before other = record {
   sound = All-nil IsPortion;
   counted = refl;
   sum = refl;
-  written = none_appended before;
+  written = Appends-nil before;
 }
 
 -- ---- all texts
@@ -59,13 +59,8 @@ no_texts payee before = record {
   counted = refl;
   sum = refl;
   few = omega arith;
-  written = none_appended before;
+  written = Appends-nil before;
 }
-
-text_joined : (payee : List ℕ) (xs ys : List Portion)
-    → text_of (map (portion_row payee) xs) ++ text_of (map (portion_row payee) ys) ≡ text_of (map (portion_row payee) (xs ++ ys))
-text_joined payee xs ys =
-    sym (flat_map-append text_of_row (map (portion_row payee) xs) (map (portion_row payee) ys)) ∙ ap text_of (sym (map-append (portion_row payee) xs ys))
 
 -- one text more at the end
 pub takes_push : {X : Type 0} (One : Unread → Unread → List X → Type 0) (olds news : List Unread) (old new : Unread) (xs own : List X) → TakesEach One olds news xs → One old new own
@@ -85,8 +80,8 @@ texts_more payee old new olds news before middle after own so_far count sum rest
   counted = omega (arith, counted, was.counted, one.counted, length-append was.portions one.portions);
   sum = comes ∙ ((λ i. was.sum i +ℤ one.sum i) ∙ sym (int_sum_by-append (λ (p : Portion). p.amount) was.portions one.portions));
   few = few;
-  written = subst (λ (t : List ℕ). Appends before after t) (text_joined payee was.portions one.portions)
-      (appends_more before middle after (text_of (map (portion_row payee) was.portions)) (text_of (map (portion_row payee) one.portions)) was.written one.written);
+  written = subst (λ (t : List ℕ). Appends before after t) (elements_more (portion_row payee) was.portions one.portions)
+      (Appends-trans before middle after (text_of (map (portion_row payee) was.portions)) (text_of (map (portion_row payee) one.portions)) was.written one.written);
 }
 
 -- ---- by places

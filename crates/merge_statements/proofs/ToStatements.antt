@@ -18,7 +18,7 @@ use Rattle.merge_statements.specs.declared.walk.Place.{Place}
 use Rattle.merge_statements.specs.declared.walk.Place.TheVariants.{Between, Ended, Resting, Summed, Within}
 use Rattle.merge_statements.proofs.Chains.{IsSound, first_sound, sound_on}
 use Rattle.merge_statements.proofs.ReadBack.{the_statement, the_statements}
-use Rattle.merge_statements.proofs.SoFar.{all_before, count_more, last_is, rises_more, total_more}
+use Rattle.merge_statements.proofs.SoFar.{all_before, count_more, last_is, rises_more}
 use Rattle.merge_statements.proofs.Whole.{count_of, sound_statements}
 
 -- ---- what rows up to a place are
@@ -92,11 +92,11 @@ module _ (at next : At) (row : List (List ℕ)) (rows : List (List (List ℕ))) 
   abbrev Goes : At → Type 0
   Goes to = Reached to.place to (rows ++ row ∷ [])
 
-  a_portion : follows.kind ≡ codes "L" → AreWithin at rows follows.whose → Goes next
+  a_portion : follows.kind ≡ codes "L" → AreWithin at rows follows.payee_or_reason → Goes next
   a_portion l was =
       let (amount, size, written, to) = follows.leads.portion l in
-      let portion : Portion = record { usage = follows.third; amount = amount } in
-      let row_is : row ≡ portion_row follows.whose portion = follows.form ∙ (λ i. row_of (l i) follows.whose follows.third (written i)) in
+      let portion : Portion = record { usage = follows.usage_or_count; amount = amount } in
+      let row_is : row ≡ portion_row follows.payee_or_reason portion = follows.form ∙ (λ i. row_of (l i) follows.payee_or_reason follows.usage_or_count (written i)) in
       let longer = length-append was.portions (portion ∷ []) in
       subst Goes (sym to) (
         record {
@@ -105,11 +105,11 @@ module _ (at next : At) (row : List (List ℕ)) (rows : List (List (List ℕ))) 
           payees = record { sound = was.payees.sound; rising = was.payees.rising; total = was.payees.total };
           name = was.name;
           behind = was.behind;
-          each = All-push IsPortion was.portions portion was.each (follows.fits.third_fits.usage (inl l), size);
+          each = All-push IsPortion was.portions portion was.each (follows.fits.usage_or_count_fits.usage (inl l), size);
           rows_are =
               (λ i. was.rows_are i ++ row_is i ∷ [])
-              ∙ (append_assoc (flat_map statement_rows was.done) (map (portion_row follows.whose) was.portions) (portion_row follows.whose portion ∷ [])
-              ∙ ap (λ (r : List (List (List ℕ))). flat_map statement_rows was.done ++ r) (sym (map-append (portion_row follows.whose) was.portions (portion ∷ []))));
+              ∙ (append_assoc (flat_map statement_rows was.done) (map (portion_row follows.payee_or_reason) was.portions) (portion_row follows.payee_or_reason portion ∷ [])
+              ∙ ap (λ (r : List (List (List ℕ))). flat_map statement_rows was.done ++ r) (sym (map-append (portion_row follows.payee_or_reason) was.portions (portion ∷ []))));
           count = omega (arith, was.count, longer);
           sum = ap (λ (n : ℤ). n +ℤ amount) was.sum ∙ sym (int_sum_by_push (λ (p : Portion). p.amount) was.portions portion);
           counted = omega (arith, was.counted, longer);
@@ -123,13 +123,13 @@ module _ (at next : At) (row : List (List ℕ)) (rows : List (List (List ℕ))) 
       let fits = follows.fits in
       let row_is : row ≡ total_row (codes "S") at.payee (length was.portions) (total_of statement) =
       follows.form
-      ∙ ((λ i. row_of (s i) (fits.whose_fits.same s i) (fits.third_fits.count (inl s) i) (fits.fourth_fits.sum (inl s) i)) ∙ (λ i. total_row (codes "S") at.payee (was.count i) (was.sum i))) in
+      ∙ ((λ i. row_of (s i) (fits.payee_or_reason_fits.same s i) (fits.usage_or_count_fits.count (inl s) i) (fits.amount_or_total_fits.sum (inl s) i)) ∙ (λ i. total_row (codes "S") at.payee (was.count i) (was.sum i))) in
       subst Goes (sym (follows.leads.sum s)) (record {
         done = was.done ++ statement ∷ [];
         payees = record {
           sound = All-push IsStatement was.done statement was.payees.sound (record { payee = was.name; some = omega (arith, some, was.count); portions = was.each });
           rising = rises_more was.done statement was.payees.rising (all_before was.done at.payee was.payees.rising was.behind);
-          total = (λ i. was.payees.total i +ℤ was.sum i) ∙ sym (total_more was.done statement);
+          total = (λ i. was.payees.total i +ℤ was.sum i) ∙ sym (int_sum_by_push total_of was.done statement);
         };
         last = sym (last_is was.done statement);
         rows_are =
@@ -142,14 +142,14 @@ module _ (at next : At) (row : List (List ℕ)) (rows : List (List (List ℕ))) 
   a_rest : follows.kind ≡ codes "M" → AreResting at rows → Goes next
   a_rest m was =
       let (amount, size, written, to) = follows.leads.rest m in
-      let rest : Rest = record { reason = follows.whose; usage = follows.third; amount = amount } in
-      let row_is : row ≡ rest_row rest = follows.form ∙ (λ i. row_of (m i) follows.whose follows.third (written i)) in
+      let rest : Rest = record { reason = follows.payee_or_reason; usage = follows.usage_or_count; amount = amount } in
+      let row_is : row ≡ rest_row rest = follows.form ∙ (λ i. row_of (m i) follows.payee_or_reason follows.usage_or_count (written i)) in
       let longer = length-append was.rests (rest ∷ []) in
       subst Goes (sym to) (record {
         done = was.done;
         rests = was.rests ++ rest ∷ [];
         payees = record { sound = was.payees.sound; rising = was.payees.rising; total = was.payees.total };
-        each = All-push IsRest was.rests rest was.each (follows.fits.whose_fits.reason m, follows.fits.third_fits.usage (inr m), size);
+        each = All-push IsRest was.rests rest was.each (follows.fits.payee_or_reason_fits.reason m, follows.fits.usage_or_count_fits.usage (inr m), size);
         rows_are =
             (λ i. was.rows_are i ++ row_is i ∷ [])
             ∙ (append_assoc (flat_map statement_rows was.done) (map rest_row was.rests) (rest_row rest ∷ [])
@@ -164,7 +164,7 @@ module _ (at next : At) (row : List (List ℕ)) (rows : List (List (List ℕ))) 
       let fits = follows.fits in
       let row_is : row ≡ total_row (codes "T") [] (length was.rests) (total_of_rests was.rests) =
       follows.form
-      ∙ ((λ i. row_of (t i) (fits.whose_fits.none (inl t) i) (fits.third_fits.count (inr t) i) (fits.fourth_fits.sum (inr t) i)) ∙ (λ i. total_row (codes "T") [] (was.count i) (was.sum i))) in
+      ∙ ((λ i. row_of (t i) (fits.payee_or_reason_fits.none (inl t) i) (fits.usage_or_count_fits.count (inr t) i) (fits.amount_or_total_fits.sum (inr t) i)) ∙ (λ i. total_row (codes "T") [] (was.count i) (was.sum i))) in
       subst Goes (sym (follows.leads.rests t)) (record {
         done = was.done;
         rests = was.rests;
@@ -183,7 +183,7 @@ module _ (at next : At) (row : List (List ℕ)) (rows : List (List (List ℕ))) 
       let (lines, few, written, to) = follows.leads.run r in
       let fits = follows.fits in
       let all = the_statements was.done was.rests lines at.total in
-      let row_is : row ≡ total_row (codes "R") [] lines at.total = follows.form ∙ (λ i. row_of (r i) (fits.whose_fits.none (inr r) i) (written i) (fits.fourth_fits.all r i)) in
+      let row_is : row ≡ total_row (codes "R") [] lines at.total = follows.form ∙ (λ i. row_of (r i) (fits.payee_or_reason_fits.none (inr r) i) (written i) (fits.amount_or_total_fits.all r i)) in
       let counted : IsCount (count_of was.done + length was.rests) = subst IsCount was.counted sound.few in
       subst Goes (sym to) (record {
         all = all;
@@ -194,15 +194,15 @@ module _ (at next : At) (row : List (List ℕ)) (rows : List (List (List ℕ))) 
       })
 
   -- before a payee's first portion
-  first_portion : at.place ≡ Between → follows.kind ≡ codes "L" → AreBetween at rows → AreWithin at rows follows.whose
+  first_portion : at.place ≡ Between → follows.kind ≡ codes "L" → AreBetween at rows → AreWithin at rows follows.payee_or_reason
   first_portion is l was =
-      let due = subst (λ (place : Place). IsPayeeAt place at.payee follows.whose) is (follows.fits.whose_fits.payee l) in
+      let due = subst (λ (place : Place). IsPayeeAt place at.payee follows.payee_or_reason) is (follows.fits.payee_or_reason_fits.payee l) in
       record {
         done = was.done;
         portions = [];
         payees = was.payees;
         name = due.0;
-        behind = subst (λ (last : List ℕ). order last follows.whose ≡ Less) was.last due.1;
+        behind = subst (λ (last : List ℕ). order last follows.payee_or_reason ≡ Less) was.last due.1;
         each = All-nil IsPortion;
         rows_are = was.rows_are ∙ sym (append-nil (flat_map statement_rows was.done));
         count = ap count_at is;
@@ -233,7 +233,7 @@ module _ (at next : At) (row : List (List ℕ)) (rows : List (List (List ℕ))) 
       ]
       by (Within count so_far) is was fits = elim fits [
         | inl l ↦
-            let due = subst (λ (place : Place). IsPayeeAt place at.payee follows.whose) is (follows.fits.whose_fits.payee l) in
+            let due = subst (λ (place : Place). IsPayeeAt place at.payee follows.payee_or_reason) is (follows.fits.payee_or_reason_fits.payee l) in
             a_portion l (subst (AreWithin at rows) (sym due) was.0)
         | inr s ↦ a_sum s was.0 (omega (arith, was.1, ap count_at is))
       ]

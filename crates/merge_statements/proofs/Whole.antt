@@ -3,7 +3,7 @@ use Rattle.std.proofs.Common.{◌≡◌, ◌∙◌, ◌≤◌, ◌+◌, ◌*◌,
 use Rattle.std.specs.Prelude.{IfSome, flat_map, sum_by}
 use Rattle.std.specs.Io.KnownBytes.{Appends, Consumes, IsAtEnd, Keeps, append_known}
 use Rattle.std.specs.List.Sorted.{IsStrictlySortedBy}
-use Rattle.std.proofs.lemmas.Int.{ints}
+use Rattle.std.proofs.KnownBytes.{Appends-trans, Consumes-trans, Consumes-whole}
 use Rattle.std.proofs.lemmas.List.{append-nil}
 use Rattle.std.proofs.lemmas.List.Elements.{All-append, All-cons, All-head, All-nil, All-tail, All-weaker}
 use Rattle.std.proofs.lemmas.List.Folds.{flat_map-map}
@@ -20,7 +20,8 @@ use Rattle.merge_statements.specs.SoFar.HavePassed.{none as no_passed, more as m
 use Rattle.merge_statements.specs.SoFar.TakesEach.{none as none_of, more as more_of}
 use Rattle.merge_statements.specs.Places.{At, at_first}
 use Rattle.merge_statements.specs.Statements.{AreStatements, IsCount, IsPortion, IsRest, IsStatement, Portion, Rest, Statement, Statements, rest_row, rests_rows, statement_rows, text_of_statements, total_of, total_of_rests, total_row}
-use Rattle.merge_statements.proofs.Passing.{appends_more, consumes_more}
+use Rattle.merge_statements.proofs.Passing.{text_more}
+use Rattle.merge_statements.proofs.SoFar.{moved}
 use Rattle.merge_statements.proofs.ReadBack.{the_statements}
 
 -- ---- sums in their limits
@@ -80,12 +81,6 @@ sound_statements payees rests lines amount rising sound left few lined adds =
 
 -- ---- each text by itself
 
--- a text that was passed over to its end
-all_consumed : (start end : Option (List ℕ)) (text : List ℕ) → Consumes start end text → IsAtEnd end → IfSome start (λ bytes. bytes ≡ text)
-all_consumed None end text consumed ended = tt
-all_consumed (Some xs) None text consumed ended = absurd consumed
-all_consumed (Some xs) (Some ys) text consumed ended = consumed ∙ (ap (λ (l : List ℕ). text ++ l) ended ∙ append-nil text)
-
 abbrev says : List Statement → Ending → Statements
 says done ending = the_statements done ending.rests ending.lines (int_sum_by total_of done +ℤ total_of_rests ending.rests)
 
@@ -93,11 +88,11 @@ text_is : (start : Option (List ℕ)) (old new : Unread) (done : List Statement)
     → IfSome start (λ bytes. bytes ≡ text_of_statements (says done ending))
 text_is start old new done ending was ends =
     let rests = rests_rows ending.rests ++ total_row (codes "R") [] ending.lines (int_sum_by total_of done +ℤ total_of_rests ending.rests) ∷ [] in
-    all_consumed start new.left (text_of_statements (says done ending))
+    Consumes-whole start new.left (text_of_statements (says done ending)) (λ bytes. bytes ≡ text_of_statements (says done ending))
     (subst (λ (t : List ℕ). Consumes start new.left t) (sym (flat_map-append text_of_row (flat_map statement_rows done) rests))
-    (consumes_more start old.left new.left (text_of (flat_map statement_rows done)) (text_of rests) was.consumed
+    (Consumes-trans start old.left new.left (text_of (flat_map statement_rows done)) (text_of rests) was.consumed
     (subst (λ (total : ℤ). Consumes old.left new.left (text_of (rests_rows ending.rests ++ total_row (codes "R") [] ending.lines (total +ℤ total_of_rests ending.rests) ∷ []))) (ap (λ (at : At). at.total) was.at) ends.consumed)))
-    ends.ended
+    ends.ended refl
 
 text_sound : (start : Option (List ℕ)) (old new : Unread) (done : List Statement) (ending : Ending) → HasPassed start old done → EndsAs old new ending → AreStatements (says done ending)
 text_sound start old new done ending was ends =
@@ -115,9 +110,6 @@ record AreParts (starts : List (Option (List ℕ))) (dones : List (List Statemen
   pub lines : sum_by (λ part. part.lines) parts ≡ lines_of endings
   pub amount : int_sum_by (λ part. part.amount) parts ≡ int_sum_by (λ done. int_sum_by total_of done) dones +ℤ total_of_rests (rests_of endings)
   pub rests_sound : All IsRest (rests_of endings)
-
-moved : (a b c d : ℤ) → (a +ℤ b) +ℤ (c +ℤ d) ≡ (a +ℤ c) +ℤ (b +ℤ d)
-moved a b c d = omega (arith, ints)
 
 parts_of : (starts : List (Option (List ℕ))) (olds news : List Unread) (dones : List (List Statement)) (endings : List Ending) → HavePassed starts olds dones
     → TakesEach EndsOne olds news endings → AreParts starts dones endings
@@ -178,9 +170,9 @@ all_merged starts mid last before one two three after paid left all sum rest tot
     all = refl;
   };
   written = subst (λ (t : List ℕ). Appends before after t) text
-      (appends_more before three after (((text_of (flat_map statement_rows was.whole)) ++ (text_of (map rest_row (rests_of ends.endings)))) ++ (text_of_row (total_row (codes "T") [] (length (rests_of ends.endings)) (total_of_rests (rests_of ends.endings))))) (text_of_row (total_row (codes "R") [] lines total))
-      (appends_more before two three ((text_of (flat_map statement_rows was.whole)) ++ (text_of (map rest_row (rests_of ends.endings)))) (text_of_row (total_row (codes "T") [] (length (rests_of ends.endings)) (total_of_rests (rests_of ends.endings))))
-      (appends_more before one two (text_of (flat_map statement_rows was.whole)) (text_of (map rest_row (rests_of ends.endings))) was.written ends.written)
+      (Appends-trans before three after (((text_of (flat_map statement_rows was.whole)) ++ (text_of (map rest_row (rests_of ends.endings)))) ++ (text_of_row (total_row (codes "T") [] (length (rests_of ends.endings)) (total_of_rests (rests_of ends.endings))))) (text_of_row (total_row (codes "R") [] lines total))
+      (Appends-trans before two three ((text_of (flat_map statement_rows was.whole)) ++ (text_of (map rest_row (rests_of ends.endings)))) (text_of_row (total_row (codes "T") [] (length (rests_of ends.endings)) (total_of_rests (rests_of ends.endings))))
+      (Appends-trans before one two (text_of (flat_map statement_rows was.whole)) (text_of (map rest_row (rests_of ends.endings))) was.written ends.written)
       (subst (λ (t : List ℕ). Appends two three t) (λ i. text_of_row (total_row (codes "T") [] (ends.counted i) (ends.sum i))) summed))
       run);
 }
@@ -199,11 +191,8 @@ all_merged starts mid last before one two three after paid left all sum rest tot
         ∙ (ap (λ (l : List ℕ). (text_of (flat_map statement_rows was.whole)) ++ l) (tail_text)
         ∙ sym (flat_map-append text_of_row (flat_map statement_rows was.whole) (rests_rows (rests_of ends.endings) ++ (total_row (codes "R") [] lines total) ∷ []))))
       where
-        one_row : (rows : List (List (List ℕ))) (row : List (List ℕ)) → text_of rows ++ text_of_row row ≡ text_of (rows ++ row ∷ [])
-        one_row rows row = ap (λ (l : List ℕ). text_of rows ++ l) (sym (append-nil (text_of_row row))) ∙ sym (flat_map-append text_of_row rows (row ∷ []))
-
         tail_text : ((text_of (map rest_row (rests_of ends.endings))) ++ (text_of_row (total_row (codes "T") [] (length (rests_of ends.endings)) (total_of_rests (rests_of ends.endings))))) ++ (text_of_row (total_row (codes "R") [] lines total)) ≡ text_of (rests_rows (rests_of ends.endings) ++ (total_row (codes "R") [] lines total) ∷ [])
-        tail_text = ap (λ (l : List ℕ). l ++ (text_of_row (total_row (codes "R") [] lines total))) (one_row (map rest_row (rests_of ends.endings)) (total_row (codes "T") [] (length (rests_of ends.endings)) (total_of_rests (rests_of ends.endings)))) ∙ one_row (rests_rows (rests_of ends.endings)) (total_row (codes "R") [] lines total)
+        tail_text = ap (λ (l : List ℕ). l ++ (text_of_row (total_row (codes "R") [] lines total))) (text_more (map rest_row (rests_of ends.endings)) (total_row (codes "T") [] (length (rests_of ends.endings)) (total_of_rests (rests_of ends.endings)))) ∙ text_more (rests_rows (rests_of ends.endings)) (total_row (codes "R") [] lines total)
 
 -- ---- texts that are opened
 
@@ -232,5 +221,5 @@ merge_passed starts before after last page none was passed = record {
   merged = was.merged;
   merge = was.merge;
   written = subst (λ (t : List ℕ). Appends before last t) (append-nil was.merged)
-      (appends_more before after last was.merged [] (subst (λ (known : Option (List ℕ)). Appends known after was.merged) (ap (append_known before) none ∙ none_added before) was.written) passed);
+      (Appends-trans before after last was.merged [] (subst (λ (known : Option (List ℕ)). Appends known after was.merged) (ap (append_known before) none ∙ none_added before) was.written) passed);
 }

@@ -5,7 +5,7 @@ use Rattle.merge_statements.specs.declared.row.Row.{Row}
 
 -- the fields of a row
 abbrev pub fields_of : Row → List (List ℕ)
-fields_of row = row.kind.now ∷ row.whose.now ∷ row.third.now ∷ row.fourth.now ∷ []
+fields_of row = row.kind.now ∷ row.payee_or_reason.now ∷ row.usage_or_count.now ∷ row.amount_or_total.now ∷ []
 
 -- whether a byte is a comma
 abbrev pub is_comma : ℕ → Bool

@@ -10,7 +10,7 @@ use Rattle.merge_statements.specs.declared.read_fault.ReadFault.TheVariants.{Ref
 use Rattle.merge_statements.specs.declared.refusal.Refusal.{Refusal}
 use Rattle.merge_statements.specs.declared.refusal.Refusal.TheVariants as refusal
 use Rattle.merge_statements.specs.declared.refusal.StatementFault.{StatementFault}
-use Rattle.merge_statements.specs.declared.refusal.StatementFault.TheVariants.{End, Fourth, Kind, Row, Third, Whose}
+use Rattle.merge_statements.specs.declared.refusal.StatementFault.TheVariants.{AmountOrTotal, End, Kind, PayeeOrReason, Row, UsageOrCount}
 use Rattle.merge_statements.specs.declared.walk.Place.TheVariants.{Ended}
 use Rattle.merge_statements.specs.declared.walk.Wrong.{Wrong}
 use Rattle.merge_statements.specs.declared.walk.Wrong.TheVariants as wrong
@@ -41,22 +41,22 @@ BeginsWithNoRow text = (line rest : List ℕ) (row : List (List ℕ)) → IsLine
 -- the text begins with a line that is a row of four fields, of which this is the first that cannot stand at a place
 pub record BeginsWithWrong (at : At) (text : List ℕ) (field : Wrong) : Type 0 where
   pub kind : List ℕ
-  pub whose : List ℕ
-  pub third : List ℕ
-  pub fourth : List ℕ
+  pub payee_or_reason : List ℕ
+  pub usage_or_count : List ℕ
+  pub amount_or_total : List ℕ
   pub line : List ℕ
   pub rest : List ℕ
   pub begins : IsLine text line rest
-  pub row : text_of_row (row_of kind whose third fourth) ≡ line ++ 10 ∷ []
-  pub wrong_at : IsWrongAt at kind whose third fourth field
+  pub row : text_of_row (row_of kind payee_or_reason usage_or_count amount_or_total) ≡ line ++ 10 ∷ []
+  pub wrong_at : IsWrongAt at kind payee_or_reason usage_or_count amount_or_total field
 
 -- what is wrong with the rest of a text, from the row of a number on
 abbrev pub IsFaultFrom : At → ℕ → List ℕ → StatementFault → Type 0
 IsFaultFrom at number text (Row row) = (row ≡ number) × (0 < length text) × BeginsWithNoRow text
 IsFaultFrom at number text (Kind row) = (row ≡ number) × BeginsWithWrong at text wrong.Kind
-IsFaultFrom at number text (Whose row) = (row ≡ number) × BeginsWithWrong at text wrong.Whose
-IsFaultFrom at number text (Third row) = (row ≡ number) × BeginsWithWrong at text wrong.Third
-IsFaultFrom at number text (Fourth row) = (row ≡ number) × BeginsWithWrong at text wrong.Fourth
+IsFaultFrom at number text (PayeeOrReason row) = (row ≡ number) × BeginsWithWrong at text wrong.PayeeOrReason
+IsFaultFrom at number text (UsageOrCount row) = (row ≡ number) × BeginsWithWrong at text wrong.UsageOrCount
+IsFaultFrom at number text (AmountOrTotal row) = (row ≡ number) × BeginsWithWrong at text wrong.AmountOrTotal
 IsFaultFrom at number text (End row) = (row ≡ number) × (text ≡ []) × ((lines : ℕ) → ¬ (at.place ≡ Ended lines))
 
 -- the first fault of a text: the rows before it can stand one after another
@@ -73,7 +73,8 @@ abbrev pub IsRefusedFor : List ℕ → Refusal → Type 0
 IsRefusedFor text (refusal.Fault fault) = IsFaultIn text fault
 IsRefusedFor text _ = ⊤
 
--- Of several texts the one in a place, from 0, is refused for its first fault, where its bytes are known. Nothing is claimed of the same as above, nor of more portions or usage lines than are counted.
+-- Of several texts the one in a place, from 0, is refused for its first fault, where its bytes are known. Nothing is claimed of the same as
+-- above, nor of more portions or usage lines than are counted.
 abbrev pub IsRefusalOf : List (Option (List ℕ)) → ℕ → Refusal → Type 0
 IsRefusalOf starts place (refusal.Fault fault) = (place < length starts) × IfSome (slice_index_or starts place None) (λ text. IsFaultIn text fault)
 IsRefusalOf starts place _ = ⊤
@@ -91,9 +92,9 @@ IsNoFault _ = ⊤
 -- which refusal a wrong field is
 abbrev pub refusal_of_field : Wrong → ℕ → Refusal
 refusal_of_field wrong.Kind row = refusal.Fault (Kind row)
-refusal_of_field wrong.Whose row = refusal.Fault (Whose row)
-refusal_of_field wrong.Third row = refusal.Fault (Third row)
-refusal_of_field wrong.Fourth row = refusal.Fault (Fourth row)
+refusal_of_field wrong.PayeeOrReason row = refusal.Fault (PayeeOrReason row)
+refusal_of_field wrong.UsageOrCount row = refusal.Fault (UsageOrCount row)
+refusal_of_field wrong.AmountOrTotal row = refusal.Fault (AmountOrTotal row)
 refusal_of_field wrong.Memory row = refusal.Memory
 
 -- and a line that is none
@@ -106,15 +107,15 @@ refusal_of_line TooLong row = refusal.Fault (Row row)
 abbrev pub number_of_fault : StatementFault → ℕ
 number_of_fault (Row row) = 1
 number_of_fault (Kind row) = 2
-number_of_fault (Whose row) = 3
-number_of_fault (Third row) = 4
-number_of_fault (Fourth row) = 5
+number_of_fault (PayeeOrReason row) = 3
+number_of_fault (UsageOrCount row) = 4
+number_of_fault (AmountOrTotal row) = 5
 number_of_fault (End row) = 6
 
 abbrev pub row_of_fault : StatementFault → ℕ
 row_of_fault (Row row) = row
 row_of_fault (Kind row) = row
-row_of_fault (Whose row) = row
-row_of_fault (Third row) = row
-row_of_fault (Fourth row) = row
+row_of_fault (PayeeOrReason row) = row
+row_of_fault (UsageOrCount row) = row
+row_of_fault (AmountOrTotal row) = row
 row_of_fault (End row) = row

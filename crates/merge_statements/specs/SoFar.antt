@@ -1,11 +1,14 @@
 -- What is kept while texts are read and merged: where each stands, what was passed over of it, and
 -- what was written. Contracts of private functions alone cite it, and no promise rests on it; it
 -- stands here since a contract may cite nothing of proofs/.
-use Rattle.std.specs.Prelude.{ℕ, ◌≡◌, ◌+◌, [], List, None, Option, IfSome, codes, length, ℤ, ◌<◌, ◌+ℤ◌, ◌⊎◌, All, Some, map, ◌≤◌, ◌++◌, ◌∷◌, Bool, true, false, Contains, filter, flat_map, slice_index_or, sum_by, take}
-use Rattle.std.specs.Io.KnownBytes.{Consumes, Appends, IsAtEnd, Keeps}
+use Rattle.std.specs.Prelude.{ℕ, ℤ, ◌≡◌, ◌≤◌, ◌<◌, ◌+◌, ◌+ℤ◌, ◌++◌, ◌∷◌, ◌⊎◌, [], List, All, Contains}
+use Rattle.std.specs.Prelude.{Bool, true, false, None, Some, Option, IfSome, codes, filter, flat_map, length, map, slice_index_or, sum_by, take}
+use Rattle.std.specs.Io.KnownBytes.{Appends, Consumes, IsAtEnd, Keeps, append_known}
 use Rattle.csv_table.specs.Written.{text_of, text_of_row}
 use Rattle.merge_statements.specs.Places.{At, Follows, IsPayeeAt, at_first, count_at, row_of, sum_at}
-use Rattle.merge_statements.specs.Statements.{IsCount, IsName, IsPortion, IsRest, IsStatement, Portion, Rest, Statement, portion_row, rest_row, rests_rows, statement_rows, total_of, total_of_rests, total_row}
+use Rattle.merge_statements.specs.Statements.{IsCount, IsName, IsPortion, IsRest, IsStatement, Portion, Rest, Statement}
+use Rattle.merge_statements.specs.Statements.{portion_row, rest_row, rests_rows, statement_rows, total_of, total_of_rests, total_row}
+use Rattle.merge_statements.specs.Merged.{WritesMerge}
 use Rattle.merge_statements.specs.Refused.{AreRows, IsRefusalOf, IsRefusedFor}
 use Rattle.merge_statements.specs.declared.refusal.Refusal.{Refusal}
 use Rattle.merge_statements.specs.declared.walk.Place.TheVariants.{Between, Ended, Resting, Summed, Within}
@@ -17,9 +20,16 @@ use Rattle.std.specs.List.Sorted.{IsStrictlySortedBy}
 use Rattle.std.specs.Str.{bytes_eq}
 use Rattle.std.specs.declared.cmp.Ordering.{Ordering}
 
+-- ---- what was written
+
+-- what an output has, and behind it the page that has not gone on to it yet
+abbrev pub output : {O : Type 0} → (contents : O → Option (List ℕ)) → O → (page : List ℕ) → Option (List ℕ)
+output contents out page = append_known (contents out) page
+
 -- ---- a text that is read row by row
 
--- How far it was read; the row at hand as it stands in the text, with its line feed, which is empty at the end; its number, from 1; the bytes from it on, where they are known; and the payee that comes next, where one does.
+-- How far it was read; the row at hand as it stands in the text, with its line feed, which is empty at the end; its number, from 1; the
+-- bytes from it on, where they are known; and the payee that comes next, where one does.
 pub record Unread : Type 0 where
   pub at : At
   pub line : List ℕ
@@ -60,7 +70,7 @@ RefusesRest part why = (start : Option (List ℕ)) → IsRead start part → IfS
 
 -- the row at hand is one of this kind
 abbrev pub IsOfKind : Unread → List ℕ → Type 0
-IsOfKind part kind = (whose : List ℕ) × (third : List ℕ) × (fourth : List ℕ) × (text_of_row (row_of kind whose third fourth) ≡ part.line)
+IsOfKind part kind = (payee_or_reason : List ℕ) × (usage_or_count : List ℕ) × (amount_or_total : List ℕ) × (text_of_row (row_of kind payee_or_reason usage_or_count amount_or_total) ≡ part.line)
 
 -- behind a statement, and before the first, the row at hand is no portion unless a payee comes next
 abbrev pub IsLooked : Unread → Type 0
@@ -315,6 +325,14 @@ pub data AreRead : List (Option (List ℕ)) → List Unread → Type 0 where
 abbrev pub RefusesOne : List Unread → ℕ → Refusal → Type 0
 RefusesOne parts place why = (starts : List (Option (List ℕ))) → AreRead starts parts → IsRefusalOf starts place why
 
+-- the same of texts that stood before their first rows
+abbrev pub RefusesOpen : List Unread → ℕ → Refusal → Type 0
+RefusesOpen parts place why = (starts : List (Option (List ℕ))) → AreOpen starts parts → IsRefusalOf starts place why
+
+-- and what they merge to was written
+abbrev pub MergesOpen : List Unread → (before after : Option (List ℕ)) → Type 0
+MergesOpen parts before after = (starts : List (Option (List ℕ))) → AreOpen starts parts → WritesMerge starts before after
+
 abbrev pub last_payee : List Statement → List ℕ
 last_payee [] = []
 last_payee (statement ∷ []) = statement.payee
@@ -359,6 +377,11 @@ pub record AreMergedSoFar (starts : List (Option (List ℕ))) (parts : List Unre
   pub sums : int_sum_by total_of whole ≡ int_sum_by (λ done. int_sum_by total_of done) dones
   pub few : IsCount count
   pub written : Appends before after (text_of (flat_map statement_rows whole))
+
+-- the same of texts that stood before their first rows
+abbrev pub MergesPayees : (olds news : List Unread) → (before after : Option (List ℕ)) → (count : ℕ) → (total : ℤ) → Type 0
+MergesPayees olds news before after count total =
+    (starts : List (Option (List ℕ))) → AreOpen starts olds → AreMergedSoFar starts news before after count total
 
 -- ---- the ends of texts
 

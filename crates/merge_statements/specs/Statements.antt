@@ -48,8 +48,8 @@ portion_row payee portion = codes "L" ∷ payee ∷ portion.usage ∷ signed_dec
 abbrev pub rest_row : Rest → List (List ℕ)
 rest_row rest = codes "M" ∷ rest.reason ∷ rest.usage ∷ signed_decimal rest.amount ∷ []
 
-abbrev pub total_row : (kind whose : List ℕ) → ℕ → ℤ → List (List ℕ)
-total_row kind whose count total = kind ∷ whose ∷ decimal count ∷ signed_decimal total ∷ []
+abbrev pub total_row : (kind payee : List ℕ) → ℕ → ℤ → List (List ℕ)
+total_row kind payee count total = kind ∷ payee ∷ decimal count ∷ signed_decimal total ∷ []
 
 abbrev pub statement_rows : Statement → List (List (List ℕ))
 statement_rows statement =
@@ -109,3 +109,7 @@ count_of_portions all = sum_by (λ statement. length statement.portions) all.pay
 -- so many portions, or usage lines, are counted
 abbrev pub IsCount : ℕ → Type 0
 IsCount count = count ≤ 10 ^ 18
+
+-- the text is that of statements of so many usage lines, whose portions can be counted
+abbrev pub SaysStatements : List ℕ → ℕ → Type 0
+SaysStatements text lines = (all : Statements) × AreStatements all × IsCount (count_of_portions all) × (all.lines ≡ lines) × (text ≡ text_of_statements all)

@@ -17,7 +17,7 @@ pub fn amount_of(field: &[u8]) -> Option<i64>
     ensures amount { IfSome result (λ amount. IsAmount amount × (field.now ≡ signed_decimal amount)) }
     ensures none { IfNone result ((amount : ℤ) → IsAmount amount → ¬ (field.now ≡ signed_decimal amount)) }
 {
-    match behind_minus(field) {
+    match strip_minus(field) {
         Some(digits) => Some(-(size_of(digits)? as i64)),
         None => Some(size_of(field)? as i64),
     }
@@ -31,8 +31,8 @@ pub fn count_of(field: &[u8]) -> Option<u64>
     number_of(field, MOST_COUNT)
 }
 
-/// A field without its minus, where it begins with one.
-fn behind_minus(field: &[u8]) -> Option<&[u8]>
+/// What stands behind the minus of a field that begins with one.
+fn strip_minus(field: &[u8]) -> Option<&[u8]>
     ensures digits { IfSome result (λ digits. field.now ≡ 45 ∷ digits.now) }
     ensures none { IfNone result ((digits : List ℕ) → ¬ (field.now ≡ 45 ∷ digits)) }
 {

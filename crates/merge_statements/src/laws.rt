@@ -2,7 +2,7 @@
 
 ghost use Rattle.std.specs.Prelude.{◌≡◌, ◌∷◌, ◌↔◌, [], ℕ, All, List, None, Option, Some, flat_map, slice_index_or};
 ghost use Rattle.merge_statements.specs.Merged.{AreInLimits, AreMerged, AreMergesOf, IsMergeOf};
-ghost use Rattle.merge_statements.specs.Statements.{AreStatements, IsCount, Statements, count_of_portions, text_of_statements};
+ghost use Rattle.merge_statements.specs.Statements.{AreStatements, IsCount, SaysStatements, Statements, count_of_portions, text_of_statements};
 ghost use Rattle.merge_statements.specs.Refused.{IsFaultIn, IsRefusalOf, IsStatementText};
 ghost use Rattle.merge_statements.specs.declared.refusal.Refusal.TheVariants as Refusal;
 ghost use Rattle.merge_statements.specs.declared.refusal.StatementFault.{StatementFault};
@@ -42,10 +42,10 @@ pub fn law_a_text_with_a_fault_is_no_statement_text()
         → slice_index_or texts place None ≡ Some text → ¬ IsStatementText text lines }
 {}
 
-/// A text whose rows can stand one after another, from the first to the last, is that of some statements; and the text of any statements is such a text, where their
-/// portions are as many as are counted.
+/// A text whose rows can stand one after another, from the first to the last, is that of some statements; and the text of any statements is
+/// such a text, where their portions are as many as are counted.
 pub fn law_a_statement_text_is_that_of_statements()
-    ensures { (text : List ℕ) (lines : ℕ) → IsStatementText text lines ↔ ((all : Statements) × AreStatements all × IsCount (count_of_portions all) × (all.lines ≡ lines) × (text ≡ text_of_statements all)) }
+    ensures { (text : List ℕ) (lines : ℕ) → IsStatementText text lines ↔ SaysStatements text lines }
 {}
 
 /// A text has one first fault, if any, in one row.

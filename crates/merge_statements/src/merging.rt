@@ -1,9 +1,10 @@
 //! Texts of statements merged into one.
 
 ghost use Rattle.std.specs.Prelude.{◌≡◌, ◌+◌, ◌+ℤ◌, [], ℕ, All, List, None, Option, codes, IfErr, IfOk, OnOk, Some, false, map, true};
-ghost use Rattle.std.specs.Io.KnownBytes.{Appends, append_known};
+ghost use Rattle.std.specs.Io.KnownBytes.{Appends};
 ghost use Rattle.csv_table.specs.Written.{text_of_row};
-ghost use Rattle.merge_statements.specs.SoFar.{AreMergedSoFar, AreOpen, CanEnd, EndsEach, HasLeast, HasNext, RefusesOne, RefusesRest, WritesAll, WritesEnding, WritesOne};
+ghost use Rattle.merge_statements.specs.SoFar.{AreOpen, CanEnd, EndsEach, HasLeast, HasNext, MergesOpen, MergesPayees, RefusesOne, RefusesOpen, RefusesRest};
+ghost use Rattle.merge_statements.specs.SoFar.{WritesAll, WritesEnding, WritesOne, output};
 ghost use Rattle.merge_statements.specs.Refused.{IsNoFault, IsRefusalOf};
 ghost use Rattle.merge_statements.specs.Merged.{WritesMerge};
 ghost use Rattle.merge_statements.specs.Statements.{IsCount, total_row};
@@ -50,8 +51,8 @@ fn merge_parts<R: Read + Drop, W: Write>(
     out: &mut W,
 ) -> Result<(), TextRefusal>
     requires { (starts : List (Option (List ℕ))) × AreOpen starts parts.old }
-    ensures merged { OnOk result ((starts : List (Option (List ℕ))) → AreOpen starts parts.old → WritesMerge starts (append_known (W.contents out.old) page.old) (append_known (W.contents out.new) page.new)) }
-    ensures refused { IfErr result (λ refused. (starts : List (Option (List ℕ))) → AreOpen starts parts.old → IsRefusalOf starts refused.place refused.refusal) }
+    ensures merged { OnOk result (MergesOpen parts.old (output W.contents out.old page.old) (output W.contents out.new page.new)) }
+    ensures refused { IfErr result (λ refused. RefusesOpen parts.old refused.place refused.refusal) }
 {
     let paid = merge_payees(alloc, parts, page, out)?;
     let (left, lines) = end_all(parts, page, out)?;
@@ -107,7 +108,7 @@ fn pass_if_next<R: Read + Drop, W: Write>(
     page: &mut Page,
     out: &mut W,
 ) -> Result<(u64, i128), Refusal>
-    ensures written { IfOk result (λ sum. WritesOne payee.now part.old part.new (append_known (W.contents out.old) page.old) (append_known (W.contents out.new) page.new) sum.0 sum.1) }
+    ensures written { IfOk result (λ sum. WritesOne payee.now part.old part.new (output W.contents out.old page.old) (output W.contents out.new page.new) sum.0 sum.1) }
     ensures refused { IfErr result (RefusesRest part.old) }
 {
     if !is_next(part, payee) {
@@ -136,7 +137,7 @@ fn pass_payee<R: Read + Drop, W: Write>(
     page: &mut Page,
     out: &mut W,
 ) -> Result<(u64, i128), TextRefusal>
-    ensures written { IfOk result (λ sum. WritesAll payee.now parts.old parts.new (append_known (W.contents out.old) page.old) (append_known (W.contents out.new) page.new) sum.0 sum.1) }
+    ensures written { IfOk result (λ sum. WritesAll payee.now parts.old parts.new (output W.contents out.old page.old) (output W.contents out.new page.new) sum.0 sum.1) }
     ensures refused { IfErr result (λ refused. RefusesOne parts.old refused.place refused.refusal) }
 {
     let mut all = (0, 0);
@@ -158,9 +159,9 @@ fn merge_payees<R: Read + Drop, W: Write>(
     page: &mut Page,
     out: &mut W,
 ) -> Result<(u64, i128), TextRefusal>
-    ensures merged { IfOk result (λ sum. (starts : List (Option (List ℕ))) → AreOpen starts parts.old → AreMergedSoFar starts parts.new (append_known (W.contents out.old) page.old) (append_known (W.contents out.new) page.new) sum.0 sum.1) }
+    ensures merged { IfOk result (λ sum. MergesPayees parts.old parts.new (output W.contents out.old page.old) (output W.contents out.new page.new) sum.0 sum.1) }
     ensures none { IfOk result (λ _. All (λ part. part.payee ≡ None) parts.new) }
-    ensures refused { IfErr result (λ refused. (starts : List (Option (List ℕ))) → AreOpen starts parts.old → IsRefusalOf starts refused.place refused.refusal) }
+    ensures refused { IfErr result (λ refused. RefusesOpen parts.old refused.place refused.refusal) }
 {
     let mut payee = Vec::new(alloc);
     let mut all = (0, 0);
@@ -192,13 +193,13 @@ fn push_total<W: Write>(
     page: &mut Page,
     out: &mut W,
     kind: &str,
-    whose: &[u8],
+    payee: &[u8],
     sum: (u64, i128),
 ) -> Result<(), TextRefusal>
-    ensures pushed { OnOk result (Appends (append_known (W.contents out.old) page.old) (append_known (W.contents out.new) page.new) (text_of_row (total_row kind.now whose.now sum.0 sum.1))) }
+    ensures pushed { OnOk result (Appends (output W.contents out.old page.old) (output W.contents out.new page.new) (text_of_row (total_row kind.now payee.now sum.0 sum.1))) }
     ensures refused { IfErr result (λ refused. IsNoFault refused.refusal) }
 {
-    match page.push_total(out, kind, whose, sum.0, sum.1) {
+    match page.push_total(out, kind, payee, sum.0, sum.1) {
         Ok(()) => Ok(()),
         Err(refusal) => Err(refused(0, refusal)),
     }
@@ -211,7 +212,7 @@ fn push_run<W: Write>(
     lines: u64,
     portions: (u64, i128),
 ) -> Result<(), TextRefusal>
-    ensures pushed { OnOk result (Appends (append_known (W.contents out.old) page.old) (append_known (W.contents out.new) page.new) (text_of_row (total_row (codes "R") [] lines portions.1))) }
+    ensures pushed { OnOk result (Appends (output W.contents out.old page.old) (output W.contents out.new page.new) (text_of_row (total_row (codes "R") [] lines portions.1))) }
     ensures refused { IfErr result (λ refused. IsNoFault refused.refusal) }
 {
     push_total(page, out, "R", b"", (lines, portions.1))
@@ -225,7 +226,7 @@ fn end_text<R: Read + Drop, W: Write>(
     out: &mut W,
 ) -> Result<((u64, i128), u64), Refusal>
     requires { CanEnd part.old }
-    ensures written { IfOk result (λ end. WritesEnding part.old part.new (append_known (W.contents out.old) page.old) (append_known (W.contents out.new) page.new) end.0.0 end.0.1 end.1) }
+    ensures written { IfOk result (λ end. WritesEnding part.old part.new (output W.contents out.old page.old) (output W.contents out.new page.new) end.0.0 end.0.1 end.1) }
     ensures refused { IfErr result (RefusesRest part.old) }
 {
     let sum = part.pass_rests(page, out)?;
@@ -240,7 +241,7 @@ fn end_all<R: Read + Drop, W: Write>(
     out: &mut W,
 ) -> Result<((u64, i128), u64), TextRefusal>
     requires { All CanEnd parts.old }
-    ensures written { IfOk result (λ end. EndsEach parts.old parts.new (append_known (W.contents out.old) page.old) (append_known (W.contents out.new) page.new) end.0.0 end.0.1 end.1) }
+    ensures written { IfOk result (λ end. EndsEach parts.old parts.new (output W.contents out.old page.old) (output W.contents out.new page.new) end.0.0 end.0.1 end.1) }
     ensures refused { IfErr result (λ refused. RefusesOne parts.old refused.place refused.refusal) }
 {
     let mut all = ((0, 0), 0);

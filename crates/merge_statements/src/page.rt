@@ -1,10 +1,11 @@
 //! The merged text on its way to an output, by the page.
 
 ghost use Rattle.std.specs.Fmt.{signed_decimal};
-ghost use Rattle.std.specs.Io.KnownBytes.{Appends, append_known};
+ghost use Rattle.std.specs.Io.KnownBytes.{Appends};
 ghost use Rattle.std.specs.Prelude.{◌≡◌, ◌∷◌, [], IfErr, IfOk, OnOk, decimal};
 ghost use Rattle.csv_table.specs.Written.{text_of_row};
 ghost use Rattle.merge_statements.specs.Refused.{IsNoFault};
+ghost use Rattle.merge_statements.specs.SoFar.{output};
 ghost use Rattle.merge_statements.specs.Statements.{total_row};
 
 use crate::refusal::Refusal;
@@ -45,7 +46,7 @@ impl Page {
 
     /// Adds a text.
     pub(crate) fn push<W: Write>(&mut self, out: &mut W, text: &[u8]) -> Result<(), Refusal>
-        ensures pushed { OnOk result (Appends (append_known (W.contents out.old) self.old) (append_known (W.contents out.new) self.new) text.now) }
+        ensures pushed { OnOk result (Appends (output W.contents out.old self.old) (output W.contents out.new self.new) text.now) }
         ensures refused { IfErr result IsNoFault }
     {
         if self.text.len() >= PAGE_BYTES {
@@ -58,7 +59,7 @@ impl Page {
     /// Passes on what there is.
     pub(crate) fn pass_on<W: Write>(&mut self, out: &mut W) -> Result<(), Refusal>
         ensures empty { OnOk result (self.new ≡ []) }
-        ensures passed { OnOk result (Appends (append_known (W.contents out.old) self.old) (W.contents out.new) []) }
+        ensures passed { OnOk result (Appends (output W.contents out.old self.old) (W.contents out.new) []) }
         ensures refused { IfErr result IsNoFault }
     {
         match out.write_all(self.text.as_slice()) {
@@ -75,14 +76,14 @@ impl Page {
         &mut self,
         out: &mut W,
         kind: &str,
-        whose: &[u8],
+        payee: &[u8],
         count: u64,
         total: i128,
     ) -> Result<(), Refusal>
-        ensures pushed { OnOk result (Appends (append_known (W.contents out.old) self.old) (append_known (W.contents out.new) self.new) (text_of_row (total_row kind.now whose.now count total))) }
+        ensures pushed { OnOk result (Appends (output W.contents out.old self.old) (output W.contents out.new self.new) (text_of_row (total_row kind.now payee.now count total))) }
         ensures refused { IfErr result IsNoFault }
     {
-        let text = total_text(self.alloc, kind, whose, count, total)?;
+        let text = total_text(self.alloc, kind, payee, count, total)?;
         self.push(out, text.as_slice())
     }
 }
@@ -90,18 +91,18 @@ impl Page {
 fn total_text(
     alloc: Global,
     kind: &str,
-    whose: &[u8],
+    payee: &[u8],
     count: u64,
     total: i128,
 ) -> Result<Vec<u8>, AllocError>
-    ensures { IfOk result (λ text. text.items ≡ text_of_row (total_row kind.now whose.now count total)) }
+    ensures { IfOk result (λ text. text.items ≡ text_of_row (total_row kind.now payee.now count total)) }
 {
     let mut digits = Buffer::new();
     let mut sum = Buffer::new();
     let mut rows = RowWriter::new(alloc);
     rows.row(&[
         kind.as_bytes(),
-        whose,
+        payee,
         digits.format(count).as_bytes(),
         sum.format(total).as_bytes(),
     ])?;

@@ -1,9 +1,10 @@
 //! One of the texts that are merged, read statement by statement.
 
-ghost use Rattle.std.specs.Io.KnownBytes.{Appends, Keeps, append_known};
+ghost use Rattle.std.specs.Io.KnownBytes.{Appends, Keeps};
 ghost use Rattle.std.specs.Prelude.{◌≡◌, ◌<◌, ◌++◌, ◌∷◌, [], List, ℕ, IfErr, IfOk, IfSome, OnOk, slice_index, true, false};
 ghost use Rattle.std.specs.Option.{option_map};
-ghost use Rattle.merge_statements.specs.SoFar.{CanEnd, EndsText, HasNext, IsAmongRests, IsLooked, IsNext, IsOfKind, IsRead, IsRestsSumAt, IsSumAt, IsWithin, IsWithinOne, NeedsRow, PassesSum, ReadsOn, RefusesRest, Steps, WritesRests, WritesStatement};
+ghost use Rattle.merge_statements.specs.SoFar.{CanEnd, EndsText, HasNext, IsAmongRests, IsLooked, IsNext, IsOfKind, IsRead, IsRestsSumAt, IsSumAt};
+ghost use Rattle.merge_statements.specs.SoFar.{IsWithin, IsWithinOne, NeedsRow, PassesSum, ReadsOn, RefusesRest, Steps, WritesRests, WritesStatement, output};
 ghost use Rattle.merge_statements.specs.Places.{KindFits, at_first};
 ghost use Rattle.merge_statements.specs.Refused.{IsNoFault, IsRefusedFor};
 ghost use Rattle.merge_statements.specs.declared.walk.Place.TheVariants as Place;
@@ -109,10 +110,10 @@ impl<R: Read + Drop> Part<R> {
         if row.kind != b"L".as_slice() {
             return Ok(());
         }
-        if !self.progress.is_payee_here(row.whose) {
-            return Err(Refusal::Fault(StatementFault::Whose(self.number)));
+        if !self.progress.is_payee_here(row.payee_or_reason) {
+            return Err(Refusal::Fault(StatementFault::PayeeOrReason(self.number)));
         }
-        replace(&mut self.payee, row.whose)?;
+        replace(&mut self.payee, row.payee_or_reason)?;
         self.has_payee = true;
         Ok(())
     }
@@ -142,7 +143,7 @@ impl<R: Read + Drop> Part<R> {
         requires { NeedsRow self.old }
         ensures steps { OnOk result (Steps self.old self.new) }
         ensures reads { OnOk result (ReadsOn self.old self.new) }
-        ensures passed { OnOk result (Appends (append_known (W.contents out.old) page.old) (append_known (W.contents out.new) page.new) self.old.line) }
+        ensures passed { OnOk result (Appends (output W.contents out.old page.old) (output W.contents out.new page.new) self.old.line) }
         ensures refused { IfErr result (RefusesRest self.old) }
     {
         if self.has_row {
@@ -188,7 +189,7 @@ impl<R: Read + Drop> Part<R> {
         out: &mut W,
     ) -> Result<(u64, i128), Refusal>
         requires { HasNext self.old }
-        ensures written { IfOk result (λ sum. WritesStatement self.old self.new (append_known (W.contents out.old) page.old) (append_known (W.contents out.new) page.new) sum.0 sum.1) }
+        ensures written { IfOk result (λ sum. WritesStatement self.old self.new (output W.contents out.old page.old) (output W.contents out.new page.new) sum.0 sum.1) }
         ensures reads { IfOk result (λ _. ReadsOn self.old self.new) }
         ensures looked { IfOk result (λ _. IsLooked self.new) }
         ensures refused { IfErr result (RefusesRest self.old) }
@@ -243,7 +244,7 @@ impl<R: Read + Drop> Part<R> {
         out: &mut W,
     ) -> Result<(u64, i128), Refusal>
         requires { CanEnd self.old }
-        ensures written { IfOk result (λ sum. WritesRests self.old self.new (append_known (W.contents out.old) page.old) (append_known (W.contents out.new) page.new) sum.0 sum.1) }
+        ensures written { IfOk result (λ sum. WritesRests self.old self.new (output W.contents out.old page.old) (output W.contents out.new page.new) sum.0 sum.1) }
         ensures reads { IfOk result (λ _. ReadsOn self.old self.new) }
         ensures refused { IfErr result (RefusesRest self.old) }
     {
@@ -264,16 +265,16 @@ impl<R: Read + Drop> Part<R> {
         ensures refused { IfErr result (RefusesRest self.old) }
     {
         self.step()?;
-        if self.has_row {
-            return Err(self.not_here());
+        match self.progress.ended() {
+            Some(lines) if !self.has_row => Ok(lines),
+            _ => Err(self.not_here()),
         }
-        Ok(self.progress.lines())
     }
 }
 
 /// Adds a line with its line feed.
 fn push_line<W: Write>(page: &mut Page, out: &mut W, line: &[u8]) -> Result<(), Refusal>
-    ensures passed { OnOk result (Appends (append_known (W.contents out.old) page.old) (append_known (W.contents out.new) page.new) (line.now ++ 10 ∷ [])) }
+    ensures passed { OnOk result (Appends (output W.contents out.old page.old) (output W.contents out.new page.new) (line.now ++ 10 ∷ [])) }
     ensures refused { IfErr result IsNoFault }
 {
     page.push(out, line)?;

@@ -18,15 +18,15 @@ pub enum StatementFault {
     /// A row of this kind cannot stand there: `L`, `S`, `M`, `T` and `R` have an order, and nothing stands behind `R`.
     #[error("row {0} is of a kind that cannot stand there")]
     Kind(u64),
-    /// The second field: a payee that is no name, or is not behind the one before, or is another than the row belongs to; or no reason.
+    /// The payee is no name, or is not behind the one before, or is another than the row belongs to; or there is no reason.
     #[error("row {0} is not of this payee, or has no reason")]
-    Whose(u64),
-    /// The third field: a use without a name, or a count that is not that of the rows.
+    PayeeOrReason(u64),
+    /// The use has no name, or the count is not that of the rows.
     #[error("row {0} has no use, or another count than its rows")]
-    Third(u64),
-    /// The fourth field: no amount, 0, or one out of range; or a total that is not that of the rows.
+    UsageOrCount(u64),
+    /// The amount is none, or 0, or out of range; or the total is not that of the rows.
     #[error("row {0} has no amount in range, or another total than its rows")]
-    Fourth(u64),
+    AmountOrTotal(u64),
     /// The text ends before this row.
     #[error("row {0} is missing")]
     End(u64),
@@ -40,9 +40,9 @@ impl StatementFault {
         match self {
             StatementFault::Row(_) => 1,
             StatementFault::Kind(_) => 2,
-            StatementFault::Whose(_) => 3,
-            StatementFault::Third(_) => 4,
-            StatementFault::Fourth(_) => 5,
+            StatementFault::PayeeOrReason(_) => 3,
+            StatementFault::UsageOrCount(_) => 4,
+            StatementFault::AmountOrTotal(_) => 5,
             StatementFault::End(_) => 6,
         }
     }
@@ -54,9 +54,9 @@ impl StatementFault {
         match self {
             StatementFault::Row(row)
             | StatementFault::Kind(row)
-            | StatementFault::Whose(row)
-            | StatementFault::Third(row)
-            | StatementFault::Fourth(row)
+            | StatementFault::PayeeOrReason(row)
+            | StatementFault::UsageOrCount(row)
+            | StatementFault::AmountOrTotal(row)
             | StatementFault::End(row) => *row,
         }
     }
@@ -89,9 +89,9 @@ impl Refusal {
     {
         match wrong {
             Wrong::Kind => Refusal::Fault(StatementFault::Kind(row)),
-            Wrong::Whose => Refusal::Fault(StatementFault::Whose(row)),
-            Wrong::Third => Refusal::Fault(StatementFault::Third(row)),
-            Wrong::Fourth => Refusal::Fault(StatementFault::Fourth(row)),
+            Wrong::PayeeOrReason => Refusal::Fault(StatementFault::PayeeOrReason(row)),
+            Wrong::UsageOrCount => Refusal::Fault(StatementFault::UsageOrCount(row)),
+            Wrong::AmountOrTotal => Refusal::Fault(StatementFault::AmountOrTotal(row)),
             Wrong::Memory => Refusal::Memory,
         }
     }

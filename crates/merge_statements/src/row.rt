@@ -19,12 +19,12 @@ use std::alloc::{AllocError, Global};
 pub struct Row<'a> {
     /// What the row is: `L`, `S`, `M`, `T` or `R`.
     pub kind: &'a [u8],
-    /// The payee, or why nobody gets it.
-    pub whose: &'a [u8],
-    /// The use, or how many rows or lines there are.
-    pub third: &'a [u8],
+    /// The payee, or why nobody gets it; empty in a row `T` or `R`.
+    pub payee_or_reason: &'a [u8],
+    /// The use, or how many portions or usage lines there are.
+    pub usage_or_count: &'a [u8],
     /// The amount, or what the amounts come to.
-    pub fourth: &'a [u8],
+    pub amount_or_total: &'a [u8],
 }
 
 /// A field, what stands behind it, and the memory that is left.
@@ -80,16 +80,16 @@ fn plain_row(line: &[u8]) -> Option<Row<'_>>
     ensures none { IfNone result ((fields : List (List ℕ)) → length fields ≡ 4 → ¬ (text_of_row fields ≡ line.now ++ 10 ∷ [])) }
 {
     let (kind, rest) = cut(line)?;
-    let (whose, rest) = cut(rest)?;
-    let (third, fourth) = cut(rest)?;
-    if let Some(_) = cut(fourth) {
+    let (payee_or_reason, rest) = cut(rest)?;
+    let (usage_or_count, amount_or_total) = cut(rest)?;
+    if let Some(_) = cut(amount_or_total) {
         return None;
     }
     Some(Row {
         kind,
-        whose,
-        third,
-        fourth,
+        payee_or_reason,
+        usage_or_count,
+        amount_or_total,
     })
 }
 
@@ -109,22 +109,22 @@ fn quoted_row<'a>(line: &'a [u8], room: &'a mut [u8]) -> Option<Row<'a>>
     ensures none { IfNone result ((fields : List (List ℕ)) → length fields ≡ 4 → ¬ (text_of_row fields ≡ line.now ++ 10 ∷ [])) }
 {
     let kind = field_of(line, room)?;
-    let whose = field_of(behind_comma(kind.rest)?, kind.room)?;
-    let third = field_of(behind_comma(whose.rest)?, whose.room)?;
-    let fourth = field_of(behind_comma(third.rest)?, third.room)?;
-    if !fourth.rest.is_empty() {
+    let payee_or_reason = field_of(strip_comma(kind.rest)?, kind.room)?;
+    let usage_or_count = field_of(strip_comma(payee_or_reason.rest)?, payee_or_reason.room)?;
+    let amount_or_total = field_of(strip_comma(usage_or_count.rest)?, usage_or_count.room)?;
+    if !amount_or_total.rest.is_empty() {
         return None;
     }
     Some(Row {
         kind: kind.bytes,
-        whose: whose.bytes,
-        third: third.bytes,
-        fourth: fourth.bytes,
+        payee_or_reason: payee_or_reason.bytes,
+        usage_or_count: usage_or_count.bytes,
+        amount_or_total: amount_or_total.bytes,
     })
 }
 
-/// A text without the comma that it begins with.
-fn behind_comma(text: &[u8]) -> Option<&[u8]>
+/// What stands behind the comma of a text that begins with one.
+fn strip_comma(text: &[u8]) -> Option<&[u8]>
     ensures rest { IfSome result (λ rest. text.now ≡ 44 ∷ rest.now) }
     ensures none { IfNone result ((rest : List ℕ) → ¬ (text.now ≡ 44 ∷ rest)) }
 {

@@ -1,15 +1,15 @@
 //! The rows of a statement text one after another, of which each has to be one that can stand there.
 
 ghost use Rattle.std.specs.Fmt.{signed_decimal};
-ghost use Rattle.std.specs.Prelude.{◌≡◌, ◌⊎◌, ◌+◌, ◌+ℤ◌, ◌^◌, ◌≤◌, ◌↔◌, ℕ, ℤ, true, unsigned_abs, IfErr, IfNone, IfOk, IfSome, IsTrue, OnOk, codes, decimal};
+ghost use Rattle.std.specs.Prelude.{◌≡◌, ◌⊎◌, ◌+◌, ◌+ℤ◌, ◌^◌, ◌≤◌, ◌↔◌, ℕ, ℤ, pos, true, unsigned_abs, IfErr, IfNone, IfOk, IfSome, IsTrue, OnOk, codes, decimal};
 ghost use Rattle.std.specs.Cmp.Lexicographic.{slice_cmp};
 ghost use Rattle.std.specs.Ordering.{nat_cmp};
 ghost use Rattle.std.specs.declared.cmp.Ordering.TheVariants.{Less};
-ghost use Rattle.merge_statements.specs.Places.{Fits, IsPayeeAt, KindFits, Leads, at_first, count_at, sum_at};
+ghost use Rattle.merge_statements.specs.Places.{IsNextAmount, IsPayeeAt, KindFits, RowFits, RowLeads, at_first, count_at, sum_at};
 ghost use Rattle.merge_statements.specs.Statements.{IsAmount, IsCount, IsName, IsReason};
 ghost use Rattle.merge_statements.specs.declared.walk.Place.TheVariants as Place;
 ghost use Rattle.merge_statements.specs.declared.walk.Wrong.TheVariants as Wrong;
-ghost use Rattle.merge_statements.specs.Wrong.{IsWrongAt};
+ghost use Rattle.merge_statements.specs.Wrong.{RowIsWrong};
 
 use crate::amount::{MOST_COUNT, amount_of, count_of};
 use crate::row::Row;
@@ -42,9 +42,9 @@ pub enum Place {
 #[derive(Clone, Copy, Debug, PartialEq, Eq)]
 pub enum Wrong {
     Kind,
-    Whose,
-    Third,
-    Fourth,
+    PayeeOrReason,
+    UsageOrCount,
+    AmountOrTotal,
     /// None: memory was refused.
     Memory,
 }
@@ -115,9 +115,9 @@ impl Progress {
 
     /// Goes on behind a row, where it can stand there.
     pub fn follow(&mut self, row: &Row<'_>) -> Result<(), Wrong>
-        ensures follows { OnOk result (Fits self.old row.now.kind.now row.now.whose.now row.now.third.now row.now.fourth.now) }
-        ensures leads { OnOk result (Leads self.old row.now.kind.now row.now.whose.now row.now.third.now row.now.fourth.now self.new) }
-        ensures wrong { IfErr result (IsWrongAt self.old row.now.kind.now row.now.whose.now row.now.third.now row.now.fourth.now) }
+        ensures follows { OnOk result (RowFits self.old row.now) }
+        ensures leads { OnOk result (RowLeads self.old row.now self.new) }
+        ensures wrong { IfErr result (RowIsWrong self.old row.now) }
     {
         if !self.place.takes(row.kind) {
             return Err(Wrong::Kind);
@@ -135,16 +135,16 @@ impl Progress {
     fn portion(&mut self, row: &Row<'_>) -> Result<(), Wrong>
         requires kind { row.now.kind.now ≡ codes "L" }
         requires fits { KindFits self.old.place row.now.kind.now }
-        ensures follows { OnOk result (Fits self.old row.now.kind.now row.now.whose.now row.now.third.now row.now.fourth.now) }
-        ensures leads { OnOk result (Leads self.old row.now.kind.now row.now.whose.now row.now.third.now row.now.fourth.now self.new) }
-        ensures wrong { IfErr result (IsWrongAt self.old row.now.kind.now row.now.whose.now row.now.third.now row.now.fourth.now) }
+        ensures follows { OnOk result (RowFits self.old row.now) }
+        ensures leads { OnOk result (RowLeads self.old row.now self.new) }
+        ensures wrong { IfErr result (RowIsWrong self.old row.now) }
     {
-        if !self.is_payee_here(row.whose) {
-            return Err(Wrong::Whose);
+        if !self.is_payee_here(row.payee_or_reason) {
+            return Err(Wrong::PayeeOrReason);
         }
         let amount = self.amount_in(row)?;
         let (count, sum) = self.place.so_far();
-        if replace(&mut self.payee, row.whose).is_err() {
+        if replace(&mut self.payee, row.payee_or_reason).is_err() {
             return Err(Wrong::Memory);
         }
         self.place = Place::Within(count + 1, plus(sum, amount as i128));
@@ -156,12 +156,12 @@ impl Progress {
     fn rest(&mut self, row: &Row<'_>) -> Result<(), Wrong>
         requires kind { row.now.kind.now ≡ codes "M" }
         requires fits { KindFits self.old.place row.now.kind.now }
-        ensures follows { OnOk result (Fits self.old row.now.kind.now row.now.whose.now row.now.third.now row.now.fourth.now) }
-        ensures leads { OnOk result (Leads self.old row.now.kind.now row.now.whose.now row.now.third.now row.now.fourth.now self.new) }
-        ensures wrong { IfErr result (IsWrongAt self.old row.now.kind.now row.now.whose.now row.now.third.now row.now.fourth.now) }
+        ensures follows { OnOk result (RowFits self.old row.now) }
+        ensures leads { OnOk result (RowLeads self.old row.now self.new) }
+        ensures wrong { IfErr result (RowIsWrong self.old row.now) }
     {
-        if !is_reason(row.whose) {
-            return Err(Wrong::Whose);
+        if !is_reason(row.payee_or_reason) {
+            return Err(Wrong::PayeeOrReason);
         }
         let amount = self.amount_in(row)?;
         let (count, sum) = self.place.so_far();
@@ -174,17 +174,14 @@ impl Progress {
     fn sum(&mut self, row: &Row<'_>) -> Result<(), Wrong>
         requires kind { row.now.kind.now ≡ codes "S" }
         requires fits { KindFits self.old.place row.now.kind.now }
-        ensures follows { OnOk result (Fits self.old row.now.kind.now row.now.whose.now row.now.third.now row.now.fourth.now) }
-        ensures leads { OnOk result (Leads self.old row.now.kind.now row.now.whose.now row.now.third.now row.now.fourth.now self.new) }
-        ensures wrong { IfErr result (IsWrongAt self.old row.now.kind.now row.now.whose.now row.now.third.now row.now.fourth.now) }
+        ensures follows { OnOk result (RowFits self.old row.now) }
+        ensures leads { OnOk result (RowLeads self.old row.now self.new) }
+        ensures wrong { IfErr result (RowIsWrong self.old row.now) }
     {
-        if row.whose != self.payee.as_slice() {
-            return Err(Wrong::Whose);
+        if row.payee_or_reason != self.payee.as_slice() {
+            return Err(Wrong::PayeeOrReason);
         }
-        let (count, sum) = self.place.so_far();
-        check_sum(row, count, sum)?;
-        self.place = Place::Between;
-        self.total = plus(self.total, sum);
+        self.end_sum(row, Place::Between)?;
         Ok(())
     }
 
@@ -192,16 +189,37 @@ impl Progress {
     fn rests(&mut self, row: &Row<'_>) -> Result<(), Wrong>
         requires kind { row.now.kind.now ≡ codes "T" }
         requires fits { KindFits self.old.place row.now.kind.now }
-        ensures follows { OnOk result (Fits self.old row.now.kind.now row.now.whose.now row.now.third.now row.now.fourth.now) }
-        ensures leads { OnOk result (Leads self.old row.now.kind.now row.now.whose.now row.now.third.now row.now.fourth.now self.new) }
-        ensures wrong { IfErr result (IsWrongAt self.old row.now.kind.now row.now.whose.now row.now.third.now row.now.fourth.now) }
+        ensures follows { OnOk result (RowFits self.old row.now) }
+        ensures leads { OnOk result (RowLeads self.old row.now self.new) }
+        ensures wrong { IfErr result (RowIsWrong self.old row.now) }
     {
-        if !row.whose.is_empty() {
-            return Err(Wrong::Whose);
+        if !row.payee_or_reason.is_empty() {
+            return Err(Wrong::PayeeOrReason);
         }
+        self.end_sum(row, Place::Summed)?;
+        Ok(())
+    }
+
+    /// Goes on to a place behind a sum, where the row has how many portions it is of and what they come to.
+    fn end_sum(&mut self, row: &Row<'_>, next: Place) -> Result<(), Wrong>
+        requires none { count_at next ≡ 0 }
+        requires nothing { sum_at next ≡ pos 0 }
+        ensures count { OnOk result (row.now.usage_or_count.now ≡ decimal (count_at self.old.place)) }
+        ensures total { OnOk result (row.now.amount_or_total.now ≡ signed_decimal (sum_at self.old.place)) }
+        ensures ended { OnOk result (self.new ≡ record { place = next; payee = self.old.payee; portions = self.old.portions; total = self.old.total +ℤ sum_at self.old.place }) }
+        ensures other_count { result ≡ Err Wrong.UsageOrCount → ¬ (row.now.usage_or_count.now ≡ decimal (count_at self.old.place)) }
+        ensures other_total { result ≡ Err Wrong.AmountOrTotal → (row.now.usage_or_count.now ≡ decimal (count_at self.old.place))
+            × (¬ (row.now.amount_or_total.now ≡ signed_decimal (sum_at self.old.place))) }
+        ensures either { IfErr result (λ wrong. (wrong ≡ Wrong.UsageOrCount) ⊎ (wrong ≡ Wrong.AmountOrTotal)) }
+    {
         let (count, sum) = self.place.so_far();
-        check_sum(row, count, sum)?;
-        self.place = Place::Summed;
+        if row.usage_or_count != Buffer::new().format(count).as_bytes() {
+            return Err(Wrong::UsageOrCount);
+        }
+        if !is_written(row.amount_or_total, sum) {
+            return Err(Wrong::AmountOrTotal);
+        }
+        self.place = next;
         self.total = plus(self.total, sum);
         Ok(())
     }
@@ -210,18 +228,18 @@ impl Progress {
     fn run(&mut self, row: &Row<'_>) -> Result<(), Wrong>
         requires kind { row.now.kind.now ≡ codes "R" }
         requires fits { KindFits self.old.place row.now.kind.now }
-        ensures follows { OnOk result (Fits self.old row.now.kind.now row.now.whose.now row.now.third.now row.now.fourth.now) }
-        ensures leads { OnOk result (Leads self.old row.now.kind.now row.now.whose.now row.now.third.now row.now.fourth.now self.new) }
-        ensures wrong { IfErr result (IsWrongAt self.old row.now.kind.now row.now.whose.now row.now.third.now row.now.fourth.now) }
+        ensures follows { OnOk result (RowFits self.old row.now) }
+        ensures leads { OnOk result (RowLeads self.old row.now self.new) }
+        ensures wrong { IfErr result (RowIsWrong self.old row.now) }
     {
-        if !row.whose.is_empty() {
-            return Err(Wrong::Whose);
+        if !row.payee_or_reason.is_empty() {
+            return Err(Wrong::PayeeOrReason);
         }
-        let Some(lines) = count_of(row.third) else {
-            return Err(Wrong::Third);
+        let Some(lines) = count_of(row.usage_or_count) else {
+            return Err(Wrong::UsageOrCount);
         };
-        if !is_written(row.fourth, self.total) {
-            return Err(Wrong::Fourth);
+        if !is_written(row.amount_or_total, self.total) {
+            return Err(Wrong::AmountOrTotal);
         }
         self.place = Place::Ended(lines);
         Ok(())
@@ -247,44 +265,34 @@ impl Progress {
         }
     }
 
-    /// How many usage lines there were, behind the last row.
-    pub(crate) fn lines(&self) -> u64
-        ensures { (lines : ℕ) → self.now.place ≡ Place.Ended lines → result ≡ lines }
-    {
-        match self.place {
-            Place::Ended(lines) => lines,
-            Place::Between | Place::Within(_, _) | Place::Resting(_, _) | Place::Summed => 0,
-        }
-    }
-
     /// Whether a portion of this payee can stand here.
-    pub(crate) fn is_payee_here(&self, whose: &[u8]) -> bool
-        ensures { IsTrue result ↔ IsPayeeAt self.now.place self.now.payee whose.now }
+    pub(crate) fn is_payee_here(&self, payee: &[u8]) -> bool
+        ensures { IsTrue result ↔ IsPayeeAt self.now.place self.now.payee payee.now }
     {
         match self.place {
-            Place::Within(_, _) => whose == self.payee.as_slice(),
+            Place::Within(_, _) => payee == self.payee.as_slice(),
             Place::Between | Place::Resting(_, _) | Place::Summed | Place::Ended(_) => {
-                is_name(whose) && is_before(self.payee.as_slice(), whose)
+                is_name(payee) && is_before(self.payee.as_slice(), payee)
             }
         }
     }
 
     /// The amount of a portion, where one more is counted and its use has a name.
     fn amount_in(&self, row: &Row<'_>) -> Result<i64, Wrong>
-        ensures amount { IfOk result (λ amount. IsName row.now.third.now × IsCount (self.now.portions + 1) × IsAmount amount × (row.now.fourth.now ≡ signed_decimal amount)) }
-        ensures third { result ≡ Err Wrong.Third → ¬ IsName row.now.third.now }
-        ensures fourth { result ≡ Err Wrong.Fourth → IsName row.now.third.now × (¬ (IsCount (self.now.portions + 1) × ((amount : ℤ) × IsAmount amount × (row.now.fourth.now ≡ signed_decimal amount)))) }
-        ensures either { IfErr result (λ wrong. (wrong ≡ Wrong.Third) ⊎ (wrong ≡ Wrong.Fourth)) }
+        ensures amount { IfOk result (λ amount. IsName row.now.usage_or_count.now × IsCount (self.now.portions + 1) × IsAmount amount × (row.now.amount_or_total.now ≡ signed_decimal amount)) }
+        ensures no_usage { result ≡ Err Wrong.UsageOrCount → ¬ IsName row.now.usage_or_count.now }
+        ensures no_amount { result ≡ Err Wrong.AmountOrTotal → IsName row.now.usage_or_count.now × (¬ IsNextAmount self.now.portions row.now.amount_or_total.now) }
+        ensures either { IfErr result (λ wrong. (wrong ≡ Wrong.UsageOrCount) ⊎ (wrong ≡ Wrong.AmountOrTotal)) }
     {
-        if !is_name(row.third) {
-            return Err(Wrong::Third);
+        if !is_name(row.usage_or_count) {
+            return Err(Wrong::UsageOrCount);
         }
         if self.portions >= MOST_COUNT {
-            return Err(Wrong::Fourth);
+            return Err(Wrong::AmountOrTotal);
         }
-        match amount_of(row.fourth) {
+        match amount_of(row.amount_or_total) {
             Some(amount) => Ok(amount),
-            None => Err(Wrong::Fourth),
+            None => Err(Wrong::AmountOrTotal),
         }
     }
 }
@@ -314,22 +322,6 @@ pub(crate) fn replace(name: &mut Vec<u8>, by: &[u8]) -> Result<(), AllocError>
     }
     name.clear();
     name.extend_from_slice(by)
-}
-
-/// Sees that a sum is of so many portions, and that they come to this.
-fn check_sum(row: &Row<'_>, count: u64, sum: i128) -> Result<(), Wrong>
-    ensures sound { OnOk result ((row.now.third.now ≡ decimal count) × (row.now.fourth.now ≡ signed_decimal sum)) }
-    ensures third { result ≡ Err Wrong.Third → ¬ (row.now.third.now ≡ decimal count) }
-    ensures fourth { result ≡ Err Wrong.Fourth → (row.now.third.now ≡ decimal count) × (¬ (row.now.fourth.now ≡ signed_decimal sum)) }
-    ensures either { IfErr result (λ wrong. (wrong ≡ Wrong.Third) ⊎ (wrong ≡ Wrong.Fourth)) }
-{
-    if row.third != Buffer::new().format(count).as_bytes() {
-        return Err(Wrong::Third);
-    }
-    if !is_written(row.fourth, sum) {
-        return Err(Wrong::Fourth);
-    }
-    Ok(())
 }
 
 /// Whether a field has a sum as a run writes it.

@@ -22,9 +22,9 @@ fn told_row(alloc: Global, line: &str) -> Result<String, Fail> {
     let Some(row) = Row::of(line.as_bytes(), &mut room) else {
         return Ok(String::from_str(alloc, "none")?);
     };
-    let (kind, whose) = (text_of(row.kind), text_of(row.whose));
-    let (third, fourth) = (text_of(row.third), text_of(row.fourth));
-    Ok(format!(in alloc; "[{kind}][{whose}][{third}][{fourth}]")?)
+    let (kind, second) = (text_of(row.kind), text_of(row.payee_or_reason));
+    let (third, fourth) = (text_of(row.usage_or_count), text_of(row.amount_or_total));
+    Ok(format!(in alloc; "[{kind}][{second}][{third}][{fourth}]")?)
 }
 
 #[test]

@@ -14,5 +14,5 @@ returns-in-Err-follow-clause-refused g c =
     let rows = c.args.rows.now in
     let from = prepend_known (rows.line ++ 10 ∷ []) rows.left in
     subst (IsRefusedFrom c.args.progress.now c.args.number from) (sym c.of_field.ensures)
-    (field_refused c.args.progress.now c.args.number from rows.left rows.line row.kind.now row.whose.now row.third.now row.fourth.now
+    (field_refused c.args.progress.now c.args.number from rows.left rows.line row.kind.now row.payee_or_reason.now row.usage_or_count.now row.amount_or_total.now
     c.in-Err-follow.wrong (takes_first (rows.line ++ 10 ∷ []) rows.left) c.requires.one c.requires.short c.in-Ok.ensures.row c.in-Err-follow.ensures.wrong)

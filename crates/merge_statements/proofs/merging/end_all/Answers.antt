@@ -1,7 +1,6 @@
 use Rattle.merge_statements.specs.Refused.{IsRefusalOf}
-use Rattle.merge_statements.specs.SoFar.{CanEnd, EndsEach, RefusesRest, Unread}
+use Rattle.merge_statements.specs.SoFar.{CanEnd, EndsEach, RefusesRest, Unread, output}
 use Rattle.merge_statements.proofs.Refusing.{one_refused, placed}
-use Rattle.std.specs.Io.KnownBytes.{append_known}
 use Rattle.std.proofs.Common.{◌<◌, arith, get_or, length, take, subst, sym}
 use Rattle.std.proofs.lemmas.List.{get_or_default}
 use Rattle.merge_statements.proofs.Endings.{ends_more, no_ends}
@@ -9,7 +8,7 @@ use Rattle.merge_statements.proofs.Taking.{holds_of_all, holds_of_more, holds_of
 use Rattle.merge_statements.proofs.merging.end_all.Goals as goal
 
 pub loop-place-init : goal.loop-place-init
-loop-place-init g c = holds_of_none (λ olds news. EndsEach olds news (append_known (g.W.Write.contents c.args.out.now) c.args.page.now) (append_known (g.W.Write.contents c.args.out.now) c.args.page.now) 0 _ 0) c.args.parts.now (no_ends (append_known (g.W.Write.contents c.args.out.now) c.args.page.now))
+loop-place-init g c = holds_of_none (λ olds news. EndsEach olds news (output g.W.Write.contents c.args.out.now c.args.page.now) (output g.W.Write.contents c.args.out.now c.args.page.now) 0 _ 0) c.args.parts.now (no_ends (output g.W.Write.contents c.args.out.now c.args.page.now))
 
 pub end_text-requires : goal.end_text-requires
 end_text-requires g c =
@@ -25,17 +24,17 @@ loop-place-preserved g c =
     let low : l.place < length l.parts = omega (arith, c.loop-place-test.true, l.auto.parts) in
     let both = c.in_ok-both.ensures in
     let lines = c.in_ok-more_lines.ensures in
-    holds_of_more (λ olds news. EndsEach olds news (append_known (g.W.Write.contents c.args.out.now) c.args.page.now) (append_known (g.W.Write.contents l.out) l.page) l.all.0.0 l.all.0.1 l.all.1)
-    (λ olds news. EndsEach olds news (append_known (g.W.Write.contents c.args.out.now) c.args.page.now) (append_known (g.W.Write.contents c.end_text.new.out) c.end_text.new.page) c.in_ok-both.field-0.0 c.in_ok-both.field-0.1 c.in_ok-more_lines.field-0)
+    holds_of_more (λ olds news. EndsEach olds news (output g.W.Write.contents c.args.out.now c.args.page.now) (output g.W.Write.contents l.out l.page) l.all.0.0 l.all.0.1 l.all.1)
+    (λ olds news. EndsEach olds news (output g.W.Write.contents c.args.out.now c.args.page.now) (output g.W.Write.contents c.end_text.new.out c.end_text.new.page) c.in_ok-both.field-0.0 c.in_ok-both.field-0.1 c.in_ok-more_lines.field-0)
     c.args.parts.now l.parts old c.end_text.new.part l.place low (get_or_default l.parts l.place c.index-parts-place.result old low) l.invariant
-    (λ was. ends_more old c.end_text.new.part (take l.place c.args.parts.now) (take l.place l.parts) (append_known (g.W.Write.contents c.args.out.now) c.args.page.now) (append_known (g.W.Write.contents l.out) l.page) (append_known (g.W.Write.contents c.end_text.new.out) c.end_text.new.page)
+    (λ was. ends_more old c.end_text.new.part (take l.place c.args.parts.now) (take l.place l.parts) (output g.W.Write.contents c.args.out.now c.args.page.now) (output g.W.Write.contents l.out l.page) (output g.W.Write.contents c.end_text.new.out c.end_text.new.page)
     l.all.0.0 own.0.0 c.in_ok-both.field-0.0 l.all.0.1 own.0.1 c.in_ok-both.field-0.1 l.all.1 own.1 c.in_ok-more_lines.field-0
     was c.in-Ok.ensures.written both.count both.sum both.few lines.sum lines.few)
 
 pub returns-clause-written : goal.returns-clause-written
 returns-clause-written g c =
     let l = c.loop-place in
-    holds_of_all (λ olds news. EndsEach olds news (append_known (g.W.Write.contents c.args.out.now) c.args.page.now) (append_known (g.W.Write.contents l.out) l.page) l.all.0.0 l.all.0.1 l.all.1) c.args.parts.now l.parts l.place (omega (arith, c.loop-place-test.false, l.auto.parts)) l.invariant
+    holds_of_all (λ olds news. EndsEach olds news (output g.W.Write.contents c.args.out.now c.args.page.now) (output g.W.Write.contents l.out l.page) l.all.0.0 l.all.0.1 l.all.1) c.args.parts.now l.parts l.place (omega (arith, c.loop-place-test.false, l.auto.parts)) l.invariant
 
 pub returns-in-Err-clause-refused : goal.returns-in-Err-clause-refused
 returns-in-Err-clause-refused g c = λ starts are.

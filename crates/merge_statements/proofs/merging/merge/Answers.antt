@@ -1,6 +1,5 @@
 use Rattle.std.proofs.Common.{map, subst, sym}
-use Rattle.std.specs.Io.KnownBytes.{append_known}
-use Rattle.merge_statements.specs.SoFar.{AreOpen}
+use Rattle.merge_statements.specs.SoFar.{AreOpen, output}
 use Rattle.merge_statements.proofs.Whole.{merge_passed}
 use Rattle.merge_statements.proofs.merging.merge.Goals as goal
 
@@ -11,5 +10,5 @@ pub returns-in-Ok-clause-merged : goal.returns-in-Ok-clause-merged
 returns-in-Ok-clause-merged g c =
     let contents = g.W.Write.contents in
     let starts = map g.R.Read.remaining c.args.from.items in
-    merge_passed starts (contents c.args.out.now) (append_known (contents c.merge_parts.new.out) c.merge_parts.new.page) (contents c.pass_on.new.out) c.new-page.result c.new-page.ensures
+    merge_passed starts (contents c.args.out.now) (output contents c.merge_parts.new.out c.merge_parts.new.page) (contents c.pass_on.new.out) c.new-page.result c.new-page.ensures
     (c.in_ok-merge_parts.ensures.merged starts (subst (AreOpen starts) (sym c.as_mut_slice.ensures.value) c.in_ok-parts.ensures.opened)) c.in-Ok.ensures.passed

@@ -1,6 +1,6 @@
 use Rattle.std.proofs.lemmas.Result.{err_from_is_err_and}
+use Rattle.merge_statements.specs.SoFar.{output}
 use Rattle.merge_statements.proofs.Refusing.{passed_read}
-use Rattle.std.specs.Io.KnownBytes.{append_known}
 use Rattle.merge_statements.proofs.Refusing.{all_can_end}
 use Rattle.merge_statements.proofs.Whole.{all_merged}
 use Rattle.merge_statements.proofs.merging.merge_parts.Goals as goal
@@ -14,7 +14,7 @@ pub returns-clause-merged : goal.returns-clause-merged
 returns-clause-merged g c = λ starts are.
     let all = c.in_ok-all in
     let end = c.in_ok-left in
-    all_merged starts c.merge_payees.new.parts c.end_all.new.parts (append_known (g.W.Write.contents c.args.out.now) c.args.page.now) (append_known (g.W.Write.contents c.merge_payees.new.out) c.merge_payees.new.page) (append_known (g.W.Write.contents c.end_all.new.out) c.end_all.new.page) (append_known (g.W.Write.contents c.push_total.new.out) c.push_total.new.page) (append_known (g.W.Write.contents c.push_run.new.out) c.push_run.new.page)
+    all_merged starts c.merge_payees.new.parts c.end_all.new.parts (output g.W.Write.contents c.args.out.now c.args.page.now) (output g.W.Write.contents c.merge_payees.new.out c.merge_payees.new.page) (output g.W.Write.contents c.end_all.new.out c.end_all.new.page) (output g.W.Write.contents c.push_total.new.out c.push_total.new.page) (output g.W.Write.contents c.push_run.new.out c.push_run.new.page)
     c.in_ok-paid.paid.0 end.left.0 all.all.0 c.in_ok-paid.paid.1 end.left.1 all.all.1 end.lines
     (c.in_ok-paid.ensures.merged starts are) end.ensures.written c.in_ok-push_total.ensures.pushed all.ensures.count all.ensures.sum all.ensures.few c.in_ok-push_run.ensures.pushed
 

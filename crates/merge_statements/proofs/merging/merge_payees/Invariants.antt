@@ -1,8 +1,7 @@
-use Rattle.std.specs.Io.KnownBytes.{append_known}
 use Rattle.std.proofs.Common.{List, Option, ℕ}
-use Rattle.merge_statements.specs.SoFar.{AreMergedSoFar, AreOpen}
+use Rattle.merge_statements.specs.SoFar.{AreMergedSoFar, AreOpen, output}
 use Rattle.merge_statements.proofs.merging.merge_payees.Given as goal
 
 -- some payees are merged
 abbrev pub invariant-loop : goal.invariant-loop
-invariant-loop g l = (starts : List (Option (List ℕ))) → AreOpen starts l.fn.parts → AreMergedSoFar starts l.parts (append_known (g.W.Write.contents l.fn.out) l.fn.page) (append_known (g.W.Write.contents l.out) l.page) l.all.0 l.all.1
+invariant-loop g l = (starts : List (Option (List ℕ))) → AreOpen starts l.fn.parts → AreMergedSoFar starts l.parts (output g.W.Write.contents l.fn.out l.fn.page) (output g.W.Write.contents l.out l.page) l.all.0 l.all.1

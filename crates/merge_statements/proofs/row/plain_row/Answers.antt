@@ -7,46 +7,46 @@ returns-in_err-kind-clause-none c =
     let line = c.args.line.now in
     if_none c.from_residual.result (no_row line (none_behind 2 line line [] (whole_field line c.requires c.in_err-kind.ensures.none) (λ rest e. cc e)))
 
-pub returns-in_err-whose-clause-none : goal.returns-in_err-whose-clause-none
-returns-in_err-whose-clause-none c =
+pub returns-in_err-payee_or_reason-clause-none : goal.returns-in_err-payee_or_reason-clause-none
+returns-in_err-payee_or_reason-clause-none c =
     let line = c.args.line.now in
     let kind = c.in_ok-kind in
     let one = cut_field line kind.kind.now kind.rest.now c.requires kind.ensures.parts.0 kind.ensures.parts.1 in
-    if_none c.from_residual-in_err-whose.result (no_row line (after_one line kind.rest.now kind.kind.now one.0
-    (none_behind 1 kind.rest.now kind.rest.now [] (whole_field kind.rest.now one.1 c.in_err-whose.ensures.none) (λ rest e. cc e))))
+    if_none c.from_residual-in_err-payee_or_reason.result (no_row line (after_one line kind.rest.now kind.kind.now one.0
+    (none_behind 1 kind.rest.now kind.rest.now [] (whole_field kind.rest.now one.1 c.in_err-payee_or_reason.ensures.none) (λ rest e. cc e))))
 
-pub returns-in_err-third-clause-none : goal.returns-in_err-third-clause-none
-returns-in_err-third-clause-none c =
+pub returns-in_err-usage_or_count-clause-none : goal.returns-in_err-usage_or_count-clause-none
+returns-in_err-usage_or_count-clause-none c =
     let line = c.args.line.now in
     let kind = c.in_ok-kind in
-    let whose = c.in_ok-whose in
+    let payee_or_reason = c.in_ok-payee_or_reason in
     let one = cut_field line kind.kind.now kind.rest.now c.requires kind.ensures.parts.0 kind.ensures.parts.1 in
-    let two = cut_field kind.rest.now whose.whose.now whose.rest.now one.1 whose.ensures.parts.0 whose.ensures.parts.1 in
-    if_none c.from_residual-in_err-third.result (no_row line (after_two line kind.rest.now whose.rest.now kind.kind.now whose.whose.now one.0 two.0
-    (none_behind 0 whose.rest.now whose.rest.now [] (whole_field whose.rest.now two.1 c.in_err-third.ensures.none) (λ rest e. cc e))))
+    let two = cut_field kind.rest.now payee_or_reason.payee_or_reason.now payee_or_reason.rest.now one.1 payee_or_reason.ensures.parts.0 payee_or_reason.ensures.parts.1 in
+    if_none c.from_residual-in_err-usage_or_count.result (no_row line (after_two line kind.rest.now payee_or_reason.rest.now kind.kind.now payee_or_reason.payee_or_reason.now one.0 two.0
+    (none_behind 0 payee_or_reason.rest.now payee_or_reason.rest.now [] (whole_field payee_or_reason.rest.now two.1 c.in_err-usage_or_count.ensures.none) (λ rest e. cc e))))
 
 pub returns-in-Some-clause-none : goal.returns-in-Some-clause-none
 returns-in-Some-clause-none c =
     let line = c.args.line.now in
     let kind = c.in_ok-kind in
-    let whose = c.in_ok-whose in
-    let third = c.in_ok-third in
+    let payee_or_reason = c.in_ok-payee_or_reason in
+    let usage_or_count = c.in_ok-usage_or_count in
     let last = c.in-Some.ensures.parts in
     let one = cut_field line kind.kind.now kind.rest.now c.requires kind.ensures.parts.0 kind.ensures.parts.1 in
-    let two = cut_field kind.rest.now whose.whose.now whose.rest.now one.1 whose.ensures.parts.0 whose.ensures.parts.1 in
-    let three = cut_field whose.rest.now third.third.now third.fourth.now two.1 third.ensures.parts.0 third.ensures.parts.1 in
-    let four = cut_field third.fourth.now c.in-Some.field-0.0.now c.in-Some.field-0.1.now three.1 last.0 last.1 in
-    no_row line (after_three line kind.rest.now whose.rest.now third.fourth.now kind.kind.now whose.whose.now third.third.now one.0 two.0 three.0
-    (none_last third.fourth.now _ _ four.0 (λ e. cc e)))
+    let two = cut_field kind.rest.now payee_or_reason.payee_or_reason.now payee_or_reason.rest.now one.1 payee_or_reason.ensures.parts.0 payee_or_reason.ensures.parts.1 in
+    let three = cut_field payee_or_reason.rest.now usage_or_count.usage_or_count.now usage_or_count.amount_or_total.now two.1 usage_or_count.ensures.parts.0 usage_or_count.ensures.parts.1 in
+    let four = cut_field usage_or_count.amount_or_total.now c.in-Some.field-0.0.now c.in-Some.field-0.1.now three.1 last.0 last.1 in
+    no_row line (after_three line kind.rest.now payee_or_reason.rest.now usage_or_count.amount_or_total.now kind.kind.now payee_or_reason.payee_or_reason.now usage_or_count.usage_or_count.now one.0 two.0 three.0
+    (none_last usage_or_count.amount_or_total.now _ _ four.0 (λ e. cc e)))
 
 pub returns-clause-row : goal.returns-clause-row
 returns-clause-row c =
     let line = c.args.line.now in
     let kind = c.in_ok-kind in
-    let whose = c.in_ok-whose in
-    let third = c.in_ok-third in
+    let payee_or_reason = c.in_ok-payee_or_reason in
+    let usage_or_count = c.in_ok-usage_or_count in
     let one = cut_field line kind.kind.now kind.rest.now c.requires kind.ensures.parts.0 kind.ensures.parts.1 in
-    let two = cut_field kind.rest.now whose.whose.now whose.rest.now one.1 whose.ensures.parts.0 whose.ensures.parts.1 in
-    let three = cut_field whose.rest.now third.third.now third.fourth.now two.1 third.ensures.parts.0 third.ensures.parts.1 in
-    row_of line kind.rest.now whose.rest.now third.fourth.now kind.kind.now whose.whose.now third.third.now third.fourth.now one.0 two.0 three.0
-    (whole_field third.fourth.now three.1 c.in_default.ensures.none)
+    let two = cut_field kind.rest.now payee_or_reason.payee_or_reason.now payee_or_reason.rest.now one.1 payee_or_reason.ensures.parts.0 payee_or_reason.ensures.parts.1 in
+    let three = cut_field payee_or_reason.rest.now usage_or_count.usage_or_count.now usage_or_count.amount_or_total.now two.1 usage_or_count.ensures.parts.0 usage_or_count.ensures.parts.1 in
+    row_of line kind.rest.now payee_or_reason.rest.now usage_or_count.amount_or_total.now kind.kind.now payee_or_reason.payee_or_reason.now usage_or_count.usage_or_count.now usage_or_count.amount_or_total.now one.0 two.0 three.0
+    (whole_field usage_or_count.amount_or_total.now three.1 c.in_default.ensures.none)

@@ -14,13 +14,13 @@ pub returns-then-ne-clause-looked : goal.returns-then-ne-clause-looked
 returns-then-ne-clause-looked g c = λ none between of.
     let inside = c.self.inside in
     let row = c.in_ok-row.row in
-    let same = one_kind inside.rows.line inside.has_row row.kind.now row.whose.now row.third.now row.fourth.now (codes "L") of.0 of.1 of.2 c.if-not-self.false c.in_ok-row.ensures.row of.3 in
+    let same = one_kind inside.rows.line inside.has_row row.kind.now row.payee_or_reason.now row.usage_or_count.now row.amount_or_total.now (codes "L") of.0 of.1 of.2 c.if-not-self.false c.in_ok-row.ensures.row of.3 in
     is_not row.kind.now c.as_slice.result.now (codes "L") c.ne.result c.ne.ensures c.as_slice.ensures c.if-ne.true same
 
 pub returns-then-not-is_payee_here-clause-refused : goal.returns-then-not-is_payee_here-clause-refused
 returns-then-not-is_payee_here-clause-refused g c =
     let inside = c.self.inside in
     let row = c.in_ok-row.row in
-    let none : ¬ IsPayeeAt inside.progress.place inside.progress.payee row.whose.now = λ is. true≢false (sym (c.is_payee_here.ensures.1 is) ∙ c.if-not-is_payee_here.true) in
-    payee_refused c.args.self.now inside.progress inside.number inside.rows.line inside.rows.left _ inside.has_row row.kind.now row.whose.now row.third.now row.fourth.now
+    let none : ¬ IsPayeeAt inside.progress.place inside.progress.payee row.payee_or_reason.now = λ is. true≢false (sym (c.is_payee_here.ensures.1 is) ∙ c.if-not-is_payee_here.true) in
+    payee_refused c.args.self.now inside.progress inside.number inside.rows.line inside.rows.left _ inside.has_row row.kind.now row.payee_or_reason.now row.usage_or_count.now row.amount_or_total.now
     c.self.view_is c.if-not-self.false c.self.invariant.2 c.self.invariant.3 c.in_ok-row.ensures.row c.requires (is_that row.kind.now c.as_slice.result.now (codes "L") c.ne.result c.ne.ensures c.as_slice.ensures c.if-ne.false) none

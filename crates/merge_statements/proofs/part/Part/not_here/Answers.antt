@@ -10,7 +10,7 @@ returns g c =
     let inside = c.self.inside in
     elim c.match-row_of.branch [
       | in-Ok w ↦ subst (RefusesRest self) (sym w.result-is)
-          (kind_refused self inside.progress inside.number inside.rows.line inside.rows.left _ inside.has_row w.in-Ok.field-0.kind.now w.in-Ok.field-0.whose.now w.in-Ok.field-0.third.now w.in-Ok.field-0.fourth.now
+          (kind_refused self inside.progress inside.number inside.rows.line inside.rows.left _ inside.has_row w.in-Ok.field-0.kind.now w.in-Ok.field-0.payee_or_reason.now w.in-Ok.field-0.usage_or_count.now w.in-Ok.field-0.amount_or_total.now
           c.self.view_is c.if-not-self.false c.self.invariant.2 c.self.invariant.3 w.in-Ok.ensures.row c.requires.other)
       | in-Err w ↦ subst (RefusesRest self) (sym w.result-is)
           (with_row_refused self inside.progress inside.number inside.rows.line inside.rows.left _ inside.has_row w.in-Err.refusal c.self.view_is c.if-not-self.false (w.in-Err.ensures.refused inside.progress))

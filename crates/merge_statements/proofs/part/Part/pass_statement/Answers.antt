@@ -1,7 +1,6 @@
 use Rattle.std.proofs.Common.{ap, arith, length}
-use Rattle.merge_statements.specs.SoFar.{total_of_portions}
+use Rattle.merge_statements.specs.SoFar.{output, total_of_portions}
 use Rattle.merge_statements.specs.Places.{At}
-use Rattle.std.specs.Io.KnownBytes.{append_known}
 use Rattle.merge_statements.proofs.Passing.{first_within, more_within, next_begins, statement_written}
 use Rattle.merge_statements.proofs.Refusing.{letter_needs}
 use Rattle.merge_statements.proofs.part.Part.pass_statement.Goals as goal
@@ -15,7 +14,7 @@ pass_row-requires-in-loop g c = letter_needs c.loop.self 76 (c.begins_with.ensur
 pub loop-init : goal.loop-init
 loop-init g c =
     let done = c.in_ok-pass_row.ensures in
-    first_within c.args.self.now c.pass_row.new.self (append_known (g.W.Write.contents c.args.out.now) c.args.page.now) (append_known (g.W.Write.contents c.pass_row.new.out) c.pass_row.new.page) c.requires done.steps done.reads done.passed
+    first_within c.args.self.now c.pass_row.new.self (output g.W.Write.contents c.args.out.now c.args.page.now) (output g.W.Write.contents c.pass_row.new.out c.pass_row.new.page) c.requires done.steps done.reads done.passed
 
 pub end_statement-requires-clause-within : goal.end_statement-requires-clause-within
 end_statement-requires-clause-within g c =
@@ -25,8 +24,8 @@ end_statement-requires-clause-within g c =
 pub loop-preserved : goal.loop-preserved
 loop-preserved g c =
     let done = c.in_ok-pass_row-2.ensures in
-    more_within c.args.self.now c.loop.self c.pass_row-in-loop.new.self (append_known (g.W.Write.contents c.args.out.now) c.args.page.now) (append_known (g.W.Write.contents c.loop.out) c.loop.page) (append_known (g.W.Write.contents c.pass_row-in-loop.new.out) c.pass_row-in-loop.new.page) c.loop.invariant (c.begins_with.ensures.is c.if-not-begins_with.false) done.steps done.reads done.passed
+    more_within c.args.self.now c.loop.self c.pass_row-in-loop.new.self (output g.W.Write.contents c.args.out.now c.args.page.now) (output g.W.Write.contents c.loop.out c.loop.page) (output g.W.Write.contents c.pass_row-in-loop.new.out c.pass_row-in-loop.new.page) c.loop.invariant (c.begins_with.ensures.is c.if-not-begins_with.false) done.steps done.reads done.passed
 
 pub returns-then-not-begins_with-clause-written : goal.returns-then-not-begins_with-clause-written
 returns-then-not-begins_with-clause-written g c =
-    statement_written c.args.self.now c.loop.self c.end_statement.new.self (append_known (g.W.Write.contents c.args.out.now) c.args.page.now) (append_known (g.W.Write.contents c.loop.out) c.loop.page) _ _ c.loop.invariant c.in_ok-sum.ensures.sum c.in_ok-sum.ensures.reads c.in_ok-sum.ensures.looked
+    statement_written c.args.self.now c.loop.self c.end_statement.new.self (output g.W.Write.contents c.args.out.now c.args.page.now) (output g.W.Write.contents c.loop.out c.loop.page) _ _ c.loop.invariant c.in_ok-sum.ensures.sum c.in_ok-sum.ensures.reads c.in_ok-sum.ensures.looked

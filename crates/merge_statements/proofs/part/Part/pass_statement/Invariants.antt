@@ -1,7 +1,6 @@
-use Rattle.std.specs.Io.KnownBytes.{append_known}
-use Rattle.merge_statements.specs.SoFar.{IsWithin}
+use Rattle.merge_statements.specs.SoFar.{IsWithin, output}
 use Rattle.merge_statements.proofs.part.Part.pass_statement.Given as goal
 
 -- so many portions were passed over
 abbrev pub invariant-loop : goal.invariant-loop
-invariant-loop g l = IsWithin l.fn.self l.self (append_known (g.W.Write.contents l.fn.out) l.fn.page) (append_known (g.W.Write.contents l.out) l.page)
+invariant-loop g l = IsWithin l.fn.self l.self (output g.W.Write.contents l.fn.out l.fn.page) (output g.W.Write.contents l.out l.page)
