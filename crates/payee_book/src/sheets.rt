@@ -23,10 +23,10 @@ use std::{mem, thread};
 const LEAST_FOR_THREADS: u128 = 1024;
 
 /// The most rows on a sheet.
-const MOST_ON_SHEET: u128 = 8192;
+const MOST_ON_SHEET: u128 = 16_384;
 
 /// The pages of room for so many rows, of which each has 285 bytes at most (`laws`).
-const PAGES_OF_SHEET: u16 = 18;
+const PAGES_OF_SHEET: u16 = 36;
 
 /// More rows than there can be, of 65,535 statements that each fit into memory.
 const MOST_ROWS: u128 = 1 << 80;
