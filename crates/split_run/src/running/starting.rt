@@ -1,6 +1,6 @@
 //! The threads of a run: how they are started, and what each gives back.
 
-ghost use Rattle.std.specs.Prelude.{◌≡◌, ◌+◌, ◌≤◌, All, IfSome, length, vec_len};
+ghost use Rattle.std.specs.Prelude.{◌≡◌, ◌+◌, ◌<◌, ◌≤◌, ℕ, All, IfSome, length, slice_index_or, vec_len};
 ghost use Rattle.split_run.specs.Inputs.{account_count, division_in, line_count, lines_in};
 ghost use Rattle.split_run.specs.Reading.{HasKept, HasServed};
 ghost use Rattle.split_run.specs.Opening.{IsReady};
@@ -216,7 +216,7 @@ fn start_workers<'s, E, B: Mailboxes + 's, G: Gate, R: Threads + Wait + Sync>(
     requires ready { All (IsReady B.is_shared B.senders (account_count inputs) (line_count inputs)) jobs.items }
     ensures cut { IfSome result (λ _. vec_len jobs ≤ cut) }
     ensures count { IfSome result (λ all. vec_len all ≡ vec_len jobs) }
-    ensures inputs { IfSome result (λ all. EachGoesWith (λ _ started. IsPromisedOf inputs.entry started.promise) jobs.items all.items) }
+    ensures inputs { IfSome result (λ all. (number : ℕ) (d : _) → number < length jobs.items → IsPromisedOf inputs.entry (slice_index_or all.items number d).promise) }
     ensures workers { IfSome result (λ all. EachGoesWith (λ worker started. started.promise.worker.value ≡ worker) jobs.items all.items) }
 {
     let mut started = room;
