@@ -6,8 +6,8 @@ use Rattle.clap.specs.declared.builder.arg.Arg.{Arg}
 use Rattle.clap.specs.declared.builder.command.Command.{Command}
 use Rattle.clap.specs.declared.builder.value_parser.ValueParser.TheVariants as vp
 use Rattle.clap.specs.declared.parser.matches.ArgMatches.{ArgMatches}
-use Rattle.split_run.specs.Plans.{Planned}
-use Rattle.split_run.specs.declared.TheConstants.{MOST_NODES, MOST_THREADS}
+use Rattle.split_run.specs.Plans.{MOST_NODES, Planned}
+use Rattle.split_run.specs.declared.TheConstants.{MOST_THREADS}
 use Rattle.royalty_program.specs.Answered.{AreReadFrom, AreReadInOrder}
 use Rattle.royalty_program.specs.Args.{IsOptionalArg, IsRequiredArg, number_rule, optional_rule}
 use Rattle.royalty_program.specs.Asked.{AreRunWords, inputs_given, number_given, number_in, path_given, path_if_given, paths_in_order}

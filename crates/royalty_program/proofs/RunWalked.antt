@@ -7,7 +7,8 @@ use Rattle.clap.specs.Faults.{defaults_fault, turn_fault, walk_fault}
 use Rattle.clap.specs.Walk.{Walk, after_step, finished, idle, next, nothing_held, option, plain_word, walk, walk_from, walked}
 use Rattle.clap.specs.declared.builder.value_parser.ValueParser.TheVariants as vp
 use Rattle.clap.specs.declared.error.kind.ErrorKind.TheVariants as kinds
-use Rattle.split_run.specs.declared.TheConstants.{MOST_NODES, MOST_THREADS}
+use Rattle.split_run.specs.Plans.{MOST_NODES}
+use Rattle.split_run.specs.declared.TheConstants.{MOST_THREADS}
 use Rattle.royalty_program.specs.Asked.{AreRunWords, AskForHelp, IsValue, payees_words}
 use Rattle.royalty_program.specs.RunCommand.{run_app}
 use Rattle.royalty_program.proofs.NoHelp.{NoHelp, fault_after, in_turn, no_kind, one_kind, values_no_help}

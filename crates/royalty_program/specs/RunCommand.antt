@@ -4,7 +4,8 @@ use Rattle.clap.specs.Words.{App, new_app, with_rule}
 use Rattle.clap.specs.declared.builder.arg.Arg.{Arg}
 use Rattle.clap.specs.declared.builder.command.Command.{Command}
 use Rattle.clap.specs.declared.builder.value_parser.ValueParser.TheVariants as vp
-use Rattle.split_run.specs.declared.TheConstants.{MOST_NODES, MOST_THREADS}
+use Rattle.split_run.specs.Plans.{MOST_NODES}
+use Rattle.split_run.specs.declared.TheConstants.{MOST_THREADS}
 use Rattle.royalty_program.specs.Args.{IsOptionalArg, IsRequiredArg, number_rule, optional_rule}
 use Rattle.royalty_program.specs.InputCommand.{HasInputArgs, with_inputs}
 

@@ -5,8 +5,8 @@ use Rattle.std.proofs.lemmas.Bool.{cases_lt}
 use Rattle.std.proofs.lemmas.Bool.Decides.{eqb_tells, nat_tests}
 use Rattle.std.proofs.lemmas.List.{get_or-map, map-set, get_or-replicate, get_or_append_left, get_or-set_other, get_or-set_same, get_or_push, length-append, length-replicate, length-set}
 use Rattle.mail_box.specs.Mails.{ReceiverView, SenderView, opened_receiver, opened_sender}
-use Rattle.split_run.specs.Reading.{IsUntouched}
-use Rattle.split_run.specs.Running.{AreDealt, AreLeft, AreMailboxes, HaveOneMore}
+use Rattle.split_run.specs.Reading.{AreUntouched}
+use Rattle.split_run.specs.Opening.{AreDealt, AreLeft, AreMailboxes, HaveOneMore, OthersAreLeft}
 
 -- a list that got one element more
 pub pushed_at : {A : Type 0} (xs ys : List A) (y d : A) (n k : ℕ) → ys ≡ xs ++ y ∷ [] → length xs ≡ n → k < n + 1 → (P : A → Type 0) → (k < n → P (get_or xs k d)) → (k ≡ n → P y) → P (get_or ys k d)
@@ -78,8 +78,7 @@ module _ {V : Type 0} (readers reader : ℕ) (was : List (Option V)) where
   pub all_dealt : (left own : List (Option V)) (place : ℕ) → place ≡ length was → IsDealtUpTo readers reader place was left own → AreDealt readers reader was own
   all_dealt left own place whole is = record { count = is.dealt ∙ whole; each = λ account lt. is.own_at account (omega (arith, lt, whole)) }
 
-  pub others_left : (left own : List (Option V)) (place : ℕ) → place ≡ length was → IsDealtUpTo readers reader place was left own → (account : ℕ) → account < length was
-      → get_or left account None ≡ cond (reader == account % readers) None (get_or was account None)
+  pub others_left : (left own : List (Option V)) (place : ℕ) → place ≡ length was → IsDealtUpTo readers reader place was left own → OthersAreLeft readers reader was left
   others_left left own place whole is account lt =
       let done : nat_lt account place ≡ true = grind (arith, nat_tests, lt, whole) in
       is.left_at account lt ∙ ap (λ b. cond (b && (reader == account % readers)) None (get_or was account None)) done
@@ -185,7 +184,7 @@ module _ {V : Type 0} (readers reader : ℕ) (was left : List (Option V)) (is : 
         (eqb_tells reader (account % readers));
   }
 
-  pub left_more : (left' : List (Option V)) → length left' ≡ length left → ((account : ℕ) → account < length left → get_or left' account None ≡ cond (reader == account % readers) None (get_or left account None))
+  pub left_more : (left' : List (Option V)) → length left' ≡ length left → OthersAreLeft readers reader left left'
       → AreLeft readers (reader + 1) was left'
   left_more left' count others = record {
     count = count ∙ is.count;
@@ -215,8 +214,7 @@ all_left readers was = record {
 }
 
 -- what was dealt is untouched where all was
-pub untouched_dealt : {Name : Type 0} (workers readers reader : ℕ) (was own : List (Option (ReceiverView Name))) → AreDealt readers reader was own → ((account : ℕ) → account < length was → IsUntouched workers (get_or was account None))
-    → (account : ℕ) → account < length was → IsUntouched workers (get_or own account None)
+pub untouched_dealt : {Name : Type 0} (workers readers reader : ℕ) (was own : List (Option (ReceiverView Name))) → AreDealt readers reader was own → AreUntouched workers (length was) was → AreUntouched workers (length was) own
 untouched_dealt {Name = Name} workers readers reader was own of untouched account lt r is = go (reader == account % readers) (sym (of.each account lt) ∙ is)
   where
     go : (b : Bool) → cond b (get_or was account None) None ≡ Some r → (r.senders ≡ workers) × (r.got ≡ (λ sender. []))

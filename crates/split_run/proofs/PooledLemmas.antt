@@ -15,9 +15,10 @@ use Rattle.queue_core.specs.Items.{IsFirstOf}
 use Rattle.queue_core.specs.Matches.{MatchPosted}
 use Rattle.mail_box.specs.Mails.{Begins as MailBegins, ReceiverView, SenderView, opened_receiver as opened_inbox, with_end as with_end_at, with_sender as with_sender_at}
 use Rattle.pool_box.specs.Pools.{Begins, HasEndedEverywhere, ReceiverView as PoolReceiverView, SenderView as PoolSenderView, TallyView, opened_receiver, opened_sender, opened_tally, with_end, with_post, with_receiver, with_sender}
-use Rattle.split_run.specs.PoolSeen.{belongs_to, gathered_in, inbox_of, known_at, sender_at, senders_at, senders_of}
-use Rattle.split_run.specs.Reading.{inboxes_by, with_got}
-use Rattle.split_run.specs.Running.{AreMailboxes}
+use Rattle.split_run.specs.PoolSeen.{belongs_to, gathered_in, inbox_by, inbox_of, known_at, sender_at, senders_at, senders_of}
+use Rattle.split_run.specs.Reading.{inboxes_by}
+use Rattle.split_run.specs.Opening.{AreMailboxes, BelongWhateverTheyGet}
+use Rattle.split_run.specs.Running.{AllBelong, HaveTakenInEach, MayTakeIn}
 use Rattle.split_run.proofs.OpeningLemmas.{some_of}
 use Rattle.split_run.specs.Sending.{HasEndedAt, HasSpent, HaveEnded, HaveSent, IsAs, postings_to, with_posts}
 
@@ -165,21 +166,15 @@ module _ {Name : Type 0} where
   gathered_at t accounts workers account lt =
       get_or-map-range_with_len (seen_at t workers) 0 accounts account account None (omega (arith, lt, length-map-range_with_len (seen_at t workers) 0 accounts)) (omega arith)
 
-  -- a sender that has ended at each of the inboxes
-  abbrev pub EndsAt : (t : TallyView Name) (accounts workers : ℕ) → List (SenderView (Name × ℕ)) → Type 0
-  EndsAt t accounts workers own =
-      (account : ℕ) (v : SenderView (Name × ℕ)) → account < length (gathered_in t accounts workers)
-      → (inbox : ReceiverView (Name × ℕ)) × (get_or (gathered_in t accounts workers) account None ≡ Some inbox) × ((get_or own account v).mailbox ≡ inbox.mailbox) × ((get_or own account v).is_ended ≡ true)
-
   module _ (t : TallyView Name) (accounts workers : ℕ) (s : PoolSenderView Name) where
-    of_pool : 0 < length (gathered_in t accounts workers) → length (senders_at s) ≡ length (gathered_in t accounts workers) → EndsAt t accounts workers (senders_at s) → s.pool ≡ t.pool
+    of_pool : 0 < length (gathered_in t accounts workers) → length (senders_at s) ≡ length (gathered_in t accounts workers) → MayTakeIn (gathered_in t accounts workers) (senders_at s) → s.pool ≡ t.pool
     of_pool some count ends =
         let v = sender_at s 0 in
         let has = ends 0 v some in
         let inbox = there_is (inbox_at t workers 0) (t.got 0) has.0 (sym (gathered_at t accounts workers 0 some) ∙ has.1) in
         ap (λ m. m.0) (sym (ap (λ w. w.mailbox) (at_account s 0 v (omega (arith, some, count)))) ∙ has.2 ∙ sym (ap (λ r. r.mailbox) inbox.2))
 
-    ends_everywhere : length (senders_at s) ≡ length (gathered_in t accounts workers) → EndsAt t accounts workers (senders_at s) → HasEndedEverywhere s
+    ends_everywhere : length (senders_at s) ≡ length (gathered_in t accounts workers) → MayTakeIn (gathered_in t accounts workers) (senders_at s) → HasEndedEverywhere s
     ends_everywhere count ends account lt =
         let v = sender_at s account in
         let inside : account < length (senders_at s) = omega (arith, lt, length-map-range_with_len (sender_at s) 0 s.mailboxes) in
@@ -195,9 +190,8 @@ module _ {Name : Type 0} where
         let all = there_is (λ (sent : ℕ → List Item). sent account) ((with_sender t s).known number) sent known in
         subst (λ l. IsFirstOf (got number) l) all.2 (begins account number got all.0 is all.1)
 
-    taken_in : length (senders_at s) ≡ length (gathered_in t accounts workers) → Begins (with_sender t s) → (account : ℕ) (v : SenderView (Name × ℕ)) (inbox : ReceiverView (Name × ℕ)) → account < length (gathered_in t accounts workers)
-        → get_or (gathered_in t accounts workers) account None ≡ Some inbox
-        → (get_or (gathered_in (with_sender t s) accounts workers) account None ≡ Some (with_sender_at inbox (get_or (senders_at s) account v))) × MailBegins (with_sender_at inbox (get_or (senders_at s) account v))
+    taken_in : length (senders_at s) ≡ length (gathered_in t accounts workers) → Begins (with_sender t s)
+        → HaveTakenInEach (gathered_in t accounts workers) (senders_at s) (gathered_in (with_sender t s) accounts workers)
     taken_in count begins account v inbox lt is =
         let now = with_sender t s in
         let had = there_is (inbox_at t workers account) (t.got account) inbox (sym (gathered_at t accounts workers account lt) ∙ is) in
@@ -210,15 +204,15 @@ module _ {Name : Type 0} where
         )
 
 -- what a worker gave back, which has ended everywhere, is taken in
-module _ {Sender Name : Type 0} (view : Sender → PoolSenderView Name) (t : TallyView Name) (accounts workers : ℕ) (own rest : List Sender) (x : Sender) (some : 0 < length (gathered_in t accounts workers)) (count : length (senders_of view own) ≡ length (gathered_in t accounts workers)) (ends : EndsAt t accounts workers (senders_of view own)) (is : own ≡ rest ++ x ∷ []) where
+module _ {Sender Name : Type 0} (view : Sender → PoolSenderView Name) (t : TallyView Name) (accounts workers : ℕ) (own rest : List Sender) (x : Sender) (some : 0 < length (gathered_in t accounts workers)) (count : length (senders_of view own) ≡ length (gathered_in t accounts workers)) (ends : MayTakeIn (gathered_in t accounts workers) (senders_of view own)) (is : own ≡ rest ++ x ∷ []) where
   one : own ≡ x ∷ []
   one = popped_one view own rest x (omega (arith, some, count)) is
 
   one_count : length (senders_at (view x)) ≡ length (gathered_in t accounts workers)
   one_count = subst (λ l. length (senders_of view l) ≡ length (gathered_in t accounts workers)) one count
 
-  one_ends : EndsAt t accounts workers (senders_at (view x))
-  one_ends = subst (λ l. EndsAt t accounts workers (senders_of view l)) one ends
+  one_ends : MayTakeIn (gathered_in t accounts workers) (senders_at (view x))
+  one_ends = subst (λ l. MayTakeIn (gathered_in t accounts workers) (senders_of view l)) one ends
 
   pub taken_of_pool : (view x).pool ≡ t.pool
   taken_of_pool = of_pool t accounts workers (view x) some one_count one_ends
@@ -226,15 +220,11 @@ module _ {Sender Name : Type 0} (view : Sender → PoolSenderView Name) (t : Tal
   pub taken_has_ended : HasEndedEverywhere (view x)
   taken_has_ended = ends_everywhere t accounts workers (view x) one_count one_ends
 
-  pub taken_each : (after : TallyView Name) → after ≡ with_sender t (view x) → Begins after → (account : ℕ) (v : SenderView (Name × ℕ)) (inbox : ReceiverView (Name × ℕ)) → account < length (gathered_in t accounts workers)
-      → get_or (gathered_in t accounts workers) account None ≡ Some inbox
-      → (get_or (gathered_in after accounts workers) account None ≡ Some (with_sender_at inbox (get_or (senders_of view own) account v))) × MailBegins (with_sender_at inbox (get_or (senders_of view own) account v))
-  taken_each after taken begins account v inbox lt there =
-      let P : TallyView Name × List Sender → Type 0 = λ y. (get_or (gathered_in y.0 accounts workers) account None ≡ Some (with_sender_at inbox (get_or (senders_of view y.1) account v))) × MailBegins (with_sender_at inbox (get_or (senders_of view y.1) account v)) in
-      subst P (λ i. (sym taken i, sym one i)) (taken_in t accounts workers (view x) one_count (subst Begins taken begins) account v inbox lt there)
-
-abbrev inbox_by : {Receiver Name : Type 0} → (Receiver → PoolReceiverView Name) → Receiver → ReceiverView (Name × ℕ)
-inbox_by receiver r = inbox_of (receiver r)
+  pub taken_each : (after : TallyView Name) → after ≡ with_sender t (view x) → Begins after
+      → HaveTakenInEach (gathered_in t accounts workers) (senders_of view own) (gathered_in after accounts workers)
+  taken_each after taken begins =
+      let P : TallyView Name × List Sender → Type 0 = λ y. HaveTakenInEach (gathered_in t accounts workers) (senders_of view y.1) (gathered_in y.0 accounts workers) in
+      subst P (λ i. (sym taken i, sym one i)) (taken_in t accounts workers (view x) one_count (subst Begins taken begins))
 
 -- the receivers of all accounts are gathered, one after the other
 module _ {Receiver Name : Type 0} (workers : ℕ) (receiver : Receiver → PoolReceiverView Name) where
@@ -246,11 +236,7 @@ module _ {Receiver Name : Type 0} (workers : ℕ) (receiver : Receiver → PoolR
     pub pool : now.pool ≡ before.pool
     pub known : now.known ≡ before.known
 
-  abbrev pub Belong : TallyView Name → List (Option Receiver) → Type 0
-  Belong before all =
-      (account : ℕ) → account < length all → (inbox : ReceiverView (Name × ℕ)) × (get_or (inboxes_by (inbox_by receiver) all) account None ≡ Some inbox) × belongs_to before workers account inbox
-
-  module _ {before : TallyView Name} {all : List (Option Receiver)} {now : TallyView Name} {left : List (Option Receiver)} {item : Option Receiver} {rest : List (Option Receiver)} {items : List (Option Receiver)} (same : all ≡ items) (belong : Belong before items) (h : AreGathered before all now left) (is : left ≡ item ∷ rest) where
+  module _ {before : TallyView Name} {all : List (Option Receiver)} {now : TallyView Name} {left : List (Option Receiver)} {item : Option Receiver} {rest : List (Option Receiver)} {items : List (Option Receiver)} (same : all ≡ items) (belong : AllBelong (belongs_to before workers) (length items) (inboxes_by (inbox_by receiver) items)) (h : AreGathered before all now left) (is : left ≡ item ∷ rest) where
     next_belongs : (r : Receiver) × (item ≡ Some r) × belongs_to before workers (length h.done) (inbox_by receiver r)
     next_belongs =
         let n = length h.done in
@@ -335,7 +321,7 @@ module _ {Sender Receiver Name : Type 0} (sender : Sender → PoolSenderView Nam
               ((pool, account), inbox_there account lt, λ worker s low. ap (λ l. get_or l account s) (list worker low) ∙ at_account (opened_sender pool accounts worker nodes most) account s (omega (arith, lt, size worker)));
         }
 
-    pub kept_for : (t : TallyView Name) → t ≡ opened_tally t.pool → t.pool ≡ pool → (account : ℕ) (inbox : ReceiverView (Name × ℕ)) (got : ℕ → List Item) → get_or (inboxes_by (inbox_by receiver) (map Some receivers)) account None ≡ Some inbox → belongs_to t workers account (with_got inbox got)
+    pub kept_for : (t : TallyView Name) → t ≡ opened_tally t.pool → t.pool ≡ pool → BelongWhateverTheyGet (belongs_to t workers) (inboxes_by (inbox_by receiver) (map Some receivers))
     kept_for t fresh same account inbox got is =
         ⊎_elim
         (λ (lt : account < accounts).

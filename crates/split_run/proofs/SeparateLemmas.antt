@@ -10,7 +10,8 @@ use Rattle.queue_core.specs.declared.item.Posted.TheVariants.{Full, Sent}
 use Rattle.queue_core.specs.Matches.{MatchPosted}
 use Rattle.mail_box.specs.Mails.{Begins, ReceiverView, SenderView, opened_receiver, opened_sender, with_end, with_post, with_sender}
 use Rattle.split_run.specs.Reading.{inboxes_by}
-use Rattle.split_run.specs.Running.{AreMailboxes, HaveOneMore}
+use Rattle.split_run.specs.Opening.{AreMailboxes, HaveOneMore}
+use Rattle.split_run.specs.Running.{HaveTakenInEach, MayTakeIn}
 use Rattle.split_run.specs.Sending.{HasEndedAt, HaveSent, postings_to, with_posts}
 use Rattle.split_run.proofs.OpeningLemmas.{changed_at, mailbox_more, no_mailbox, some_of}
 use Rattle.split_run.proofs.SendingLemmas.{as_it_is, with_none}
@@ -137,21 +138,16 @@ module _ {W S Name : Type 0} (items : W → List S) (sender : S → SenderView N
 
 -- the next sender is taken in
 module _ {S R Name : Type 0} (sender : S → SenderView Name) (receiver : R → ReceiverView Name) where
-  abbrev pub HaveAllEnded : List S → List (Option R) → Type 0
-  HaveAllEnded own was =
-      (account : ℕ) (s : SenderView Name) → account < length (inboxes_by receiver was) → (inbox : ReceiverView Name) × (get_or (inboxes_by receiver was) account None ≡ Some inbox)
-      × ((get_or (map sender own) account s).mailbox ≡ inbox.mailbox) × ((get_or (map sender own) account s).is_ended ≡ true)
-
   pub record IsNext (was items : List (Option R)) (all own left rest : List S) (n : ℕ) (x : S) (place : Option R) : Type 0 where
     pub same : all ≡ own
     pub count : length (map sender own) ≡ length (inboxes_by receiver was)
-    pub ended : HaveAllEnded own was
+    pub ended : MayTakeIn (inboxes_by receiver was) (map sender own)
     pub passed : HasPassed n left all
     pub is : left ≡ x ∷ rest
     pub taken : HaveTakenIn n (map sender all) (inboxes_by receiver was) (inboxes_by receiver items)
     pub at : place ≡ get_or items n place
 
-  pub is_next : (was items : List (Option R)) (place : Option R) {all own left rest : List S} {n : ℕ} {x : S} → all ≡ own → length (map sender own) ≡ length (inboxes_by receiver was) → HaveAllEnded own was → HasPassed n left all → left ≡ x ∷ rest
+  pub is_next : (was items : List (Option R)) (place : Option R) {all own left rest : List S} {n : ℕ} {x : S} → all ≡ own → length (map sender own) ≡ length (inboxes_by receiver was) → MayTakeIn (inboxes_by receiver was) (map sender own) → HasPassed n left all → left ≡ x ∷ rest
       → HaveTakenIn n (map sender all) (inboxes_by receiver was) (inboxes_by receiver items) → place ≡ get_or items n place → IsNext was items all own left rest n x place
   is_next was items place same count ended passed is taken at = record { same = same; count = count; ended = ended; passed = passed; is = is; taken = taken; at = at }
 
@@ -212,8 +208,7 @@ module _ {S R Name : Type 0} (sender : S → SenderView Name) (receiver : R → 
   -- so are all
   pub all_taken_in : (was items : List (Option R)) (all own left : List S) (n : ℕ) → all ≡ own → length (map sender own) ≡ length (inboxes_by receiver was) → HasPassed n left all → length left ≡ 0
       → HaveTakenIn n (map sender all) (inboxes_by receiver was) (inboxes_by receiver items)
-      → (account : ℕ) (s : SenderView Name) (r : ReceiverView Name) → account < length (inboxes_by receiver was) → get_or (inboxes_by receiver was) account None ≡ Some r
-      → (get_or (inboxes_by receiver items) account None ≡ Some (with_sender r (get_or (map sender own) account s))) × Begins (with_sender r (get_or (map sender own) account s))
+      → HaveTakenInEach (inboxes_by receiver was) (map sender own) (inboxes_by receiver items)
   all_taken_in was items all own left n same count passed none taken account s r lt there =
       subst (λ l. (get_or (inboxes_by receiver items) account None ≡ Some (with_sender r (get_or (map sender l) account s))) × Begins (with_sender r (get_or (map sender l) account s))) same
       (taken.done account s r (omega (arith, lt, count, length-map own sender, ap length same, all_passed passed none)) there)

@@ -2,7 +2,10 @@ pub mod Blocks
 pub mod Plans
 pub mod Taken
 pub mod Divisions
+pub mod Inputs
 pub mod Sending
+pub mod Working
 pub mod Reading
+pub mod Opening
 pub mod Running
 pub mod PoolSeen

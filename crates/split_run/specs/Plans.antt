@@ -1,6 +1,7 @@
 -- How many threads a run has, and the room between them.
 use Rattle.std.specs.Prelude.{ℕ, ◌≤◌, ◌<◌}
-use Rattle.split_run.specs.declared.TheConstants.{MOST_NODES, MOST_THREADS}
+pub use Rattle.queue_core.specs.declared.TheConstants.{MOST_NODES}
+use Rattle.split_run.specs.declared.TheConstants.{MOST_THREADS}
 
 pub record Planned : Type 0 where
   pub workers : ℕ

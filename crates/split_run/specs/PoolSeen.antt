@@ -4,6 +4,7 @@ use Rattle.std.specs.List.{range_with_len}
 use Rattle.queue_core.specs.declared.item.Item.{Item}
 use Rattle.mail_box.specs.Mails.{ReceiverView, SenderView}
 use Rattle.pool_box.specs.Pools.{ReceiverView as PoolReceiverView, SenderView as PoolSenderView, TallyView, opened_tally}
+use Rattle.split_run.specs.declared.mailboxes.pooled.GatheredPool.{GatheredPool}
 
 module _ {Name : Type 0} where
   -- a sender at the mailbox of an account; its posts left are those for all mailboxes
@@ -30,6 +31,16 @@ module _ {Name : Type 0} where
   abbrev pub gathered_in : TallyView Name → (accounts workers : ℕ) → List (Option (ReceiverView (Name × ℕ)))
   gathered_in tally accounts workers =
       map (λ account. option_map (λ got. record { mailbox = (tally.pool, account); senders = workers; got = got; known = known_at tally account }) (tally.got account)) (range_with_len 0 accounts)
+
+module _ {Receiver Name : Type 0} where
+  -- what a receiver of a pool is seen as
+  abbrev pub inbox_by : (Receiver → PoolReceiverView Name) → Receiver → ReceiverView (Name × ℕ)
+  inbox_by receiver r = inbox_of (receiver r)
+
+module _ {P Sender Receiver Held Tally Name : Type 0} where
+  -- what the gathered receivers of a pool are seen as
+  abbrev pub gathered_by : (Tally → TallyView Name) → GatheredPool P Sender Receiver Held Tally → List (Option (ReceiverView (Name × ℕ)))
+  gathered_by tally all = gathered_in (tally all.tally) all.accounts all.workers
 
 module _ {Sender Name : Type 0} where
   -- what a worker sends by, which is one sender of a pool

@@ -6,7 +6,8 @@ ghost use Rattle.line_split.specs.UsageLine.{IsReversalOf, UsageLine};
 ghost use Rattle.payee_book.specs.Run.{portion_for, statement_of};
 ghost use Rattle.payee_book.specs.Statement.{total_of};
 ghost use Rattle.split_run.specs.Divisions.{division_by};
-ghost use Rattle.split_run.specs.declared.TheConstants.{MOST_NODES, MOST_POSTINGS, MOST_THREADS};
+ghost use Rattle.queue_core.specs.declared.TheConstants.{MOST_NODES};
+ghost use Rattle.split_run.specs.declared.TheConstants.{MOST_POSTINGS, MOST_THREADS};
 ghost use Rattle.split_run.specs.Taken.{TakingKeepsUp, WhatWasSentIsTheStatement};
 
 /// A run has at most 8 workers and 8 readers, a worker at most 64 nodes in a mailbox or a pool, and a line at most 257 postings.

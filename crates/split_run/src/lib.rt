@@ -1,20 +1,25 @@
 //! The threads of a distribution run.
+//!
+//! A caller names `plan`, `fault` and `gate`, and calls `running`. What the threads do, in order of reading:
+//!
+//! - `working` is a worker's half of a run, and `working::sending` how it sends a posting;
+//! - `reading` is a reader's half;
+//! - `mailboxes` is what lies between them: `mailboxes::separate` and `mailboxes::pooled` are its two kinds, and
+//!   `mailboxes::bells` says where there is something to take;
+//! - `running` is a whole run: `running::opening` is what it opens before it starts a thread, `running::starting` how it
+//!   starts them, and `running` itself puts together what they give back.
+//!
+//! `laws` is what holds of every run, and `doubles` is for tests.
 #![tactic(auto)]
 
-mod bells;
 mod doubles;
 mod fault;
 mod gate;
 pub mod laws;
 mod mailboxes;
-mod opening;
 mod plan;
-mod pooled;
 mod reading;
 mod running;
-mod sending;
-mod separate;
-mod starting;
 mod working;
 
 pub use block_draw::{Draw, Drawer};
@@ -25,14 +30,12 @@ pub use doubles::{
 pub use fault::RunFault;
 pub use gate::{Gate, NoGate};
 pub use plan::Plan;
+pub use queue_core::MOST_NODES;
 pub use running::{run, run_cut, run_pool, run_pool_cut};
 pub use working::{work, work_pool};
 
 /// The most workers, and the most readers, of a run.
 pub const MOST_THREADS: u64 = 8;
-
-/// The most nodes that a worker has in a mailbox.
-pub const MOST_NODES: u64 = 64;
 
 /// How many usage lines a block has; the last may have fewer.
 pub const LINES_IN_BLOCK: usize = 64;

@@ -1,12 +1,16 @@
 //! The mailboxes of a run, one for each account, whatever they are made of.
 
-ghost use Rattle.std.specs.Prelude.{unsigned_abs, ◌≡◌, ◌<◌, ◌≤◌, ◌∷◌, [], ℕ, false, true, Bool, IfOk, List, MatchBool, MatchOption, None, Option, Some, length, map, slice_index_or};
-ghost use Rattle.queue_core.specs.declared.item.Item.{Item};
+ghost use Rattle.std.specs.Prelude.{unsigned_abs, ◌≡◌, ◌<◌, ◌≤◌, ℕ, false, true, Bool, IfOk, List, MatchOption, Option, length, slice_index_or};
 ghost use Rattle.queue_core.specs.Matches.{MatchPosted};
 ghost use Rattle.mail_box.specs.Mails.{HasReceived, ReceiverView, SenderView};
-ghost use Rattle.split_run.specs.Reading.{inboxes_by, with_got};
-ghost use Rattle.split_run.specs.Running.{AreMailboxes, HaveTakenInEach, MayTakeIn};
-ghost use Rattle.split_run.specs.Sending.{HasEndedAt, HasSpent, HaveSent, postings_to, room_of};
+ghost use Rattle.split_run.specs.Reading.{inboxes_by};
+ghost use Rattle.split_run.specs.Opening.{AreMailboxes, BelongWhateverTheyGet, lists_by};
+ghost use Rattle.split_run.specs.Running.{AllBelong, HaveTakenInEach, MayTakeIn};
+ghost use Rattle.split_run.specs.Sending.{HasEndedAt, HasSpent, HaveSentOne, room_of};
+
+pub(crate) mod bells;
+pub(crate) mod pooled;
+pub(crate) mod separate;
 
 use queue_core::{Item, Posted};
 use std::alloc::{AllocError, Global};
@@ -65,8 +69,8 @@ pub(crate) trait Mailboxes: Sync {
         requires workers { (0 < workers) × (workers ≤ 8) }
         requires nodes { (0 < nodes) × (nodes ≤ 64) }
         requires lines { lines ≤ 1000000 }
-        ensures mailboxes { IfOk result (λ r. AreMailboxes workers accounts nodes (room_of is_shared lines) (map (λ own. senders own.items) r.0.items) (inboxes_by receiver r.1.items)) }
-        ensures kept { IfOk result (λ r. (account : ℕ) (inbox : ReceiverView Name) (got : ℕ → List Item) → slice_index_or (inboxes_by receiver r.1.items) account None ≡ Some inbox → belongs r.2 account (with_got inbox got)) };
+        ensures mailboxes { IfOk result (λ r. AreMailboxes workers accounts nodes (room_of is_shared lines) (lists_by senders r.0.items) (inboxes_by receiver r.1.items)) }
+        ensures kept { IfOk result (λ r. BelongWhateverTheyGet (belongs r.2) (inboxes_by receiver r.1.items)) };
 
     /// Sends a posting to the mailbox of an account.
     fn try_send<R: Wait>(
@@ -81,7 +85,7 @@ pub(crate) trait Mailboxes: Sync {
         requires left { (s : SenderView Name) → 0 < (slice_index_or (senders all.old) account s).left }
         requires line { line ≤ 999999 }
         requires amount { (0 < unsigned_abs amount) × (unsigned_abs amount ≤ 1000000000000) }
-        ensures sent { MatchPosted result (HaveSent is_shared (senders all.old) (senders all.new) (postings_to account ((line, amount) ∷ []))) (senders all.new ≡ senders all.old) }
+        ensures sent { MatchPosted result (HaveSentOne is_shared account line amount (senders all.old) (senders all.new)) (senders all.new ≡ senders all.old) }
         ensures spent { HasSpent is_shared (senders all.old) (senders all.new) 1 };
 
     /// Sends the end mark to the mailbox of an account.
@@ -96,7 +100,7 @@ pub(crate) trait Mailboxes: Sync {
 
     /// Gathers the receivers of all accounts.
     fn gather(kept: Self::Kept, inboxes: Vec<Option<Self::Receiver>>) -> Self::Gathered
-        requires { (account : ℕ) → account < length inboxes.items → (inbox : ReceiverView Name) × (slice_index_or (inboxes_by receiver inboxes.items) account None ≡ Some inbox) × belongs kept account inbox }
+        requires { AllBelong (belongs kept) (length inboxes.items) (inboxes_by receiver inboxes.items) }
         ensures { gathered result ≡ inboxes_by receiver inboxes.items };
 
     /// Takes in what a worker sent by, which has ended in the mailbox of each account: from then on it is known what it sent.

@@ -1,12 +1,11 @@
-//! What a reader does: it takes from its mailboxes, and makes the statements of their accounts.
+//! A reader's half of a run: it takes from its mailboxes, and makes the statements of their accounts.
 
-ghost use Rattle.std.specs.Prelude.{◌≡◌, ◌⊎◌, ◌<◌, ◌≤◌, ℕ, IfOk, MatchOption, None, Some, [], length, slice_index_or, slice_set, true, vec_items};
-ghost use Rattle.mail_box.specs.Mails.{HasReceived, ReceiverView};
-ghost use Rattle.split_run.specs.Reading.{HasKept, HasKeptAll, HasServed, IsUntouched, inboxes_by};
+ghost use Rattle.std.specs.Prelude.{◌≡◌, ◌<◌, IfOk, MatchOption, length, true, vec_items};
+ghost use Rattle.split_run.specs.Reading.{AreUntouched, HasAllEnds, HasKept, HasKeptAll, HasReceivedAt, HasServed, IsSameReader, inboxes_by};
 
 use crate::MOST_NODES;
-use crate::bells::Bells;
 use crate::mailboxes::Mailboxes;
+use crate::mailboxes::bells::Bells;
 use crossbeam_utils::Backoff;
 use line_split::Account;
 use payee_book::{Book, Journal};
@@ -58,7 +57,7 @@ impl<B: Mailboxes> Reader<B> {
     ) -> Result<Reader<B>, AllocError>
         requires some { 0 < accounts }
         requires count { length inboxes.items ≡ accounts }
-        requires untouched { (account : ℕ) → account < accounts → IsUntouched workers (slice_index_or (inboxes_by B.receiver inboxes.items) account None) }
+        requires untouched { AreUntouched workers accounts (inboxes_by B.receiver inboxes.items) }
         ensures opened { IfOk result (λ r. (r.opened.value ≡ inboxes) × (r.workers ≡ workers)) }
         ensures taken { IfOk result (HasKept B.receiver) }
     {
@@ -83,7 +82,7 @@ impl<B: Mailboxes> Reader<B> {
     pub fn serve<R: Wait>(&mut self, rt: &R, stop: &AtomicBool, bells: Option<&Bells>) -> bool
         requires taken { HasKept B.receiver self.old }
         ensures served { result ≡ true → HasKeptAll B.receiver self.new }
-        ensures opened { (self.new.opened.value ≡ self.old.opened.value) × (self.new.workers ≡ self.old.workers) }
+        ensures same { IsSameReader self.old self.new }
     {
         let turn = Backoff::new();
         let mut idle = 0u32;
@@ -121,7 +120,7 @@ impl<B: Mailboxes> Reader<B> {
     fn take_round<R: Wait>(&mut self, rt: &R, bells: Option<&Bells>) -> bool
         requires taken { HasKept B.receiver self.old }
         ensures taken { HasKept B.receiver self.new }
-        ensures opened { (self.new.opened.value ≡ self.old.opened.value) × (self.new.workers ≡ self.old.workers) }
+        ensures same { IsSameReader self.old self.new }
     {
         match bells {
             Some(bells) => self.take_rung(rt, bells),
@@ -133,7 +132,7 @@ impl<B: Mailboxes> Reader<B> {
     fn take_each<R: Wait>(&mut self, rt: &R) -> bool
         requires taken { HasKept B.receiver self.old }
         ensures taken { HasKept B.receiver self.new }
-        ensures opened { (self.new.opened.value ≡ self.old.opened.value) × (self.new.workers ≡ self.old.workers) }
+        ensures same { IsSameReader self.old self.new }
     {
         let mut took = false;
         for turn in 0..self.inboxes.len().div_ceil(self.readers.max(1)) {
@@ -149,7 +148,7 @@ impl<B: Mailboxes> Reader<B> {
     fn take_rung<R: Wait>(&mut self, rt: &R, bells: &Bells) -> bool
         requires taken { HasKept B.receiver self.old }
         ensures taken { HasKept B.receiver self.new }
-        ensures opened { (self.new.opened.value ≡ self.old.opened.value) × (self.new.workers ≡ self.old.workers) }
+        ensures same { IsSameReader self.old self.new }
     {
         let mut took = false;
         for word in 0..bells.words(self.number) {
@@ -164,7 +163,8 @@ impl<B: Mailboxes> Reader<B> {
     fn take_word<R: Wait>(&mut self, rt: &R, bells: &Bells, word: usize) -> bool
         requires taken { HasKept B.receiver self.old }
         ensures taken { HasKept B.receiver self.new }
-        ensures opened { (self.new.opened.value ≡ self.old.opened.value) × (self.new.workers ≡ self.old.workers) × (length self.new.journal ≡ length self.old.journal) }
+        ensures same { IsSameReader self.old self.new }
+        ensures accounts { length self.new.journal ≡ length self.old.journal }
     {
         let mut rung = bells.still(self.number, word);
         let mut took = false;
@@ -184,7 +184,8 @@ impl<B: Mailboxes> Reader<B> {
     fn take_at<R: Wait>(&mut self, rt: &R, account: usize) -> bool
         requires taken { HasKept B.receiver self.old }
         ensures taken { HasKept B.receiver self.new }
-        ensures opened { (self.new.opened.value ≡ self.old.opened.value) × (self.new.workers ≡ self.old.workers) × (length self.new.journal ≡ length self.old.journal) }
+        ensures same { IsSameReader self.old self.new }
+        ensures accounts { length self.new.journal ≡ length self.old.journal }
     {
         if account >= self.journal.accounts() as usize {
             return false;
@@ -204,7 +205,8 @@ impl<B: Mailboxes> Reader<B> {
         requires account { account < length self.old.journal }
         requires taken { HasKept B.receiver self.old }
         ensures taken { HasKept B.receiver self.new }
-        ensures opened { (self.new.opened.value ≡ self.old.opened.value) × (self.new.workers ≡ self.old.workers) × (length self.new.journal ≡ length self.old.journal) }
+        ensures same { IsSameReader self.old self.new }
+        ensures accounts { length self.new.journal ≡ length self.old.journal }
     {
         let place = account as usize;
         if self.ends[place] >= self.workers {
@@ -228,7 +230,7 @@ impl<B: Mailboxes> Reader<B> {
     /// Whether each mailbox has given an end mark of each worker.
     fn have_ended(&self) -> bool
         requires { length self.now.ends.items ≡ length self.now.inboxes.items }
-        ensures { result ≡ true → (account : ℕ) → account < length self.now.inboxes.items → (slice_index_or (inboxes_by B.receiver self.now.inboxes.items) account None ≡ None) ⊎ (self.now.workers ≤ slice_index_or self.now.ends.items account 0) }
+        ensures { result ≡ true → HasAllEnds B.receiver self.now }
     {
         for account in 0..self.inboxes.len() {
             if self.inboxes[account].is_some() && self.ends[account] < self.workers {
@@ -246,7 +248,8 @@ fn receive_at<B: Mailboxes, R: Wait>(
     account: usize,
 ) -> Option<(u64, Item)>
     requires { account < length (vec_items inboxes.old) }
-    ensures { MatchOption result (inboxes_by B.receiver (vec_items inboxes.new) ≡ inboxes_by B.receiver (vec_items inboxes.old)) (λ pair. (r : ReceiverView _) × (after : ReceiverView _) × (slice_index_or (inboxes_by B.receiver (vec_items inboxes.old)) account None ≡ Some r) × HasReceived r after pair.0 pair.1 × (inboxes_by B.receiver (vec_items inboxes.new) ≡ slice_set (inboxes_by B.receiver (vec_items inboxes.old)) account (Some after))) }
+    ensures { MatchOption result (inboxes_by B.receiver (vec_items inboxes.new) ≡ inboxes_by B.receiver (vec_items inboxes.old))
+        (λ pair. HasReceivedAt account (inboxes_by B.receiver (vec_items inboxes.old)) (inboxes_by B.receiver (vec_items inboxes.new)) pair.0 pair.1) }
 {
     match &mut inboxes[account] {
         Some(receiver) => B::receive(rt, receiver),

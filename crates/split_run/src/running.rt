@@ -1,35 +1,38 @@
 //! A run: workers divide the usage lines, readers keep the statements, and between them lies a mailbox for each account.
 
-ghost use Rattle.std.specs.Prelude.{◌≡◌, ◌+◌, ◌<◌, ◌≤◌, ℕ, All, IfOk, IfSome, List, None, OnOk, Some, length, map, replicate, slice_index_or, true, vec_items};
+ghost use Rattle.std.specs.Prelude.{◌≡◌, ◌+◌, ◌<◌, ◌≤◌, All, IfOk, None, OnOk, length, replicate, vec_items};
 ghost use Rattle.line_split.specs.Signs.{int_sum_by};
-ghost use Rattle.mail_box.specs.Mails.{ReceiverView};
-ghost use Rattle.queue_core.specs.declared.item.Item.{Item};
 ghost use Rattle.payee_book.specs.Run.{IsBookOf};
 ghost use Rattle.payee_book.specs.Statement.{total_of};
-ghost use Rattle.split_run.specs.Divisions.{division_by};
-ghost use Rattle.split_run.specs.Reading.{HasKept, inboxes_by, with_got};
 ghost use Rattle.block_draw.specs.Drawn.{AreDrawnOnce};
-ghost use Rattle.block_draw.specs.Views.{draw_of, drawer_of, opened_draw, opened_drawer, with_drawer};
+ghost use Rattle.block_draw.specs.Views.{draw_of, drawer_of, with_drawer};
 ghost use Rattle.split_run.specs.Blocks.{blocks_of};
+ghost use Rattle.split_run.specs.Divisions.{division_by};
+ghost use Rattle.split_run.specs.Inputs.{account_count, division_in, line_count, lines_in};
+ghost use Rattle.split_run.specs.Reading.{HasKept, inboxes_by};
 ghost use Rattle.split_run.specs.Sending.{room_of};
-ghost use Rattle.split_run.specs.Running.{AreDealt, AreMailboxes, AreMerged, AreTakenIn, HaveTakenInEach, IsGivenBack, IsReady, IsWorkOf, MayBeTakenIn, or_else};
+ghost use Rattle.split_run.specs.Opening.{AreDealtOut, AreMailboxes, BelongWhateverTheyGet, HaveTheirDrawers, IsOpenedDraw, IsReady, senders_by};
+ghost use Rattle.split_run.specs.Running.{AreMerged, ArePutIn, AreTakenIn, EachGiven, HaveTakenInEach, IsReadBy, IsWorkBy, MayBeTakenIn, or_else};
 
-use crate::bells::Bells;
+mod opening;
+mod starting;
+
 use crate::gate::Gate;
 use crate::mailboxes::Mailboxes;
-use crate::opening::{Worker, readers_of, workers_of};
-use crate::pooled::Pooled;
+use crate::mailboxes::bells::Bells;
+use crate::mailboxes::pooled::Pooled;
+use crate::mailboxes::separate::Separate;
 use crate::reading::{Reader, ReaderResult};
-use crate::separate::Separate;
-use crate::starting::{WorkerResult, run_threads};
 use crate::working::Inputs;
 use crate::{LINES_IN_BLOCK, Plan, RunFault};
 use block_draw::Draw;
 use cwr_share::Registry;
 use line_split::Usage;
 use mail_box::Mail;
+use opening::{Worker, readers_of, workers_of};
 use payee_book::Book;
 use pool_box::Pool;
+use starting::{WorkerResult, run_threads};
 use std::alloc::{AllocError, Global};
 use std::snapshot::Snapshot;
 use std::sync::Wait;
@@ -135,8 +138,8 @@ fn run_on<B: Mailboxes, G: Gate, R: Threads + Wait + Sync>(
     gate: &G,
     threads: u64,
 ) -> Result<Book, RunFault>
-    ensures book { IfOk result (IsBookOf (division_by inputs.entry.tis.now inputs.entry.registry.now) inputs.entry.usage.now (length inputs.entry.registry.now.parties)) }
-    ensures adds_up { IfOk result (λ book. int_sum_by total_of book ≡ int_sum_by (λ line. line.amount) inputs.entry.usage.now) }
+    ensures book { IfOk result (IsBookOf (division_in inputs.entry) (lines_in inputs.entry) (account_count inputs.entry)) }
+    ensures adds_up { IfOk result (λ book. int_sum_by total_of book ≡ int_sum_by (λ line. line.amount) (lines_in inputs.entry)) }
     ensures cut { IfOk result (λ _. plan.readers + plan.workers ≤ threads) }
 {
     let accounts = inputs.registry.accounts();
@@ -201,12 +204,13 @@ fn open_all<B: Mailboxes>(
     requires workers { (0 < workers) × (workers ≤ 8) }
     requires readers { 0 < readers }
     requires nodes { (0 < nodes) × (nodes ≤ 64) }
-    ensures draw { IfOk result (λ r. draw_of r.0 ≡ opened_draw (draw_of r.0).draw (blocks_of (length inputs.entry.usage.now)) workers) }
-    ensures drawers { IfOk result (λ r. (number : ℕ) (d : _) → number < workers → drawer_of (slice_index_or r.3.items number d).drawer ≡ opened_drawer (draw_of r.0).draw (blocks_of (length inputs.entry.usage.now)) number) }
-    ensures mailboxes { IfOk result (λ r. AreMailboxes workers (length inputs.entry.registry.now.parties) nodes (room_of B.is_shared (length inputs.entry.usage.now)) (map (λ worker. B.senders worker.senders.items) r.3.items) (inboxes_by B.receiver r.1.value.items)) }
-    ensures kept { IfOk result (λ r. (account : ℕ) (inbox : ReceiverView _) (got : ℕ → List Item) → slice_index_or (inboxes_by B.receiver r.1.value.items) account None ≡ Some inbox → B.belongs r.2 account (with_got inbox got)) }
-    ensures ready { IfOk result (λ r. (length r.3.items ≡ workers) × All (IsReady B.is_shared B.senders (length inputs.entry.registry.now.parties) (length inputs.entry.usage.now)) r.3.items) }
-    ensures dealt { IfOk result (λ r. (reader : ℕ) (d : _) → reader < readers → AreDealt readers reader (inboxes_by B.receiver r.1.value.items) (inboxes_by B.receiver (slice_index_or r.4.items reader d).opened.value.items)) }
+    ensures draw { IfOk result (λ r. IsOpenedDraw (line_count inputs.entry) workers (draw_of r.0)) }
+    ensures drawers { IfOk result (λ r. HaveTheirDrawers (draw_of r.0) (line_count inputs.entry) workers r.3.items) }
+    ensures mailboxes { IfOk result (λ r. AreMailboxes workers (account_count inputs.entry) nodes (room_of B.is_shared (line_count inputs.entry))
+        (senders_by B.senders r.3.items) (inboxes_by B.receiver r.1.value.items)) }
+    ensures kept { IfOk result (λ r. BelongWhateverTheyGet (B.belongs r.2) (inboxes_by B.receiver r.1.value.items)) }
+    ensures ready { IfOk result (λ r. (length r.3.items ≡ workers) × All (IsReady B.is_shared B.senders (account_count inputs.entry) (line_count inputs.entry)) r.3.items) }
+    ensures dealt { IfOk result (λ r. AreDealtOut B.receiver readers (inboxes_by B.receiver r.1.value.items) r.4.items) }
     ensures taken { IfOk result (λ r. (length r.4.items ≡ readers) × All (λ reader. (reader.workers ≡ workers) × HasKept B.receiver reader) r.4.items) }
 {
     let accounts = inputs.registry.accounts();
@@ -232,7 +236,7 @@ fn merge_all<B: Mailboxes>(
 ) -> Result<(Vec<Option<B::Receiver>>, Book), RunFault>
     requires some { (0 < accounts) × (0 < readers) }
     requires count { (length opened.value.items ≡ accounts) × (length read.items ≡ readers) }
-    requires read { (number : ℕ) (d : _) → number < readers → IfSome (slice_index_or read.items number d) (λ reader. IsGivenBack workers readers number (inboxes_by B.receiver opened.value.items) (inboxes_by B.receiver reader.inboxes.items) reader.book) }
+    requires read { EachGiven readers (IsReadBy B.receiver workers readers opened.value.items) read.items }
     ensures { IfOk result (λ r. AreMerged workers readers readers (inboxes_by B.receiver opened.value.items) (inboxes_by B.receiver r.0.items) r.1) }
 {
     let mut inboxes = no_inboxes::<B>(alloc, accounts)?;
@@ -265,7 +269,7 @@ fn no_inboxes<B: Mailboxes>(
 fn merge<B: Mailboxes>(inboxes: &mut Vec<Option<B::Receiver>>, more: Vec<Option<B::Receiver>>)
     requires { length more.items ≡ length (vec_items inboxes.old) }
     ensures count { length (vec_items inboxes.new) ≡ length (vec_items inboxes.old) }
-    ensures each { (account : ℕ) → account < length (vec_items inboxes.old) → slice_index_or (inboxes_by B.receiver (vec_items inboxes.new)) account None ≡ or_else (slice_index_or (inboxes_by B.receiver more.items) account None) (slice_index_or (inboxes_by B.receiver (vec_items inboxes.old)) account None) }
+    ensures each { ArePutIn (inboxes_by B.receiver more.items) (inboxes_by B.receiver (vec_items inboxes.old)) (inboxes_by B.receiver (vec_items inboxes.new)) }
 {
     let mut account = 0;
     for inbox in more {
@@ -293,10 +297,10 @@ fn take_in_all<B: Mailboxes, R: Wait>(
     worked: Vec<Option<WorkerResult<B>>>,
 ) -> Result<(), RunFault>
     requires some { (0 < length worked.items) × (0 < length (B.gathered inboxes.old)) }
-    requires opened { draw_of draw.old ≡ opened_draw (draw_of draw.old).draw (blocks_of (length inputs.usage.now)) (length worked.items) }
-    requires worked { (worker : ℕ) (d : _) → worker < length worked.items → IfSome (slice_index_or worked.items worker d) (λ own. IsWorkOf (division_by inputs.tis.now inputs.registry.now) inputs.usage.now (draw_of draw.old) worker (drawer_of own.drawer) (B.gathered inboxes.old) (B.senders own.senders.items)) }
-    ensures taken { OnOk result (AreTakenIn (division_by inputs.entry.tis.now inputs.entry.registry.now) inputs.entry.usage.now (draw_of draw.new).drawn (length worked.items) (B.gathered inboxes.old) (B.gathered inboxes.new)) }
-    ensures once { OnOk result (AreDrawnOnce (length worked.items) (draw_of draw.new).drawn (blocks_of (length inputs.entry.usage.now))) }
+    requires opened { IsOpenedDraw (line_count inputs) (length worked.items) (draw_of draw.old) }
+    requires worked { EachGiven (length worked.items) (IsWorkBy B.senders (division_in inputs) (lines_in inputs) (draw_of draw.old) (B.gathered inboxes.old)) worked.items }
+    ensures taken { OnOk result (AreTakenIn (division_in inputs.entry) (lines_in inputs.entry) (draw_of draw.new).drawn (length worked.items) (B.gathered inboxes.old) (B.gathered inboxes.new)) }
+    ensures once { OnOk result (AreDrawnOnce (length worked.items) (draw_of draw.new).drawn (blocks_of (line_count inputs.entry))) }
 {
     for worker in worked {
         let Some(worker) = worker else {

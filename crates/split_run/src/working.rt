@@ -1,4 +1,4 @@
-//! What a worker does: it divides the lines of its blocks, and sends each portion to the mailbox of its account.
+//! A worker's half of a run: it divides the lines of its blocks, and sends each portion to the mailbox of its account.
 
 ghost use Rattle.std.specs.Prelude.{[], ◌≡◌, ◌*◌, ◌+◌, ◌-◌, ◌<◌, ◌≤◌, ℕ, None, false, Some, length, map, slice_get, slice_index_or, true};
 ghost use Rattle.std.specs.Mem.{FitsInMemory};
@@ -6,26 +6,30 @@ ghost use Rattle.cwr_share.specs.Found.{IsLookUp};
 ghost use Rattle.cwr_share.specs.Registered.{IsRegistered};
 ghost use Rattle.line_split.specs.UsageLine.{UsageLine};
 ghost use Rattle.line_split.specs.declared.TheConstants.{MOST_CLAIMS};
-ghost use Rattle.payee_book.specs.Run.{portion_for, posting_of};
 ghost use Rattle.block_draw.specs.Views.{drawer_of};
-ghost use Rattle.split_run.specs.Blocks.{list_of, postings_in, postings_of};
-ghost use Rattle.split_run.specs.Divisions.{division_by};
-ghost use Rattle.split_run.specs.Running.{IsFresh, IsSameDrawer};
 ghost use Rattle.pool_box.specs.Pools.{HasEndedEverywhere};
-ghost use Rattle.split_run.specs.Sending.{AreFresh, AreReadyFor, HasSpent, HaveEnded, HaveSent};
+ghost use Rattle.split_run.specs.Blocks.{lines_from, lines_within};
+ghost use Rattle.split_run.specs.Divisions.{division_by};
+ghost use Rattle.split_run.specs.Inputs.{account_count, division_in, line_count, lines_in};
+ghost use Rattle.split_run.specs.Opening.{IsFresh};
+ghost use Rattle.split_run.specs.Running.{IsSameDrawer};
+ghost use Rattle.split_run.specs.Sending.{AreFresh, AreReadyFor, HasSpent, HaveEnded};
+ghost use Rattle.split_run.specs.Working.{HasSentEachList, HaveSentBlock, HaveSentBlocksAndEnded, HaveSentLine, HaveSentTheirLists, IsSameSender};
+
+mod sending;
 
 use crate::LINES_IN_BLOCK;
-use crate::bells::Bells;
 use crate::gate::Gate;
 use crate::mailboxes::Mailboxes;
-use crate::pooled::Pooled;
-use crate::sending::{send_end, send_line};
-use crate::separate::Separate;
+use crate::mailboxes::bells::Bells;
+use crate::mailboxes::pooled::Pooled;
+use crate::mailboxes::separate::Separate;
 use block_draw::Drawer;
 use cwr_share::{Registry, Work};
 use line_split::{Claims, MOST_CLAIMS, MOST_LINES, Portions, Usage, split};
 use mail_box::Mail;
 use pool_box::Pool;
+use sending::{send_end, send_line};
 use std::array::from_mut;
 use std::sync::Wait;
 use std::sync::atomic::{AtomicBool, Ordering};
@@ -61,8 +65,8 @@ pub fn work<M: Mail, G: Gate, R: Wait>(
     requires drawer { IsFresh (length usage.now) (drawer_of drawer.old) }
     requires claims { MOST_CLAIMS ≤ claims.old.room }
     requires portions { MOST_CLAIMS + 1 ≤ portions.old.room }
-    ensures sent { result ≡ true → (account : ℕ) (s : _) → account < length senders.old → (slice_index_or (map M.sender senders.new) account s).sent ≡ list_of (division_by tis.now registry.now) usage.now account (drawer_of drawer.new).drawn }
-    ensures ended { result ≡ true → HaveEnded false (map M.sender senders.old) (map M.sender senders.new) (λ account. postings_of (division_by tis.now registry.now) usage.now account (drawer_of drawer.new).drawn) }
+    ensures sent { result ≡ true → HaveSentTheirLists (length senders.old) (division_by tis.now registry.now) usage.now (drawer_of drawer.new).drawn (map M.sender senders.new) }
+    ensures ended { result ≡ true → HaveSentBlocksAndEnded false (division_by tis.now registry.now) usage.now (drawer_of drawer.new).drawn (map M.sender senders.old) (map M.sender senders.new) }
     ensures drawn { result ≡ true → (drawer_of drawer.new).is_done ≡ true }
     ensures drawer { IsSameDrawer (drawer_of drawer.old) (drawer_of drawer.new) }
 {
@@ -98,9 +102,9 @@ pub fn work_pool<P: Pool, G: Gate, R: Wait>(
     requires drawer { IsFresh (length usage.now) (drawer_of drawer.old) }
     requires claims { MOST_CLAIMS ≤ claims.old.room }
     requires portions { MOST_CLAIMS + 1 ≤ portions.old.room }
-    ensures sent { result ≡ true → (account : ℕ) → account < length registry.now.parties → (P.sender sender.new).sent account ≡ list_of (division_by tis.now registry.now) usage.now account (drawer_of drawer.new).drawn }
+    ensures sent { result ≡ true → HasSentEachList (length registry.now.parties) (division_by tis.now registry.now) usage.now (drawer_of drawer.new).drawn (P.sender sender.new) }
     ensures ended { result ≡ true → HasEndedEverywhere (P.sender sender.new) }
-    ensures same { result ≡ true → ((P.sender sender.new).pool ≡ (P.sender sender.old).pool) × ((P.sender sender.new).mailboxes ≡ (P.sender sender.old).mailboxes) × ((P.sender sender.new).number ≡ (P.sender sender.old).number) }
+    ensures same { result ≡ true → IsSameSender (P.sender sender.old) (P.sender sender.new) }
     ensures drawn { result ≡ true → (drawer_of drawer.new).is_done ≡ true }
     ensures drawer { IsSameDrawer (drawer_of drawer.old) (drawer_of drawer.new) }
 {
@@ -129,12 +133,13 @@ pub(crate) fn work_on<B: Mailboxes, G: Gate, R: Wait>(
     stop: &AtomicBool,
     bells: Option<&Bells>,
 ) -> bool
-    requires accounts { length (B.senders senders.old) ≡ length inputs.registry.now.parties }
-    requires ready { AreReadyFor B.is_shared (B.senders senders.old) (length inputs.usage.now) }
-    requires drawer { IsFresh (length inputs.usage.now) (drawer_of drawer.old) }
+    requires accounts { length (B.senders senders.old) ≡ account_count inputs }
+    requires ready { AreReadyFor B.is_shared (B.senders senders.old) (line_count inputs) }
+    requires drawer { IsFresh (line_count inputs) (drawer_of drawer.old) }
     requires claims { MOST_CLAIMS ≤ claims.old.room }
     requires portions { MOST_CLAIMS + 1 ≤ portions.old.room }
-    ensures ended { result ≡ true → HaveEnded B.is_shared (B.senders senders.old) (B.senders senders.new) (λ account. postings_of (division_by inputs.entry.tis.now inputs.entry.registry.now) inputs.entry.usage.now account (drawer_of drawer.new).drawn) }
+    ensures ended { result ≡ true
+        → HaveSentBlocksAndEnded B.is_shared (division_in inputs.entry) (lines_in inputs.entry) (drawer_of drawer.new).drawn (B.senders senders.old) (B.senders senders.new) }
     ensures drawn { result ≡ true → (drawer_of drawer.new).is_done ≡ true }
     ensures drawer { IsSameDrawer (drawer_of drawer.old) (drawer_of drawer.new) }
 {
@@ -178,14 +183,14 @@ fn work_block<B: Mailboxes, G: Gate, R: Wait>(
     stop: &AtomicBool,
     bells: Option<&Bells>,
 ) -> bool
-    requires accounts { length (B.senders senders.old) ≡ length inputs.registry.now.parties }
+    requires accounts { length (B.senders senders.old) ≡ account_count inputs }
     requires sound { IsRegistered inputs.registry.now }
-    requires block { 64 * block < length inputs.usage.now }
-    requires ready { AreReadyFor B.is_shared (B.senders senders.old) (length inputs.usage.now - 64 * block) }
+    requires block { 64 * block < line_count inputs }
+    requires ready { AreReadyFor B.is_shared (B.senders senders.old) (lines_from (line_count inputs) block) }
     requires claims { MOST_CLAIMS ≤ claims.old.room }
     requires portions { MOST_CLAIMS + 1 ≤ portions.old.room }
-    ensures sent { result ≡ true → HaveSent B.is_shared (B.senders senders.old) (B.senders senders.new) (λ account. postings_in (division_by inputs.entry.tis.now inputs.entry.registry.now) inputs.entry.usage.now account block) }
-    ensures spent { result ≡ true → HasSpent B.is_shared (B.senders senders.old) (B.senders senders.new) (257 * ((length inputs.entry.usage.now - 64 * block) - (length inputs.entry.usage.now - 64 * (block + 1)))) }
+    ensures sent { result ≡ true → HaveSentBlock B.is_shared (division_in inputs.entry) (lines_in inputs.entry) block (B.senders senders.old) (B.senders senders.new) }
+    ensures spent { result ≡ true → HasSpent B.is_shared (B.senders senders.old) (B.senders senders.new) (257 * lines_within (line_count inputs.entry) block) }
     ensures rooms { (claims.new.room ≡ claims.old.room) × (portions.new.room ≡ portions.old.room) }
 {
     let lines = inputs.usage.len();
@@ -217,14 +222,14 @@ fn work_line<B: Mailboxes, G: Gate, R: Wait>(
     stop: &AtomicBool,
     bells: Option<&Bells>,
 ) -> bool
-    requires accounts { length (B.senders senders.old) ≡ length inputs.registry.now.parties }
+    requires accounts { length (B.senders senders.old) ≡ account_count inputs }
     requires sound { IsRegistered inputs.registry.now }
-    requires place { place < length inputs.usage.now }
+    requires place { place < line_count inputs }
     requires found { (line : UsageLine) → slice_get inputs.usage.now place ≡ Some line → IsLookUp inputs.registry.now line.work found }
     requires ready { AreReadyFor B.is_shared (B.senders senders.old) 1 }
     requires claims { MOST_CLAIMS ≤ claims.old.room }
     requires portions { MOST_CLAIMS + 1 ≤ portions.old.room }
-    ensures sent { (line : UsageLine) → slice_get inputs.entry.usage.now place ≡ Some line → result ≡ true → HaveSent B.is_shared (B.senders senders.old) (B.senders senders.new) (λ account. posting_of place (portion_for account (division_by inputs.entry.tis.now inputs.entry.registry.now line))) }
+    ensures sent { result ≡ true → HaveSentLine B.is_shared (division_in inputs.entry) (lines_in inputs.entry) place (B.senders senders.old) (B.senders senders.new) }
     ensures spent { result ≡ true → HasSpent B.is_shared (B.senders senders.old) (B.senders senders.new) 257 }
     ensures rooms { (claims.new.room ≡ claims.old.room) × (portions.new.room ≡ portions.old.room) }
 {

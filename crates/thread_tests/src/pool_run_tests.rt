@@ -3,7 +3,7 @@
 ghost use Rattle.std.specs.Prelude.{◌≡◌, ◌*◌, ◌<◌, ◌≤◌, ℕ, [], IfOk, false, length};
 ghost use Rattle.pool_box.specs.PoolViews.{sender_of};
 ghost use Rattle.block_draw.specs.Views.{drawer_of};
-ghost use Rattle.split_run.specs.Running.{IsFresh};
+ghost use Rattle.split_run.specs.Opening.{IsFresh};
 
 use crate::run_threads_tests::{
     Inputs, RollCall, TAKES, assert_met, assert_small_run, assert_told, assert_totals, plan_of,

@@ -3,7 +3,7 @@ ghost use Rattle.std.specs.Prelude.{◌≡◌, ◌<◌, ◌≤◌, IfOk, false, 
 ghost use Rattle.mail_box.specs.LaneViews.{sender_of};
 ghost use Rattle.mail_box.specs.Mails.{opened_sender};
 ghost use Rattle.block_draw.specs.Views.{drawer_of};
-ghost use Rattle.split_run.specs.Running.{IsFresh};
+ghost use Rattle.split_run.specs.Opening.{IsFresh};
 ghost use Rattle.split_run.specs.Sending.{AreFresh, AreReadyFor};
 
 use crate::run_threads_tests::{Inputs, watch};

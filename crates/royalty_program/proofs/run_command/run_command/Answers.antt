@@ -1,7 +1,8 @@
 use Rattle.std.proofs.Common.{◌≡◌}
 use Rattle.std.proofs.lemmas.Result.{IfOk-weaker}
 use Rattle.clap.specs.declared.builder.value_parser.ValueParser.TheVariants as vp
-use Rattle.split_run.specs.declared.TheConstants.{MOST_NODES, MOST_THREADS}
+use Rattle.split_run.specs.Plans.{MOST_NODES}
+use Rattle.split_run.specs.declared.TheConstants.{MOST_THREADS}
 use Rattle.royalty_program.specs.RunCommand.{IsRunCommand}
 use Rattle.royalty_program.proofs.OptionLemmas.{narrowed}
 use Rattle.royalty_program.proofs.RunLemmas.{adds_more_four}

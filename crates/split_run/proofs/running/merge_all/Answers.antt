@@ -3,7 +3,7 @@ use Rattle.std.specs.Prelude.{option_map}
 use Rattle.std.specs.Vec.Iter.{into_iter_items, into_iter_len}
 use Rattle.std.proofs.lemmas.List.{length-map}
 use Rattle.split_run.specs.Reading.{inboxes_by}
-use Rattle.split_run.specs.Running.{IsGivenBack}
+use Rattle.split_run.specs.Running.{IsReadBy}
 use Rattle.split_run.proofs.RunningLemmas.{are_apart, first_given, next_given, none_merged, one_merged, rest_given}
 use Rattle.split_run.proofs.running.merge_all.Goals as goal
 
@@ -14,9 +14,7 @@ loop-reader-init g c =
     let size : length (into_iter_items c.into_iter-reader-iterator.result) ≡ c.args.readers = ap length gives ∙ c.requires.count.1 in (
       0,
       omega (arith, size),
-      (λ k d below.
-          first_given (λ number r. IsGivenBack c.args.workers c.args.readers number opened (inboxes_by g.B.Mailboxes.receiver r.inboxes.items) r.book) (into_iter_items c.into_iter-reader-iterator.result) c.args.read.items k d gives
-          (c.requires.read k d (omega (arith, below, size)))),
+      first_given (IsReadBy g.B.Mailboxes.receiver c.args.workers c.args.readers c.args.opened.value.items) gives (omega (arith, size)) c.requires.read,
       none_merged c.args.workers c.args.readers opened c.args.accounts (inboxes_by g.B.Mailboxes.receiver c.in_ok-inboxes.inboxes.items) c.in_ok-book.book
           (length-map c.args.opened.value.items (option_map g.B.Mailboxes.receiver) ∙ c.requires.count.0) c.in_ok-inboxes.ensures c.in_ok-book.ensures,
     )
@@ -25,9 +23,8 @@ pub merge-requires-after_bounds : goal.merge-requires-after_bounds
 merge-requires-after_bounds g c κs within =
     let was = c.loop-reader.invariant in
     let reader = c.in-Some-reader.reader in
-    let opened = inboxes_by g.B.Mailboxes.receiver c.args.opened.value.items in
     let back =
-    next_given (λ number r. IsGivenBack c.args.workers c.args.readers number opened (inboxes_by g.B.Mailboxes.receiver r.inboxes.items) r.book) (into_iter_items c.loop-reader.reader-iterator) (into_iter_items c.next.new.self) c.in-Some.reader was.0
+    next_given (IsReadBy g.B.Mailboxes.receiver c.args.workers c.args.readers c.args.opened.value.items) (into_iter_items c.loop-reader.reader-iterator) (into_iter_items c.next.new.self) c.in-Some.reader was.0
     (into_iter_len c.loop-reader.reader-iterator) (into_iter_len c.next.new.self) c.in-Some.ensures.steps.0 c.in-Some.ensures.steps.1 was.2 reader c.in-Some-reader.is in
     omega (arith, back.1.count, back.2.count, was.3.count, length-map reader.inboxes.items (option_map g.B.Mailboxes.receiver), length-map (vec_items c.loop-reader.inboxes) (option_map g.B.Mailboxes.receiver))
 
@@ -35,9 +32,8 @@ pub join-requires-clause-accounts : goal.join-requires-clause-accounts
 join-requires-clause-accounts g c =
     let was = c.loop-reader.invariant in
     let reader = c.in-Some-reader.reader in
-    let opened = inboxes_by g.B.Mailboxes.receiver c.args.opened.value.items in
     let back =
-    next_given (λ number r. IsGivenBack c.args.workers c.args.readers number opened (inboxes_by g.B.Mailboxes.receiver r.inboxes.items) r.book) (into_iter_items c.loop-reader.reader-iterator) (into_iter_items c.next.new.self) c.in-Some.reader was.0
+    next_given (IsReadBy g.B.Mailboxes.receiver c.args.workers c.args.readers c.args.opened.value.items) (into_iter_items c.loop-reader.reader-iterator) (into_iter_items c.next.new.self) c.in-Some.reader was.0
     (into_iter_len c.loop-reader.reader-iterator) (into_iter_len c.next.new.self) c.in-Some.ensures.steps.0 c.in-Some.ensures.steps.1 was.2 reader c.in-Some-reader.is in
     back.2.accounts ∙ back.1.count ∙ sym was.3.accounts
 
@@ -47,7 +43,7 @@ join-requires-clause-apart g c =
     let reader = c.in-Some-reader.reader in
     let opened = inboxes_by g.B.Mailboxes.receiver c.args.opened.value.items in
     let back =
-    next_given (λ number r. IsGivenBack c.args.workers c.args.readers number opened (inboxes_by g.B.Mailboxes.receiver r.inboxes.items) r.book) (into_iter_items c.loop-reader.reader-iterator) (into_iter_items c.next.new.self) c.in-Some.reader was.0
+    next_given (IsReadBy g.B.Mailboxes.receiver c.args.workers c.args.readers c.args.opened.value.items) (into_iter_items c.loop-reader.reader-iterator) (into_iter_items c.next.new.self) c.in-Some.reader was.0
     (into_iter_len c.loop-reader.reader-iterator) (into_iter_len c.next.new.self) c.in-Some.ensures.steps.0 c.in-Some.ensures.steps.1 was.2 reader c.in-Some-reader.is in
     let now = inboxes_by g.B.Mailboxes.receiver (vec_items c.loop-reader.inboxes) in
     are_apart c.args.workers c.args.readers opened was.0 now (inboxes_by g.B.Mailboxes.receiver reader.inboxes.items) now c.loop-reader.book reader.book c.loop-reader.book was.3 back
@@ -58,17 +54,17 @@ loop-reader-preserved g c =
     let reader = c.in-Some-reader.reader in
     let opened = inboxes_by g.B.Mailboxes.receiver c.args.opened.value.items in
     let back =
-    next_given (λ number r. IsGivenBack c.args.workers c.args.readers number opened (inboxes_by g.B.Mailboxes.receiver r.inboxes.items) r.book) (into_iter_items c.loop-reader.reader-iterator) (into_iter_items c.next.new.self) c.in-Some.reader was.0
+    next_given (IsReadBy g.B.Mailboxes.receiver c.args.workers c.args.readers c.args.opened.value.items) (into_iter_items c.loop-reader.reader-iterator) (into_iter_items c.next.new.self) c.in-Some.reader was.0
     (into_iter_len c.loop-reader.reader-iterator) (into_iter_len c.next.new.self) c.in-Some.ensures.steps.0 c.in-Some.ensures.steps.1 was.2 reader c.in-Some-reader.is in
     let now = inboxes_by g.B.Mailboxes.receiver (vec_items c.loop-reader.inboxes) in
     let after = inboxes_by g.B.Mailboxes.receiver (vec_items c.merge.new.inboxes) in
     let size = length-map (vec_items c.loop-reader.inboxes) (option_map g.B.Mailboxes.receiver) in (
       was.0 + 1,
       omega (arith, was.1, c.in-Some.ensures.steps.1),
-      rest_given (λ number r. IsGivenBack c.args.workers c.args.readers number opened (inboxes_by g.B.Mailboxes.receiver r.inboxes.items) r.book) (into_iter_items c.loop-reader.reader-iterator) (into_iter_items c.next.new.self) c.in-Some.reader was.0
+      rest_given (IsReadBy g.B.Mailboxes.receiver c.args.workers c.args.readers c.args.opened.value.items) (into_iter_items c.loop-reader.reader-iterator) (into_iter_items c.next.new.self) c.in-Some.reader was.0
           (into_iter_len c.loop-reader.reader-iterator) (into_iter_len c.next.new.self) c.in-Some.ensures.steps.0 c.in-Some.ensures.steps.1 was.2,
       one_merged c.args.workers c.args.readers opened was.0 now (inboxes_by g.B.Mailboxes.receiver reader.inboxes.items) after c.loop-reader.book reader.book c.join.new.self was.3 back
           (length-map (vec_items c.merge.new.inboxes) (option_map g.B.Mailboxes.receiver) ∙ c.merge.ensures.count ∙ sym size)
-          (λ account lt. c.merge.ensures.each account (omega (arith, lt, size)))
+          c.merge.ensures.each
           c.join.ensures,
     )

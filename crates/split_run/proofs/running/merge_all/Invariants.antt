@@ -1,8 +1,7 @@
-use Rattle.std.specs.Prelude.{ℕ, ◌+◌, ◌<◌, ◌≡◌, slice_index_or}
-use Rattle.std.specs.Option.{IfSome}
+use Rattle.std.specs.Prelude.{ℕ, ◌+◌, ◌≡◌}
 use Rattle.std.specs.Vec.Iter.{into_iter_items, into_iter_len}
 use Rattle.split_run.specs.Reading.{inboxes_by}
-use Rattle.split_run.specs.Running.{AreMerged, IsGivenBack}
+use Rattle.split_run.specs.Running.{AreMerged, EachGiven, IsReadBy}
 use Rattle.split_run.proofs.running.merge_all.Given as goal
 
 -- what the readers so far gave back is merged, and the others gave back theirs
@@ -12,5 +11,5 @@ invariant-loop-reader g l =
     let opened = inboxes_by g.B.Mailboxes.receiver l.opened.value.items in
     (done : ℕ)
     × (done + into_iter_len rest ≡ l.readers)
-    × ((k : ℕ) (d : _) → k < into_iter_len rest → IfSome (slice_index_or (into_iter_items rest) k d) (λ reader. IsGivenBack l.workers l.readers (done + k) opened (inboxes_by g.B.Mailboxes.receiver reader.inboxes.items) reader.book))
+    × EachGiven (into_iter_len rest) (λ k. IsReadBy g.B.Mailboxes.receiver l.workers l.readers l.opened.value.items (done + k)) (into_iter_items rest)
     × AreMerged l.workers l.readers done opened (inboxes_by g.B.Mailboxes.receiver l.inboxes.items) l.book

@@ -4,7 +4,7 @@ use Rattle.block_draw.specs.Views.{DrawerView, draw_of, drawer_of, opened_draw, 
 use Rattle.split_run.specs.Blocks.{blocks_of}
 use Rattle.split_run.specs.Reading.{inboxes_by}
 use Rattle.split_run.specs.Sending.{room_of}
-use Rattle.split_run.specs.Running.{AreDealt, AreForWork, AreMailboxes}
+use Rattle.split_run.specs.Opening.{AreDealt, AreForWork, AreMailboxes}
 use Rattle.split_run.proofs.RunningLemmas.{for_work, mailboxes_as, untouched_mailbox}
 use Rattle.split_run.proofs.WorkingLemmas.{line_here}
 use Rattle.split_run.proofs.running.open_all.Goals as goal

@@ -2,7 +2,7 @@ use Rattle.std.proofs.Common.{arith, ap, length, refl, subst, sym, ◌+◌, ◌�
 use Rattle.std.specs.Vec.Iter.{into_iter_items, into_iter_len}
 use Rattle.block_draw.specs.Views.{draw_of, drawer_of}
 use Rattle.split_run.specs.Divisions.{division_by}
-use Rattle.split_run.specs.Running.{AreGivenBack, AreTakenIn, IsWorkOf}
+use Rattle.split_run.specs.Running.{AreGivenBack, AreTakenIn, IsWorkBy}
 use Rattle.split_run.proofs.RunningLemmas.{drawn_then, ended_there, first_given, next_given, none_taken_in, one_taken_in, rest_given, still_given}
 use Rattle.split_run.proofs.running.take_in_all.Goals as goal
 
@@ -18,9 +18,7 @@ loop-worker-init g c =
     let none = ap (λ v. v.gathered) c.requires.opened in (
       0,
       omega arith,
-      (λ k d below.
-          first_given (λ number o. IsWorkOf division usage draw number (drawer_of o.drawer) before (g.B.Mailboxes.senders o.senders.items)) (into_iter_items c.into_iter-worker-iterator.result) c.args.worked.items k d gives
-          (c.requires.worked k d (omega (arith, below, size)))),
+      first_given (IsWorkBy g.B.Mailboxes.senders division usage draw before) gives (omega (arith, size)) c.requires.worked,
       none_taken_in division usage draw.drawn before,
       refl,
       none,
@@ -40,8 +38,8 @@ take_in_worker-requires-clause-ended g c κs within =
     let before = g.B.Mailboxes.gathered c.args.inboxes.now in
     let now = g.B.Mailboxes.gathered c.loop-worker.inboxes in
     let own =
-    next_given (λ number o. IsWorkOf division usage (draw_of c.args.draw.now) number (drawer_of o.drawer) before (g.B.Mailboxes.senders o.senders.items)) (into_iter_items c.loop-worker.worker-iterator) (into_iter_items c.next.new.self) c.in-Some.worker
-    was.0 (into_iter_len c.loop-worker.worker-iterator) (into_iter_len c.next.new.self) c.in-Some.ensures.steps.0 c.in-Some.ensures.steps.1 was.2 worker c.in-Some-worker.is in
+    next_given (IsWorkBy g.B.Mailboxes.senders division usage (draw_of c.args.draw.now) before) (into_iter_items c.loop-worker.worker-iterator) (into_iter_items c.next.new.self) c.in-Some.worker was.0
+    (into_iter_len c.loop-worker.worker-iterator) (into_iter_len c.next.new.self) c.in-Some.ensures.steps.0 c.in-Some.ensures.steps.1 was.2 worker c.in-Some-worker.is in
     let given = still_given division usage (draw_of c.loop-worker.draw).drawn drawer.drawn was.0 was.0 before now senders was.3 own.sent in
     record { some = omega (arith, was.3.count, c.requires.some.1); count = given.count; ended = ended_there division usage was.0 drawer.drawn now senders given; same = own.same.0 ∙ sym was.4; done = own.done }
 
@@ -56,8 +54,8 @@ loop-worker-preserved g c =
     let before = g.B.Mailboxes.gathered c.args.inboxes.now in
     let now = g.B.Mailboxes.gathered c.loop-worker.inboxes in
     let own =
-    next_given (λ number o. IsWorkOf division usage (draw_of c.args.draw.now) number (drawer_of o.drawer) before (g.B.Mailboxes.senders o.senders.items)) (into_iter_items c.loop-worker.worker-iterator) (into_iter_items c.next.new.self) c.in-Some.worker
-    was.0 (into_iter_len c.loop-worker.worker-iterator) (into_iter_len c.next.new.self) c.in-Some.ensures.steps.0 c.in-Some.ensures.steps.1 was.2 worker c.in-Some-worker.is in
+    next_given (IsWorkBy g.B.Mailboxes.senders division usage (draw_of c.args.draw.now) before) (into_iter_items c.loop-worker.worker-iterator) (into_iter_items c.next.new.self) c.in-Some.worker was.0
+    (into_iter_len c.loop-worker.worker-iterator) (into_iter_len c.next.new.self) c.in-Some.ensures.steps.0 c.in-Some.ensures.steps.1 was.2 worker c.in-Some-worker.is in
     let given = still_given division usage (draw_of c.loop-worker.draw).drawn drawer.drawn was.0 was.0 before now senders was.3 own.sent in
     let after = g.B.Mailboxes.gathered c.take_in_worker.new.inboxes in
     let draw = draw_of c.loop-worker.draw in
@@ -66,8 +64,8 @@ loop-worker-preserved g c =
     let then = drawn_then draw draw' drawer was.0 taken own.same.1 in (
       was.0 + 1,
       omega (arith, was.1, c.in-Some.ensures.steps.1),
-      rest_given (λ number o. IsWorkOf division usage (draw_of c.args.draw.now) number (drawer_of o.drawer) before (g.B.Mailboxes.senders o.senders.items)) (into_iter_items c.loop-worker.worker-iterator) (into_iter_items c.next.new.self)
-          c.in-Some.worker was.0 (into_iter_len c.loop-worker.worker-iterator) (into_iter_len c.next.new.self) c.in-Some.ensures.steps.0 c.in-Some.ensures.steps.1 was.2,
+      rest_given (IsWorkBy g.B.Mailboxes.senders division usage (draw_of c.args.draw.now) before) (into_iter_items c.loop-worker.worker-iterator) (into_iter_items c.next.new.self) c.in-Some.worker was.0
+          (into_iter_len c.loop-worker.worker-iterator) (into_iter_len c.next.new.self) c.in-Some.ensures.steps.0 c.in-Some.ensures.steps.1 was.2,
       one_taken_in division usage draw.drawn draw'.drawn was.0 before now after senders then.1 was.3 (subst (λ l. AreGivenBack division usage was.0 l now senders) (sym then.0) given) c.take_in_worker.ensures.count
           c.take_in_worker.ensures.each,
       ap (λ v. v.draw) taken ∙ was.4,

@@ -1,11 +1,10 @@
-use Rattle.std.specs.Prelude.{ℕ, ◌+◌, ◌<◌, ◌≡◌, length, slice_index_or}
-use Rattle.std.specs.Option.{IfSome}
+use Rattle.std.specs.Prelude.{ℕ, ◌+◌, ◌≡◌, length}
 use Rattle.std.specs.Vec.Iter.{into_iter_items, into_iter_len}
 use Rattle.block_draw.specs.Drawn.{AreDrawnOnce}
-use Rattle.block_draw.specs.Views.{draw_of, drawer_of}
+use Rattle.block_draw.specs.Views.{draw_of}
 use Rattle.split_run.specs.Blocks.{blocks_of}
 use Rattle.split_run.specs.Divisions.{division_by}
-use Rattle.split_run.specs.Running.{AreTakenIn, IsWorkOf}
+use Rattle.split_run.specs.Running.{AreTakenIn, EachGiven, IsWorkBy}
 use Rattle.split_run.proofs.running.take_in_all.Given as goal
 
 -- the senders and the drawers of the workers so far are taken in, and the others gave back theirs
@@ -19,8 +18,7 @@ invariant-loop-worker g l =
     let draw = draw_of l.draw in
     (done : ℕ)
     × (done + into_iter_len rest ≡ workers)
-    × ((k : ℕ) (d : _) → k < into_iter_len rest
-    → IfSome (slice_index_or (into_iter_items rest) k d) (λ own. IsWorkOf division usage (draw_of l.initial.draw) (done + k) (drawer_of own.drawer) before (g.B.Mailboxes.senders own.senders.items)))
+    × EachGiven (into_iter_len rest) (λ k. IsWorkBy g.B.Mailboxes.senders division usage (draw_of l.initial.draw) before (done + k)) (into_iter_items rest)
     × AreTakenIn division usage draw.drawn done before (g.B.Mailboxes.gathered l.inboxes)
     × (draw.draw ≡ (draw_of l.initial.draw).draw)
     × (draw.gathered ≡ done)

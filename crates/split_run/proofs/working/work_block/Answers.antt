@@ -37,7 +37,7 @@ loop-place-preserved g c =
           (λ account. postings_from division account usage first ((place + 1) - first))
           (sent_both g.B.Mailboxes.is_shared (g.B.Mailboxes.senders c.args.senders.now) (g.B.Mailboxes.senders c.loop-place.senders) (g.B.Mailboxes.senders c.work_line.new.senders)
           (λ account. postings_from division account usage first (place - first)) (λ account. posting_of place (portion_for account (division line)))
-          c.loop-place.invariant.sent (c.work_line.ensures.sent line here.1 c.if-not-work_line.false))
+          c.loop-place.invariant.sent (c.work_line.ensures.sent c.if-not-work_line.false line here.1))
           (λ account.
           ap (λ (n : ℕ). postings_from division account usage first (place - first) ++ posting_of n (portion_for account (division line))) (sym back)
           ∙ (line_more division account usage first (place - first) line (omega (arith, back, inside)) (ap (λ (n : ℕ). get_or usage n line) back ∙ get_or_from_slice_get usage place line line here.1)

@@ -1,11 +1,10 @@
 use Rattle.std.specs.Prelude.{◌≡◌, length}
-use Rattle.split_run.specs.Reading.{AreTaken, inboxes_by}
+use Rattle.split_run.specs.Reading.{HasKept, IsSameReader}
 use Rattle.split_run.proofs.reading.Reader.take_rung.Given as goal
 
 abbrev pub invariant-loop-word : goal.invariant-loop-word
 invariant-loop-word g l = record {
-  taken : AreTaken l.self.workers l.self.whole (inboxes_by g.B.Mailboxes.receiver l.self.opened.value.items) (inboxes_by g.B.Mailboxes.receiver l.self.inboxes.items) l.self.ends.items l.self.journal;
-  opened : l.self.opened.value ≡ l.initial.self.opened.value;
-  workers : l.self.workers ≡ l.initial.self.workers;
+  taken : HasKept g.B.Mailboxes.receiver l.self;
+  same : IsSameReader l.initial.self l.self;
   accounts : length l.self.journal ≡ length l.initial.self.journal;
 }

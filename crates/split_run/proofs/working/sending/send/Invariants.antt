@@ -1,0 +1,5 @@
+use Rattle.std.specs.Prelude.{◌≡◌}
+use Rattle.split_run.proofs.working.sending.send.Given as goal
+
+abbrev pub invariant-loop : goal.invariant-loop
+invariant-loop g l = g.B.Mailboxes.senders l.senders ≡ g.B.Mailboxes.senders l.initial.senders
