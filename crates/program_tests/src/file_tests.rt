@@ -1,4 +1,4 @@
-//! The commands `run` and `explain`, over files that the tests make.
+//! The commands `run`, `explain` and `check`, over files that the tests make.
 //!
 //! A test gives rows of text, each a question and, after an arrow, its answer (`rows`, `asks`). In a question `@tis`,
 //! `@cwr` and `@usage` stand for the paths of its three files, and `@payees` for that of a table in which B is paid to A.
@@ -155,8 +155,12 @@ fn explains_usage_lines(rt: HostRuntime) -> Result<(), Fail> {
         [TERRITORIES, TWO_PARTIES, USES],
         Ask::Whole,
         "\
-r explain --tis @tis --cwr @cwr --usage @usage --row 2 -> 0 [U,2,u2,W1,840,P,50|N,1,|C,3,1,A,A,6000,I,2136,yes,no|C,4,1,A,A,0,E,840,yes,yes|C,6,2,B,B,4000,I,2136,yes,yes|A,2,B,4000|B,10000,6000,0|P,2,B,4000,20,0,1,20|P,0,,6000,30,0,2,30|] []
-r explain --row=1 --usage=@usage --cwr @cwr --payees=@payees --tis @tis -> 0 [U,1,u1,W1,276,P,100|N,1,|C,3,1,A,A,6000,I,2136,yes,yes|C,4,1,A,A,0,E,840,no,no|C,6,2,B,A,4000,I,2136,yes,yes|A,1,A,10000|B,10000,0,0|P,1,A,10000,100,0,1,100|P,0,,0,0,0,2,0|] []
+r explain --tis @tis --cwr @cwr --usage @usage --row 2 -> \
+0 [U,2,u2,W1,840,P,50|N,1,|C,3,1,A,A,6000,I,2136,yes,no|C,4,1,A,A,0,E,840,yes,yes|C,6,2,B,B,4000,I,2136,yes,yes|A,2,B,4000|B,10000,6000,0|\
+P,2,B,4000,20,0,1,20|P,0,,6000,30,0,2,30|] []
+r explain --row=1 --usage=@usage --cwr @cwr --payees=@payees --tis @tis -> \
+0 [U,1,u1,W1,276,P,100|N,1,|C,3,1,A,A,6000,I,2136,yes,yes|C,4,1,A,A,0,E,840,no,no|C,6,2,B,A,4000,I,2136,yes,yes|A,1,A,10000|B,10000,0,0|\
+P,1,A,10000,100,0,1,100|P,0,,0,0,0,2,0|] []
 r explain --tis @tis --cwr @cwr --usage @usage --row 4 -> 2 [] [royalty_run: the usage list has no row 4|]
 r explain --tis @tis --cwr @cwr --usage @usage --row 1000000 -> 2 [] [royalty_run: the usage list has no row 1000000|]
 ",
@@ -177,6 +181,67 @@ r explain --tis @usage --payees @usage --cwr @cwr --usage @usage --row 1 -> 1 []
 r explain --tis @tis --cwr @cwr --usage @tis --row 1 -> 1 [] [royalty_run: cwr fault 1 at line 3|]
 r explain --tis @tis --payees absent --cwr missing --usage @usage --row 1 -> 4 [] [royalty_run: cannot read absent|]
 r explain --tis @tis --cwr @cwr --usage absent --row 1 -> 4 [] [royalty_run: cannot read absent|]
+",
+    )
+}
+
+#[test]
+fn reports_on_its_files(rt: HostRuntime) -> Result<(), Fail> {
+    assert_rows_over(
+        &rt,
+        "reported",
+        [TERRITORIES, TWO_PARTIES, USES],
+        Ask::Teller,
+        "\
+r check --tis @tis --cwr @cwr --usage @usage [@tis: territories: 4|@cwr: works with a registration in force: 1|] -> 0 out
+r check --tis @tis --cwr @cwr --usage @usage [@usage: divided: lines 2, amount 150, to the residue 30|@usage: WORK, not registered: lines 1, amount 7|] -> 0 out
+r check --tis @tis --payees @payees --cwr @cwr --usage @usage [@payees: parties with a payee: 1|] -> 0 out
+r check --tis @tis --payees @payees --cwr @cwr --usage @usage [remark] -> 0 neither
+r check --tis @tis --payees @payees --cwr @usage --usage @usage [@usage: remark: no line is an NWR or REV|@usage: usage lines: 3|] -> 0 out
+",
+    )
+}
+
+/// The share lines of lines 3, 4 and 8 are of territories that the table does not have. The party B has no registration in force.
+const MISTYPED: &str = "\
+NWR0000000000000000SONG                                                          W1
+SPU0000000000000001
+SPT0000000000000002A              060000600006000I2163
+SPT0000000000000003B                             E0841
+REV0000000100000000SONG                                                          W1
+SPU0000000100000001
+SPT0000000100000002A              060000600006000I2136
+SPT0000000100000003A                             E0841
+";
+
+#[test]
+fn remarks_what_a_run_passes_over(rt: HostRuntime) -> Result<(), Fail> {
+    assert_rows_over(
+        &rt,
+        "remarked",
+        [TERRITORIES, MISTYPED, USES],
+        Ask::Teller,
+        "\
+r check --tis @tis --cwr @cwr --usage @usage [@usage: usage lines: 3|@cwr: remark: share lines whose territory is not in the table: 3, the first in line 3|@usage: divided] -> 0 out
+r check --tis @tis --payees @payees --cwr @cwr --usage @usage [the first in line 3|@payees: remark: rows whose party no registration in force has: 1, the first in row 1|@usage: divided] -> 0 out
+r check --tis @tis --cwr @cwr --usage @usage [no registration in force has] -> 0 neither
+r check --tis @cwr --cwr @cwr --usage @usage [remark] -> 1 neither
+r check --tis @cwr --payees @payees --cwr @cwr --usage @usage [@payees: remark: rows whose party no registration in force has: 1, the first in row 1|] -> 1 out
+r check --tis @tis --payees @tis --cwr @cwr --usage @tis [no registration in force has] -> 1 neither
+r check --tis @tis --payees @tis --cwr @cwr --usage @tis [@cwr: remark: share lines whose territory is not in the table: 3, the first in line 3|] -> 1 out
+",
+    )
+}
+
+#[test]
+fn remarks_nothing_on_a_file_with_a_fault(rt: HostRuntime) -> Result<(), Fail> {
+    assert_rows_over(
+        &rt,
+        "unremarked",
+        [TERRITORIES, SHORT, USES],
+        Ask::Teller,
+        "\
+r check --tis @tis --payees @payees --cwr @cwr --usage @usage [remark] -> 1 neither
 ",
     )
 }
@@ -206,7 +271,8 @@ fn an_output_that_refuses_has_the_beginning(rt: HostRuntime) -> Result<(), Fail>
 0 99 r run --tis @tis --cwr @cwr --usage @usage --workers 2 --readers 1 --nodes 64 -> 4 [] [royalty_run: cannot write|]
 1 99 r run --tis @tis --cwr @cwr --usage @usage --workers 2 --readers 1 --nodes 64 -> 4 [L] [royalty_run: cannot write|]
 30 99 r run --tis @tis --cwr @cwr --usage @usage --workers 2 --readers 1 --nodes 64 -> 4 [L,A,u1,60|S,A,1,60|L,B,u1,40|L] [royalty_run: cannot write|]
-89 99 r run --tis @tis --cwr @cwr --usage @usage --workers 2 --readers 1 --nodes 64 -> 4 [L,A,u1,60|S,A,1,60|L,B,u1,40|L,B,u2,20|S,B,2,60|M,OPEN,u2,30|M,WORK,u3,7|T,,2,37|R,,3,157] [royalty_run: cannot write|]
+89 99 r run --tis @tis --cwr @cwr --usage @usage --workers 2 --readers 1 --nodes 64 -> \
+4 [L,A,u1,60|S,A,1,60|L,B,u1,40|L,B,u2,20|S,B,2,60|M,OPEN,u2,30|M,WORK,u3,7|T,,2,37|R,,3,157] [royalty_run: cannot write|]
 90 99 r run --tis @tis --cwr @cwr --usage @usage --workers 2 --readers 1 --nodes 64 -> 0 [L,A,u1,60|S,A,1,60|L,B,u1,40|L,B,u2,20|S,B,2,60|M,OPEN,u2,30|M,WORK,u3,7|T,,2,37|R,,3,157|] []
 ",
     )

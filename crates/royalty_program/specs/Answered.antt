@@ -4,7 +4,8 @@ use Rattle.std.specs.Option.{option_map}
 use Rattle.std.specs.Io.KnownBytes.{Appends, Keeps}
 use Rattle.line_split.specs.declared.TheConstants.{MOST_AMOUNT}
 use Rattle.royalty_program.specs.RunCommand.{run_app}
-use Rattle.royalty_program.specs.Asked.{AreRunWords, AreAccepted, AskForCheck, AskForExplanation, AskForMerge, AskForRun, IsDivision, IsRun, amount_of, inputs_given, number_given, number_in, pairs_of, path_if_given, paths_given, paths_in_order}
+use Rattle.royalty_program.specs.Asked.{AreRunWords, AreAccepted, AskForCheck, AskForExplanation, AskForMerge, AskForRun, IsDivision, IsRun}
+use Rattle.royalty_program.specs.Asked.{amount_of, inputs_given, number_given, number_in, pairs_of, path_if_given, paths_given, paths_in_order}
 use Rattle.pair_split.specs.PairFault.{AreSound}
 use Rattle.pair_split.specs.Pair.{word_at}
 use Rattle.pair_split.specs.Rows.{split_text}
@@ -114,7 +115,9 @@ pub record IsAnswerTo (words : List (List ℕ)) (text : List ℕ) : Type 0 where
   pub sound : AreSound (pairs_of words)
   pub rows : text ≡ split_text (amount_of words) (pairs_of words)
 
--- The text answers the words, where a file of a path holds these bytes: those of a division with its rows, those of a run with the statements of the files that its options name, those of an explanation with that of the line in the row, those of a check with the report on the files. Only a report may tell of a fault. Those of a merge are answered with what the texts merge to that the files give which the words name.
+-- The text answers the words, where a file of a path holds these bytes: those of a division with its rows, those of a run with the
+-- statements of the files that its options name, those of an explanation with that of the line in the row, those of a check with the
+-- report on the files, and those of a merge with what the texts of the files that they name merge to. Only a report may tell of a fault.
 pub record IsAnswered (holds gives : List ℕ → List ℕ → Type 0) (words : List (List ℕ)) (sound : Bool) (text : List ℕ) : Type 0 where
   pub division : IsDivision words → IsAnswerTo words text
   pub run : AskForRun words
@@ -139,7 +142,8 @@ AskForOutput words path =
     (AskForRun words × (path_if_given run_app (codes "output") (drop 1 words) ≡ Some path))
     ⊎ (AskForMerge words × (path_if_given merge_app (codes "output") (drop 1 words) ≡ Some path))
 
--- The text went to standard output, or it is kept in the file that the words name, and then nothing was printed. Only help is printed although words name a file.
+-- The text went to standard output, or it is kept in the file that the words name, and then nothing was printed. Only help is printed
+-- although words name a file.
 pub record IsDelivered (keeps : List ℕ → Option (List ℕ) → Type 0) (words : List (List ℕ)) (before after : Option (List ℕ)) (text : List ℕ) : Type 0 where
   pub printed_or_kept : Appends before after text ⊎ ((path : List ℕ) × NameOutput words path × keeps path (Some text) × Keeps before after)
   pub kept_if_named : (path : List ℕ) → AskForOutput words path → keeps path (Some text) × Keeps before after

@@ -31,7 +31,8 @@ amount_of words = number_in (word_at words 2)
 abbrev pub pairs_of : List (List ℕ) → List (List ℕ)
 pairs_of words = drop 3 words
 
--- What follows is of the words of a command from its name on, as clap reads them by its grammar. An option may stand anywhere among them, and its value after a blank or a `=`: this is the path, and the number, that the option of a name is given.
+-- What follows is of the words of a command from its name on, as clap reads them by its grammar. An option may stand anywhere among
+-- them, and its value after a blank or a `=`: this is the path, and the number, that the option of a name is given.
 unfoldable pub path_given : App → (name : List ℕ) → List (List ℕ) → List ℕ
 path_given app name words = unwrap_or (first_of name (matches_of app words)) []
 

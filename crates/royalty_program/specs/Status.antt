@@ -31,7 +31,8 @@ use Rattle.run_inputs.specs.declared.fault.Fault.TheVariants as input
 use Rattle.pair_split.specs.declared.pair_fault.PairFault.{PairFault}
 use Rattle.pair_split.specs.declared.pair_fault.PairFault.TheVariants as fault
 
--- 1 for an input or a text of statements that is refused, 2 for words that are, 3 for lack of memory, 4 for a file that cannot be read or written, or changed meanwhile, and for an output that cannot be written
+-- 1 for an input or a text of statements that is refused, 2 for words that are, 3 for lack of memory, 4 for a file that cannot be
+-- read or written, or changed meanwhile, and for an output that cannot be written
 abbrev pub status_of : Failure → ℕ
 status_of (Words error) = 2
 status_of NotText = 2
@@ -45,6 +46,15 @@ status_of (Target path) = 4
 status_of (Statement fault path) = 1
 status_of Many = 1
 status_of (Changed path) = 4
+
+-- the status says that a report tells of a fault, which is no failure
+abbrev pub IsReportOfFault : (status : ℕ) → List (List ℕ) → Type 0
+IsReportOfFault status words = (status ≡ 1) × (word_at words 1 ≡ codes "check")
+
+-- The status says that nothing was printed. A report tells of its faults, and a merge that memory was refused may have begun.
+abbrev pub IsStatusOfSilence : (status : ℕ) → List (List ℕ) → Type 0
+IsStatusOfSilence status words =
+    ((status ≡ 1) × ¬ (word_at words 1 ≡ codes "check")) ⊎ ((status ≡ 2) ⊎ ((status ≡ 3) × ¬ (word_at words 1 ≡ codes "merge")))
 
 -- a fault of a number, and of a place where it has one, as a line of text
 abbrev pub fault_text : (what : List ℕ) → ℕ → (where_is : List ℕ) → Option ℕ → List ℕ
@@ -157,7 +167,8 @@ IsOfExplanation holds refuses words (Words error) = ¬ AreAccepted explain_app w
 IsOfExplanation holds refuses words failure =
     IsUnexplained holds refuses (inputs_given explain_app words) (number_given explain_app (codes "row") words) failure
 
--- A merge of the texts of these paths fails for the first fault of the first that has one, since they are of too many usage lines, for lack of memory, for one that cannot be read, or since one changed after all were found to be sound.
+-- A merge of the texts of these paths fails for the first fault of the first that has one, since they are of too many usage lines, for
+-- lack of memory, for one that cannot be read, or since one changed after all were found to be sound.
 abbrev pub IsOfTexts : (gives : List ℕ → List ℕ → Type 0) → List (List ℕ) → Failure → Type 0
 IsOfTexts gives paths (Statement fault path) = IsFaultAt gives paths (string_bytes path) fault
 IsOfTexts gives paths Many = AreTooMany gives paths

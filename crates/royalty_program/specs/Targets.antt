@@ -14,6 +14,10 @@ IsLeft old new = (file : Option (List ℕ)) → old file → new file
 abbrev pub IsLeftOrHas : (old new : Option (List ℕ) → Type 0) → (List ℕ → Type 0) → Type 0
 IsLeftOrHas old new Answers = IsLeft old new ⊎ ((text : List ℕ) × new (Some text) × Answers text)
 
+-- or it has the whole of a draft with these contents, whose text stands behind what a new draft has
+abbrev pub IsLeftOrWhole : (blank contents : Option (List ℕ)) → (old new : Option (List ℕ) → Type 0) → Type 0
+IsLeftOrWhole blank contents old new = (text : List ℕ) → Appends blank contents text → IsLeft old new ⊎ new (Some text)
+
 -- The text went to where it was to go: to the output, or under this path, where one is named, and then not to the output.
 abbrev pub IsPut : (path : Option (List ℕ)) → (keeps : List ℕ → Option (List ℕ) → Type 0) → (before after : Option (List ℕ)) → List ℕ → Type 0
 IsPut None keeps before after text = Appends before after text

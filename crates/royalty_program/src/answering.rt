@@ -7,7 +7,7 @@ ghost use Rattle.royalty_program.specs.Answered.{IsAnswered, IsDelivered, NameOu
 ghost use Rattle.royalty_program.specs.Files.{for_any_error, on_disk};
 ghost use Rattle.royalty_program.specs.MergeFiles.{any_text};
 ghost use Rattle.royalty_program.specs.Targets.{IsLeftOrHas, in_any_file};
-ghost use Rattle.royalty_program.specs.Status.{FailFor, IsOfCheck, IsOfDivision, IsOfExplanation, IsOfMerge, IsOfRun, IsRefusal, failure_of_kind, status_of};
+ghost use Rattle.royalty_program.specs.Status.{FailFor, IsOfCheck, IsOfDivision, IsOfExplanation, IsOfMerge, IsOfRun, IsRefusal, IsReportOfFault, IsStatusOfSilence, failure_of_kind, status_of};
 ghost use Rattle.royalty_program.specs.declared.failure.Failure.{Failure};
 ghost use Rattle.royalty_program.specs.declared.failure.Failure.TheVariants.{Output, Room};
 ghost use Rattle.pair_split.specs.Pair.{word_at};
@@ -64,12 +64,15 @@ pub fn program<R: Files + Threads + Wait + Sync, W: Write, E: Write>(
     err: &mut E,
 ) -> u8
     ensures known { result ≤ 4 }
-    ensures printed { result ≡ 0 → (text : List ℕ) × IsDelivered in_any_file (map string_bytes words.now) (W.contents out.old) (W.contents out.new) text × IsAnswered on_disk any_text (map string_bytes words.now) true text }
-    ensures told { result ≡ 1 → word_at (map string_bytes words.now) 1 ≡ codes "check" → (text : List ℕ) × Appends (W.contents out.old) (W.contents out.new) text × IsAnswered on_disk any_text (map string_bytes words.now) false text }
-    ensures quiet { (result ≡ 0) ⊎ ((result ≡ 1) × (word_at (map string_bytes words.now) 1 ≡ codes "check")) → err.new ≡ err.old }
-    ensures silent { ((result ≡ 1) × ¬ (word_at (map string_bytes words.now) 1 ≡ codes "check")) ⊎ ((result ≡ 2) ⊎ ((result ≡ 3) × ¬ (word_at (map string_bytes words.now) 1 ≡ codes "merge"))) → out.new ≡ out.old }
+    ensures printed { result ≡ 0 → (text : List ℕ) × IsDelivered in_any_file (map string_bytes words.now) (W.contents out.old) (W.contents out.new) text
+        × IsAnswered on_disk any_text (map string_bytes words.now) true text }
+    ensures told { result ≡ 1 → word_at (map string_bytes words.now) 1 ≡ codes "check" → (text : List ℕ) × Appends (W.contents out.old) (W.contents out.new) text
+        × IsAnswered on_disk any_text (map string_bytes words.now) false text }
+    ensures quiet { (result ≡ 0) ⊎ IsReportOfFault result (map string_bytes words.now) → err.new ≡ err.old }
+    ensures silent { IsStatusOfSilence result (map string_bytes words.now) → out.new ≡ out.old }
     ensures accepted { AreRun (map string_bytes words.now) → result ≢ 2 }
-    ensures failed { result ≢ 0 → ¬ ((result ≡ 1) × (word_at (map string_bytes words.now) 1 ≡ codes "check")) → (failure : Failure) × (result ≡ status_of failure) × ((failure ≡ Output) ⊎ FailFor on_disk any_text for_any_error (map string_bytes words.now) failure) }
+    ensures failed { result ≢ 0 → ¬ IsReportOfFault result (map string_bytes words.now) → (failure : Failure) × (result ≡ status_of failure)
+        × ((failure ≡ Output) ⊎ FailFor on_disk any_text for_any_error (map string_bytes words.now) failure) }
 {
     let printed = answer(rt, alloc, &Disk { rt }, &mut Disk { rt }, words, out);
     end(printed, out, err)
@@ -112,12 +115,14 @@ fn answer<R: Threads + Wait + Sync, S: Source, T: Target, W: Write>(
     ensures others { IfOk result (λ done. ¬ (word_at (map string_bytes words.now) 1 ≡ codes "check") → done.1 ≡ true) }
     ensures failure { IfErr result IsRefusal }
     ensures run { word_at (map string_bytes words.now) 1 ≡ codes "run" → IfErr result (IsOfRun (S.holds files.now) (S.refuses files.now) (drop 1 (map string_bytes words.now))) }
-    ensures explanation { word_at (map string_bytes words.now) 1 ≡ codes "explain" → IfErr result (IsOfExplanation (S.holds files.now) (S.refuses files.now) (drop 1 (map string_bytes words.now))) }
+    ensures explanation { word_at (map string_bytes words.now) 1 ≡ codes "explain"
+        → IfErr result (IsOfExplanation (S.holds files.now) (S.refuses files.now) (drop 1 (map string_bytes words.now))) }
     ensures checked { word_at (map string_bytes words.now) 1 ≡ codes "check" → IfErr result (IsOfCheck (S.holds files.now) (S.refuses files.now) (drop 1 (map string_bytes words.now))) }
     ensures pairs { IsDivision (map string_bytes words.now) → IfErr result (IsOfDivision (map string_bytes words.now)) }
     ensures merge { word_at (map string_bytes words.now) 1 ≡ codes "merge" → IfErr result (IsOfMerge (S.gives files.now) (drop 1 (map string_bytes words.now))) }
     ensures silent { IfErr result (λ failure. (status_of failure ≤ 2) ⊎ (¬ (word_at (map string_bytes words.now) 1 ≡ codes "merge")) → out.new ≡ out.old) }
-    ensures left { (path : List ℕ) → NameOutput (map string_bytes words.now) path → IsLeftOrHas (T.keeps target.old path) (T.keeps target.new path) (IsAnswered (S.holds files.now) (S.gives files.now) (map string_bytes words.now) true) }
+    ensures left { (path : List ℕ) → NameOutput (map string_bytes words.now) path → IsLeftOrHas (T.keeps target.old path) (T.keeps target.new path)
+        (IsAnswered (S.holds files.now) (S.gives files.now) (map string_bytes words.now) true) }
     ensures unused { ((path : List ℕ) → ¬ NameOutput (map string_bytes words.now) path) → target.new ≡ target.old }
 {
     match read_words(alloc, words) {

@@ -6,7 +6,7 @@ ghost use Rattle.std.specs.Prelude.{◌≡◌, ◌<◌, ◌≤◌, ◌↔◌, �
 ghost use Rattle.std.specs.Option.{option_map};
 ghost use Rattle.std.specs.declared.io.ErrorKind.{ErrorKind};
 ghost use Rattle.check_inputs.specs.Checked.{IsReportOn, files_of, path_if_given, paths_of};
-ghost use Rattle.royalty_program.specs.Files.{AreRead, AreStatementsOver, HaveNoFaultOver, HoldsIfGiven, IsExplanationOver, IsReportOver, for_any_error, on_disk};
+ghost use Rattle.royalty_program.specs.Files.{AreRead, AreStatementsOver, HaveNoFaultOver, HoldsIfGiven, IsExplanationOver, IsReportOver, for_any_error, on_disk, paths_at};
 ghost use Rattle.royalty_program.specs.InputPaths.{paths_in};
 ghost use Rattle.royalty_program.specs.declared.failure.Failure.TheVariants.{Room};
 ghost use Rattle.royalty_program.specs.Status.{IsOfFile, IsOfNoInput, IsOfOutput, IsOfPaths, IsRefusal, IsUnexplained, failure_of_file};
@@ -122,7 +122,17 @@ pub fn settle_files<R: Threads + Wait + Sync, S: Source, W: Write>(
     ensures silent { IfErr result (λ _. out.new ≡ out.old) }
 {
     let (tis, payees, cwr, usage) = read_all(files, alloc, asked.inputs)?;
-    match settle_to(rt, alloc, tis, payees, cwr, usage, asked.plan, out) {
+    let payees = bytes_if_given(payees);
+    match settle_to(
+        rt,
+        alloc,
+        tis.bytes,
+        payees,
+        cwr.bytes,
+        usage.bytes,
+        asked.plan,
+        out,
+    ) {
         Ok(printed) => Ok(printed),
         Err(fault) => Err(Failure::from(fault)),
     }
@@ -194,10 +204,10 @@ pub fn explain_files<S: Source>(
     let (tis, payees, cwr, usage) = read_all(files, alloc, inputs)?;
     match explain(
         alloc,
-        tis.as_slice(),
+        tis.bytes.as_slice(),
         lent(&payees),
-        cwr.as_slice(),
-        usage.as_slice(),
+        cwr.bytes.as_slice(),
+        usage.bytes.as_slice(),
         row,
     ) {
         Ok(Some(text)) => Ok(text),
@@ -214,16 +224,7 @@ pub fn check_files<S: Source>(alloc: Global, files: &S, inputs: Inputs) -> Resul
     ensures files { IfErr result (IsOfPaths (S.holds files.now) (S.refuses files.now) (paths_in inputs)) }
     ensures no_input { IfErr result IsOfNoInput }
 {
-    let Inputs {
-        tis,
-        payees,
-        cwr,
-        usage,
-    } = inputs;
-    let tis = file_of(files, alloc, tis)?;
-    let payees = file_if_given(files, alloc, payees)?;
-    let cwr = file_of(files, alloc, cwr)?;
-    let usage = file_of(files, alloc, usage)?;
+    let (tis, payees, cwr, usage) = read_all(files, alloc, inputs)?;
     check_read(alloc, tis, payees, cwr, usage)
 }
 
@@ -242,6 +243,31 @@ fn check_read(
         Ok(checked) => Ok(checked),
         Err(_) => Err(Failure::Room),
     }
+}
+
+/// The files of these paths, read in this order.
+fn read_all<S: Source>(
+    files: &S,
+    alloc: Global,
+    inputs: Inputs,
+) -> Result<(File, Option<File>, File, File), Failure>
+    ensures read { IfOk result (λ read. AreRead (S.holds files.now) (paths_in inputs) (files_of read.0 read.1 read.2 read.3)) }
+    ensures paths { IfOk result (λ read. paths_of read.0 read.1 read.2 read.3 ≡ paths_at (paths_in inputs)) }
+    ensures failure { IfErr result IsRefusal }
+    ensures files { IfErr result (IsOfPaths (S.holds files.now) (S.refuses files.now) (paths_in inputs)) }
+    ensures no_input { IfErr result IsOfNoInput }
+{
+    let Inputs {
+        tis,
+        payees,
+        cwr,
+        usage,
+    } = inputs;
+    let tis = file_of(files, alloc, tis)?;
+    let payees = file_if_given(files, alloc, payees)?;
+    let cwr = file_of(files, alloc, cwr)?;
+    let usage = file_of(files, alloc, usage)?;
+    Ok((tis, payees, cwr, usage))
 }
 
 /// The file of a path.
@@ -274,62 +300,22 @@ fn file_if_given<S: Source>(
 }
 
 /// The bytes of a file, where there is one.
-fn lent(file: &Option<Vec<u8>>) -> Option<&[u8]>
-    ensures { option_map (λ bytes. bytes.now) result ≡ option_map (λ bytes. bytes.items) file.now }
+fn bytes_if_given(file: Option<File>) -> Option<Vec<u8>>
+    ensures { option_map (λ bytes. bytes.items) result ≡ option_map (λ file. file.bytes.items) file }
 {
     match file {
-        Some(bytes) => Some(bytes.as_slice()),
+        Some(file) => Some(file.bytes),
         None => None,
     }
 }
 
-/// The bytes of the files of these paths, read in this order.
-fn read_all<S: Source>(
-    files: &S,
-    alloc: Global,
-    inputs: Inputs,
-) -> Result<(Vec<u8>, Option<Vec<u8>>, Vec<u8>, Vec<u8>), Failure>
-    ensures read { IfOk result (λ bytes. AreRead (S.holds files.now) (paths_in inputs) (record { territories = bytes.0.items; payees = option_map (λ file. file.items) bytes.1; registrations = bytes.2.items; usage = bytes.3.items })) }
-    ensures failure { IfErr result IsRefusal }
-    ensures files { IfErr result (IsOfPaths (S.holds files.now) (S.refuses files.now) (paths_in inputs)) }
+/// The same, lent.
+fn lent(file: &Option<File>) -> Option<&[u8]>
+    ensures { option_map (λ bytes. bytes.now) result ≡ option_map (λ file. file.bytes.items) file.now }
 {
-    let Inputs {
-        tis,
-        payees,
-        cwr,
-        usage,
-    } = inputs;
-    let tis = read_file(files, alloc, tis)?;
-    let payees = read_if_given(files, alloc, payees)?;
-    let cwr = read_file(files, alloc, cwr)?;
-    let usage = read_file(files, alloc, usage)?;
-    Ok((tis, payees, cwr, usage))
-}
-
-/// The bytes of the file of a path, where there is one.
-fn read_if_given<S: Source>(
-    files: &S,
-    alloc: Global,
-    path: Option<String>,
-) -> Result<Option<Vec<u8>>, Failure>
-    ensures bytes { IfOk result (λ bytes. HoldsIfGiven (S.holds files.now) (option_map string_bytes path) (option_map (λ bytes. bytes.items) bytes)) }
-    ensures failure { IfErr result (λ failure. IfSome path (λ path. IsOfFile (S.refuses files.now) path failure)) }
-    ensures given { IfErr result (λ failure. IsSome path) }
-{
-    match path {
-        Some(path) => Ok(Some(read_file(files, alloc, path)?)),
-        None => Ok(None),
-    }
-}
-
-/// The bytes of the file of a path.
-fn read_file<S: Source>(files: &S, alloc: Global, path: String) -> Result<Vec<u8>, Failure>
-    ensures bytes { IfOk result (λ bytes. S.holds files.now (string_bytes path) bytes.items) }
-    ensures failure { IfErr result (IsOfFile (S.refuses files.now) path) }
-{
-    match files.read(alloc, path.as_str()) {
-        Ok(bytes) => Ok(bytes),
-        Err(error) => Err(unread(error.kind(), path)),
+    match file {
+        Some(file) => Some(file.bytes.as_slice()),
+        None => None,
     }
 }
 

@@ -3,7 +3,7 @@
 ghost use Rattle.std.specs.Io.KnownBytes.{Appends};
 ghost use Rattle.std.specs.Prelude.{◌≡◌, ◌⊎◌, ℕ, List, None, Option, Some, Err, IfErr, IfOk, IsOk, IsOkAnd, OnErr, OnOk, string_bytes};
 ghost use Rattle.royalty_program.specs.Status.{failure_of_target};
-ghost use Rattle.royalty_program.specs.Targets.{IsLeft, in_any_file};
+ghost use Rattle.royalty_program.specs.Targets.{IsLeft, IsLeftOrWhole, in_any_file};
 
 use crate::failure::Failure;
 use crate::files::Disk;
@@ -36,7 +36,7 @@ pub trait Target {
     /// path has what it had, or the whole draft.
     fn keep(&mut self, draft: Self::Draft, path: &str) -> io::Result<()>
         ensures kept { OnOk result ((text : List ℕ) → Appends blank (Self.Draft.contents draft) text → keeps self.new path.now (Some text)) }
-        ensures left { OnErr result ((text : List ℕ) → Appends blank (Self.Draft.contents draft) text → IsLeft (keeps self.old path.now) (keeps self.new path.now) ⊎ keeps self.new path.now (Some text)) };
+        ensures left { OnErr result (IsLeftOrWhole blank (Self.Draft.contents draft) (keeps self.old path.now) (keeps self.new path.now)) };
 
     /// Throws a draft away.
     fn discard(&mut self, draft: Self::Draft, path: &str)
@@ -54,7 +54,7 @@ pub fn finish<T: Target>(
     ensures whole { IfOk result (λ _. IsOkAnd written IsOk) }
     ensures failure { IfErr result (λ failure. (written ≡ Err failure) ⊎ (failure ≡ Failure.Target path)) }
     ensures left { OnErr result (IsLeft (T.keeps target.old (string_bytes path)) (T.keeps target.new (string_bytes path))
-        ⊎ (IsOkAnd written IsOk × ((text : List ℕ) → Appends T.blank (T.Draft.contents draft) text → IsLeft (T.keeps target.old (string_bytes path)) (T.keeps target.new (string_bytes path)) ⊎ T.keeps target.new (string_bytes path) (Some text)))) }
+        ⊎ (IsOkAnd written IsOk × IsLeftOrWhole T.blank (T.Draft.contents draft) (T.keeps target.old (string_bytes path)) (T.keeps target.new (string_bytes path)))) }
 {
     match written {
         Ok(Ok(())) => match target.keep(draft, path.as_str()) {

@@ -22,7 +22,8 @@ ArePayees None rows = rows ≡ []
 ArePayees (Some file) rows = payees.IsTableOf (rows_of file) rows
 
 -- what the inputs were read as
-pub record IsReading (territories_file : List ℕ) (payees_file : Option (List ℕ)) (registrations_file usage_file : List ℕ) (table : List (ℕ × List ℕ)) (registered : Registered) (lines : List UsageLine) : Type 0 where
+pub record IsReading (territories_file : List ℕ) (payees_file : Option (List ℕ)) (registrations_file usage_file : List ℕ)
+    (table : List (ℕ × List ℕ)) (registered : Registered) (lines : List UsageLine) : Type 0 where
   pub territories : tis.IsTableOf (rows_of territories_file) table
   pub rows : List (List ℕ × List ℕ)
   pub payees : ArePayees payees_file rows

@@ -2,8 +2,8 @@
 //!
 //! A test gives rows of text, each a question on a file and, after a colon, its answer (`rows`).
 
-use crate::rows::{Ask, assert_rows, in_brackets, text_of};
-use cwr_share::{CwrFault, Registry};
+use crate::rows::{Ask, assert_rows, in_brackets, lines_of, text_of};
+use cwr_share::{CwrFault, Payees, Registry, Tally, unknown_territories, unused_payees};
 use line_split::{Line, Right};
 use small_run::{TERRITORIES, TWO_PARTIES};
 use std::alloc::Global;
@@ -153,6 +153,38 @@ fn outcome_after(alloc: Global, file: &str, edit: &str) -> Result<String, Fail> 
     outcome(alloc, edited(alloc, file, edit)?.as_bytes())
 }
 
+/// How many there are, and the first of them.
+fn tallied(alloc: Global, tally: Tally) -> Result<String, Fail> {
+    let Tally { count, first } = tally;
+    Ok(format!(in alloc; "{count} from {first}")?)
+}
+
+/// The share lines of a file whose territory the table does not have.
+fn unknown(alloc: Global, file: &[u8]) -> Result<String, Fail> {
+    let tis = TisTable::read(alloc, TERRITORIES.as_bytes())?;
+    let _registry = Registry::read(alloc, file)?;
+    tallied(alloc, unknown_territories(file, &tis))
+}
+
+/// The same of a file after an edit.
+fn unknown_after(alloc: Global, file: &str, edit: &str) -> Result<String, Fail> {
+    unknown(alloc, edited(alloc, file, edit)?.as_bytes())
+}
+
+/// The rows of a table of payees whose party no registration in force of a file has.
+fn unused(alloc: Global, registry: &Registry, rows: &str) -> Result<String, Fail> {
+    let mut table = Vec::from_slice(alloc, b"party,payee\n")?;
+    table.extend_from_slice(lines_of(alloc, rows)?.as_slice())?;
+    let payees = Payees::read(alloc, table.as_slice())?;
+    tallied(alloc, unused_payees(&payees, registry))
+}
+
+/// The same of a file, where these are the rows.
+fn unused_in(alloc: Global, file: &str, rows: &str) -> Result<String, Fail> {
+    let registry = read(alloc, file)?;
+    unused(alloc, &registry, rows)
+}
+
 /// Two texts, one after the other.
 fn joined(alloc: Global, first: &str, second: &str) -> Result<String, Fail> {
     Ok(format!(in alloc; "{first}{second}")?)
@@ -234,6 +266,10 @@ enum Asked<'a> {
     Account(&'a str),
     /// The outcome of the file after an edit.
     Outcome(&'a str),
+    /// The share lines of the file after an edit whose territory the table does not have.
+    Unknown(&'a str),
+    /// The rows of a table of payees, with slashes for their line ends, whose party no registration in force has.
+    Unused(&'a str),
 }
 
 impl Ask for Asked<'_> {
@@ -242,6 +278,8 @@ impl Ask for Asked<'_> {
             Asked::Claims(file) => claims_in(alloc, file, question),
             Asked::Account(file) => account_in(alloc, file, question),
             Asked::Outcome(file) => outcome_after(alloc, file, question),
+            Asked::Unknown(file) => unknown_after(alloc, file, question),
+            Asked::Unused(file) => unused_in(alloc, file, question),
         }
     }
 }
@@ -291,6 +329,86 @@ W1,0,P: Some(Land) []
 W9,9999,P: Some(Work) []
  W1,276,P: Some(Work) []
 ",
+    )
+}
+
+/// The share lines in lines 3, 4 and 9 are of territories that the table does not have. So is that in line 11, which is of no
+/// registration.
+const OF_UNKNOWN_TERRITORIES: &str = "\
+NWR0000000000000000SONG                                                          W1
+SPU0000000000000001
+SPT0000000000000002A              060000600006000I2163
+SPT0000000000000003A                             E0841
+REV0000000100000000SONG                                                          W1
+SWR0000000100000001
+OPU
+SWT0000000100000002C        050000500005000I2136
+SWT0000000100000002D        050000500005000I0841
+GRT
+SPT0000000000000003A                             E0841
+";
+
+#[test]
+fn finds_share_lines_of_unknown_territories(rt: HostRuntime) -> Result<(), Fail> {
+    assert_rows(
+        &rt,
+        rt.alloc(),
+        &Asked::Unknown(TWO_PARTIES),
+        "\
+SONG>SONG: 0 from 0
+E0840>E0841: 1 from 4
+E0840>E9001: 0 from 0
+I2136>I2163: 1 from 3
+SPU0000000000000001>HDR: 0 from 0
+I2136>I0276: 0 from 0
+",
+    )?;
+    assert_rows(
+        &rt,
+        rt.alloc(),
+        &Asked::Unknown(OF_UNKNOWN_TERRITORIES),
+        "\
+SONG>SONG: 3 from 3
+I2163>I2136: 2 from 4
+GRT>XXX: 4 from 3
+NWR>GRT: 1 from 9
+",
+    )
+}
+
+#[test]
+fn finds_payees_of_parties_that_nobody_is(rt: HostRuntime) -> Result<(), Fail> {
+    assert_rows(
+        &rt,
+        rt.alloc(),
+        &Asked::Unused(TWO_PARTIES),
+        "\
+: 0 from 0
+A,X/B,Y/: 0 from 0
+A,X/C,Y/: 1 from 2
+C,A/A,X/D,B/E,E/B,A/: 3 from 1
+A ,C/ABCDEFGHIJK,A/a,A/: 2 from 2
+",
+    )?;
+    assert_rows(
+        &rt,
+        rt.alloc(),
+        &Asked::Unused(FIVE_WORKS),
+        "\
+C,X/B,X/A,X/: 0 from 0
+W2,X/A,X/: 1 from 1
+",
+    )
+}
+
+/// A party that only a replaced registration has is in force no more.
+#[test]
+fn finds_payees_of_replaced_registrations(rt: HostRuntime) -> Result<(), Fail> {
+    assert_rows(
+        &rt,
+        rt.alloc(),
+        &Asked::Unused(OF_UNKNOWN_TERRITORIES),
+        "C,X/A,X/D,X/: 1 from 2\n",
     )
 }
 

@@ -1,83 +1,20 @@
-use Rattle.std.specs.Option.{option_map}
 use Rattle.std.proofs.lemmas.Result.{IfOk-weaker}
 use Rattle.check_inputs.specs.declared.report.Checked.{Checked}
+use Rattle.clap.proofs.TakesLemmas.{passed_up}
 use Rattle.royalty_program.specs.Files.{IsReportOver}
 use Rattle.royalty_program.specs.InputPaths.{paths_in}
 use Rattle.royalty_program.specs.Status.{IsOfNoInput, IsOfPaths}
-use Rattle.royalty_program.proofs.FileLemmas.{cwr_unread, no_input, no_input_if_given, payees_unread, read_if_given, tis_unread, usage_unread}
-use Rattle.clap.proofs.TakesLemmas.{passed_up}
 use Rattle.royalty_program.proofs.files.check_files.Goals as goal
 
 pub returns-in_err-tis-clause-files : goal.returns-in_err-tis-clause-files
 returns-in_err-tis-clause-files g c =
-    let inputs = c.args.inputs in
-    let holds = g.S.Source.holds c.args.files.now in
-    let refuses = g.S.Source.refuses c.args.files.now in
-    let failure = c.in_err-tis.field-0.0 in
-    passed_up c.from_residual.result failure (IsOfPaths holds refuses (paths_in inputs)) c.from_residual.ensures.1
-    (tis_unread holds refuses inputs failure c.in_err-tis.ensures.failure)
-
-pub returns-in_err-payees-clause-files : goal.returns-in_err-payees-clause-files
-returns-in_err-payees-clause-files g c =
-    let inputs = c.args.inputs in
-    let holds = g.S.Source.holds c.args.files.now in
-    let refuses = g.S.Source.refuses c.args.files.now in
-    let failure = c.in_err-payees.field-0.0 in
-    passed_up c.from_residual-in_err-payees.result failure (IsOfPaths holds refuses (paths_in inputs)) c.from_residual-in_err-payees.ensures.1
-    (payees_unread holds refuses inputs failure (c.in_ok-tis.tis.bytes.items, c.in_ok-tis.ensures.bytes) c.in_err-payees.ensures.given c.in_err-payees.ensures.failure)
-
-pub returns-in_err-cwr-clause-files : goal.returns-in_err-cwr-clause-files
-returns-in_err-cwr-clause-files g c =
-    let inputs = c.args.inputs in
-    let holds = g.S.Source.holds c.args.files.now in
-    let refuses = g.S.Source.refuses c.args.files.now in
-    let failure = c.in_err-cwr.field-0.0 in
-    passed_up c.from_residual-in_err-cwr.result failure (IsOfPaths holds refuses (paths_in inputs)) c.from_residual-in_err-cwr.ensures.1
-    (cwr_unread holds refuses inputs failure (c.in_ok-tis.tis.bytes.items, c.in_ok-tis.ensures.bytes) (read_if_given holds _ _ c.in_ok-payees.ensures.bytes) c.in_err-cwr.ensures.failure)
-
-pub returns-in_err-usage-clause-files : goal.returns-in_err-usage-clause-files
-returns-in_err-usage-clause-files g c =
-    let inputs = c.args.inputs in
-    let holds = g.S.Source.holds c.args.files.now in
-    let refuses = g.S.Source.refuses c.args.files.now in
-    let failure = c.in_err-usage.field-0.0 in
-    passed_up c.from_residual-in_err-usage.result failure (IsOfPaths holds refuses (paths_in inputs)) c.from_residual-in_err-usage.ensures.1
-    (usage_unread holds refuses inputs failure (c.in_ok-tis.tis.bytes.items, c.in_ok-tis.ensures.bytes) (read_if_given holds _ _ c.in_ok-payees.ensures.bytes) (c.in_ok-cwr.cwr.bytes.items, c.in_ok-cwr.ensures.bytes)
-    c.in_err-usage.ensures.failure)
+    passed_up c.from_residual.result c.in_err-tis.field-0.0 (IsOfPaths (g.S.Source.holds c.args.files.now) (g.S.Source.refuses c.args.files.now) (paths_in c.args.inputs))
+    c.from_residual.ensures.1 c.in_err-tis.ensures.files
 
 pub returns-in_err-tis-clause-no_input : goal.returns-in_err-tis-clause-no_input
-returns-in_err-tis-clause-no_input g c =
-    passed_up c.from_residual.result c.in_err-tis.field-0.0 IsOfNoInput c.from_residual.ensures.1 (no_input (g.S.Source.refuses c.args.files.now) c.args.inputs.tis c.in_err-tis.field-0.0 c.in_err-tis.ensures.failure)
-
-pub returns-in_err-payees-clause-no_input : goal.returns-in_err-payees-clause-no_input
-returns-in_err-payees-clause-no_input g c =
-    passed_up c.from_residual-in_err-payees.result c.in_err-payees.field-0.0 IsOfNoInput c.from_residual-in_err-payees.ensures.1
-    (no_input_if_given (g.S.Source.refuses c.args.files.now) c.args.inputs.payees c.in_err-payees.field-0.0 c.in_err-payees.ensures.given c.in_err-payees.ensures.failure)
-
-pub returns-in_err-cwr-clause-no_input : goal.returns-in_err-cwr-clause-no_input
-returns-in_err-cwr-clause-no_input g c =
-    passed_up c.from_residual-in_err-cwr.result c.in_err-cwr.field-0.0 IsOfNoInput c.from_residual-in_err-cwr.ensures.1 (no_input (g.S.Source.refuses c.args.files.now) c.args.inputs.cwr c.in_err-cwr.field-0.0 c.in_err-cwr.ensures.failure)
-
-pub returns-in_err-usage-clause-no_input : goal.returns-in_err-usage-clause-no_input
-returns-in_err-usage-clause-no_input g c =
-    passed_up c.from_residual-in_err-usage.result c.in_err-usage.field-0.0 IsOfNoInput c.from_residual-in_err-usage.ensures.1 (no_input (g.S.Source.refuses c.args.files.now) c.args.inputs.usage c.in_err-usage.field-0.0 c.in_err-usage.ensures.failure)
+returns-in_err-tis-clause-no_input g c = passed_up c.from_residual.result c.in_err-tis.field-0.0 IsOfNoInput c.from_residual.ensures.1 c.in_err-tis.ensures.no_input
 
 pub returns-clause-report : goal.returns-clause-report
 returns-clause-report g c =
     IfOk-weaker c.check_read.result _ (λ (checked : Checked). IsReportOver (g.S.Source.holds c.args.files.now) (paths_in c.args.inputs) checked.is_sound checked.text.items)
-    (λ checked report. record {
-      files = record {
-        territories = c.in_ok-tis.tis.bytes.items;
-        payees = option_map (λ file. file.bytes.items) c.in_ok-payees.payees;
-        registrations = c.in_ok-cwr.cwr.bytes.items;
-        usage = c.in_ok-usage.usage.bytes.items;
-      };
-      read = record {
-        territories = c.in_ok-tis.ensures.bytes;
-        paid = c.in_ok-payees.ensures.bytes;
-        registrations = c.in_ok-cwr.ensures.bytes;
-        uses = c.in_ok-usage.ensures.bytes;
-      };
-      report = rw (c.in_ok-tis.ensures.path, c.in_ok-payees.ensures.path, c.in_ok-cwr.ensures.path, c.in_ok-usage.ensures.path) at report;
-    })
-    c.check_read.ensures.report
+    (λ checked report. record { files = _; read = c.in_ok-tis.ensures.read; report = rw c.in_ok-tis.ensures.paths at report }) c.check_read.ensures.report
