@@ -218,7 +218,7 @@ SPT0000000100000003A                             E0841
 fn remarks_what_a_run_passes_over(rt: HostRuntime) -> Result<(), Fail> {
     assert_rows_over(
         &rt,
-        "remarked",
+        "overlooked",
         [TERRITORIES, MISTYPED, USES],
         Ask::Teller,
         "\
@@ -237,7 +237,7 @@ r check --tis @tis --payees @tis --cwr @cwr --usage @tis [@cwr: remark: share li
 fn remarks_nothing_on_a_file_with_a_fault(rt: HostRuntime) -> Result<(), Fail> {
     assert_rows_over(
         &rt,
-        "unremarked",
+        "malformed",
         [TERRITORIES, SHORT, USES],
         Ask::Teller,
         "\

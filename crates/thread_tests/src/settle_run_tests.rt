@@ -223,14 +223,13 @@ fn settles_many_lines(rt: HostRuntime) -> Result<(), Fail> {
     assert_many_lines(&rt, rt.alloc(), 65, &[(3, 1, 1)])
 }
 
-/// Two payees with 10,001 rows each: a wave of four sheets has 20,002 rows in all, one of two has 16,384, and its second goes
-/// over both statements.
+/// Two payees with 20,001 rows each: a wave of two sheets has 32,768 rows, and its second goes over both statements.
 #[test]
 fn prints_more_rows_than_a_wave_of_sheets_holds(rt: HostRuntime) -> Result<(), Fail> {
     assert_many_lines(
         &rt,
         rt.alloc(),
-        10_000,
+        20_000,
         &[(1, 1, 64), (2, 2, 64), (8, 8, 64)],
     )
 }
@@ -386,7 +385,7 @@ fn assert_kept(rt: &impl Abort, out: &Narrow, room: usize, text: &str, is_printe
     assert_eq!(rt; out.kept.len(), room);
     assert!(rt; text.as_bytes().starts_with(out.kept.as_slice()));
     assert!(rt; out.longest < 200_000);
-    assert!(rt; !is_printed || out.writes == 5);
+    assert!(rt; !is_printed || out.writes == 3);
 }
 
 /// Asserts what a run prints to an output that takes so many bytes: the first of its text.
@@ -426,7 +425,7 @@ fn assert_prints_to_any<R: Abort + Threads + Wait + Sync>(
     Ok(())
 }
 
-/// Of 24,002 rows of payees two sheets of 8,192 are written, two of the rest, and what is below them.
+/// Of 24,002 rows of payees two sheets are written, and what is below them.
 #[test]
 fn prints_by_the_sheet(rt: HostRuntime) -> Result<(), Fail> {
     let (alloc, plan) = (rt.alloc(), plan_of((1, 1, 1))?);
