@@ -1,7 +1,7 @@
 //! The explanation of a usage line, from the inputs of a run.
 
 ghost use Rattle.std.specs.Option.{option_map};
-ghost use Rattle.std.specs.Prelude.{◌≡◌, ◌++◌, IfErr, IfNone, IfOk, IfSome, OnOk};
+ghost use Rattle.std.specs.Prelude.{◌≡◌, IfErr, IfNone, IfOk, IfSome};
 ghost use Rattle.csv_table.specs.Written.{text_of};
 ghost use Rattle.cwr_share.specs.CwrFile.{AreSound};
 ghost use Rattle.cwr_share.specs.Lines.{lines_of};

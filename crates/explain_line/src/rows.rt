@@ -4,7 +4,7 @@ ghost use Rattle.std.specs.Prelude.{◌≡◌, ◌≤◌, ◌<◌, ◌+◌, ◌�
 ghost use Rattle.std.specs.Fmt.{signed_decimal};
 ghost use Rattle.std.specs.List.{enumerate_from};
 ghost use Rattle.std.specs.Option.{option_map_or};
-ghost use Rattle.cwr_share.specs.ClaimsOn.{claim_of as claim_by, claims_among};
+ghost use Rattle.cwr_share.specs.ClaimsOn.{claims_among};
 ghost use Rattle.cwr_share.specs.Filed.{IsFiled};
 ghost use Rattle.cwr_share.specs.Payees.{payee_of};
 ghost use Rattle.cwr_share.specs.Registrations.{ShareLine};

@@ -41,7 +41,7 @@ walked_more rows left row number lines line walked sound is = record {
 }
 
 -- a signed number is no larger than its digits are
-signed_small : (most : ℕ) (field : List ℕ) → IsSignedNumber most field → unsigned_abs (signed_number_of field) ≤ most
+pub signed_small : (most : ℕ) (field : List ℕ) → IsSignedNumber most field → unsigned_abs (signed_number_of field) ≤ most
 signed_small most field is = by_minus (has_minus field) (number_of (without_minus field)) is.small
   where
     by_minus : (minus : Bool) (size : ℕ) → size ≤ most → unsigned_abs (if minus then neg_ℤ (pos size) else pos size) ≤ most

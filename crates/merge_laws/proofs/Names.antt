@@ -1,5 +1,5 @@
 -- The payees of a file and a table of payees have names: 1 to 64 printable bytes.
-use Rattle.std.proofs.Common.{◌≡◌, ◌∙◌, ◌<◌, ◌++◌, ◌∷◌, [], ℕ, Bool, true, false, cond, not, List, All, Option, None, Some, drop, length, map, nat_eq, reverse, slice_index_or, ap, refl, sym, subst, append_assoc, arith}
+use Rattle.std.proofs.Common.{◌≡◌, ◌∙◌, ◌++◌, ◌∷◌, [], ℕ, Bool, true, false, cond, not, List, All, Option, None, Some, drop, map, nat_eq, reverse, slice_index_or, ap, refl, sym, subst, append_assoc, arith}
 use Rattle.std.specs.Prelude.{◌==◌, if◌then◌else◌}
 use Rattle.std.specs.Cmp.Lexicographic.{pointwise}
 use Rattle.std.specs.List.{find, prefix_len, take_while}

@@ -5,6 +5,7 @@ use Rattle.std.specs.List.{enumerate_from, filter}
 use Rattle.std.proofs.lemmas.Grind.{flat_map-append}
 use Rattle.std.proofs.lemmas.Int.{ints}
 use Rattle.std.proofs.lemmas.List.{append-nil, ext_get_or, get_or-map, length-map}
+use Rattle.cwr_share.proofs.ClaimLemmas.{map_twice}
 use Rattle.line_split.specs.Signs.{int_sum_by, is_not_zero}
 use Rattle.line_split.proofs.IntSums.{int_sum_by-append, int_sum_by-cons, none_plus}
 use Rattle.line_split.specs.UsageLine.{UsageLine}
@@ -17,10 +18,6 @@ use Rattle.merge_statements.proofs.ReadBack.{the_portion, the_rest, the_statemen
 use Rattle.merge_statements.specs.Statements.{Portion, Rest, Statement, Statements, portion_row, rest_row, rests_rows, rows_of_statements, statement_rows, total_of, total_of_rests, total_row}
 
 -- Lists
-
-pub map_fused : {X Y Z : Type 0} (f : X → Y) (g : Y → Z) (xs : List X) → map g (map f xs) ≡ map (λ x. g (f x)) xs
-map_fused f g [] = refl
-map_fused f g (x ∷ xs) = ap (λ l. g (f x) ∷ l) (map_fused f g xs)
 
 sum_fused_from : {X Y : Type 0} (f : X → Y) (g : Y → ℤ) (start : ℤ) (xs : List X)
     → fold (λ (sum : ℤ) (y : Y). sum +ℤ g y) start (map f xs) ≡ fold (λ (sum : ℤ) (x : X). sum +ℤ g (f x)) start xs
@@ -115,7 +112,7 @@ module _ (division : UsageLine → List (ℕ × ℤ)) (lines : List UsageLine) w
       let some : (length all == 0) ≡ false = grind arith in
       rw some (sym (
       append-nil (statement_rows (the_statement party (map portion_said all)))
-      ∙ (λ i. map_fused portion_said (portion_row party) all i
+      ∙ (λ i. map_twice portion_said (portion_row party) all i
       ++ total_row (codes "S") party (length-map all portion_said i) (sum_fused portion_said (λ portion. portion.amount) all i) ∷ [])
       ))
 
@@ -195,7 +192,7 @@ module _ (division : UsageLine → List (ℕ × ℤ)) (lines : List UsageLine) w
 
     residue_said : (statement : List (ℕ × ℤ)) → residue_rows lines (map reason lines) statement ≡ rests_rows (map rest_said statement)
     residue_said statement = sym (λ i.
-        map_fused rest_said rest_row statement i ++ total_row (codes "T") [] (length-map statement rest_said i) (sum_fused rest_said (λ rest. rest.amount) statement i) ∷ [])
+        map_twice rest_said rest_row statement i ++ total_row (codes "T") [] (length-map statement rest_said i) (sum_fused rest_said (λ rest. rest.amount) statement i) ∷ [])
 
     -- the rows of a book say this
     pub rows_said : (names : List (List ℕ)) (book : List (List (ℕ × ℤ))) → IsBookOf division lines (length ([] ∷ names)) book

@@ -1,5 +1,5 @@
 -- A payee's statement is passed over, portion by portion.
-use Rattle.std.proofs.Common.{Bool, true, false, ◌≡◌, ◌∙◌, ◌+◌, ◌+ℤ◌, ◌++◌, ◌∷◌, inl, inr, ℕ, ℤ, List, [], Option, Some, None, length, map, get_or, ap, sym, refl, subst, append_assoc, arith, codes}
+use Rattle.std.proofs.Common.{Bool, true, false, ◌≡◌, ◌∙◌, ◌+◌, ◌+ℤ◌, ◌++◌, ◌∷◌, inl, inr, ℕ, ℤ, List, [], Option, Some, None, length, map, get_or, ap, sym, refl, subst, arith, codes}
 use Rattle.std.specs.Prelude.{if◌then◌else◌, slice_index_or}
 use Rattle.std.specs.Io.KnownBytes.{Appends, Consumes, Keeps, prepend_known}
 use Rattle.std.proofs.KnownBytes.{Appends-nil, Appends-trans, Consumes-nil, Consumes-trans}

@@ -1,7 +1,7 @@
 -- Texts that were passed over to their ends are merged.
 use Rattle.std.proofs.Common.{◌≡◌, ◌∙◌, ◌≤◌, ◌+◌, ◌*◌, ◌^◌, ◌+ℤ◌, ◌++◌, ◌∷◌, ℕ, ℤ, unsigned_abs, List, [], Option, Some, None, All, length, map, ap, sym, refl, subst, append_assoc, arith, codes}
 use Rattle.std.specs.Prelude.{IfSome, flat_map, sum_by}
-use Rattle.std.specs.Io.KnownBytes.{Appends, Consumes, IsAtEnd, Keeps, append_known}
+use Rattle.std.specs.Io.KnownBytes.{Appends, Consumes, Keeps, append_known}
 use Rattle.std.specs.List.Sorted.{IsStrictlySortedBy}
 use Rattle.std.proofs.KnownBytes.{Appends-trans, Consumes-trans, Consumes-whole}
 use Rattle.std.proofs.lemmas.List.{append-nil}

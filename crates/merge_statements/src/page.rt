@@ -1,8 +1,7 @@
 //! The merged text on its way to an output, by the page.
 
-ghost use Rattle.std.specs.Fmt.{signed_decimal};
 ghost use Rattle.std.specs.Io.KnownBytes.{Appends};
-ghost use Rattle.std.specs.Prelude.{◌≡◌, ◌∷◌, [], IfErr, IfOk, OnOk, decimal};
+ghost use Rattle.std.specs.Prelude.{◌≡◌, [], IfErr, IfOk, OnOk};
 ghost use Rattle.csv_table.specs.Written.{text_of_row};
 ghost use Rattle.merge_statements.specs.Refused.{IsNoFault};
 ghost use Rattle.merge_statements.specs.SoFar.{output};

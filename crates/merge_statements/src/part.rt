@@ -4,7 +4,7 @@ ghost use Rattle.std.specs.Io.KnownBytes.{Appends, Keeps};
 ghost use Rattle.std.specs.Prelude.{◌≡◌, ◌<◌, ◌++◌, ◌∷◌, [], List, ℕ, IfErr, IfOk, IfSome, OnOk, slice_index, true, false};
 ghost use Rattle.std.specs.Option.{option_map};
 ghost use Rattle.merge_statements.specs.SoFar.{CanEnd, EndsText, HasNext, IsAmongRests, IsLooked, IsNext, IsOfKind, IsRead, IsRestsSumAt, IsSumAt};
-ghost use Rattle.merge_statements.specs.SoFar.{IsWithin, IsWithinOne, NeedsRow, PassesSum, ReadsOn, RefusesRest, Steps, WritesRests, WritesStatement, output};
+ghost use Rattle.merge_statements.specs.SoFar.{IsWithinOne, NeedsRow, PassesSum, ReadsOn, RefusesRest, Steps, WritesRests, WritesStatement, output};
 ghost use Rattle.merge_statements.specs.Places.{KindFits, at_first};
 ghost use Rattle.merge_statements.specs.Refused.{IsNoFault, IsRefusedFor};
 ghost use Rattle.merge_statements.specs.declared.walk.Place.TheVariants as Place;

@@ -1,7 +1,7 @@
 //! The rows of a statement text one after another, of which each has to be one that can stand there.
 
 ghost use Rattle.std.specs.Fmt.{signed_decimal};
-ghost use Rattle.std.specs.Prelude.{◌≡◌, ◌⊎◌, ◌+◌, ◌+ℤ◌, ◌^◌, ◌≤◌, ◌↔◌, ℕ, ℤ, pos, true, unsigned_abs, IfErr, IfNone, IfOk, IfSome, IsTrue, OnOk, codes, decimal};
+ghost use Rattle.std.specs.Prelude.{◌≡◌, ◌⊎◌, ◌+◌, ◌+ℤ◌, ◌^◌, ◌≤◌, ◌↔◌, ℕ, pos, unsigned_abs, IfErr, IfNone, IfOk, IfSome, IsTrue, OnOk, codes, decimal};
 ghost use Rattle.std.specs.Cmp.Lexicographic.{slice_cmp};
 ghost use Rattle.std.specs.Ordering.{nat_cmp};
 ghost use Rattle.std.specs.declared.cmp.Ordering.TheVariants.{Less};

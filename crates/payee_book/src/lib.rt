@@ -5,6 +5,7 @@ mod book;
 mod journal;
 pub mod laws;
 mod postings;
+mod rows;
 mod sheets;
 mod text;
 

@@ -2,7 +2,7 @@
 
 ghost use Rattle.std.specs.Io.KnownBytes.{Appends};
 ghost use Rattle.std.specs.Thread.{IsSync};
-ghost use Rattle.std.specs.Prelude.{ℤ, unsigned_abs, ◌≡◌, ◌+◌, ◌≤◌, ◌<◌, ◌++◌, ℕ, List, All, IfOk, OnOk, length, map, true, vec_len};
+ghost use Rattle.std.specs.Prelude.{unsigned_abs, ◌≡◌, ◌+◌, ◌≤◌, ◌<◌, ◌++◌, ℕ, List, All, IfOk, OnOk, length, map, true, vec_len};
 ghost use Rattle.csv_table.specs.Written.{empty_page, text_of};
 ghost use Rattle.line_split.specs.declared.TheConstants.{MOST_AMOUNT};
 ghost use Rattle.line_split.specs.UsageLine.{UsageLine};
@@ -10,7 +10,7 @@ ghost use Rattle.payee_book.specs.Text.{payee_rows, payees_rows, rows_of_book};
 ghost use Rattle.payee_book.specs.Waves.{AreBlank, ArePayees, AreReady, AreReadyTwice, AreWhole, IsSharedOut, between, rows_of_wave, share_of, start_of, text_on};
 ghost use Rattle.payee_book.specs.declared.sheets.TheConstants.{MOST_ON_SHEET, MOST_ROWS};
 
-use crate::text::{LOOKED_UP_AT_ONCE, write_postings, write_residue, write_run, write_total};
+use crate::rows::{LOOKED_UP_AT_ONCE, write_postings, write_residue, write_run, write_total};
 use crate::{Book, Posting};
 use csv_table::RowWriter;
 use line_split::{RESIDUE, Reason, Usage};

@@ -1,5 +1,5 @@
 //! What the calls of a mailbox answer, of any kind.
-ghost use Rattle.std.specs.Prelude.{unsigned_abs, ◌≡◌, ◌≤◌, ◌<◌, false, true};
+ghost use Rattle.std.specs.Prelude.{unsigned_abs, ◌≡◌, ◌≤◌, ◌<◌, false};
 
 use mail_box::{Item, Mail, Posted, Took, receive};
 use std::alloc::Global;

@@ -16,8 +16,9 @@ ghost use Rattle.std.specs.Vec.Iter.{into_iter_items};
 
 use crate::commands::{Asked, read_words};
 use crate::failure::Failure;
-use crate::files::{Disk, Source, check_files, explain_files, settle_out};
+use crate::files::{check_files, explain_files, settle_out};
 use crate::merge_files::merge_out;
+use crate::sources::{Disk, Source};
 use crate::targets::Target;
 use clap::error::ErrorKind;
 use pair_split::split_words;
@@ -66,7 +67,7 @@ pub fn program<R: Files + Threads + Wait + Sync, W: Write, E: Write>(
     ensures known { result ≤ 4 }
     ensures printed { result ≡ 0 → (text : List ℕ) × IsDelivered in_any_file (map string_bytes words.now) (W.contents out.old) (W.contents out.new) text
         × IsAnswered on_disk any_text (map string_bytes words.now) true text }
-    ensures told { result ≡ 1 → word_at (map string_bytes words.now) 1 ≡ codes "check" → (text : List ℕ) × Appends (W.contents out.old) (W.contents out.new) text
+    ensures reported { result ≡ 1 → word_at (map string_bytes words.now) 1 ≡ codes "check" → (text : List ℕ) × Appends (W.contents out.old) (W.contents out.new) text
         × IsAnswered on_disk any_text (map string_bytes words.now) false text }
     ensures quiet { (result ≡ 0) ⊎ IsReportOfFault result (map string_bytes words.now) → err.new ≡ err.old }
     ensures silent { IsStatusOfSilence result (map string_bytes words.now) → out.new ≡ out.old }

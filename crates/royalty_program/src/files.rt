@@ -1,109 +1,28 @@
-//! A distribution run over files.
+//! A run, an explanation and a report over files.
 
 ghost use Rattle.std.specs.Io.KnownBytes.{Appends};
-ghost use Rattle.std.specs.IoError.{error_kind};
-ghost use Rattle.std.specs.Prelude.{◌≡◌, ◌<◌, ◌≤◌, ◌↔◌, ℕ, List, [], Option, IfOk, IfErr, IfSome, IfNone, IsSome, IsTrue, OnErr, OnOk, length, string_bytes, unwrap_or};
+ghost use Rattle.std.specs.Prelude.{◌≡◌, ℕ, List, [], Option, IfOk, IfErr, IfSome, IfNone, IsSome, OnErr, OnOk, string_bytes, unwrap_or};
 ghost use Rattle.std.specs.Option.{option_map};
-ghost use Rattle.std.specs.declared.io.ErrorKind.{ErrorKind};
 ghost use Rattle.check_inputs.specs.Checked.{IsReportOn, files_of, path_if_given, paths_of};
-ghost use Rattle.royalty_program.specs.Files.{AreRead, AreStatementsOver, HaveNoFaultOver, HoldsIfGiven, IsExplanationOver, IsReportOver, for_any_error, on_disk, paths_at};
+ghost use Rattle.royalty_program.specs.Files.{AreRead, AreStatementsOver, HaveNoFaultOver, HoldsIfGiven, IsExplanationOver, IsReportOver, paths_at};
 ghost use Rattle.royalty_program.specs.InputPaths.{paths_in};
 ghost use Rattle.royalty_program.specs.declared.failure.Failure.TheVariants.{Room};
-ghost use Rattle.royalty_program.specs.Status.{IsOfFile, IsOfNoInput, IsOfOutput, IsOfPaths, IsRefusal, IsUnexplained, failure_of_file};
-ghost use Rattle.royalty_program.specs.MergeFiles.{Gives, any_text};
+ghost use Rattle.royalty_program.specs.Status.{IsOfFile, IsOfNoInput, IsOfOutput, IsOfPaths, IsRefusal, IsUnexplained};
 ghost use Rattle.royalty_program.specs.Targets.{IsLeftOrHas, IsPut};
 
 use crate::explain_command::ExplainWords;
 use crate::failure::Failure;
 use crate::inputs::Inputs;
 use crate::run_command::RunWords;
+use crate::sources::{Source, unread};
 use crate::targets::{Target, finish, unkept};
 use check_inputs::{Checked, File, check};
 use explain_line::explain;
 use settle_run::settle_to;
 use std::alloc::Global;
-use std::fs::{self, OpenFile};
-use std::io::{self, ErrorKind, Read, Write};
-use std::rt::Files;
+use std::io::{self, Write};
 use std::sync::Wait;
 use std::thread::Threads;
-
-/// The most bytes that a file of a run has.
-pub const MOST_BYTES: u64 = 268_435_456;
-
-/// Where the files of a run are read from.
-pub trait Source {
-    /// What a text is read through.
-    type Reader: Read + Drop;
-
-    // The file of a path has these bytes.
-    ghost holds: { Self → List ℕ → List ℕ → Type 0 };
-    // It refuses a path with an error of this kind.
-    ghost refuses: { Self → List ℕ → ErrorKind → Type 0 };
-    // The file of a path gives this text, whatever its size.
-    ghost gives: { Self → List ℕ → List ℕ → Type 0 };
-
-    /// The bytes of the file of a path. A file of more than the most bytes cannot be read.
-    fn read(&self, alloc: Global, path: &str) -> io::Result<Vec<u8>>
-        ensures bytes { IfOk result (λ bytes. holds self.now path.now bytes.items) }
-        ensures few { IfOk result (λ bytes. length bytes.items ≤ 268435456) }
-        ensures error { IfErr result (λ error. refuses self.now path.now (error_kind error)) };
-
-    /// A reader of the text of the file of a path.
-    fn open(&self, path: &str) -> io::Result<Self::Reader>
-        ensures text { IfOk result (λ reader. Gives (gives self.now path.now) (Self.Reader.remaining reader)) };
-}
-
-/// The files of the system.
-#[derive(Drop)]
-pub struct Disk<'a, R> {
-    pub rt: &'a R,
-}
-
-impl<'a, R: Files> Source for Disk<'a, R> {
-    type Reader = R::File;
-
-    ghost holds = { λ _. on_disk };
-
-    ghost refuses = { λ _. for_any_error };
-
-    ghost gives = { λ _. any_text };
-
-    fn read(&self, alloc: Global, path: &str) -> io::Result<Vec<u8>> {
-        let file = fs::open(self.rt, path)?;
-        let size = file.metadata()?.len();
-        if is_too_large(size) {
-            return Err(io::Error::from(ErrorKind::FileTooLarge));
-        }
-        read_whole(alloc, file, size as usize + 1)
-    }
-
-    fn open(&self, path: &str) -> io::Result<R::File> {
-        fs::open(self.rt, path)
-    }
-}
-
-/// Whether a run reads no file of so many bytes.
-fn is_too_large(size: u64) -> bool
-    ensures { IsTrue result ↔ (268435456 < size) }
-{
-    size > MOST_BYTES
-}
-
-/// All that a reader has to give, where that is no more than the most bytes. A pipe does not say
-/// its size, and a file may grow meanwhile, so a byte more is asked for, which tells that nothing
-/// was cut off.
-pub fn read_whole<S: Read + Drop>(alloc: Global, from: S, room: usize) -> io::Result<Vec<u8>>
-    ensures whole { IfOk result (λ bytes. IfSome (S.remaining from) (λ all. bytes.items ≡ all)) }
-    ensures few { IfOk result (λ bytes. length bytes.items ≤ 268435456) }
-{
-    let mut bytes = Vec::with_capacity(alloc, room)?;
-    from.take(MOST_BYTES + 1).read_to_end(&mut bytes)?;
-    if is_too_large(bytes.len() as u64) {
-        return Err(io::Error::from(ErrorKind::FileTooLarge));
-    }
-    Ok(bytes)
-}
 
 /// Prints the statements of a run over its files. All are read, in the order of `Inputs`, before
 /// any is parsed.
@@ -316,15 +235,5 @@ fn lent(file: &Option<File>) -> Option<&[u8]>
     match file {
         Some(file) => Some(file.bytes.as_slice()),
         None => None,
-    }
-}
-
-/// Why there is no file of a path, by the kind of the error.
-pub fn unread(kind: ErrorKind, path: String) -> Failure
-    ensures { result ≡ failure_of_file kind path }
-{
-    match kind {
-        ErrorKind::OutOfMemory => Failure::Room,
-        _ => Failure::File(path),
     }
 }

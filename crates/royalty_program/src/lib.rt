@@ -12,6 +12,7 @@ mod merge_command;
 mod merge_files;
 mod options;
 mod run_command;
+mod sources;
 mod split_command;
 mod targets;
 

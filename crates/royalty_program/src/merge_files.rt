@@ -9,8 +9,8 @@ ghost use Rattle.royalty_program.specs.Targets.{IsLeftOrHas, IsPut};
 ghost use Rattle.royalty_program.specs.declared.failure.Failure.TheVariants.{Many};
 
 use crate::failure::Failure;
-use crate::files::{Source, unread};
 use crate::merge_command::MergeWords;
+use crate::sources::{Source, unread};
 use crate::targets::{Target, finish, unkept};
 use merge_statements::amount::MOST_COUNT;
 use merge_statements::{Refusal, TextRefusal, check, merge};
@@ -228,7 +228,7 @@ fn refused(alloc: Global, refusal: Refusal, path: &str) -> Failure
 fn changed(alloc: Global, paths: &[String], place: u64, refusal: Refusal) -> Failure
     ensures failure { IsRefusal result }
     ensures one { IsOfOne (map string_bytes paths.now) result }
-    ensures late { 2 < status_of result }
+    ensures status { 2 < status_of result }
 {
     let Some(path) = paths.get(place as usize) else {
         return Failure::Room;

@@ -6,7 +6,7 @@ ghost use Rattle.royalty_program.specs.Status.{failure_of_target};
 ghost use Rattle.royalty_program.specs.Targets.{IsLeft, IsLeftOrWhole, in_any_file};
 
 use crate::failure::Failure;
-use crate::files::Disk;
+use crate::sources::Disk;
 use std::alloc::{AllocError, Global};
 use std::fs::{self, OpenFile, OpenOptions, Permissions};
 use std::io::{self, ErrorKind, Write};

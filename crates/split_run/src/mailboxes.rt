@@ -1,6 +1,6 @@
 //! The mailboxes of a run, one for each account, whatever they are made of.
 
-ghost use Rattle.std.specs.Prelude.{unsigned_abs, ◌≡◌, ◌<◌, ◌≤◌, ℕ, false, true, Bool, IfOk, List, MatchOption, Option, length, slice_index_or};
+ghost use Rattle.std.specs.Prelude.{unsigned_abs, ◌≡◌, ◌<◌, ◌≤◌, ℕ, false, Bool, IfOk, List, MatchOption, Option, length, slice_index_or};
 ghost use Rattle.queue_core.specs.Matches.{MatchPosted};
 ghost use Rattle.mail_box.specs.Mails.{HasReceived, ReceiverView, SenderView};
 ghost use Rattle.split_run.specs.Reading.{inboxes_by};

@@ -1,6 +1,6 @@
 //! A run over a pool: what it comes to whatever the plan, that it has no book where a thread is refused, how it uses its pool, what it
 //! tells its gate, that its threads are at work at once, and what a worker alone sends.
-ghost use Rattle.std.specs.Prelude.{◌≡◌, ◌*◌, ◌<◌, ◌≤◌, ℕ, [], IfOk, false, length};
+ghost use Rattle.std.specs.Prelude.{◌≡◌, ◌*◌, ◌<◌, ℕ, [], IfOk, false};
 ghost use Rattle.pool_box.specs.PoolViews.{sender_of};
 ghost use Rattle.block_draw.specs.Views.{drawer_of};
 ghost use Rattle.split_run.specs.Opening.{IsFresh};

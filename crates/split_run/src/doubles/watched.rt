@@ -1,6 +1,5 @@
 //! A mailbox and a pool of another kind, which tell a watcher of each take.
 ghost use Rattle.std.specs.Prelude.{◌≡◌, IfOk, map};
-ghost use Rattle.mail_box.specs.Mails.{ReceiverView};
 
 use mail_box::{Item, Mail, Posted, Took};
 use pool_box::Pool;

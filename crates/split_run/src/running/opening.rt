@@ -1,7 +1,6 @@
 //! What a run opens before it starts a thread: the mailboxes of all accounts, and what each worker and reader needs.
 
-ghost use Rattle.std.specs.Prelude.{◌≡◌, ◌+◌, ◌<◌, ◌≤◌, ℕ, All, IfOk, None, OnOk, cond, length, slice_index_or, vec_items, vec_len};
-ghost use Rattle.cwr_share.specs.Registered.{IsRegistered};
+ghost use Rattle.std.specs.Prelude.{◌≡◌, ◌+◌, ◌<◌, ℕ, All, IfOk, None, OnOk, cond, length, slice_index_or, vec_items, vec_len};
 ghost use Rattle.line_split.specs.declared.TheConstants.{MOST_CLAIMS};
 ghost use Rattle.split_run.specs.Reading.{AreUntouched, HasKept, inboxes_by};
 ghost use Rattle.split_run.specs.Opening.{AreDealt, AreDealtOut, HasRoom, OthersAreLeft, lists_by, senders_by};

@@ -1,6 +1,6 @@
 //! How a worker sends: it waits while a mailbox is full, and gives up where the run is stopped.
 
-ghost use Rattle.std.specs.Prelude.{unsigned_abs, ◌≡◌, ◌<◌, ◌≤◌, ◌∷◌, [], ℕ, All, MatchBool, false, length, map, slice_index_or, true};
+ghost use Rattle.std.specs.Prelude.{unsigned_abs, ◌≡◌, ◌<◌, ◌≤◌, All, MatchBool, false, length, map, slice_index_or, true};
 ghost use Rattle.std.specs.List.{AllPairs};
 ghost use Rattle.payee_book.specs.Run.{posting_of};
 ghost use Rattle.split_run.specs.Sending.{AreReadyFor, HasEndedAt, HasSpent, HaveSent, HaveSentOne, postings_to};

@@ -25,8 +25,8 @@ returns-clause-printed g c same =
     (λ text put kept. delivered_on in_any_file words (g.W.Write.contents c.args.out.now) _ _ text put kept) c.answer-printed.ensures.answered c.end.ensures.answered c.end.ensures.failed
     (IfErr-weaker c.answer-printed.result _ _ (λ failure _. fails_with failure) c.answer-printed.ensures.failure) same
 
-pub returns-clause-told : goal.returns-clause-told
-returns-clause-told g c same command =
+pub returns-clause-reported : goal.returns-clause-reported
+returns-clause-reported g c same command =
     let words = map string_bytes c.args.words.now in
     printed_check in_any_file words (g.W.Write.contents c.args.out.now) _ (IsAnswered on_disk any_text words false) command
     (printed_whole c.answer-printed.result c.end.result false (IsDelivered in_any_file words (g.W.Write.contents c.args.out.now)) (IsAnswered on_disk any_text words) _ _

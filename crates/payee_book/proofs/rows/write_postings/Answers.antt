@@ -2,7 +2,7 @@ use Rattle.std.proofs.Common.{◌≡◌, ◌∙◌, ◌<◌, ◌+◌, ℕ, [], L
 use Rattle.std.proofs.lemmas.Bool.{cases_lt}
 use Rattle.std.proofs.lemmas.Grind.{get_or-set_at}
 use Rattle.std.proofs.lemmas.List.{get_or-set_other, length-map, length-set, map-set}
-use Rattle.payee_book.proofs.text.write_postings.Goals as goal
+use Rattle.payee_book.proofs.rows.write_postings.Goals as goal
 
 -- a list whose elements below a place show what they should, with one more put at that place
 put : {X : Type 0} (f : X → List ℕ) (xs : List X) (i : ℕ) (x : X) (shown : ℕ → List ℕ) → i < length xs

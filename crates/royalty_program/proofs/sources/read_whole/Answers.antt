@@ -1,7 +1,7 @@
 use Rattle.std.proofs.Common.{◌≡◌, ◌∙◌, ◌+◌, ◌≤◌, ◌++◌, ℕ, List, [], Option, Some, None, length, take, ap, subst, arith}
 use Rattle.std.proofs.lemmas.List.{length-take, take_all}
 use Rattle.std.specs.Option.{IfSome, option_map}
-use Rattle.royalty_program.proofs.files.read_whole.Goals as goal
+use Rattle.royalty_program.proofs.sources.read_whole.Goals as goal
 
 -- what was read up to one byte past the most, and has no more than the most, is all
 whole : (known from : Option (List ℕ)) (limit most : ℕ) (before bytes : List ℕ) → from ≡ known → limit ≡ most + 1 → before ≡ []

@@ -2,7 +2,7 @@ use Rattle.std.proofs.Common.{codes, map, take}
 use Rattle.std.specs.Io.KnownBytes.{Appends, append_known}
 use Rattle.csv_table.specs.Written.{text_of}
 use Rattle.payee_book.specs.Text.{posting_row, reason_at}
-use Rattle.payee_book.proofs.text.write_residue.Given as goal
+use Rattle.payee_book.proofs.rows.write_residue.Given as goal
 
 -- the postings so far are written
 abbrev pub invariant-loop-posting : goal.invariant-loop-posting
