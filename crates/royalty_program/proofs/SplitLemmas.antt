@@ -21,7 +21,7 @@ use Rattle.clap.proofs.BuiltLemmas.{plain_same}
 use Rattle.clap.proofs.CallerLemmas.{added_plain, present_has_entry, required_present}
 use Rattle.clap.proofs.CallerReads.{required_reads}
 use Rattle.clap.proofs.WalkLemmas.{one_text-rows, raw_values-rows}
-use Rattle.royalty_program.specs.Asked.{IsValue, number_in}
+use Rattle.royalty_program.specs.Asked.{IsErrorOf, IsValue, number_in}
 use Rattle.pair_split.specs.Pair.{word_at}
 use Rattle.royalty_program.specs.Args.{HasArgs, IsRequiredArg}
 use Rattle.royalty_program.specs.SplitCommand.{IsSplitCommand, amount_rule, pairs_rule, split_app}
@@ -157,6 +157,12 @@ pub error_given : (c : Command) (words : List (List ℕ)) (e : Error) → IsSpli
     → (kind_of e ≢ kinds.DisplayHelp) × (kind_of e ≢ kinds.DisplayVersion)
 error_given c words e s fails are =
     kinds_no_help words (kind_of e) are (subst (λ a. HasKind (fault_of a words) e) s.has.shape (fails (ap is_simple_and_free s.has.shape ∙ split_free)))
+
+-- and has an error that clap has for the words
+pub error_is_split : (c : Command) (words : List (List ℕ)) (e : Error) → IsSplitCommand c
+    → (is_simple_and_free (app_of c) ≡ true → HasKind (fault_of (app_of c) words) e) → IsErrorOf split_app words e
+unfolding IsErrorOf
+error_is_split c words e s fails = subst (λ a. HasKind (fault_of a words) e) s.has.shape (fails (ap is_simple_and_free s.has.shape ∙ split_free))
 
 -- one more word of those that a parse gives is copied
 pub copied_more : {S : Type 0} (bytes : S → List ℕ) (words : List (Bor (List ℕ))) (copies more : List S) (i : ℕ) (copy : S) (d : Bor (List ℕ)) → i < length words

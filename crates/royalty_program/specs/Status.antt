@@ -23,6 +23,7 @@ use Rattle.royalty_program.specs.ExplainCommand.{explain_app}
 use Rattle.royalty_program.specs.Files.{HasNoRowOver, IsFaultOver}
 use Rattle.royalty_program.specs.InputPaths.{InputPaths}
 use Rattle.royalty_program.specs.MergeCommand.{merge_app}
+use Rattle.royalty_program.specs.SplitCommand.{split_app}
 use Rattle.royalty_program.specs.MergeFiles.{AreTooMany, HoldsOf, IsFaultAt, IsFirstRefused, IsOneOfSound}
 use Rattle.royalty_program.specs.declared.failure.Failure.{Failure}
 use Rattle.royalty_program.specs.declared.failure.Failure.TheVariants.{Words, NotText, Pairs, Input, Row, Room, File, Output, Target, Statement, Many, Changed}
@@ -190,11 +191,16 @@ IsUnopened path Room = ⊤
 IsUnopened path (File name) = string_bytes name ≡ path
 IsUnopened path _ = ⊥
 
+-- no fault was found
+abbrev pub IsNoFault : Refusal → Type 0
+IsNoFault (refusal.Fault fault) = ⊥
+IsNoFault _ = ⊤
+
 -- and that for what it is refused for
 abbrev pub IsOfRefusal : List ℕ → Refusal → Failure → Type 0
 IsOfRefusal path was (Statement fault name) = (string_bytes name ≡ path) × (was ≡ refusal.Fault fault)
 IsOfRefusal path was Room = ⊤
-IsOfRefusal path was (File name) = string_bytes name ≡ path
+IsOfRefusal path was (File name) = (string_bytes name ≡ path) × IsNoFault was
 IsOfRefusal path was _ = ⊥
 
 -- the failure is of one of these paths, or lack of memory
@@ -222,10 +228,10 @@ IsOfCheck holds refuses words failure =
     IsOfPaths holds refuses (inputs_given check_app words) failure
     × IsOfNoInput failure
 
--- a division fails for its pairs, which then have that fault, for other words, or for lack of memory
+-- a division fails for its pairs, which then have that fault, for its words where clap does not accept them, or for lack of memory
 abbrev pub IsOfDivision : List (List ℕ) → Failure → Type 0
 IsOfDivision words (Pairs fault) = IsFaultOf (pairs_of words) fault
-IsOfDivision words (Words error) = ⊤
+IsOfDivision words (Words error) = ¬ AreAccepted split_app (drop 1 words)
 IsOfDivision words Room = ⊤
 IsOfDivision words _ = ⊥
 

@@ -7,6 +7,7 @@ ghost use Rattle.royalty_program.specs.Asked.{IsDivision, IsErrorOf, IsMergeErro
 ghost use Rattle.royalty_program.specs.CheckCommand.{check_app};
 ghost use Rattle.royalty_program.specs.ExplainCommand.{explain_app};
 ghost use Rattle.royalty_program.specs.RunCommand.{run_app};
+ghost use Rattle.royalty_program.specs.SplitCommand.{split_app};
 ghost use Rattle.royalty_program.specs.Answered.{IsCheckAsked, IsDivisionOf, IsExplanationAsked, IsInRange, IsMergeAsked, IsNamedBy, IsRunInOrder, IsRunOf};
 ghost use Rattle.pair_split.specs.Pair.{word_at};
 
@@ -71,6 +72,7 @@ pub fn read_words(alloc: Global, words: &[String]) -> Result<Asked, Error>
     ensures unmerged { word_at (map string_bytes words.now) 1 ≡ codes "merge" → IfErr result (IsMergeError (drop 1 (map string_bytes words.now))) }
     ensures in_order { (run : IsRun (map string_bytes words.now)) → IfOk result (IsRunInOrder (map string_bytes words.now) run.options) }
     ensures error { word_at (map string_bytes words.now) 1 ≡ codes "run" → IfErr result (IsErrorOf run_app (drop 1 (map string_bytes words.now))) }
+    ensures undivided { word_at (map string_bytes words.now) 1 ≡ codes "split" → IfErr result (IsErrorOf split_app (drop 1 (map string_bytes words.now))) }
     ensures no_help { IsDivision (map string_bytes words.now) → IfErr result (λ error. (kind_of error ≢ kinds.DisplayHelp) × (kind_of error ≢ kinds.DisplayVersion)) }
 {
     if words.len() < 2 {

@@ -4,10 +4,10 @@ ghost use Rattle.std.specs.Prelude.{◌≡◌, ◌≢◌, ◌≤◌, IfOk, IfErr
 ghost use Rattle.clap.specs.Words.{kind_of, rule_of};
 ghost use Rattle.clap.specs.declared.error.kind.ErrorKind.TheVariants as kinds;
 ghost use Rattle.clap.specs.declared.builder.value_parser.ValueParser.TheVariants as vp;
-ghost use Rattle.royalty_program.specs.Asked.{IsValue, number_in};
+ghost use Rattle.royalty_program.specs.Asked.{IsErrorOf, IsValue, number_in};
 ghost use Rattle.pair_split.specs.Pair.{word_at};
 ghost use Rattle.royalty_program.specs.Args.{IsRequiredArg};
-ghost use Rattle.royalty_program.specs.SplitCommand.{IsSplitCommand, amount_rule, pairs_rule};
+ghost use Rattle.royalty_program.specs.SplitCommand.{IsSplitCommand, amount_rule, pairs_rule, split_app};
 ghost use Rattle.line_split.specs.declared.TheConstants.{MOST_AMOUNT};
 
 use crate::options::{new_command, owned_all};
@@ -41,6 +41,7 @@ pub fn read_split(alloc: Global, words: &[String]) -> Result<SplitWords, Error>
     ensures in_range { IfOk result (λ asked. asked.amount ≤ MOST_AMOUNT) }
     ensures amount { All IsValue (drop 1 (map string_bytes words.now)) → IfOk result (λ asked. asked.amount ≡ number_in (word_at (map string_bytes words.now) 1)) }
     ensures pairs { All IsValue (drop 1 (map string_bytes words.now)) → IfOk result (λ asked. map string_bytes asked.pairs.items ≡ drop 2 (map string_bytes words.now)) }
+    ensures error { IfErr result (IsErrorOf split_app (map string_bytes words.now)) }
     ensures no_help { All IsValue (drop 1 (map string_bytes words.now)) → IfErr result (λ error. (kind_of error ≢ kinds.DisplayHelp) × (kind_of error ≢ kinds.DisplayVersion)) }
 {
     let matches = split_command(alloc)?.try_get_matches_from(words)?;

@@ -52,7 +52,7 @@ pub fn finish<T: Target>(
 ) -> Result<(), Failure>
     ensures kept { IfOk result (λ _. (text : List ℕ) → Appends T.blank (T.Draft.contents draft) text → T.keeps target.new (string_bytes path) (Some text)) }
     ensures whole { IfOk result (λ _. IsOkAnd written IsOk) }
-    ensures failure { IfErr result (λ failure. (written ≡ Err failure) ⊎ (failure ≡ Failure.Target path)) }
+    ensures failure { IfErr result (λ failure. (written ≡ Err failure) ⊎ ((failure ≡ Failure.Target path) × IsOk written)) }
     ensures left { OnErr result (IsLeft (T.keeps target.old (string_bytes path)) (T.keeps target.new (string_bytes path))
         ⊎ (IsOkAnd written IsOk × IsLeftOrWhole T.blank (T.Draft.contents draft) (T.keeps target.old (string_bytes path)) (T.keeps target.new (string_bytes path)))) }
 {

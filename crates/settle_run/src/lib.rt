@@ -2,6 +2,7 @@
 #![tactic(auto)]
 
 pub mod laws;
+mod reasons;
 mod statements;
 
 pub use run_inputs::Fault;

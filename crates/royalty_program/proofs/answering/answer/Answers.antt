@@ -11,6 +11,7 @@ use Rattle.pair_split.specs.declared.pair_fault.PairFault.TheVariants.{Pair, Nam
 use Rattle.royalty_program.specs.CheckCommand.{check_app}
 use Rattle.royalty_program.specs.ExplainCommand.{explain_app}
 use Rattle.royalty_program.specs.RunCommand.{run_app}
+use Rattle.royalty_program.specs.SplitCommand.{split_app}
 use Rattle.royalty_program.specs.Answered.{AreCheckedFrom, AreExplainedFrom, AreMergeFrom, AreReadFrom, AskForOutput, IsAnswerTo, IsAnswered}
 use Rattle.royalty_program.specs.Asked.{AskForHelp, IsDivision, pairs_of}
 use Rattle.royalty_program.specs.Files.{AreStatementsOver, IsExplanationOver, IsReportOver}
@@ -181,6 +182,12 @@ returns-in-Err-2-clause-explanation g c command accepted =
     let words = map string_bytes c.args.words.now in
     let not_memory : kind_of c.in-Err-2.error ≢ kinds.OutOfMemory = search rules in
     not_memory (accepted_is_memory explain_app (drop 1 words) c.in-Err-2.error (c.in-Err-2.ensures.unexplained command) accepted)
+
+pub returns-in-Err-2-clause-pairs : goal.returns-in-Err-2-clause-pairs
+returns-in-Err-2-clause-pairs g c division accepted =
+    let words = map string_bytes c.args.words.now in
+    let not_memory : kind_of c.in-Err-2.error ≢ kinds.OutOfMemory = search rules in
+    not_memory (accepted_is_memory split_app (drop 1 words) c.in-Err-2.error (c.in-Err-2.ensures.undivided division.command) accepted)
 
 pub returns-in-Err-2-clause-checked : goal.returns-in-Err-2-clause-checked
 returns-in-Err-2-clause-checked g c command accepted =

@@ -1,8 +1,12 @@
-use Rattle.std.proofs.Common.{◌≢◌, ◌∙◌}
+use Rattle.std.proofs.Common.{◌≢◌, ◌∙◌, map}
+use Rattle.std.specs.Prelude.{string_bytes}
 use Rattle.clap.specs.Words.{kind_of}
 use Rattle.clap.specs.declared.error.kind.ErrorKind.TheVariants as kinds
 use Rattle.clap.proofs.TakesLemmas.{passed_up}
-use Rattle.royalty_program.proofs.SplitLemmas.{amount_given, amount_read, error_given, pairs_given, pairs_read}
+use Rattle.royalty_program.specs.Asked.{IsErrorOf}
+use Rattle.royalty_program.specs.SplitCommand.{split_app}
+use Rattle.royalty_program.proofs.OptionLemmas.{memory_is}
+use Rattle.royalty_program.proofs.SplitLemmas.{amount_given, amount_read, error_given, error_is_split, pairs_given, pairs_read}
 use Rattle.royalty_program.proofs.split_command.read_split.Goals as goal
 
 pub unwrap-amount-requires : goal.unwrap-amount-requires
@@ -32,3 +36,15 @@ returns-in_err-matches-clause-no_help c are =
     let asks = error_given c.in_ok-split_command.field-0 _ c.in_err-matches.field-0.0 c.in_ok-split_command.ensures c.in_err-matches.ensures.kinds are in
     passed_up c.from_residual-in_err-matches.result c.in_err-matches.field-0.0 (λ e. (kind_of e ≢ kinds.DisplayHelp) × (kind_of e ≢ kinds.DisplayVersion))
     c.from_residual-in_err-matches.ensures.1 asks
+
+pub returns-in_err-matches-clause-error : goal.returns-in_err-matches-clause-error
+returns-in_err-matches-clause-error c =
+    let words = map string_bytes c.args.words.now in
+    let is = error_is_split c.in_ok-split_command.field-0 words c.in_err-matches.field-0.0 c.in_ok-split_command.ensures c.in_err-matches.ensures.kinds in
+    passed_up c.from_residual-in_err-matches.result c.in_err-matches.field-0.0 (IsErrorOf split_app words) c.from_residual-in_err-matches.ensures.1 is
+
+pub returns-in_err-split_command-clause-error : goal.returns-in_err-split_command-clause-error
+returns-in_err-split_command-clause-error c = memory_is split_app (map string_bytes c.args.words.now) c.from_residual.result c.from_residual.ensures.1
+
+pub returns-in_err-pairs-clause-error : goal.returns-in_err-pairs-clause-error
+returns-in_err-pairs-clause-error c = memory_is split_app (map string_bytes c.args.words.now) c.from_residual-in_err-pairs.result c.from_residual-in_err-pairs.ensures.1

@@ -2,7 +2,7 @@ use Rattle.std.proofs.Common.{◌≡◌, map, take}
 use Rattle.line_split.specs.declared.TheConstants.{MOST_CLAIMS}
 use Rattle.settle_run.specs.Settled.{reason_of}
 use Rattle.settle_run.proofs.SettleLemmas.{AreReasons}
-use Rattle.settle_run.proofs.statements.reasons_of.Given as goal
+use Rattle.settle_run.proofs.reasons.reasons_of.Given as goal
 
 -- the reasons of the postings so far
 abbrev pub invariant-loop-posting : goal.invariant-loop-posting
