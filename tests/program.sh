@@ -83,7 +83,7 @@ reversed.csv: territory 999 is not in the table: lines 2, amount 0
 # An exclusion and two parties are mistyped.
 sed 's/E0840/E0841/' works.cwr >mistyped.cwr
 printf 'party,payee\nRIVER,OKAFOR\nMOOM,BIGSKY\nNT0001,BIGSKY\n' >mistyped.csv
-check 'a check that remarks what a run passes over' 0 'mistyped.cwr: remark: share lines whose territory is not in the table: 1, the first in line 6\nmistyped.csv: remark: rows whose party no registration in force has: 2, the first in row 2\n' '' \
+check 'a check that remarks what a run passes over' 0 'mistyped.cwr: remark: share lines whose territory is not in the table: 1, in line 6\nmistyped.csv: remark: rows whose party no registration in force has: 2, in row 2, 3\n' '' \
     bash -c '"$0" check --tis territories.csv --payees mistyped.csv --cwr mistyped.cwr --usage usage.csv | grep remark' "$program"
 head -n 1 territories.csv >none.csv
 check 'a check of files of another kind' 0 "none.csv: territories: 0

@@ -20,6 +20,9 @@ const TOLD: usize = 100;
 /// How many works that are not registered are told, and how many territories that are not in the table.
 const GREATEST: usize = 10;
 
+/// How many of the lines or rows that a run passes over are named.
+const NAMED: usize = 10;
+
 /// How many bytes of a field are shown.
 const SHOWN: usize = 64;
 
@@ -259,11 +262,13 @@ fn registrations<'a>(sheet: &mut Sheet, bytes: &'a [u8], payees: &Payees, all: b
 
 /// A remark on lines or rows of a kind, by their numbers, where there are any.
 fn remark_on(path: &str, what: &str, kind: &str, numbers: impl Iterator<Item = usize>) -> String {
-    let numbers: Vec<usize> = numbers.collect();
-    match numbers.first() {
-        Some(first) => format!("{path}: remark: {what}: {}, the first in {kind} {first}\n", numbers.len()),
-        None => String::new(),
+    let numbers: Vec<String> = numbers.map(|number| number.to_string()).collect();
+    if numbers.is_empty() {
+        return String::new();
     }
+    let named = numbers[..numbers.len().min(NAMED)].join(", ");
+    let others = if numbers.len() > NAMED { " and others" } else { "" };
+    format!("{path}: remark: {what}: {}, in {kind} {named}{others}\n", numbers.len())
 }
 
 fn usage(sheet: &mut Sheet, bytes: &[u8]) {

@@ -1,6 +1,7 @@
 -- The report on the inputs of a run: every fault, and what is in the files that have none.
 use Rattle.std.specs.Prelude.{ℕ, ◌-◌, ◌==◌, ◌&&◌, ◌++◌, ◌∷◌, [], List, Option, codes, count_by, decimal, flat_map, if◌then◌else◌, length, nat_lt, not, take}
 use Rattle.std.specs.Fmt.{signed_decimal}
+use Rattle.std.specs.List.{join_by}
 use Rattle.std.specs.Option.{option_map_or}
 use Rattle.cwr_share.specs.CwrFile as cwr
 use Rattle.cwr_share.specs.Lines.{lines_of}
@@ -84,11 +85,18 @@ abbrev pub usage_facts : (path : List ℕ) → (faults : ℕ) → List UsageLine
 usage_facts path faults lines =
     if_none faults (fact_line path (codes "usage lines") (length lines) ++ if_none (length lines) (remark_line path (codes "there are no usage lines")))
 
--- of a kind of lines or rows that a run passes over: how many there are, and the number of the first
+-- what is said of those behind the first ten
+abbrev pub others_text : (count : ℕ) → List ℕ
+others_text count = if nat_lt 10 count then codes " and others" else []
+
+-- how many numbers there are, and the first ten of them
+abbrev pub numbers_text : (kind : List ℕ) → List ℕ → List ℕ
+numbers_text kind numbers = decimal (length numbers) ++ codes ", in " ++ kind ++ join_by decimal (codes ", ") (take 10 numbers) ++ others_text (length numbers)
+
+-- of a kind of lines or rows that a run passes over: how many there are, and the numbers of the first ten
 abbrev pub tally_line : (path what kind : List ℕ) → List ℕ → List ℕ
 tally_line path what kind [] = []
-tally_line path what kind (first ∷ later) =
-    remark_line path (what ++ codes ": " ++ decimal (length (first ∷ later)) ++ codes ", the first in " ++ kind ++ decimal first)
+tally_line path what kind (first ∷ later) = remark_line path (what ++ codes ": " ++ numbers_text kind (first ∷ later))
 
 -- a text about two files that have so many faults: there is one where neither has any
 abbrev pub if_neither : (faults others : ℕ) → List ℕ → List ℕ

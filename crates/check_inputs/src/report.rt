@@ -1,15 +1,12 @@
 //! The report on the inputs of a run.
 
 ghost use Rattle.std.specs.Option.{option_map, option_map_or};
-ghost use Rattle.std.specs.Prelude.{◌≡◌, ◌++◌, [], ◌==◌, ◌&&◌, ℕ, List, IfOk, OnOk, Option, codes, count_by, length, string_bytes};
+ghost use Rattle.std.specs.Prelude.{◌≡◌, ◌++◌, [], ◌==◌, ◌&&◌, ℕ, List, IfOk, OnOk, Option, codes, length, string_bytes};
 ghost use Rattle.csv_table.specs.Table.{rows_of};
 ghost use Rattle.cwr_share.specs.CwrFile.{AreSound};
 ghost use Rattle.cwr_share.specs.Lines.{lines_of};
-ghost use Rattle.cwr_share.specs.Records.{opens_registration};
-ghost use Rattle.cwr_share.specs.Registered.{Registered};
 ghost use Rattle.cwr_share.specs.declared.cwr_fault.CwrFault.{CwrFault};
 ghost use Rattle.cwr_share.specs.declared.payee_fault.PayeeFault.{PayeeFault};
-ghost use Rattle.line_split.specs.UsageLine.{UsageLine};
 ghost use Rattle.line_split.specs.UsageReading as usage;
 ghost use Rattle.line_split.specs.declared.line_fault.LineFault.{LineFault};
 ghost use Rattle.tis_tree.specs.TisReading as tis;

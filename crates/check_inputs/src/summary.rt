@@ -1,6 +1,6 @@
 //! What a run makes of usage lines, in words.
 
-ghost use Rattle.std.specs.Prelude.{◌≡◌, ◌++◌, ◌&&◌, [], OnOk, codes, flat_map, if◌then◌else◌, nat_lt};
+ghost use Rattle.std.specs.Prelude.{◌≡◌, ◌++◌, ◌&&◌, [], OnOk, flat_map, if◌then◌else◌, nat_lt};
 ghost use Rattle.std.specs.Fmt.{signed_decimal};
 ghost use Rattle.check_inputs.specs.Messages.{remark_line, total_line, total_text};
 ghost use Rattle.check_inputs.specs.Report.{divided_line, reasons_text, territory_line, totals_text, work_line};

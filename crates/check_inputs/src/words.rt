@@ -1,6 +1,6 @@
 //! The words of a report.
 
-ghost use Rattle.std.specs.Prelude.{◌≡◌, ◌<◌, ◌++◌, ◌∷◌, [], OnOk, Option, codes, decimal, flat_map, if◌then◌else◌, length, nat_lt, take};
+ghost use Rattle.std.specs.Prelude.{◌≡◌, ◌<◌, ◌++◌, [], OnOk, Option, codes, decimal, flat_map};
 ghost use Rattle.std.specs.Fmt.{signed_decimal};
 ghost use Rattle.check_inputs.specs.Messages.{around, fact_line, hex, place_text, remark_line, shown, shown_byte};
 ghost use Rattle.check_inputs.specs.declared.words.TheConstants.{MOST_FIELD_BYTES};

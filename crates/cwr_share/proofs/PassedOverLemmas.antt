@@ -9,7 +9,7 @@ use Rattle.std.proofs.lemmas.Map.Views.{Contains-from_any, list_any-from_Contain
 use Rattle.std.proofs.lemmas.Slice.Eq.{bytes_eq-Decides}
 use Rattle.std.proofs.lemmas.List.Elements.{filter_map-append}
 use Rattle.std.proofs.lemmas.List.FromFn.{get_or-enumerate_from, length-enumerate_from}
-use Rattle.std.proofs.lemmas.List.{append-nil, length-append, length_push, reverse-append, take-append-le}
+use Rattle.std.proofs.lemmas.List.{append-nil, length-append, length-take, length_push, reverse-append, take_all, take-append-le}
 use Rattle.line_split.proofs.Enumerated.{enumerate_from_push}
 use Rattle.cwr_share.specs.CwrFile.{StandsIn}
 use Rattle.csv_table.specs.Forms.{number_of}
@@ -130,6 +130,19 @@ no_row_found payees party none =
     ap not (false_from_ne_true (has_row payees party) (λ told. none (Contains-from_any (λ x y e. (bytes_eq-Decides x y).0 e) party (map (λ (row : List ℕ × List ℕ). row.0) payees) told)))
 
 -- Tallies
+
+-- of the first so many numbers, one more where there is room for it
+pub first_more : (most : ℕ) (numbers first : List ℕ) (number : ℕ) → first ≡ take most numbers → length first < most → first ++ number ∷ [] ≡ take most (numbers ++ number ∷ [])
+first_more most numbers first number is room =
+    let few : length numbers < most = omega (arith, ap length is, length-take most numbers, room) in
+    let all : take most numbers ≡ numbers = take_all most numbers (omega (arith, few)) in
+    let more : take most (numbers ++ number ∷ []) ≡ numbers ++ number ∷ [] = take_all most (numbers ++ number ∷ []) (omega (arith, few, length_push numbers number)) in
+    ap (λ (l : List ℕ). l ++ number ∷ []) (is ∙ all) ∙ sym more
+
+-- and the same as before where there is none
+pub first_full : (most : ℕ) (numbers first : List ℕ) (number : ℕ) → first ≡ take most numbers → most ≤ length first → first ≡ take most (numbers ++ number ∷ [])
+first_full most numbers first number is full =
+    is ∙ sym (take-append-le most numbers (number ∷ []) (omega (arith, ap length is, length-take most numbers, full)))
 
 -- a tally that has no more numbers than there are elements
 pub tally_few : {X : Type 0} (is_one : List X → X → Bool) (xs : List X) (tally : Tally) → IsTallyOf (numbers_of is_one xs) tally → tally.count ≤ length xs

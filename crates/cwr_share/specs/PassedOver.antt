@@ -1,5 +1,5 @@
 -- What a run passes over without a word: share lines of territories that its table does not have, and payees of parties that nobody is.
-use Rattle.std.specs.Prelude.{ℕ, ◌≡◌, ◌+◌, ◌&&◌, Bool, false, List, length, map, nat_eq, not, reverse, slice_index_or, take, if◌then◌else◌, Some, None}
+use Rattle.std.specs.Prelude.{ℕ, ◌≡◌, ◌+◌, ◌&&◌, Bool, false, List, length, map, nat_eq, not, reverse, take, if◌then◌else◌, Some, None}
 use Rattle.std.specs.List.{enumerate_from, filter_map, find, list_any}
 use Rattle.std.specs.Option.{option_map_or}
 use Rattle.std.specs.Cmp.Lexicographic.{pointwise}
@@ -35,10 +35,10 @@ has_row payees party = list_any (pointwise nat_eq party) (map (λ row. row.0) pa
 abbrev pub unused_rows : Registered → List (List ℕ × List ℕ) → List ℕ
 unused_rows registered rows = numbers_of (λ _ row. not (has_row registered.payees row.0)) rows
 
--- how many numbers there are, and the first of them, or 0
+-- how many numbers there are, and the first ten of them
 pub record IsTallyOf (numbers : List ℕ) (tally : Tally) : Type 0 where
   pub count : tally.count ≡ length numbers
-  pub first : tally.first ≡ slice_index_or numbers 0 0
+  pub first : tally.first.items ≡ take 10 numbers
 
 -- Lines that were gone over so far. Contracts of private functions alone cite it.
 pub record IsScanOf (table : List (ℕ × List ℕ)) (lines : List (List ℕ)) (scan : Scan) : Type 0 where

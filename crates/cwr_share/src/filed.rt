@@ -1,7 +1,7 @@
 //! Registrations as they stand in their file. A registry keeps no numbers of lines: the file is read again for the registration of
 //! one work.
 
-ghost use Rattle.std.specs.Prelude.{◌≡◌, ◌≤◌, ◌+◌, ◌∷◌, ◌++◌, ◌<◌, ◌^◌, ◌⊎◌, [], ℕ, List, IfNone, IfOk, IfSome, None, OnOk, Some, count_by, drop, false, length, true};
+ghost use Rattle.std.specs.Prelude.{◌≡◌, ◌≤◌, ◌+◌, ◌∷◌, ◌++◌, ◌<◌, ◌^◌, [], ℕ, List, IfNone, IfOk, IfSome, None, OnOk, Some, count_by, drop, false, length, true};
 ghost use Rattle.cwr_share.specs.CwrFile.{AreSound, IsShareRecord};
 ghost use Rattle.cwr_share.specs.Filed.{AreShareRecords, GoesOnBy, IsFiled, IsFiledTo, body_of, last_opening as number_of_opening, opens_work, share_numbers};
 ghost use Rattle.cwr_share.specs.Lines.{lines_of};

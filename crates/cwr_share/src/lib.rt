@@ -31,7 +31,7 @@ mod share_line;
 pub use cwr_fault::CwrFault;
 pub use cwr_reader::CwrReader;
 pub use filed::{FiledRegistration, count_registrations, filed_registration};
-pub use passed_over::{Tally, unknown_territories, unused_payees};
+pub use passed_over::{MOST_NAMED, Tally, unknown_territories, unused_payees};
 pub use payee_fault::PayeeFault;
 pub use payee_reader::PayeeReader;
 pub use payees::{MOST_NAME_BYTES, MOST_PAYEES, Payees};

@@ -1,8 +1,7 @@
 //! What a run passes over without a word: share lines of territories that its table does not have, and payees of parties that
 //! nobody is.
 
-ghost use Rattle.std.specs.Prelude.{◌≡◌, ◌+◌, ◌∷◌, ◌++◌, ◌&&◌, ◌<◌, ◌^◌, [], ℕ, List, false, if◌then◌else◌, not, true};
-ghost use Rattle.csv_table.specs.Forms.{number_of};
+ghost use Rattle.std.specs.Prelude.{◌≡◌, ◌+◌, ◌∷◌, ◌++◌, ◌&&◌, ◌<◌, ◌^◌, [], ℕ, List, false, if◌then◌else◌, true};
 ghost use Rattle.cwr_share.specs.CwrFile.{AreSound, IsSound};
 ghost use Rattle.cwr_share.specs.Fields.{HasLand};
 ghost use Rattle.cwr_share.specs.Lines.{lines_of};
@@ -14,15 +13,19 @@ use crate::lines::Lines;
 use crate::record_type::record_type;
 use crate::share_line::territory;
 use crate::{Payees, RecordType, Registry};
+use arrayvec::ArrayVec;
 use tis_tree::TisTable;
 
-/// How many lines or rows there are of some kind, and the number of the first: 0 where there is none.
-#[derive(Clone, Copy, Debug, PartialEq, Eq)]
+/// The most lines or rows of a kind that are named.
+pub const MOST_NAMED: usize = 10;
+
+/// How many lines or rows there are of some kind, and the numbers of the first ten.
+#[derive(Debug, Drop)]
 pub struct Tally {
     /// How many there are.
     pub count: u64,
-    /// The number of the first, from 1.
-    pub first: u64,
+    /// The numbers of the first ten, or of all where they are fewer, from 1 and in order.
+    pub first: ArrayVec<u64, MOST_NAMED>,
 }
 
 /// The share lines of registrations, replaced ones too, whose territory the table does not have, in a file without faults. A run reads
@@ -61,7 +64,10 @@ impl Tally {
     fn none() -> Tally
         ensures { IsTallyOf [] result }
     {
-        Tally { count: 0, first: 0 }
+        Tally {
+            count: 0,
+            first: ArrayVec::new(),
+        }
     }
 
     /// Adds the next, which has this number.
@@ -69,10 +75,10 @@ impl Tally {
         requires { self.old.count + 1 < 2 ^ 64 }
         ensures { (numbers : List ℕ) → IsTallyOf numbers self.old → IsTallyOf (numbers ++ number ∷ []) self.new }
     {
-        if self.count == 0 {
-            self.first = number;
-        }
         self.count += 1;
+        if self.first.len() < MOST_NAMED {
+            self.first.push(number);
+        }
     }
 }
 

@@ -1,6 +1,6 @@
 //! The table of payees: who is paid what a party claims.
 
-ghost use Rattle.std.specs.Prelude.{ℕ, List, ◌≡◌, ◌≤◌, ◌<◌, ◌+◌, ◌↔◌, ◌⊎◌, ◌++◌, ◌∷◌, [], IfErr, IfNone, IfOk, IfSome, IsTrue, OnOk, Some, length, slice_index_or};
+ghost use Rattle.std.specs.Prelude.{ℕ, List, ◌≡◌, ◌<◌, ◌+◌, ◌⊎◌, ◌++◌, ◌∷◌, [], IfErr, IfNone, IfSome, OnOk, Some, length, slice_index_or};
 ghost use Rattle.csv_table.specs.Forms.{IsPrintable};
 ghost use Rattle.cwr_share.specs.Fields.{trimmed as trimmed_text};
 ghost use Rattle.cwr_share.specs.PayeeTable.{IsFaultOfRow, IsPayeeRow, payee_row_of, place_of_fault};

@@ -1,6 +1,6 @@
 //! The registrations in force, and the claims that they give on a usage line.
 
-ghost use Rattle.std.specs.Prelude.{◌≡◌, ◌≤◌, ◌<◌, ◌⊎◌, [], Contains, IfOk, IfErr, IfSome, IfNone, true, false, length, map, slice_index_or};
+ghost use Rattle.std.specs.Prelude.{◌≡◌, ◌≤◌, ◌<◌, ◌⊎◌, [], Contains, IfOk, IfSome, IfNone, true, false, length, map, slice_index_or};
 ghost use Rattle.line_split.specs.declared.TheConstants.{MOST_CLAIMS};
 ghost use Rattle.line_split.specs.UsageLine.{usage_line_of};
 ghost use Rattle.cwr_share.specs.ClaimsOn.{claims_on, is_known, reason_against};

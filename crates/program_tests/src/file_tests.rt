@@ -222,13 +222,61 @@ fn remarks_what_a_run_passes_over(rt: HostRuntime) -> Result<(), Fail> {
         [TERRITORIES, MISTYPED, USES],
         Ask::Teller,
         "\
-r check --tis @tis --cwr @cwr --usage @usage [@usage: usage lines: 3|@cwr: remark: share lines whose territory is not in the table: 3, the first in line 3|@usage: divided] -> 0 out
-r check --tis @tis --payees @payees --cwr @cwr --usage @usage [the first in line 3|@payees: remark: rows whose party no registration in force has: 1, the first in row 1|@usage: divided] -> 0 out
+r check --tis @tis --cwr @cwr --usage @usage [@usage: usage lines: 3|@cwr: remark: share lines whose territory is not in the table: 3, in line 3, 4, 8|@usage: divided] -> 0 out
+r check --tis @tis --payees @payees --cwr @cwr --usage @usage [in line 3, 4, 8|@payees: remark: rows whose party no registration in force has: 1, in row 1|@usage: divided] -> 0 out
 r check --tis @tis --cwr @cwr --usage @usage [no registration in force has] -> 0 neither
 r check --tis @cwr --cwr @cwr --usage @usage [remark] -> 1 neither
-r check --tis @cwr --payees @payees --cwr @cwr --usage @usage [@payees: remark: rows whose party no registration in force has: 1, the first in row 1|] -> 1 out
+r check --tis @cwr --payees @payees --cwr @cwr --usage @usage [@payees: remark: rows whose party no registration in force has: 1, in row 1|] -> 1 out
 r check --tis @tis --payees @tis --cwr @cwr --usage @tis [no registration in force has] -> 1 neither
-r check --tis @tis --payees @tis --cwr @cwr --usage @tis [@cwr: remark: share lines whose territory is not in the table: 3, the first in line 3|] -> 1 out
+r check --tis @tis --payees @tis --cwr @cwr --usage @tis [@cwr: remark: share lines whose territory is not in the table: 3, in line 3, 4, 8|] -> 1 out
+",
+    )
+}
+
+/// Ten share lines of a territory that the table does not have, from line 3 on.
+const TEN_MISTYPED: &str = "\
+NWR0000000000000000SONG                                                          W1
+SPU0000000000000001
+SPT0000000000000003A                             E0841
+SPT0000000000000003A                             E0841
+SPT0000000000000003A                             E0841
+SPT0000000000000003A                             E0841
+SPT0000000000000003A                             E0841
+SPT0000000000000003A                             E0841
+SPT0000000000000003A                             E0841
+SPT0000000000000003A                             E0841
+SPT0000000000000003A                             E0841
+SPT0000000000000003A                             E0841
+";
+
+/// Eleven of them.
+const ELEVEN_MISTYPED: &str = "\
+NWR0000000000000000SONG                                                          W1
+SPU0000000000000001
+SPT0000000000000003A                             E0841
+SPT0000000000000003A                             E0841
+SPT0000000000000003A                             E0841
+SPT0000000000000003A                             E0841
+SPT0000000000000003A                             E0841
+SPT0000000000000003A                             E0841
+SPT0000000000000003A                             E0841
+SPT0000000000000003A                             E0841
+SPT0000000000000003A                             E0841
+SPT0000000000000003A                             E0841
+SPT0000000000000003A                             E0841
+";
+
+/// Either file is in its turn the CWR file, and the usage list too, which has a fault then.
+#[test]
+fn remarks_name_ten_lines(rt: HostRuntime) -> Result<(), Fail> {
+    assert_rows_over(
+        &rt,
+        "crowded",
+        [TERRITORIES, TEN_MISTYPED, ELEVEN_MISTYPED],
+        Ask::Teller,
+        "\
+r check --tis @tis --cwr @cwr --usage @cwr [@cwr: remark: share lines whose territory is not in the table: 10, in line 3, 4, 5, 6, 7, 8, 9, 10, 11, 12|] -> 1 out
+r check --tis @tis --cwr @usage --usage @usage [@usage: remark: share lines whose territory is not in the table: 11, in line 3, 4, 5, 6, 7, 8, 9, 10, 11, 12 and others|] -> 1 out
 ",
     )
 }

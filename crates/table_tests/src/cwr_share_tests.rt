@@ -153,17 +153,17 @@ fn outcome_after(alloc: Global, file: &str, edit: &str) -> Result<String, Fail> 
     outcome(alloc, edited(alloc, file, edit)?.as_bytes())
 }
 
-/// How many there are, and the first of them.
-fn tallied(alloc: Global, tally: Tally) -> Result<String, Fail> {
-    let Tally { count, first } = tally;
-    Ok(format!(in alloc; "{count} from {first}")?)
+/// How many there are, and the first ten of them.
+fn tallied(alloc: Global, tally: &Tally) -> Result<String, Fail> {
+    let (count, first) = (tally.count, tally.first.as_slice());
+    Ok(format!(in alloc; "{count} in {first:?}")?)
 }
 
 /// The share lines of a file whose territory the table does not have.
 fn unknown(alloc: Global, file: &[u8]) -> Result<String, Fail> {
     let tis = TisTable::read(alloc, TERRITORIES.as_bytes())?;
     let _registry = Registry::read(alloc, file)?;
-    tallied(alloc, unknown_territories(file, &tis))
+    tallied(alloc, &unknown_territories(file, &tis))
 }
 
 /// The same of a file after an edit.
@@ -176,7 +176,7 @@ fn unused(alloc: Global, registry: &Registry, rows: &str) -> Result<String, Fail
     let mut table = Vec::from_slice(alloc, b"party,payee\n")?;
     table.extend_from_slice(lines_of(alloc, rows)?.as_slice())?;
     let payees = Payees::read(alloc, table.as_slice())?;
-    tallied(alloc, unused_payees(&payees, registry))
+    tallied(alloc, &unused_payees(&payees, registry))
 }
 
 /// The same of a file, where these are the rows.
@@ -355,12 +355,12 @@ fn finds_share_lines_of_unknown_territories(rt: HostRuntime) -> Result<(), Fail>
         rt.alloc(),
         &Asked::Unknown(TWO_PARTIES),
         "\
-SONG>SONG: 0 from 0
-E0840>E0841: 1 from 4
-E0840>E9001: 0 from 0
-I2136>I2163: 1 from 3
-SPU0000000000000001>HDR: 0 from 0
-I2136>I0276: 0 from 0
+SONG>SONG: 0 in []
+E0840>E0841: 1 in [4]
+E0840>E9001: 0 in []
+I2136>I2163: 1 in [3]
+SPU0000000000000001>HDR: 0 in []
+I2136>I0276: 0 in []
 ",
     )?;
     assert_rows(
@@ -368,10 +368,10 @@ I2136>I0276: 0 from 0
         rt.alloc(),
         &Asked::Unknown(OF_UNKNOWN_TERRITORIES),
         "\
-SONG>SONG: 3 from 3
-I2163>I2136: 2 from 4
-GRT>XXX: 4 from 3
-NWR>GRT: 1 from 9
+SONG>SONG: 3 in [3, 4, 9]
+I2163>I2136: 2 in [4, 9]
+GRT>XXX: 4 in [3, 4, 9, 11]
+NWR>GRT: 1 in [9]
 ",
     )
 }
@@ -383,11 +383,11 @@ fn finds_payees_of_parties_that_nobody_is(rt: HostRuntime) -> Result<(), Fail> {
         rt.alloc(),
         &Asked::Unused(TWO_PARTIES),
         "\
-: 0 from 0
-A,X/B,Y/: 0 from 0
-A,X/C,Y/: 1 from 2
-C,A/A,X/D,B/E,E/B,A/: 3 from 1
-A ,C/ABCDEFGHIJK,A/a,A/: 2 from 2
+: 0 in []
+A,X/B,Y/: 0 in []
+A,X/C,Y/: 1 in [2]
+C,A/A,X/D,B/E,E/B,A/: 3 in [1, 3, 4]
+A ,C/ABCDEFGHIJK,A/a,A/: 2 in [2, 3]
 ",
     )?;
     assert_rows(
@@ -395,8 +395,8 @@ A ,C/ABCDEFGHIJK,A/a,A/: 2 from 2
         rt.alloc(),
         &Asked::Unused(FIVE_WORKS),
         "\
-C,X/B,X/A,X/: 0 from 0
-W2,X/A,X/: 1 from 1
+C,X/B,X/A,X/: 0 in []
+W2,X/A,X/: 1 in [1]
 ",
     )
 }
@@ -408,7 +408,21 @@ fn finds_payees_of_replaced_registrations(rt: HostRuntime) -> Result<(), Fail> {
         &rt,
         rt.alloc(),
         &Asked::Unused(OF_UNKNOWN_TERRITORIES),
-        "C,X/A,X/D,X/: 1 from 2\n",
+        "C,X/A,X/D,X/: 1 in [2]\n",
+    )
+}
+
+/// The third row is of a party in force. With the last row of the second table there are eleven others.
+#[test]
+fn names_the_first_ten(rt: HostRuntime) -> Result<(), Fail> {
+    assert_rows(
+        &rt,
+        rt.alloc(),
+        &Asked::Unused(TWO_PARTIES),
+        "\
+C,X/D,X/A,X/E,X/F,X/G,X/H,X/I,X/J,X/K,X/L,X/: 10 in [1, 2, 4, 5, 6, 7, 8, 9, 10, 11]
+C,X/D,X/A,X/E,X/F,X/G,X/H,X/I,X/J,X/K,X/L,X/M,X/: 11 in [1, 2, 4, 5, 6, 7, 8, 9, 10, 11]
+",
     )
 }
 

@@ -8,10 +8,10 @@ use Rattle.settle_run.proofs.SettleLemmas.{book_rows_same}
 use Rattle.split_run.proofs.DivisionLemmas.{some_accounts}
 use Rattle.settle_run.proofs.statements.book_and_reasons.Goals as goal
 
-pub reasons_of-requires : goal.reasons_of-requires
-reasons_of-requires g c =
+pub reasons_of-requires-clause-lines : goal.reasons_of-requires-clause-lines
+reasons_of-requires-clause-lines g c =
     let some : 0 < length c.in-Ok.book = omega (arith, some_accounts c.args.registry.now c.requires.sound, c.in-Ok.ensures.book.whole) in
-    rw c.lines.ensures.postings
+    rw c.lines-residue.ensures.postings
     (book_lines_below (division_by c.args.tis.now c.args.registry.now) c.args.usage.now (length c.args.registry.now.parties) c.in-Ok.book c.in-Ok.ensures.book 0 [] some)
 
 pub returns-clause-lines : goal.returns-clause-lines
@@ -27,7 +27,7 @@ returns-clause-statements g c =
     let reasons = c.in_ok-reasons.reasons.items in
     let owns = map (reason_of table registered) lines in
     let residue : residue_rows lines reasons (get_or book 0 []) ≡ residue_rows lines owns (get_or book 0 []) =
-    subst (λ postings. residue_rows lines reasons postings ≡ residue_rows lines owns postings) c.lines.ensures.postings c.in_ok-reasons.ensures.rows in
+    subst (λ postings. residue_rows lines reasons postings ≡ residue_rows lines owns postings) c.lines-residue.ensures.postings c.in_ok-reasons.ensures.rows in
     record {
       statements = book;
       divided = c.in-Ok.ensures.book;
