@@ -75,7 +75,7 @@ module _ (gives : List ℕ → List ℕ → Type 0) where
   -- so is one of whose text this is the first fault
   pub refused_text : (path : List ℕ) (known : Option (List ℕ)) (was : Refusal) (failure : Failure) → Gives (gives path) known → IfSome known (λ text. IsRefusedFor text was) → IsOfRefusal path was failure → IsOfText gives path failure
   refused_text path known was Room given for is = tt
-  refused_text path known was (File name) given for is = is
+  refused_text path known was (File name) given for is = is.0
   refused_text path known was (Statement fault name) given for is =
       (is.0, record { known = known; given = given; holds_of = subst (λ (w : Refusal). IfSome known (λ text. IsRefusedFor text w)) is.1 for })
   refused_text path known was failure given for is = absurd is

@@ -1,8 +1,8 @@
 -- The reasons of the residue of a run.
-use Rattle.std.proofs.Common.{◌≡◌, ◌∙◌, ◌<◌, ◌++◌, ◌∷◌, ◌⊎◌, [], ℕ, ℤ, List, length, map, set, drop, get_or, All, ap, sym, refl, inl, inr, arith, codes}
+use Rattle.std.proofs.Common.{◌≡◌, ◌∙◌, ◌<◌, ◌++◌, ◌∷◌, [], ℕ, ℤ, List, length, map, set, take, drop, get_or, All, ap, sym, refl, inl, inr, arith, codes}
 use Rattle.std.specs.Prelude.{flat_map, zip}
 use Rattle.std.proofs.lemmas.Bool.{cases_eq}
-use Rattle.std.proofs.lemmas.List.{get_or-map, get_or-set_other, get_or-set_same, length-set}
+use Rattle.std.proofs.lemmas.List.{get_or_append_left, get_or-map, get_or_read_under, get_or-set_other, get_or-set_same, get_or-take, length-set}
 use Rattle.std.proofs.lemmas.List.Elements.{All-push, All-tail}
 use Rattle.line_split.specs.UsageLine.{UsageLine}
 use Rattle.line_split.specs.declared.reason.Reason.{Reason}
@@ -10,32 +10,19 @@ use Rattle.line_split.specs.declared.reason.Reason.TheVariants.{Open}
 use Rattle.line_split.specs.ReasonTexts.{reason_text}
 use Rattle.payee_book.specs.Text.{payee_rows, posting_row, reason_at, residue_rows, rows_of_book, run_row, total_row}
 
--- the reasons of the lines of those postings that are done; at any place there is the line's own reason, or none is set
+-- the reasons of the lines of those postings that are done
 pub record AreReasons (owns : List Reason) (done : List (ℕ × ℤ)) (reasons : List Reason) : Type 0 where
   pub whole : length reasons ≡ length owns
-  pub either : (k : ℕ) → (get_or reasons k Open ≡ Open) ⊎ (get_or reasons k Open ≡ get_or owns k Open)
   pub stand : All (λ posting. get_or reasons posting.0 Open ≡ get_or owns posting.0 Open) done
 
 module _ (owns : List Reason) (done : List (ℕ × ℤ)) (reasons : List Reason) (p : ℕ × ℤ) (are : AreReasons owns done reasons) where
   abbrev Stands : List Reason → ℕ × ℤ → Type 0
   Stands list posting = get_or list posting.0 Open ≡ get_or owns posting.0 Open
 
-  -- a line whose reason is that its claims leave something open
-  pub reason_left : get_or owns p.0 Open ≡ Open → AreReasons owns (done ++ p ∷ []) reasons
-  reason_left left = record {
-    whole = are.whole;
-    either = are.either;
-    stand = All-push (Stands reasons) done p are.stand (elim (are.either p.0) [ inl none ↦ none ∙ sym left | inr own ↦ own ]);
-  }
-
-  -- one whose reason is set
+  -- the reason of one more is set
   pub reason_set : (reason : Reason) → p.0 < length reasons → reason ≡ get_or owns p.0 Open → AreReasons owns (done ++ p ∷ []) (set reasons p.0 reason)
   reason_set reason within is = record {
     whole = length-set reasons p.0 reason ∙ are.whole;
-    either = λ k. elim (cases_eq k p.0) [
-      | inl same ↦ inr (rw same here)
-      | inr other ↦ rw (there k other) (are.either k)
-    ];
     stand = All-push (Stands (set reasons p.0 reason)) done p (λ k d lt. elim (cases_eq (get_or done k d).0 p.0) [
       | inl same ↦ rw same here
       | inr other ↦ there (get_or done k d).0 other ∙ are.stand k d lt
@@ -73,3 +60,11 @@ pub book_rows_same : (book : List (List (ℕ × ℤ))) (usage : List UsageLine) 
     → residue_rows usage reasons (get_or book 0 []) ≡ residue_rows usage owns (get_or book 0 []) → rows_of_book book usage parties reasons ≡ rows_of_book book usage parties owns
 book_rows_same book usage parties reasons owns is =
     ap (λ (l : List (List (List ℕ))). flat_map (λ e. payee_rows usage e.0 e.1) (zip (drop 1 parties) (drop 1 book)) ++ (l ++ run_row usage ∷ [])) is
+
+-- what is read of a list whose places were all written is what was written there
+pub read_of_written : {X : Type 0} (written old : List X) (n k : ℕ) (x d : X) → x ≡ get_or (take n (written ++ drop (length written) old)) k x → k < length written → n ≡ length written
+    → get_or written k d ≡ x
+read_of_written written old n k x d read low long =
+    let own : x ≡ get_or written k x =
+    read ∙ (get_or-take n (written ++ drop (length written) old) k x (omega (arith, low, long)) ∙ get_or_append_left written (drop (length written) old) x k low) in
+    sym (get_or_read_under written k (length written) x d own low refl)

@@ -9,7 +9,7 @@ use Rattle.split_run.proofs.DivisionLemmas.{some_accounts}
 use Rattle.settle_run.proofs.statements.book_and_reasons.Goals as goal
 
 pub reasons_of-requires-clause-lines : goal.reasons_of-requires-clause-lines
-reasons_of-requires-clause-lines g c =
+reasons_of-requires-clause-lines g c κs within =
     let some : 0 < length c.in-Ok.book = omega (arith, some_accounts c.args.registry.now c.requires.sound, c.in-Ok.ensures.book.whole) in
     rw c.lines-residue.ensures.postings
     (book_lines_below (division_by c.args.tis.now c.args.registry.now) c.args.usage.now (length c.args.registry.now.parties) c.in-Ok.book c.in-Ok.ensures.book 0 [] some)
