@@ -1,5 +1,5 @@
 //! A draw of blocks, and those who draw.
-ghost use Rattle.std.specs.Prelude.{◌≡◌, ◌<◌, ◌≤◌, ◌∷◌, [], ℕ, All, HoldsAt, IfOk, MatchOption, None, true, ⊤, vec_items, vec_len};
+ghost use Rattle.std.specs.Prelude.{◌≡◌, ◌<◌, ◌≤◌, [], ℕ, All, HoldsAt, IfOk, MatchOption, None, true, ⊤, vec_items, vec_len};
 ghost use Rattle.std.specs.Arc.{arc_value};
 ghost use Rattle.block_draw.specs.declared.TheConstants.{MOST_BLOCKS, MOST_DRAWERS};
 ghost use Rattle.block_draw.specs.declared.seats.Known.TheVariants.{Gathers};

@@ -9,7 +9,7 @@ pub mod Division
 pub mod FirstPlaces
 pub mod ByAccount
 pub mod Over
-mod UsageRows
+pub mod UsageRows
 pub mod UsageReadings
 pub mod OneTable
 mod KeptLemmas

@@ -1,7 +1,7 @@
 //! The queue of one sender: what was taken from it is the first part of what was sent to it.
 ghost use Rattle.std.specs.Prelude.{◌≡◌, ◌<◌, ◌≤◌, ◌++◌, ◌∷◌, [], IfOk, MatchOption, true, false, length};
 ghost use Rattle.crossbeam_queue.specs.Passes.{IsPassOf, IsSamePass, ruled_capacity, view};
-ghost use Rattle.queue_core.specs.Items.{IsFirstOf, IsInRange};
+ghost use Rattle.queue_core.specs.Items.{IsInRange};
 ghost use Rattle.queue_core.specs.Matches.{MatchPosted};
 ghost use Rattle.mail_box.specs.Lanes.{BeginsLane, HasPopped, IsWholeLane, log, with_sent};
 

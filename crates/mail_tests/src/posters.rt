@@ -1,6 +1,6 @@
 //! The senders of a pool of linked nodes, each with how many mailboxes it may send to.
 
-ghost use Rattle.std.specs.Prelude.{◌≡◌, ◌<◌, ◌≤◌, All, IfOk, vec_items};
+ghost use Rattle.std.specs.Prelude.{◌≡◌, ◌<◌, ◌≤◌, All, vec_items};
 ghost use Rattle.pool_box.specs.PoolViews.{sender_of};
 
 use pool_box::{PoolMail, PoolReceiver, PoolSender};

@@ -1,16 +1,14 @@
 -- What a run says of its lines keeps to the limits of statements.
-use Rattle.std.proofs.Common.{◌≡◌, ◌∙◌, ◌+◌, ◌^◌, ◌<◌, ◌≤◌, ◌++◌, ◌∷◌, ◌==◌, [], ℕ, ℤ, pos, neg_ℤ, ◌+ℤ◌, unsigned_abs, Bool, true, false, not, List, All, length, map, sum_by, ap, refl, arith}
+use Rattle.std.proofs.Common.{◌≡◌, ◌∙◌, ◌+◌, ◌^◌, ◌<◌, ◌≤◌, ◌++◌, ◌∷◌, ◌==◌, [], ℕ, ℤ, ◌+ℤ◌, unsigned_abs, Bool, true, false, not, List, All, length, map, sum_by, ap, refl, arith}
 use Rattle.std.specs.Prelude.{flat_map, if◌then◌else◌}
 use Rattle.std.specs.Cmp.Lexicographic.{slice_cmp}
 use Rattle.std.specs.List.{AllByRecursion, filter}
 use Rattle.std.specs.List.Sorted.{IsStrictlySortedBy}
 use Rattle.std.specs.Ordering.{nat_cmp}
 use Rattle.std.specs.declared.cmp.Ordering.TheVariants.{Less}
-use Rattle.std.proofs.lemmas.Int.{ints}
 use Rattle.std.proofs.lemmas.List.{length-append}
 use Rattle.std.proofs.lemmas.List.Elements.{All-append, All-cons, All-head, All-map, All-nil, All-same, All-tail, All-weaker}
 use Rattle.std.proofs.lemmas.List.Filters.{sum_by-filter_both}
-use Rattle.csv_table.specs.Forms.{IsSignedNumber, has_minus, number_of, signed_number_of, without_minus}
 use Rattle.line_split.specs.LargestRemainder.{portions_of}
 use Rattle.line_split.specs.Signs.{int_sum_by, is_not_zero, signed_entry, signed_portions_of, with_sign_of}
 use Rattle.line_split.specs.UsageLine.{UsageLine, amount_of, line_of}
@@ -19,6 +17,7 @@ use Rattle.line_split.specs.declared.reason.Reason.{Reason}
 use Rattle.line_split.proofs.Fair.{portions_are_fair}
 use Rattle.line_split.proofs.IntSums.{int_sum_by_size}
 use Rattle.line_split.proofs.Signs.{signed_sum, size_of_signed}
+use Rattle.line_split.proofs.UsageRows.{signed_small}
 use Rattle.payee_book.specs.Run.{portion_for}
 use Rattle.line_split.specs.ReasonTexts.{reason_text}
 use Rattle.merge_statements.specs.Statements.{AreStatements, IsAmount, IsName, IsPortion, IsReason, IsRest, IsStatement, Portion, Rest, Statement, total_of, total_of_rests}
@@ -31,14 +30,6 @@ use Rattle.merge_statements.proofs.ReadBack.{the_portion, the_rest, the_statemen
 -- what its use is called is a name, and its amount in its limits
 abbrev pub IsInLimits : UsageLine → Type 0
 IsInLimits line = IsName line.usage × (unsigned_abs line.amount ≤ 1000000000000)
-
--- a signed number is no larger than its digits are
-signed_small : (most : ℕ) (field : List ℕ) → IsSignedNumber most field → unsigned_abs (signed_number_of field) ≤ most
-signed_small most field is = by_minus (has_minus field) (number_of (without_minus field)) is.small
-  where
-    by_minus : (minus : Bool) (size : ℕ) → size ≤ most → unsigned_abs (if minus then neg_ℤ (pos size) else pos size) ≤ most
-    by_minus true size small = omega (arith, ints)
-    by_minus false size small = small
 
 pub lines_in_limits : (rows : List (List (List ℕ))) (lines : List UsageLine) → IsTableOf rows lines → All IsInLimits lines
 lines_in_limits rows lines is =

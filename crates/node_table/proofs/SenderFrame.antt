@@ -1,5 +1,5 @@
 -- What a step of a sender has to show, so that the rule of a table of nodes is kept.
-use Rattle.std.proofs.Common.{◌≡◌, ◌∙◌, ◌<◌, ◌+◌, ◌*◌, ◌%◌, ◌++◌, ◌∷◌, [], ℕ, Bool, List, Option, None, Some, true, false, length, set, ap, sym, refl, subst, inl, inr, arith, get_or-set_other}
+use Rattle.std.proofs.Common.{◌≡◌, ◌∙◌, ◌<◌, ◌+◌, ◌*◌, ◌%◌, ◌∷◌, [], ℕ, Bool, List, Option, None, Some, true, false, length, set, ap, sym, refl, subst, inl, inr, arith, get_or-set_other}
 use Rattle.std.specs.Prelude.{◌==◌, All, slice_index_or}
 use Rattle.std.specs.List.{filter_map}
 use Rattle.std.proofs.lemmas.Bool.{cases_Bool, cases_eq, eqb-true, ne_eqb}

@@ -1,7 +1,7 @@
 //! A table of nodes as its ends use it: senders, the receivers of its mailboxes, and a tally.
-ghost use Rattle.std.specs.Prelude.{unsigned_abs, ◌≡◌, ◌++◌, ◌+◌, ◌*◌, ◌/◌, ◌<◌, ◌≤◌, ◌∷◌, ℕ, [], HoldsAt, IfOk, None, get_or, Some, false, true, vec_items, vec_len};
+ghost use Rattle.std.specs.Prelude.{unsigned_abs, ◌≡◌, ◌++◌, ◌+◌, ◌/◌, ◌<◌, ◌≤◌, ◌∷◌, ℕ, [], HoldsAt, IfOk, None, get_or, Some, false, true, vec_items, vec_len};
 ghost use Rattle.std.specs.Arc.{arc_value};
-ghost use Rattle.queue_core.specs.declared.TheConstants.{MOST_AMOUNT, MOST_MAILBOXES, MOST_NODES, MOST_POOL_POSTS, MOST_POSTS, MOST_SENDERS};
+ghost use Rattle.queue_core.specs.declared.TheConstants.{MOST_AMOUNT, MOST_POOL_POSTS, MOST_POSTS};
 ghost use Rattle.queue_core.specs.declared.item.Item.{Item as AnItem};
 ghost use Rattle.queue_core.specs.declared.item.Item.TheVariants.{End, Post};
 ghost use Rattle.queue_core.specs.declared.reader.ReaderPoint.TheVariants as reads;

@@ -1,7 +1,7 @@
 //! The rows of statements.
 
 ghost use Rattle.std.specs.Io.KnownBytes.{Appends, append_known};
-ghost use Rattle.std.specs.Prelude.{ℤ, unsigned_abs, ◌≡◌, ◌≤◌, ◌<◌, ◌++◌, ◌∷◌, [], All, OnOk, codes, length, map};
+ghost use Rattle.std.specs.Prelude.{unsigned_abs, ◌≡◌, ◌≤◌, ◌<◌, ◌++◌, ◌∷◌, [], All, OnOk, codes, length, map};
 ghost use Rattle.std.specs.Fmt.{signed_decimal};
 ghost use Rattle.line_split.specs.Signs.{int_sum_by};
 ghost use Rattle.csv_table.specs.Written.{text_of, text_of_row};

@@ -1,6 +1,6 @@
 //! The table of territories, with what contains what worked out as it is read.
 
-ghost use Rattle.std.specs.Prelude.{◌≡◌, ◌≤◌, ◌<◌, ◌+◌, ◌↔◌, ◌⊎◌, ◌++◌, ◌∷◌, [], ℕ, true, All, Contains, IfOk, IfErr, IfSome, IfNone, IsTrue, OnOk, Some, length, map};
+ghost use Rattle.std.specs.Prelude.{◌≡◌, ◌≤◌, ◌<◌, ◌+◌, ◌↔◌, ◌⊎◌, ◌++◌, ◌∷◌, [], ℕ, true, All, IfOk, IfErr, IfSome, IfNone, IsTrue, OnOk, Some, length, map};
 ghost use Rattle.csv_table.specs.Forms.{IsCode, number_of};
 ghost use Rattle.tis_tree.specs.Compiled.{IsAbove, has_bit};
 ghost use Rattle.tis_tree.specs.Territories.{AreTerritories, Encloses, IsKnown, encloses, row_at};

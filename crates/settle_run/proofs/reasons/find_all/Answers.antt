@@ -1,4 +1,4 @@
-use Rattle.std.proofs.Common.{ℕ, ℤ, pos, ◌≡◌, ◌∙◌, ◌<◌, ◌+◌, ◌≤◌, Option, None, length, map, get_or, sym, subst, inl, inr, arith}
+use Rattle.std.proofs.Common.{ℕ, pos, ◌≡◌, ◌+◌, Option, None, length, map, get_or, sym, subst, inl, inr, arith}
 use Rattle.std.specs.Prelude.{IfSome}
 use Rattle.std.proofs.lemmas.Bool.{cases_lt}
 use Rattle.std.proofs.lemmas.List.{get_or_past}
