@@ -38,7 +38,8 @@ impl<'a> CwrReader<'a> {
         }
     }
 
-    /// Reads on to the next line that is refused, and leaves it out. None: there is no such line, and all are read.
+    /// Reads on to the next line that is refused, and leaves it out. None: there is no such line, and all are read. Where
+    /// memory is refused, the line that was being read may be lost, so the reader is to be given up.
     pub fn next_fault(&mut self, alloc: Global) -> Result<Option<CwrFault>, AllocError>
         requires { Stands self.old }
         ensures fault { IfOk result (λ found. IfSome found (λ fault. HasReadOn self.old ((self.new.line.now, fault) ∷ []) self.new)) }
@@ -59,7 +60,7 @@ impl<'a> CwrReader<'a> {
         Ok(None)
     }
 
-    /// The line at hand, which is the one that was refused last.
+    /// The line that was read last: behind a fault, the one that is refused for it.
     pub fn line(&self) -> &'a [u8]
         ensures { result.now ≡ self.now.line.now }
     {

@@ -60,7 +60,8 @@ impl<'a> PayeeReader<'a> {
     }
 
     /// Reads on to the next row that is refused, and leaves it out. None: there is no such row, and all are read. Where
-    /// there are more rows than a table has, no more are read.
+    /// there are more rows than a table has, no more are read. Where memory is refused, the row that was being read may be lost,
+    /// so the reader is to be given up.
     pub fn next_fault(&mut self, alloc: Global) -> Result<Option<PayeeFault>, AllocError>
         ensures fault { IfOk result (λ found. IfSome found (λ fault. HasReadOn self.old ((self.new.row, fault) ∷ []) self.new)) }
         ensures none { IfOk result (λ found. IfNone found (HasReadOn self.old [] self.new × (self.new.left ≡ []))) }
@@ -86,7 +87,7 @@ impl<'a> PayeeReader<'a> {
         Ok(None)
     }
 
-    /// The row at hand, which is the one that was refused last.
+    /// The row that was read last: behind a fault, the one that is refused for it.
     pub fn row(&self) -> &Rows<'a>
         ensures { result.now.row ≡ self.now.row }
     {
