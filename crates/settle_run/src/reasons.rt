@@ -1,6 +1,6 @@
 //! Why usage lines have a residue.
 
-ghost use Rattle.std.specs.Prelude.{◌≡◌, ◌+◌, ◌<◌, ◌≤◌, All, IfOk, length, map};
+ghost use Rattle.std.specs.Prelude.{◌≡◌, ◌+◌, ◌*◌, ◌<◌, ◌≤◌, All, IfOk, length, map};
 ghost use Rattle.payee_book.specs.Text.{residue_rows};
 ghost use Rattle.settle_run.specs.Reasons.{AreFound, AreUnknown};
 ghost use Rattle.settle_run.specs.Settled.{reason_of};
@@ -33,7 +33,7 @@ pub(crate) fn reasons_of<R: Threads + Sync>(
     ensures rows { IfOk result (λ reasons. residue_rows usage.now reasons.items residue.now ≡ residue_rows usage.now (map (reason_of tis.now registry.now) usage.now) residue.now) }
 {
     let mut found: Vec<Option<Reason>> = vec![in alloc; None; residue.len()]?;
-    let size = residue.len().div_ceil(threads).max(LEAST_FOR_THREAD);
+    let size = part_size(residue.len(), threads);
     find_all(rt, alloc, tis, registry, usage, residue, size, &mut found);
     let mut reasons = vec![in alloc; Reason::Open; usage.len()]?;
     for place in 0..residue.len() {
@@ -43,6 +43,15 @@ pub(crate) fn reasons_of<R: Threads + Sync>(
         reasons[residue[place].0 as usize] = reason;
     }
     Ok(reasons)
+}
+
+/// How many of so many postings each thread looks at, which are at most so many threads.
+fn part_size(postings: usize, threads: usize) -> usize
+    requires { 0 < threads }
+    ensures enough { postings ≤ result * threads }
+    ensures worth { 1024 ≤ result }
+{
+    postings.div_ceil(threads).max(LEAST_FOR_THREAD)
 }
 
 /// Finds the reasons of postings, each thread those of so many. A thread that is refused memory finds none.
