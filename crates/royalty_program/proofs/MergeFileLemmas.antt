@@ -1,5 +1,5 @@
 -- Texts of statements over files, path by path.
-use Rattle.std.proofs.Common.{◌≡◌, ◌∙◌, ◌+◌, ◌<◌, ◌≤◌, ◌^◌, ◌++◌, ◌∷◌, ℕ, List, [], Option, ap, arith, length, map, refl, slice_index_or, subst, suc, sym, take, zero}
+use Rattle.std.proofs.Common.{◌≡◌, ◌∙◌, ◌+◌, ◌<◌, ◌≤◌, ◌^◌, ◌++◌, ◌∷◌, ℕ, List, [], None, Option, ap, arith, length, map, refl, slice_index_or, subst, suc, sym, take, zero}
 use Rattle.std.proofs.lemmas.List.{length-map, map-append, map_more, take-map}
 use Rattle.std.specs.Option.{IfSome}
 use Rattle.std.specs.List.{Contains}
@@ -8,12 +8,12 @@ use Rattle.std.specs.Prelude.{String, string_bytes}
 use Rattle.std.specs.declared.alloc.Global.{Global}
 use Rattle.std.specs.declared.io.ErrorKind.{ErrorKind}
 use Rattle.std.specs.declared.io.ErrorKind.TheVariants.{OutOfMemory}
-use Rattle.merge_statements.specs.Refused.{IsFaultIn, IsRefusedFor}
+use Rattle.merge_statements.specs.Refused.{IsFaultIn, IsRefusalOf, IsRefusedFor}
 use Rattle.merge_statements.specs.Merged.{AreTexts, WritesMerge}
 use Rattle.merge_statements.specs.Merged.AreTexts.{none as no_texts, more as more_texts}
 use Rattle.merge_statements.specs.declared.refusal.Refusal.{Refusal}
 use Rattle.royalty_program.specs.MergeFiles.{AreOpened, AreSoundTexts, AreTextsAt, Gives, HoldsOf, IsMergeOver, IsSoundText}
-use Rattle.royalty_program.specs.Status.{IsOfOne, IsOfRefusal, IsOfText, IsOfTexts, IsUnopened, failure_of_file}
+use Rattle.royalty_program.specs.Status.{IsAt, IsOfOne, IsOfPlace, IsOfRefusal, IsOfText, IsOfTexts, IsUnopened, IsUnreadable, failure_of_file}
 use Rattle.royalty_program.specs.declared.failure.Failure.{Failure}
 use Rattle.royalty_program.specs.declared.failure.Failure.TheVariants.{Room, File, Statement, Many, Changed}
 
@@ -31,17 +31,37 @@ mapped_more : {A : Type 0} (f : A → List ℕ) (xs : List A) (place : ℕ) (x :
 mapped_more {A} f xs place x inside is = map_more f xs place x inside ∙ ap (λ (y : A). map f (take place xs) ++ f y ∷ []) (sym is)
 
 -- a file that cannot be read is one of these
-pub unread_one : (paths : List (List ℕ)) (kind : ErrorKind) (path : String Global) → Contains paths (string_bytes path) → IsOfOne paths (failure_of_file kind path)
-unread_one paths OutOfMemory path one = tt
-unread_one paths kind path one = one
-
--- one of the paths that cannot be opened
-pub unopened_one : (paths : List (List ℕ)) (path : List ℕ) (failure : Failure) → Contains paths path → IsUnopened path failure → IsOfOne paths failure
-unopened_one paths path Room one is = tt
-unopened_one paths path (File name) one is = subst (Contains paths) (sym is) one
-unopened_one paths path failure one is = absurd is
+pub unread_there : (paths : List (List ℕ)) (place : ℕ) (was : Refusal) (kind : ErrorKind) (path : String Global) → IsAt paths place (string_bytes path) → IsUnreadable was → IsOfPlace paths place was (failure_of_file kind path)
+unread_there paths place was OutOfMemory path at unread = tt
+unread_there paths place was kind path at unread = (at, unread)
 
 module _ (gives : List ℕ → List ℕ → Type 0) where
+  -- one of the paths that cannot be opened
+  pub unopened_one : (paths : List (List ℕ)) (path : List ℕ) (failure : Failure) → Contains paths path → IsUnopened path failure → IsOfOne gives paths failure
+  unopened_one paths path Room one is = tt
+  unopened_one paths path (File name) one is = subst (Contains paths) (sym is) one
+  unopened_one paths path failure one is = absurd is
+
+  -- what the reader in a place has left is what its file gives
+  opened_at : (paths : List (List ℕ)) (knowns : List (Option (List ℕ))) (place : ℕ) (path : List ℕ) → AreOpened gives paths knowns → IsAt paths place path → Gives (gives path) (slice_index_or knowns place None)
+  opened_at [] knowns place path opened at = absurd (omega (arith, at.0))
+  opened_at (p ∷ paths) [] place path opened at = absurd opened
+  opened_at (p ∷ paths) (k ∷ knowns) zero path opened at = subst (λ (it : List ℕ). Gives (gives it) k) at.1 opened.0
+  opened_at (p ∷ paths) (k ∷ knowns) (suc place) path opened at = opened_at paths knowns place path opened.1 (omega (arith, at.0), at.1)
+
+  -- so the one in a place that is refused is one of them
+  pub one_of_place : (paths : List (List ℕ)) (knowns : List (Option (List ℕ))) (place : ℕ) (was : Refusal) (failure : Failure) → AreOpened gives paths knowns → IsRefusalOf knowns place was → IsOfPlace paths place was failure
+      → IsOfOne gives paths failure
+  one_of_place paths knowns place was Room opened refused is = tt
+  one_of_place paths knowns place was (File name) opened refused is = (place, is.0.0, is.0.1)
+  one_of_place paths knowns place was (Changed name) opened refused is =
+      let fault = is.1.0 in ((place, is.0.0, is.0.1), (fault, record {
+        known = slice_index_or knowns place None;
+        given = opened_at paths knowns place (string_bytes name) opened is.0;
+        holds_of = (subst (IsRefusalOf knowns place) is.1.1 refused).1;
+      }))
+  one_of_place paths knowns place was failure opened refused is = absurd is
+
   -- one more text
   pub sound_more : (paths : List (List ℕ)) (path : List ℕ) (lines own : ℕ) → AreSoundTexts gives paths lines → IsSoundText gives path own → AreSoundTexts gives (paths ++ path ∷ []) (lines + own)
   sound_more [] path lines own are is = (own, 0, (is, refl, omega arith))
@@ -113,12 +133,12 @@ module _ (gives : List ℕ → List ℕ → Type 0) where
       (are.0 + rest.0, (are.0, rest.0, (are.2.0, rest.1, refl)))
 
   -- after all were read through, one of them fails
-  pub one_of_sound : (paths : List (List ℕ)) (lines : ℕ) (failure : Failure) → AreSoundTexts gives paths lines → lines ≤ 10 ^ 18 → IsOfOne paths failure → IsOfTexts gives paths failure
+  pub one_of_sound : (paths : List (List ℕ)) (lines : ℕ) (failure : Failure) → AreSoundTexts gives paths lines → lines ≤ 10 ^ 18 → IsOfOne gives paths failure → IsOfTexts gives paths failure
   one_of_sound paths lines Room sound few is = tt
   one_of_sound paths lines (File name) sound few is =
       let before : (some : ℕ) × AreSoundTexts gives (take is.0 paths) some = before_of paths lines is.0 sound in
       record { place = is.0; inside = is.1; there = is.2; lines = before.0; before = before.1 }
-  one_of_sound paths lines (Changed name) sound few is = record { one = is; lines = lines; sound = sound; few = few }
+  one_of_sound paths lines (Changed name) sound few is = record { one = is.0; lines = lines; sound = sound; few = few; fault = is.1 }
   one_of_sound paths lines failure sound few is = absurd is
 
   -- the same of the paths so far and the next

@@ -66,9 +66,15 @@ pub record AreTooMany (gives : List ℕ → List ℕ → Type 0) (paths : List (
   pub sound : AreSoundTexts gives (take count paths) lines
   pub many : 10 ^ 18 < lines
 
--- The texts of all these paths were those of statements, and not of too many usage lines. The path is one of them.
-pub record IsOneOfSound (gives : List ℕ → List ℕ → Type 0) (paths : List (List ℕ)) (path : List ℕ) : Type 0 where
+-- the text that a path gives has a fault
+abbrev pub GivesFault : (gives : List ℕ → Type 0) → Type 0
+GivesFault gives = (fault : StatementFault) × HoldsOf gives (λ text. IsFaultIn text fault)
+
+-- The texts of all these paths were those of statements, and not of too many usage lines. The path is one of them, and its text
+-- has a fault all the same.
+pub record HasChanged (gives : List ℕ → List ℕ → Type 0) (paths : List (List ℕ)) (path : List ℕ) : Type 0 where
   pub one : Contains paths path
   pub lines : ℕ
   pub sound : AreSoundTexts gives paths lines
   pub few : lines ≤ 10 ^ 18
+  pub fault : GivesFault (gives path)

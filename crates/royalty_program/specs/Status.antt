@@ -1,5 +1,5 @@
 -- What a failure stands for, and the status that the program answers.
-use Rattle.std.specs.Prelude.{ℕ, Contains, ◌≡◌, ◌≢◌, ◌⊎◌, ◌++◌, [], ⊤, List, Option, Some, None, String, codes, decimal, drop, string_bytes}
+use Rattle.std.specs.Prelude.{ℕ, Contains, ◌≡◌, ◌≢◌, ◌<◌, ◌⊎◌, ◌++◌, [], ⊤, List, Option, Some, None, String, codes, decimal, drop, length, slice_index_or, string_bytes}
 use Rattle.std.specs.declared.alloc.Global.{Global}
 use Rattle.clap.specs.Words.{kind_of}
 use Rattle.clap.specs.declared.error.kind.ErrorKind.TheVariants as kinds
@@ -18,13 +18,14 @@ use Rattle.merge_statements.specs.Refused.{IsFaultIn}
 use Rattle.merge_statements.specs.Refused as statement
 use Rattle.merge_statements.specs.declared.refusal.Refusal.{Refusal}
 use Rattle.merge_statements.specs.declared.refusal.Refusal.TheVariants as refusal
+use Rattle.merge_statements.specs.declared.refusal.StatementFault.{StatementFault}
 use Rattle.royalty_program.specs.CheckCommand.{check_app}
 use Rattle.royalty_program.specs.ExplainCommand.{explain_app}
 use Rattle.royalty_program.specs.Files.{HasNoRowOver, IsFaultOver}
 use Rattle.royalty_program.specs.InputPaths.{InputPaths}
 use Rattle.royalty_program.specs.MergeCommand.{merge_app}
 use Rattle.royalty_program.specs.SplitCommand.{split_app}
-use Rattle.royalty_program.specs.MergeFiles.{AreTooMany, HoldsOf, IsFaultAt, IsFirstRefused, IsOneOfSound}
+use Rattle.royalty_program.specs.MergeFiles.{AreTooMany, GivesFault, HasChanged, HoldsOf, IsFaultAt, IsFirstRefused}
 use Rattle.royalty_program.specs.declared.failure.Failure.{Failure}
 use Rattle.royalty_program.specs.declared.failure.Failure.TheVariants.{Words, NotText, Pairs, Input, Row, Room, File, Output, Target, Statement, Many, Changed}
 use Rattle.run_inputs.specs.declared.fault.Fault.{Fault}
@@ -175,7 +176,7 @@ IsOfTexts gives paths (Statement fault path) = IsFaultAt gives paths (string_byt
 IsOfTexts gives paths Many = AreTooMany gives paths
 IsOfTexts gives paths Room = ⊤
 IsOfTexts gives paths (File path) = IsFirstRefused gives paths (string_bytes path)
-IsOfTexts gives paths (Changed path) = IsOneOfSound gives paths (string_bytes path)
+IsOfTexts gives paths (Changed path) = HasChanged gives paths (string_bytes path)
 IsOfTexts gives paths _ = ⊥
 
 -- one text alone fails for its first fault, for lack of memory, or since it cannot be read
@@ -191,24 +192,36 @@ IsUnopened path Room = ⊤
 IsUnopened path (File name) = string_bytes name ≡ path
 IsUnopened path _ = ⊥
 
--- no fault was found
-abbrev pub IsNoFault : Refusal → Type 0
-IsNoFault (refusal.Fault fault) = ⊥
-IsNoFault _ = ⊤
+-- no fault was found, and memory was not refused
+abbrev pub IsUnreadable : Refusal → Type 0
+IsUnreadable (refusal.Fault fault) = ⊥
+IsUnreadable refusal.Memory = ⊥
+IsUnreadable _ = ⊤
 
 -- and that for what it is refused for
 abbrev pub IsOfRefusal : List ℕ → Refusal → Failure → Type 0
 IsOfRefusal path was (Statement fault name) = (string_bytes name ≡ path) × (was ≡ refusal.Fault fault)
 IsOfRefusal path was Room = ⊤
-IsOfRefusal path was (File name) = (string_bytes name ≡ path) × IsNoFault was
+IsOfRefusal path was (File name) = (string_bytes name ≡ path) × IsUnreadable was
 IsOfRefusal path was _ = ⊥
 
--- the failure is of one of these paths, or lack of memory
-abbrev pub IsOfOne : List (List ℕ) → Failure → Type 0
-IsOfOne paths Room = ⊤
-IsOfOne paths (File name) = Contains paths (string_bytes name)
-IsOfOne paths (Changed name) = Contains paths (string_bytes name)
-IsOfOne paths _ = ⊥
+-- a path stands in this place
+abbrev pub IsAt : List (List ℕ) → (place : ℕ) → (path : List ℕ) → Type 0
+IsAt paths place path = (place < length paths) × (slice_index_or paths place path ≡ path)
+
+-- the failure is of the path in a place, for what its text is refused for, or lack of memory
+abbrev pub IsOfPlace : List (List ℕ) → (place : ℕ) → Refusal → Failure → Type 0
+IsOfPlace paths place was Room = ⊤
+IsOfPlace paths place was (File name) = IsAt paths place (string_bytes name) × IsUnreadable was
+IsOfPlace paths place was (Changed name) = IsAt paths place (string_bytes name) × ((fault : StatementFault) × (was ≡ refusal.Fault fault))
+IsOfPlace paths place was _ = ⊥
+
+-- it is of one of these paths, which has a fault where it is said to have changed
+abbrev pub IsOfOne : (gives : List ℕ → List ℕ → Type 0) → List (List ℕ) → Failure → Type 0
+IsOfOne gives paths Room = ⊤
+IsOfOne gives paths (File name) = Contains paths (string_bytes name)
+IsOfOne gives paths (Changed name) = Contains paths (string_bytes name) × GivesFault (gives (string_bytes name))
+IsOfOne gives paths _ = ⊥
 
 -- and its words for that, for the file of their output, for the paths that they name, or for themselves where clap does not accept them
 abbrev pub IsOfMerge : (gives : List ℕ → List ℕ → Type 0) → List (List ℕ) → Failure → Type 0

@@ -4,7 +4,7 @@ ghost use Rattle.std.specs.Io.KnownBytes.{Appends};
 ghost use Rattle.std.specs.Prelude.{◌≡◌, ◌<◌, ◌≤◌, ◌+◌, ◌^◌, ℕ, List, Some, IfErr, IfNone, IfOk, IfSome, OnErr, OnOk, map, string_bytes};
 ghost use Rattle.std.specs.Option.{option_map};
 ghost use Rattle.royalty_program.specs.MergeFiles.{AreOpened, AreSoundTexts, IsMergeOver, IsSoundText};
-ghost use Rattle.royalty_program.specs.Status.{IsOfOne, IsOfOutput, IsOfRefusal, IsOfText, IsOfTexts, IsRefusal, IsUnopened, status_of};
+ghost use Rattle.royalty_program.specs.Status.{IsOfOne, IsOfOutput, IsOfPlace, IsOfRefusal, IsOfText, IsOfTexts, IsRefusal, IsUnopened, status_of};
 ghost use Rattle.royalty_program.specs.Targets.{IsLeftOrHas, IsPut};
 ghost use Rattle.royalty_program.specs.declared.failure.Failure.TheVariants.{Many};
 
@@ -67,7 +67,7 @@ fn merge_opened<S: Source, W: Write>(
     ensures merged { IfOk result (λ printed. OnOk printed ((text : List ℕ) × Appends (W.contents out.old) (W.contents out.new) text
         × IsMergeOver (S.gives files.now) (map string_bytes paths.now) text)) }
     ensures failure { IfErr result IsRefusal }
-    ensures one { IfErr result (IsOfOne (map string_bytes paths.now)) }
+    ensures one { IfErr result (IsOfOne (S.gives files.now) (map string_bytes paths.now)) }
 {
     let readers = open_all(alloc, files, paths)?;
     match merge(alloc, readers, out) {
@@ -180,7 +180,7 @@ fn open_all<S: Source>(
 ) -> Result<Vec<S::Reader>, Failure>
     ensures opened { IfOk result (λ readers. AreOpened (S.gives files.now) (map string_bytes paths.now) (map S.Reader.remaining readers.items)) }
     ensures failure { IfErr result IsRefusal }
-    ensures files { IfErr result (IsOfOne (map string_bytes paths.now)) }
+    ensures files { IfErr result (IsOfOne (S.gives files.now) (map string_bytes paths.now)) }
 {
     let mut readers = Vec::new(alloc);
     for path in paths {
@@ -224,10 +224,10 @@ fn refused(alloc: Global, refusal: Refusal, path: &str) -> Failure
 }
 
 /// Why texts that were read through cannot be merged, where the one in a place is refused: it
-/// changed, or cannot be read any more.
+/// changed, or cannot be read any more, as one of more rows than are counted cannot.
 fn changed(alloc: Global, paths: &[String], place: u64, refusal: Refusal) -> Failure
     ensures failure { IsRefusal result }
-    ensures one { IsOfOne (map string_bytes paths.now) result }
+    ensures one { IsOfPlace (map string_bytes paths.now) place refusal result }
     ensures status { 2 < status_of result }
 {
     let Some(path) = paths.get(place as usize) else {
@@ -238,7 +238,8 @@ fn changed(alloc: Global, paths: &[String], place: u64, refusal: Refusal) -> Fai
     };
     match refusal {
         Refusal::Memory => Failure::Room,
-        Refusal::Fault(_) | Refusal::Many => Failure::Changed(path),
+        Refusal::Fault(_) => Failure::Changed(path),
+        Refusal::Many => Failure::File(path),
         Refusal::Read(error) | Refusal::Write(error) => unread(error.kind(), path),
     }
 }

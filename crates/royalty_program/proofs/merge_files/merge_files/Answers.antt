@@ -10,4 +10,4 @@ returns-clause-files g c =
     let gives = g.S.Source.gives c.args.files.now in
     let paths = map string_bytes c.args.paths.now in
     let sound = c.in_ok-check_all.ensures.sound in
-    IfErr-weaker c.merge_opened.result (IsOfOne paths) (IsOfTexts gives paths) (λ failure one. one_of_sound gives paths sound.0 failure sound.1 sound.2 one) c.merge_opened.ensures.one
+    IfErr-weaker c.merge_opened.result (IsOfOne gives paths) (IsOfTexts gives paths) (λ failure one. one_of_sound gives paths sound.0 failure sound.1 sound.2 one) c.merge_opened.ensures.one
