@@ -23,8 +23,13 @@ mapped_at f [] place x inside is = absurd (omega arith)
 mapped_at f (y ∷ xs) zero x inside is = ap f (sym is)
 mapped_at f (y ∷ xs) (suc place) x inside is = mapped_at f xs place x (omega arith) is
 
+pub there_mapped : {A : Type 0} (f : A → List ℕ) (xs : List A) (place : ℕ) (x : A) → place < length xs → x ≡ slice_index_or xs place x → IsAt (map f xs) place (f x)
+there_mapped f xs place x inside is = (omega (arith, length-map xs f), mapped_at f xs place x inside is)
+
 pub among_mapped : {A : Type 0} (f : A → List ℕ) (xs : List A) (place : ℕ) (x : A) → place < length xs → x ≡ slice_index_or xs place x → Contains (map f xs) (f x)
-among_mapped f xs place x inside is = (place, omega (arith, length-map xs f), mapped_at f xs place x inside is)
+among_mapped f xs place x inside is =
+    let there : IsAt (map f xs) place (f x) = there_mapped f xs place x inside is in
+    (place, there.0, there.1)
 
 -- so many elements of a list and the next, as they are mapped
 mapped_more : {A : Type 0} (f : A → List ℕ) (xs : List A) (place : ℕ) (x : A) → place < length xs → x ≡ slice_index_or xs place x → map f (take (place + 1) xs) ≡ map f (take place xs) ++ f x ∷ []
@@ -55,11 +60,12 @@ module _ (gives : List ℕ → List ℕ → Type 0) where
   one_of_place paths knowns place was Room opened refused is = tt
   one_of_place paths knowns place was (File name) opened refused is = (place, is.0.0, is.0.1)
   one_of_place paths knowns place was (Changed name) opened refused is =
-      let fault = is.1.0 in ((place, is.0.0, is.0.1), (fault, record {
+      let own : HoldsOf (gives (string_bytes name)) (λ text. IsFaultIn text is.1.0) = record {
         known = slice_index_or knowns place None;
         given = opened_at paths knowns place (string_bytes name) opened is.0;
         holds_of = (subst (IsRefusalOf knowns place) is.1.1 refused).1;
-      }))
+      } in
+      ((place, is.0.0, is.0.1), (is.1.0, own))
   one_of_place paths knowns place was failure opened refused is = absurd is
 
   -- one more text
