@@ -1,10 +1,12 @@
-.PHONY: help build demo install test edits compare fuzz sizes refuse bench explore months cluster
+.PHONY: help build demo try install test prove edits compare fuzz sizes refuse bench explore months cluster
 
 help:
 	@echo 'make demo     make the statements of the example in about a minute, with a build that is not proved'
+	@echo "make try      run such a build on files of your own: make try WORDS='check --tis t.csv --cwr w.cwr --usage u.csv'"
 	@echo 'make build    prove and build the program, leave it as out/royalty_run'
 	@echo 'make install  put the program that was built, its man page and its completions below PREFIX (/usr/local), or below DESTDIR and PREFIX; prove and build it first where it was not'
-	@echo 'make test     the gate: prove every crate from nothing, refuse wrong bodies, run every test, and the program and each call, also with memory and threads refused'
+	@echo 'make test     run every test over builds that are not proved, also with memory and threads refused: some minutes; make test NAME=cwr_share runs what stands on that crate'
+	@echo 'make prove    the proof: prove every crate from nothing, refuse wrong bodies, and run the programs as they were proved; make prove ANEW=1 takes nothing that an earlier run here proved'
 	@echo 'make edits    refuse the wrong bodies that the gate leaves out, of every crate or of one: make edits CRATE=mail_box; an hour for all'
 	@echo 'make compare  run the program and a plain Rust one on made-up inputs, good and bad, and compare'
 	@echo 'make fuzz     the same on 100000 damaged inputs; some ten minutes on four cores'
@@ -17,7 +19,7 @@ help:
 	@echo 'make help     this list'
 	@echo 'compare, fuzz, sizes, refuse, bench, months and cluster build and prove the program first, unless they are given one: make bench PROGRAM=out/royalty_run'
 	@echo 'All but explore need the command rt of the Rattle kit on the path; compare, fuzz, sizes, bench, explore, months and cluster also'
-	@echo 'python3, compare, fuzz, sizes, bench and months cargo, and test and refuse a C compiler.'
+	@echo 'python3, test, compare, fuzz, sizes, bench and months cargo, and test, prove and refuse a C compiler.'
 
 PROGRAM = out/royalty_run
 PREFIX = /usr/local
@@ -44,16 +46,23 @@ install: $(PROGRAM)
 
 demo:
 	@echo 'This build proves nothing; make build proves the program and leaves it as out/royalty_run.'
-	mkdir -p out
-	cd crates/royalty_run && rt try --data territories.csv=../../examples/territories.csv \
-		--data works.cwr=../../examples/works.cwr --data usage.csv=../../examples/usage.csv \
-		-- run --tis territories.csv --cwr works.cwr --usage usage.csv \
-		--workers 2 --readers 1 --nodes 16 > ../../out/statements.csv
+	python3 -m tools.unproved royalty_run
+	cd examples && ../out/unproved/royalty_run run --tis territories.csv --cwr works.cwr --usage usage.csv \
+		--workers 2 --readers 1 --nodes 16 > ../out/statements.csv
 	cat out/statements.csv
 	cmp out/statements.csv examples/statements.csv
 
+# The build is told of on standard error, so that the answer alone is what comes out.
+try:
+	@python3 -m tools.unproved royalty_run >&2
+	@echo 'This build proves nothing.' >&2
+	@out/unproved/royalty_run $(WORDS)
+
 test:
-	rt ci
+	python3 -m tools.suite $(NAME)
+
+prove:
+	python3 -m tools.prove $(if $(ANEW),-- --anew)
 	tests/program.sh crates/royalty_run/out/royalty_run
 	tests/install.sh crates/royalty_run/out/royalty_run
 	tests/refuse.sh crates/royalty_run/out/royalty_run quick

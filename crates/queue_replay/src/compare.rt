@@ -1,48 +1,10 @@
 //! A core beside the answers that a schedule gives.
 
+use crate::machine::Machine;
 use crate::parse;
-use queue_core::{
-    Core, MOST_MAILBOXES, MOST_NODES, MOST_SENDERS, PoolCore, PoolStep, Posted, Step, Stepped, Took,
-};
+use queue_core::{Posted, Step, Stepped, Took};
 use std::alloc::{AllocError, Global};
 use std::fmt;
-
-/// What a schedule is replayed on.
-#[derive(Drop)]
-enum Machine {
-    Mailbox(Core),
-    Pool(PoolCore),
-}
-
-impl Machine {
-    fn step(&mut self, mailbox: u64, step: Step) -> Stepped {
-        match self {
-            Machine::Mailbox(core) => core.step(step),
-            Machine::Pool(core) => core.step(PoolStep { mailbox, step }),
-        }
-    }
-
-    fn last_call(&self, p: u64) -> Option<Posted> {
-        match self {
-            Machine::Mailbox(core) => core.last_call(p),
-            Machine::Pool(core) => core.last_call(p),
-        }
-    }
-
-    fn last_take(&self, mailbox: u64) -> Option<Took<u64>> {
-        match self {
-            Machine::Mailbox(core) => core.last_take(),
-            Machine::Pool(core) => core.last_take(mailbox),
-        }
-    }
-
-    fn words(&self, alloc: Global) -> Result<String, AllocError> {
-        match self {
-            Machine::Mailbox(core) => format!(in alloc; "{core}"),
-            Machine::Pool(core) => format!(in alloc; "{core}"),
-        }
-    }
-}
 
 /// How far the answers agree.
 #[derive(Drop)]
@@ -76,11 +38,8 @@ impl Comparison {
     /// Takes a line.
     pub fn take(&mut self, alloc: Global, line: &str) -> Result<(), AllocError> {
         self.lines = self.lines.saturating_add(1);
-        if let Some(numbers) = line.strip_prefix("core ") {
-            return self.open(alloc, numbers);
-        }
-        if let Some(numbers) = line.strip_prefix("pool ") {
-            return self.open_pool(alloc, numbers);
+        if line.starts_with("core ") || line.starts_with("pool ") {
+            return self.open(alloc, line);
         }
         if line.is_empty() {
             return self.end(alloc);
@@ -101,34 +60,11 @@ impl Comparison {
         }
     }
 
-    fn open(&mut self, alloc: Global, numbers: &str) -> Result<(), AllocError> {
-        let (senders, nodes) = numbers.split_once(' ').unwrap_or(("", ""));
-        let senders = senders.parse().unwrap_or(0);
-        let nodes = nodes.parse().unwrap_or(0);
-        if !(1..=MOST_SENDERS).contains(&senders) || !(1..=MOST_NODES).contains(&nodes) {
-            self.note(false);
-            return Ok(());
-        }
+    fn open(&mut self, alloc: Global, line: &str) -> Result<(), AllocError> {
         self.words.clear();
-        self.machine = Some(Machine::Mailbox(Core::open(alloc, senders, nodes)?));
-        Ok(())
-    }
-
-    fn open_pool(&mut self, alloc: Global, numbers: &str) -> Result<(), AllocError> {
-        let (senders, rest) = numbers.split_once(' ').unwrap_or(("", ""));
-        let (mailboxes, nodes) = rest.split_once(' ').unwrap_or(("", ""));
-        let senders = senders.parse().unwrap_or(0);
-        let mailboxes = mailboxes.parse().unwrap_or(0);
-        let nodes = nodes.parse().unwrap_or(0);
-        if !(1..=MOST_SENDERS).contains(&senders)
-            || !(1..=MOST_MAILBOXES).contains(&mailboxes)
-            || !(1..=MOST_NODES).contains(&nodes)
-        {
-            self.note(false);
-            return Ok(());
-        }
-        self.words.clear();
-        self.machine = Some(Machine::Pool(PoolCore::open(alloc, senders, mailboxes, nodes)?));
+        self.machine = Machine::open(alloc, line)?;
+        let is_open = self.machine.is_some();
+        self.note(is_open);
         Ok(())
     }
 

@@ -13,6 +13,12 @@ fn numbers(text: &str) -> (u64, u64, i64) {
     )
 }
 
+/// The two numbers of a text, divided by a blank; 0 where there is none.
+pub fn two(text: &str) -> (u64, u64) {
+    let (first, second) = text.split_once(' ').unwrap_or((text, ""));
+    (first.parse().unwrap_or(0), second.parse().unwrap_or(0))
+}
+
 /// The mailbox of a text like `in 1 moved`, and the rest of it; mailbox 0 where it has none.
 pub fn mailbox(text: &str) -> Option<(u64, &str)> {
     match text.strip_prefix("in ") {

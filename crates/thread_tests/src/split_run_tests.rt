@@ -1,4 +1,4 @@
-//! Plans in range and out of it, and what a worker alone sends.
+//! What a worker alone sends.
 ghost use Rattle.std.specs.Prelude.{◌≡◌, ◌<◌, ◌≤◌, IfOk, false, map};
 ghost use Rattle.mail_box.specs.LaneViews.{sender_of};
 ghost use Rattle.mail_box.specs.Mails.{opened_sender};
@@ -10,7 +10,7 @@ use crate::run_threads_tests::{Inputs, watch};
 use line_split::{MOST_CLAIMS, Portions};
 use mail_box::{Item, LaneMail, LaneReceiver, LaneSender, Mail, receive};
 use small_run::{NO_USES, USES};
-use split_run::{Draw, Drawer, Gate, Plan, work};
+use split_run::{Draw, Drawer, Gate, work};
 use std::alloc::{AllocError, Global};
 use std::process::Abort;
 use std::sync::Wait;
@@ -18,23 +18,6 @@ use std::sync::atomic::{AtomicBool, AtomicU64, Ordering};
 use std::test::Fail;
 use std::thread;
 use std::thread::{Threads, join};
-
-#[test]
-fn takes_plans_in_range(rt: HostRuntime) -> Result<(), Fail> {
-    for (workers, readers, nodes, expected) in [
-        (0, 1, 1, false),
-        (9, 1, 1, false),
-        (1, 0, 1, false),
-        (1, 9, 1, false),
-        (1, 1, 0, false),
-        (1, 1, 65, false),
-        (1, 1, 1, true),
-        (8, 8, 64, true),
-    ] {
-        assert_eq!(rt; Plan::new(workers, readers, nodes).is_some(), expected);
-    }
-    Ok(())
-}
 
 /// A mailbox of one sender.
 fn open_one<M: Mail>(

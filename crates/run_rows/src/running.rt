@@ -1,0 +1,154 @@
+//! Explanations, and the statements of runs.
+
+use crate::files::{Inputs, bytes_in, inputs_in};
+use anyhow::{Context, Result};
+use explain_line::explain;
+use row_tables::text_of;
+use settle_run::{Fault, settle, settle_paid, settle_to};
+use split_run::Plan;
+use std::alloc::Global;
+use std::io;
+use std::rt::Files;
+use std::sync::Wait;
+use std::thread::Threads;
+
+/// The explanation of a row of usage lines, or what its inputs are refused for.
+pub fn explained<R: Files + AllocGlobal>(
+    rt: &R,
+    alloc: Global,
+    of: &str,
+    row: &str,
+) -> Result<String> {
+    let inputs = inputs_in(rt, alloc, of)?;
+    explanation(alloc, &inputs, row.parse()?)
+}
+
+fn explanation(alloc: Global, inputs: &Inputs, row: u64) -> Result<String> {
+    let (tis, cwr, usage) = (
+        inputs.tis.as_slice(),
+        inputs.cwr.as_slice(),
+        inputs.usage.as_slice(),
+    );
+    let payees = match &inputs.payees {
+        Some(payees) => Some(payees.as_slice()),
+        None => None,
+    };
+    Ok(match explain(alloc, tis, payees, cwr, usage, row) {
+        Ok(Some(text)) => String::from_str(alloc, text_of(text.as_slice()))?,
+        Ok(None) => String::from_str(alloc, "no such row")?,
+        Err(fault) => format!(in alloc; "{fault:?}")?,
+    })
+}
+
+/// What a run by a plan of workers, readers and nodes comes to, lent its inputs and given them. Where the question has the
+/// name of a file behind the plan, the statements have to be its bytes.
+pub fn statements<R: Files + AllocGlobal + Threads + Wait + Sync>(
+    rt: &R,
+    alloc: Global,
+    of: &str,
+    question: &str,
+) -> Result<String> {
+    let inputs = inputs_in(rt, alloc, of)?;
+    let (plan, name) = plan_in(question)?;
+    let lent = lent(rt, alloc, &inputs, plan)?;
+    let given = given(rt, alloc, inputs, plan)?;
+    if given.as_str() != lent.as_str() {
+        return Ok(format!(in alloc; "lent: {lent}given: {given}")?);
+    }
+    as_in_file(rt, alloc, lent, name)
+}
+
+/// A text, or that it is the text of a file, if one is named.
+fn as_in_file<R: Files + AllocGlobal>(
+    rt: &R,
+    alloc: Global,
+    text: String,
+    name: &str,
+) -> Result<String> {
+    if !name.is_empty() && bytes_in(rt, alloc, name)?.as_slice() == text.as_bytes() {
+        return Ok(String::from_str(alloc, "as in the file")?);
+    }
+    Ok(text)
+}
+
+/// Whether the numbers of a text are a plan.
+pub fn plan(alloc: Global, text: &str) -> Result<String> {
+    Ok(format!(in alloc; "{}", plan_in(text).is_ok())?)
+}
+
+/// The plan in a text like `3 1 64 NAME`, and what stands behind it.
+fn plan_in(text: &str) -> Result<(Plan, &str)> {
+    let (workers, rest) = text.split_once(' ').unwrap_or((text, ""));
+    let (readers, rest) = rest.split_once(' ').unwrap_or((rest, ""));
+    let (nodes, name) = rest.split_once(' ').unwrap_or((rest, ""));
+    let plan = Plan::new(workers.parse()?, readers.parse()?, nodes.parse()?);
+    Ok((plan.context("no plan")?, name))
+}
+
+/// What a run comes to that is lent its inputs.
+fn lent<R: Threads + Wait + Sync>(
+    rt: &R,
+    alloc: Global,
+    inputs: &Inputs,
+    plan: Plan,
+) -> Result<String> {
+    let (tis, cwr, usage) = (
+        inputs.tis.as_slice(),
+        inputs.cwr.as_slice(),
+        inputs.usage.as_slice(),
+    );
+    match &inputs.payees {
+        Some(payees) => told(
+            alloc,
+            settle_paid(rt, alloc, tis, payees.as_slice(), cwr, usage, plan),
+        ),
+        None => told(alloc, settle(rt, alloc, tis, cwr, usage, plan)),
+    }
+}
+
+/// What a run comes to that is given its inputs, and prints its statements.
+fn given<R: Threads + Wait + Sync>(
+    rt: &R,
+    alloc: Global,
+    inputs: Inputs,
+    plan: Plan,
+) -> Result<String> {
+    let mut printed = Vec::new(alloc);
+    let ended = print_to(rt, alloc, inputs, plan, &mut printed);
+    match ended {
+        Ok(Ok(())) => told(alloc, Ok(printed)),
+        Ok(Err(error)) => Ok(format!(in alloc; "a refused write: {error}")?),
+        Err(_) if !printed.is_empty() => Ok(String::from_str(
+            alloc,
+            "a refused run has printed something",
+        )?),
+        Err(fault) => told(alloc, Err(fault)),
+    }
+}
+
+fn print_to<R: Threads + Wait + Sync>(
+    rt: &R,
+    alloc: Global,
+    inputs: Inputs,
+    plan: Plan,
+    printed: &mut Vec<u8>,
+) -> Result<io::Result<()>, Fault> {
+    let Inputs {
+        tis,
+        cwr,
+        usage,
+        payees,
+    } = inputs;
+    settle_to(rt, alloc, tis, payees, cwr, usage, plan, printed)
+}
+
+/// The statements, or the fault's number, its place and its text.
+fn told(alloc: Global, answer: Result<Vec<u8>, Fault>) -> Result<String> {
+    match answer {
+        Ok(text) => Ok(String::from_str(alloc, text_of(text.as_slice()))?),
+        Err(fault) => {
+            let (number, place) = (fault.number(), fault.place());
+            Ok(format!(in alloc; "{number} {place:?} {fault}")?)
+        }
+    }
+}
