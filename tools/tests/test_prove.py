@@ -1,0 +1,45 @@
+"""What `make prove` takes of a machine, and what it tells of the time."""
+import unittest
+
+from tools.prove import jobs_for, part_of, table
+
+
+class Jobs(unittest.TestCase):
+    """How many jobs there are."""
+
+    def test_processors_and_memory_both_bound_them(self):
+        self.assertEqual(jobs_for(4, 25_000_000_000), 4)
+        self.assertEqual(jobs_for(8, 25_000_000_000), 5)
+        self.assertEqual(jobs_for(2, 64_000_000_000), 2)
+
+    def test_there_is_always_one(self):
+        self.assertEqual(jobs_for(4, 2_000_000_000), 1)
+
+
+class Parts(unittest.TestCase):
+    """What a command works for."""
+
+    def test_each_part(self):
+        check = ["/kit/bin/rattle", "check", "--crate-name", "line_split", "src/lib.rt"]
+        self.assertEqual(part_of(check), ("proofs", "line_split"))
+        self.assertEqual(part_of([*check, "--test"]), ("tests", "line_split"))
+        self.assertEqual(part_of([*check, "--incremental", "/tmp/rt-edits-7-x/seed"]), ("edits", "line_split"))
+        self.assertEqual(part_of(["/kit/toolchain/bin/clang", "-O3"]), ("builds", "all"))
+
+    def test_other_programs_are_passed_over(self):
+        self.assertIsNone(part_of(["python3", "rt", "ci", "--crate-name", "x"]))
+        self.assertIsNone(part_of([""]))
+
+
+class Table(unittest.TestCase):
+    """The table of times."""
+
+    def test_the_longest_first_and_the_sums_last(self):
+        none = {"proofs": 0.0, "tests": 0.0, "edits": 0.0, "builds": 0.0}
+        lines = table({"small": {**none, "proofs": 60.0}, "large": {**none, "proofs": 90.0, "edits": 90.0}})
+        self.assertEqual([line.split()[0] for line in lines], ["crate", "large", "small", "in"])
+        self.assertEqual(lines[-1].split()[2:], ["2.5", "0.0", "1.5", "0.0", "4.0"])
+
+
+if __name__ == "__main__":
+    unittest.main()
