@@ -49,13 +49,23 @@ pub fn statements<R: Files + AllocGlobal + Threads + Wait + Sync>(
     question: &str,
 ) -> Result<String> {
     let inputs = inputs_in(rt, alloc, of)?;
-    let (plan, name) = plan_in(question)?;
+    let text = text_of_run(rt, alloc, inputs, plan_in(question)?)?;
+    as_in_file(rt, alloc, text, question.split(' ').nth(3).unwrap_or(""))
+}
+
+/// What a run comes to both ways, or that they differ.
+fn text_of_run<R: Threads + Wait + Sync>(
+    rt: &R,
+    alloc: Global,
+    inputs: Inputs,
+    plan: Plan,
+) -> Result<String> {
     let lent = lent(rt, alloc, &inputs, plan)?;
     let given = given(rt, alloc, inputs, plan)?;
     if given.as_str() != lent.as_str() {
         return Ok(format!(in alloc; "lent: {lent}given: {given}")?);
     }
-    as_in_file(rt, alloc, lent, name)
+    Ok(lent)
 }
 
 /// A text, or that it is the text of a file, if one is named.
@@ -76,13 +86,13 @@ pub fn plan(alloc: Global, text: &str) -> Result<String> {
     Ok(format!(in alloc; "{}", plan_in(text).is_ok())?)
 }
 
-/// The plan in a text like `3 1 64 NAME`, and what stands behind it.
-fn plan_in(text: &str) -> Result<(Plan, &str)> {
-    let (workers, rest) = text.split_once(' ').unwrap_or((text, ""));
-    let (readers, rest) = rest.split_once(' ').unwrap_or((rest, ""));
-    let (nodes, name) = rest.split_once(' ').unwrap_or((rest, ""));
-    let plan = Plan::new(workers.parse()?, readers.parse()?, nodes.parse()?);
-    Ok((plan.context("no plan")?, name))
+/// The plan in a text like `3 1 64`, whatever stands behind it.
+fn plan_in(text: &str) -> Result<Plan> {
+    let mut numbers = text.split(' ');
+    let workers = numbers.next().unwrap_or("").parse()?;
+    let readers = numbers.next().unwrap_or("").parse()?;
+    let nodes = numbers.next().unwrap_or("").parse()?;
+    Plan::new(workers, readers, nodes).context("no plan")
 }
 
 /// What a run comes to that is lent its inputs.
