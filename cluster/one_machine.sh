@@ -8,7 +8,7 @@
 #   cluster/one_machine.sh --needs           only says which commands are missing
 set -euo pipefail
 here=$(realpath "$(dirname "$0")")
-bench=$(realpath "$here/../bench")
+top=$(realpath "$here/..")
 
 missing=()
 for word in sbatch squeue sinfo scontrol slurmctld slurmd munged python3 cargo sha256sum; do
@@ -116,10 +116,10 @@ wait_for 60 'the node is idle' is_idle
 
 month=$here/month
 cd "$room"
-python3 "$bench/large.py" made --lines "$lines" --works 20000 --parties 400 --seed 3
+PYTHONPATH=$top python3 -m bench.large made --lines "$lines" --works 20000 --parties 400 --seed 3
 files=(--tis made/tis.csv --cwr made/works.cwr --usage made/usage.csv)
-(cd "$bench/plain" && cargo build --release --offline --quiet)
-"$bench/plain/target/release/plain" run "${files[@]}" --workers 1 --readers 1 --nodes 64 --whole > whole.statements
+plain=$(PYTHONPATH=$top python3 -m tools.plain)
+"$plain" run "${files[@]}" --workers 1 --readers 1 --nodes 64 --whole > whole.statements
 
 # Waits until the process that runs the part with this name is there, and kills it.
 cat > kill_part.py <<'TEXT'

@@ -8,7 +8,7 @@
 set -euo pipefail
 program=$(realpath "$1")
 here=$(realpath "$(dirname "$0")")
-bench=$(realpath "$here/../bench")
+top=$(realpath "$here/..")
 month=$here/month
 temporary=$(mktemp -d)
 trap 'rm -rf "$temporary"' EXIT
@@ -37,8 +37,7 @@ not_so() {
 
 # --- The programs, and what stands in for Slurm ---
 
-(cd "$bench/plain" && cargo build --release --offline --quiet)
-plain=$bench/plain/target/release/plain
+plain=$(PYTHONPATH=$top python3 -m tools.plain)
 takes_output=no
 [[ $("$program" run --help 2> /dev/null) != *--output* ]] || takes_output=yes
 
@@ -191,7 +190,8 @@ check 'a folder with parts in it' 4 'part-0001.csv' "$here/cut" list.csv cut-0
 
 # --- A month ---
 
-python3 "$bench/large.py" made --lines 4000 --works 300 --parties 60 --seed 7 --taken-back 0.1
+PYTHONPATH=$top python3 -m bench.large made --lines 4000 --works 300 --parties 60 --seed 7 \
+    --taken-back 0.1
 python3 - <<'TEXT'
 import csv
 
