@@ -18,6 +18,9 @@ IMPORT = re.compile(r"(?:pub )?(?:ghost )?use ([\w:.]+)(?:\.|::)(?:\{(.*)\}|(\w+
 FIELD = re.compile(r" +(?:pub(?:\([^)]*\))? )?(\w+): ")
 VARIANT = re.compile(r"    (\w+)(?:[,({]| =| \{|$)")
 
+# Folders of what is built.
+BUILT = ("out", "target", "__pycache__")
+
 # A definition begins with one of these words, or its name is followed by its type.
 DEFINES = {"abbrev", "unfoldable", "pub", "record", "data", "mod", "module"}
 DEFINITION = re.compile(r"\s*((?:(?:%s) )*)([\w◌]+)( :|)" % "|".join(sorted(DEFINES)))
@@ -179,7 +182,6 @@ def imports_in(lines):
 def files_below(top):
     """The paths of all files below a folder, relative to it, without what is built or hidden."""
     for at, folders, files in os.walk(top):
-        folders[:] = sorted(it for it in folders
-                            if not it.startswith(".") and it not in ("out", "target", "__pycache__"))
+        folders[:] = sorted(it for it in folders if not it.startswith(".") and it not in BUILT)
         for file in sorted(files):
             yield os.path.relpath(os.path.join(at, file), top).replace(os.sep, "/")

@@ -143,7 +143,7 @@ class Document:
         for number, line in enumerate(self.lines, 1):
             if line.startswith("## "):
                 named = [it for it in quoted(line) if it in self.sources.crates]
-            cells = re.split(r" \|(?: |$)", line[1:])[:-1] if line.startswith("|") else []
+            cells = [cell.strip() for cell in line.split("|")[1:-1]]
             if len(cells) == 4 and named and "Definition (`specs/`)" not in line:
                 found = [self.sources.crates[it] for it in named]
                 for check, cell in zip((wrong_definitions, wrong_functions, wrong_edits),
@@ -238,7 +238,7 @@ def wrong_functions(sources, found, cell):
 
 
 def functions_of(here):
-    """The names of all functions of crates, and of types for which clauses are stated as a whole."""
+    """The names of all functions, and of the types that have clauses for all of theirs."""
     return {name for it in here for name in it.functions}
 
 
@@ -313,7 +313,7 @@ def command_is_known(document, text):
         is_known = module in sources.files or words[1] == "unittest"
         return None if is_known else f"there is no {module}"
     if first == "rt":
-        names = [it.split("::") for it in words if "_" in it]
+        names = [it.split("::") for it in words if "_" in it or "::" in it]
         return next((f"no crate {it[0]} with {it[-1]}" for it in names
                      if not (it[0] in sources.crates
                              and sources.crates[it[0]].has(it[-1]))), None)
