@@ -183,6 +183,8 @@ def wrong_definitions(sources, found, cell):
     for piece in cell.split(";"):
         before, colon, behind = piece.partition(":")
         if "of `std`" in before:
+            yield from (f"`{it}`: nothing takes it from the kit"
+                        for it in quoted(before + behind) if it not in sources.kit)
             continue
         here = crates_named(sources, found, before if colon else piece)
         modules = [it for it in quoted(before) if it not in sources.crates] if colon else []

@@ -1,8 +1,10 @@
 """Tests of cluster/cut: rows are told apart as a run tells them apart, and none is cut through."""
+import csv
 import importlib.machinery
 import importlib.util
 import io
 import os
+import random
 import tempfile
 import unittest
 from unittest import mock
@@ -22,6 +24,13 @@ def load():
 
 CUT = load()
 HEADER = b"usage,work,territory,right,amount\n"
+QUOTED = ["u1", '"CLUB ""LIDO"", 3 MAY"', '"two\nlines"', '"two\r\nlines, with a comma"', '"\n"',
+          '""""', '7" disc', '"a"b', ""]
+
+
+def fields_in(text):
+    """The rows of a text, by the reader of python3."""
+    return [row for row in csv.reader(io.StringIO(text, newline="")) if row]
 
 
 class Rows(unittest.TestCase):
@@ -78,6 +87,39 @@ class Cut(unittest.TestCase):
         self.assertEqual(len(self.parts(HEADER + b"".join(rows), 100, most - 1)[1]), 4)
         with self.assertRaisesRegex(CUT.Refused, "row 1 does not fit"):
             self.parts(HEADER + rows[0], 100, len(HEADER) + len(rows[0]) - 1)
+
+    def test_parts_have_the_rows_of_the_list_whatever_its_quotes_and_line_ends(self):
+        rng = random.Random(5)
+        for _ in range(40):
+            ends = rng.choice([["\n"], ["\r\n"], ["\r"], ["\n", "\r\n", "\n\n"]])
+            lines = [f"{rng.choice(QUOTED)},W{k},276,P,{k}"
+                     for k in range(rng.choice([0, 1, 7, 8, 300]))]
+            text = rng.choice(["", "\ufeff"])
+            text += "".join(line + rng.choice(ends) for line in [HEADER.decode()[:-1], *lines])
+            if rng.random() < 0.5:
+                text = text.rstrip("\r\n")
+            self.compare(text, rng.choice([1, 4, 7, 8, 1000]), rng.choice([90, 200, 268_435_455]))
+
+    def test_so_they_have_where_quotes_stand_at_the_end_of_a_block(self):
+        rng = random.Random(6)
+        many = "".join(f'"{rng.choice("abc")}{"x" * rng.randint(0, 9)}\n"",",W{k},276,P,{k}\r\n'
+                       for k in range(9000))
+        self.compare(HEADER.decode() + many, 1000, 20_000)
+        odd = '7" disc,W1,276,P,1\r\n'
+        self.compare(HEADER.decode() + many + odd + many, 1000, 268_435_455)
+
+    def compare(self, text, lines, most):
+        """Compares the rows of the parts with those of the list, by the reader of python3."""
+        count, parts = self.parts(text.encode(), lines, most)
+        header, *wanted = fields_in(text.removeprefix("\ufeff"))
+        found = []
+        for part in parts:
+            first, *rows = fields_in(part.decode())
+            self.assertEqual(first, header)
+            self.assertTrue(len(rows) <= lines and len(part) <= most)
+            self.assertTrue(rows or len(parts) == 1)
+            found += rows
+        self.assertEqual((found, count), (wanted, len(wanted)))
 
     def test_a_list_without_lines_gives_one_part_and_one_without_a_header_none(self):
         self.assertEqual(self.parts(HEADER, 2, 1000), (0, [HEADER]))
