@@ -119,21 +119,25 @@ def slot_at(ring, m, p, k):
     return slot_of(ring, item_at(m, p, k), k)
 
 
+def may_fill(ring, m, p, item):
+    """yields what stands against filling an item"""
+    items = items_of(m, p)
+    if sent(m, p) != list(items):
+        yield "MayFill.all_sent"
+    if END in items:
+        yield "MayFill.not_ended"
+    slots = [slot_at(ring, m, p, k) for k in range(len(items))]
+    for k, slot in enumerate(slots):
+        is_next = slot == slot_of(ring, item, len(items)) and slot not in slots[k + 1:]
+        if is_next and (p, k) not in m.given:
+            yield "MayFill.slot_free"
+
+
 def may(ring, m, event):
     """yields what stands against the event"""
     what, *of = event
     if what == "Fill":
-        p, item = of
-        items = items_of(m, p)
-        if sent(m, p) != list(items):
-            yield "MayFill.all_sent"
-        if END in items:
-            yield "MayFill.not_ended"
-        slots = [slot_at(ring, m, p, k) for k in range(len(items))]
-        for k, slot in enumerate(slots):
-            is_next = slot == slot_of(ring, item, len(items)) and slot not in slots[k + 1:]
-            if is_next and (p, k) not in m.given:
-                yield "MayFill.slot_free"
+        yield from may_fill(ring, m, *of)
     elif what == "Exchange":
         if not items_of(m, *of):
             yield "MayExchange.some"
@@ -397,7 +401,7 @@ def call_steps(l, b, p, kind, item, *link):
 def reader_steps(l, q, b):
     """yields the steps of a mailbox's reader that are due"""
     (kind, *due), tail, stub = l.readers[b].point, l.readers[b].tail, stub_in(l, b)
-    load_next, load_head = ("LoadNext",), ("LoadHead",)
+    load_next = ("LoadNext",)
     if kind == REST and tail == stub:
         if has_next(l, b):
             n = with_reader(l, b, SECOND, tail=l.nodes[tail].next - 1)
@@ -417,17 +421,8 @@ def reader_steps(l, q, b):
             yield Due(load_next, takes(l, b), ("Pass",), f"Held({tail})")
         else:
             yield Due(load_next, with_reader(l, b, REST), answer="Busy")
-    elif kind == STUBHEAD:
-        if WRONG == "stub_left" and not is_last(l, b):
-            yield Due(load_head, with_reader(l, b, NULL))
-        else:
-            answer = "Empty" if is_last(l, b) else "Busy"
-            yield Due(load_head, with_reader(l, b, REST), answer=answer)
-    elif kind == NODEHEAD:
-        if is_last(l, b) or WRONG == "stub_twice":
-            yield Due(load_head, with_reader(l, b, NULL))
-        else:
-            yield Due(load_head, with_reader(l, b, REST), answer="Busy")
+    elif kind in (STUBHEAD, NODEHEAD):
+        yield load_head(l, b, kind)
     elif kind == NULL:
         yield Due(("StubNull",), with_reader(with_node(l, stub, next=0), b, SWAP))
     elif kind == SWAP:
@@ -438,6 +433,19 @@ def reader_steps(l, q, b):
         yield Due(("StubLink",), n, ("StubLink",))
     if kind == REST:
         yield from held_steps(l, q, b)
+
+
+def load_head(l, b, kind):
+    """the step of a reader that loads the head, at the stub or at a node"""
+    step, last = ("LoadHead",), is_last(l, b)
+    if kind == STUBHEAD:
+        goes_on = WRONG == "stub_left" and not last
+    else:
+        goes_on = WRONG == "stub_twice" or last
+    if goes_on:
+        return Due(step, with_reader(l, b, NULL))
+    answer = "Empty" if kind == STUBHEAD and last else "Busy"
+    return Due(step, with_reader(l, b, REST), answer=answer)
 
 
 def held_steps(l, q, b):

@@ -109,6 +109,7 @@ def registration(kind, number, work, interests, rng):
     record = 0
 
     def prefix(name):
+        """The record prefix of the next record."""
         nonlocal record
         text = f"{name}{number:08d}{record:08d}"
         record += 1

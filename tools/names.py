@@ -57,6 +57,9 @@ MADE = {
                                "works.cwr", "F.new"],
 }
 
+# Files in which what a program says isn't looked up: documents, proofs, and these rules.
+UNREAD = r"\.md$|/proofs/|^tools/(?:names\.py|tests/)"
+
 # What stands in a text for something else.
 PLACEHOLDERS = r"\b(?:[A-Z]|MESSAGE|PATH|VAR)\b|\.\.|\b\d[\d.]*\b|: |[\w/.-]+\.(?:%s)\b|[^ -~]"
 
@@ -80,7 +83,7 @@ class Sources:
                      if other not in (*self.crates, "crate", "super", "self") for name in names}
         self.kit |= set().union(*(it.traits | it.calls for it in self.crates.values()))
         self.text = "\n".join(self.text_of(path) for path in sorted(self.files)
-                              if not path.endswith(".md") and "/proofs/" not in path)
+                              if not re.search(UNREAD, path))
         self.literals = set(re.findall(r'"([^"\n]*)"', self.text))
         # Options, and the commands of cluster/month.
         self.options = set(re.findall(r"--([a-z][\w-]*)", self.text))
@@ -123,7 +126,7 @@ class Document:
         self.example = set(re.findall(r"(?:fn|ensures|requires) (\w+)", "\n".join(code_of(text))))
 
     def texts(self):
-        """The texts in backquotes outside tables of promises, with the numbers of their lines."""
+        """The texts in backquotes, with the numbers of their lines."""
         text = "\n".join(self.lines)
         for match in re.finditer(r"`([^`]+)`", text):
             yield text.count("\n", 0, match.start()) + 1, " ".join(match[1].split("\n"))
