@@ -1,4 +1,3 @@
-#!/usr/bin/env python3
 """Runs the program and the plain Rust one on the same large data, side by side, and prints a table
 in Markdown.
 
@@ -32,6 +31,7 @@ from tools import plain
 from tools.crates import ROOT
 from tools.large_inputs import FILES
 from tools.measuring import commit, digest_of, load, machine, run_measured
+from tools.running import program_at
 
 PLANS = [(workers, readers) for workers in (1, 2, 4, 8) for readers in (1, 2, 4)] + [(8, 8)]
 
@@ -91,9 +91,9 @@ def with_plan(words, workers, readers, nodes):
     return [*words, "--workers", str(workers), "--readers", str(readers), "--nodes", str(nodes)]
 
 
-def compare_mailboxes(a, parties, program, plain_program):
+def compare_mailboxes(a, parties, plain_program):
     """Compares kinds of mailboxes: a line for each plan, with the best wall time over each kind."""
-    kinds = {"links": [program], "lanes": [os.path.abspath(a.lanes)],
+    kinds = {"links": [a.program], "lanes": [a.lanes],
              "plain links": [plain_program, "--mode", "linked"]}
     plans = [(w, r, n) for w in (1, 2, 4) for r in (1, 2) for n in (1, 8, 64)]
     before = load()
@@ -120,14 +120,14 @@ def compare_mailboxes(a, parties, program, plain_program):
 class Measured:
     """What was measured with one number of parties."""
 
-    def __init__(self, a, parties, folder, program, plain_program, no_hints):
+    def __init__(self, a, parties, folder, plain_program, no_hints):
         self.parties = parties
         files = make_data(a, parties, folder)
 
         def words(*plan):
             return with_plan(files, *plan, a.nodes)
 
-        self.ours = {plan: Row("program {} x {}".format(*plan), [program, *words(*plan)])
+        self.ours = {plan: Row("program {} x {}".format(*plan), [a.program, *words(*plan)])
                      for plan in PLANS}
         mode = "bells" if parties >= BELLS_FROM else "pool"
         self.pools = {plan: Row("{} {} x {}".format(mode, *plan),
@@ -234,7 +234,7 @@ def options():
     """The options as they were given."""
     parser = argparse.ArgumentParser(prog="bench.bench", description=__doc__,
                                      formatter_class=argparse.RawDescriptionHelpFormatter)
-    parser.add_argument("--program", required=True)
+    parser.add_argument("--program", required=True, type=program_at)
     parser.add_argument("--lines", type=int, default=1_000_000)
     parser.add_argument("--works", type=int, default=20_000)
     parser.add_argument("--parties", type=int, nargs="+", default=[400, 16_000])
@@ -244,7 +244,7 @@ def options():
     parser.add_argument("--modes", action="store_true",
                         help="the plain program's other modes, and without hints")
     parser.add_argument("--phases", action="store_true", help="those of the plain program")
-    parser.add_argument("--lanes", help="a build of the program over lanes")
+    parser.add_argument("--lanes", type=program_at, help="a build of the program over lanes")
     return parser.parse_args()
 
 
@@ -252,14 +252,13 @@ def main():
     a = options()
     plain_program = plain.build()
     no_hints = plain.build("target/no_hints", "--no-default-features") if a.modes else None
-    program = os.path.abspath(a.program)
     if a.lanes:
-        return max(compare_mailboxes(a, parties, program, plain_program) for parties in a.parties)
+        return max(compare_mailboxes(a, parties, plain_program) for parties in a.parties)
     before = load()
     measured = []
     for parties in a.parties:
         with tempfile.TemporaryDirectory() as folder:
-            measured.append(Measured(a, parties, folder, program, plain_program, no_hints))
+            measured.append(Measured(a, parties, folder, plain_program, no_hints))
     print_table(a, measured, before)
     print_aims(measured)
     if a.modes:

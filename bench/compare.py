@@ -1,4 +1,3 @@
-#!/usr/bin/env python3
 """Runs the program and the plain Rust one on made-up inputs, good and bad, and compares what they
 answer.
 
@@ -23,7 +22,7 @@ import tempfile
 from tools import plain
 from tools.comparing import contradicts, csv_rows, first_difference, missing
 from tools.made_up import case
-from tools.running import NAMES, run, run_options, words_of, written
+from tools.running import NAMES, program_at, run, run_options, words_of, written
 from tools.spoilt import all_spoilt, strange
 
 
@@ -121,14 +120,14 @@ class Comparison:
 def main():
     parser = argparse.ArgumentParser(prog="bench.compare", description=__doc__,
                                      formatter_class=argparse.RawDescriptionHelpFormatter)
-    parser.add_argument("--program", required=True)
+    parser.add_argument("--program", required=True, type=program_at)
     parser.add_argument("--cases", type=int, default=2000)
     parser.add_argument("--explained", type=int, default=3,
                         help="usage lines explained in each case")
     parser.add_argument("--checked", type=int, default=1, help="reports on each case")
     parser.add_argument("--seed", type=int, default=1)
     a = parser.parse_args()
-    comparison = Comparison(os.path.abspath(a.program), plain.build(), a.seed)
+    comparison = Comparison(a.program, plain.build(), a.seed)
     with tempfile.TemporaryDirectory() as folder:
         for number in range(a.cases):
             comparison.compare_case(number, folder, a.explained, a.checked)

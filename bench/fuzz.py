@@ -1,4 +1,3 @@
-#!/usr/bin/env python3
 """Runs the program and the plain Rust one on damaged files, and compares what they answer.
 
     python3 -m bench.fuzz --program PATH [--cases 100000] [--seed 1] [--jobs 2] [--seconds 60]
@@ -25,7 +24,7 @@ from tools import plain, small_inputs
 from tools.damage import in_bytes, in_fields, in_lines
 from tools.large_inputs import generate
 from tools.made_up import example, files_in, parties_of
-from tools.running import NAMES, run, run_options, words_of, written
+from tools.running import NAMES, program_at, run, run_options, words_of, written
 
 
 def payees_of(rng, registrations):
@@ -102,7 +101,7 @@ def keep(a, programs, number):
 def main():
     parser = argparse.ArgumentParser(prog="bench.fuzz", description=__doc__,
                                      formatter_class=argparse.RawDescriptionHelpFormatter)
-    parser.add_argument("--program", required=True)
+    parser.add_argument("--program", required=True, type=program_at)
     parser.add_argument("--cases", type=int, default=100_000)
     parser.add_argument("--seed", type=int, default=1)
     parser.add_argument("--jobs", type=int, default=2)
@@ -110,7 +109,7 @@ def main():
     parser.add_argument("--only", type=int)
     parser.add_argument("--keep", default=os.path.join(tempfile.gettempdir(), "royalty_fuzz"))
     a = parser.parse_args()
-    programs = os.path.abspath(a.program), plain.build()
+    programs = a.program, plain.build()
     if a.only is not None:
         keep(a, programs, a.only)
         return 0

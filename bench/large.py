@@ -1,4 +1,3 @@
-#!/usr/bin/env python3
 """Writes tis.csv, works.cwr and usage.csv of a realistic shape into a folder.
 
     python3 -m bench.large FOLDER [--lines 100000] [--works 20000] [--parties 400] [--seed 1]

@@ -1,4 +1,3 @@
-#!/usr/bin/env python3
 """Times a mailbox of linked nodes, and a pool of them, apart from a run: `mail_bench` and the plain
 program's.
 
@@ -17,6 +16,7 @@ import time
 
 from tools import plain
 from tools.measuring import load
+from tools.running import program_at
 
 POSTS = 1_000_000
 
@@ -48,11 +48,11 @@ def nanoseconds(name, program, words, times):
 def main():
     parser = argparse.ArgumentParser(prog="bench.mail", description=__doc__,
                                      formatter_class=argparse.RawDescriptionHelpFormatter)
-    parser.add_argument("--program", required=True)
+    parser.add_argument("--program", required=True, type=program_at)
     parser.add_argument("--times", type=int, default=5)
     parser.add_argument("--repeats", type=int, default=5)
     a = parser.parse_args()
-    programs = {"proved": os.path.abspath(a.program), "plain": plain.build(name="mail")}
+    programs = {"proved": a.program, "plain": plain.build(name="mail")}
     best = {}
     before = load()
     for _ in range(a.repeats):

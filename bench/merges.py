@@ -1,4 +1,3 @@
-#!/usr/bin/env python3
 """Cuts made-up usage lists in parts, runs the program over each part, and merges the statements.
 
     python3 -m bench.merges --program PATH [--cases 300] [--seed 1]
@@ -17,7 +16,7 @@ import tempfile
 from tools import plain
 from tools.damage import damaged
 from tools.made_up import realistic, small
-from tools.running import NAMES, run, run_options, words_of, written
+from tools.running import NAMES, program_at, run, run_options, words_of, written
 
 
 def parts_of(rng, usage):
@@ -103,11 +102,11 @@ def come_to(rng, program, plain_program, folder, texts, whole):
 
 def main():
     parser = argparse.ArgumentParser(prog="bench.merges", description=__doc__)
-    parser.add_argument("--program", required=True)
+    parser.add_argument("--program", required=True, type=program_at)
     parser.add_argument("--cases", type=int, default=300)
     parser.add_argument("--seed", type=int, default=1)
     a = parser.parse_args()
-    program, plain_program = os.path.abspath(a.program), plain.build()
+    program, plain_program = a.program, plain.build()
     sets, refused, differing = 0, 0, 0
     with tempfile.TemporaryDirectory() as folder:
         for n in range(a.cases):

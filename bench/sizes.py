@@ -1,4 +1,3 @@
-#!/usr/bin/env python3
 """Runs the program and the plain Rust one at each limit and one beyond it, and shows time and peak
 memory.
 
@@ -16,7 +15,7 @@ import tempfile
 
 from tools import plain
 from tools.measuring import digest_of, run_measured
-from tools.running import NAMES, message_in, run_options, words_of, written
+from tools.running import NAMES, message_in, program_at, run_options, words_of, written
 
 MOST_BYTES = 268_435_456
 USAGE = b"usage,work,territory,right,amount\n"
@@ -219,11 +218,11 @@ def is_right(name, files, end, programs, folder):
 def main():
     parser = argparse.ArgumentParser(prog="bench.sizes", description=__doc__,
                                      formatter_class=argparse.RawDescriptionHelpFormatter)
-    parser.add_argument("--program", required=True)
+    parser.add_argument("--program", required=True, type=program_at)
     parser.add_argument("--only", default="", help="the cases whose names have this in them")
     parser.add_argument("--largest", action="store_true")
     a = parser.parse_args()
-    programs = [os.path.abspath(a.program)] + [plain.build()] * (not a.largest)
+    programs = [a.program] + [plain.build()] * (not a.largest)
     wrong = count = 0
     with tempfile.TemporaryDirectory() as folder:
         for name, *files, status, message in largest() if a.largest else cases():

@@ -1,4 +1,3 @@
-#!/usr/bin/env python3
 """Explores a model of the mailboxes: all states of small ones, beside lists of what was sent.
 
     python3 -m model.explore SENDERS NODES POSTS [MOST] [--mailboxes COUNT] [--ends COUNT]

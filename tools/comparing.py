@@ -26,7 +26,10 @@ def contradicts(report, paths, refusal):
     if refusal[0] != 1:
         has_fault = b"(fault " in text
         return has_fault or status != refusal[0] or (status != 0 and message != refusal[2])
-    what, number, unit, place = REFUSED.fullmatch(refusal[2]).groups()
+    fault = REFUSED.fullmatch(refusal[2])
+    if not fault:
+        return True
+    what, number, unit, place = fault.groups()
     path = dict(zip(NAMES, paths))["payees" if what == b"payee" else what.decode()]
     if place:
         subject = unit + b" " + place + b": "

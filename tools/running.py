@@ -1,9 +1,18 @@
 """Runs a program over files, and catches its status, its output and its message."""
+import argparse
 import os
 import subprocess
 
 # The options that name the files of a run. The last one may be left out.
 NAMES = ("tis", "cwr", "usage", "payees")
+
+
+def program_at(path):
+    """The whole path of a program, as the value of an option."""
+    whole = os.path.abspath(path)
+    if not (os.path.isfile(whole) and os.access(whole, os.X_OK)):
+        raise argparse.ArgumentTypeError(f"{path} is no program")
+    return whole
 
 
 def run_options(paths, plan):

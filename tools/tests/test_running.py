@@ -1,4 +1,5 @@
 """Tests of how programs are run, compared and measured."""
+import argparse
 import hashlib
 import os
 import tempfile
@@ -26,6 +27,17 @@ class Running(unittest.TestCase):
     def test_a_run_that_goes_on_is_ended(self):
         done = running.run(["sleep", "9"], 0.05)
         self.assertEqual(done, ("no end in 0.05 s", b"", b""))
+
+    def test_a_program_is_named_by_any_path_and_has_to_be_one(self):
+        with tempfile.TemporaryDirectory() as folder:
+            path = os.path.join(folder, "a program")
+            running.written(folder, {"a program": b"#!/bin/sh\n"})
+            with self.assertRaises(argparse.ArgumentTypeError):
+                running.program_at(path)
+            os.chmod(path, 0o755)
+            self.assertEqual(running.program_at(os.path.relpath(path)), path)
+            with self.assertRaises(argparse.ArgumentTypeError):
+                running.program_at(folder)
 
     def test_files_are_written_in_their_order(self):
         with tempfile.TemporaryDirectory() as folder:
@@ -75,6 +87,9 @@ class Comparing(unittest.TestCase):
                       fits.replace(b"f/usage", b"f/tis"), b"f/usage: usage lines: 3\n" + fits):
             self.assertTrue(comparing.contradicts(report(wrong), PATHS, REFUSED), wrong)
         self.assertTrue(comparing.contradicts((0, fits, b""), PATHS, REFUSED))
+
+    def test_a_refusal_without_a_fault_fits_no_report(self):
+        self.assertTrue(comparing.contradicts((1, b"", b""), PATHS, (1, b"", b"")))
 
     def test_a_fault_of_a_whole_file_has_no_place(self):
         for name, number, text in ((b"tis", b"5", b"f/tis: there are more rows (fault 5)"),
