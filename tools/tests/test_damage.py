@@ -32,9 +32,14 @@ class Damage(unittest.TestCase):
         columns = damage.COLUMNS[b"SPT"]
         for seed in range(60):
             line = damage.in_column(random.Random(seed), SHARE, columns)
-            kept = [(start, end) for start, end in columns
-                    if line.startswith(SHARE[:start]) and line.endswith(SHARE[end:])]
-            self.assertTrue(kept, line)
+            others = [SHARE[start:end] for start, end in columns]
+            changed = []
+            for start, end in columns:
+                new = line[start:len(line) - len(SHARE) + end]
+                wrong = damage.VALUES.get(end - start, [b"", b" ", b"0", b"\x80"])
+                if line == SHARE[:start] + new + SHARE[end:] and new in wrong + others:
+                    changed.append(new)
+            self.assertTrue(changed, line)
 
     def test_columns_follow_one_another(self):
         for columns in damage.COLUMNS.values():

@@ -1,10 +1,12 @@
 """Tests of the made-up inputs: the same seed gives the same bytes, and limits are honoured."""
 import csv
+import hashlib
 import random
 import tempfile
 import unittest
 
-from tools import large_inputs, made_up, small_inputs
+from bench import fuzz
+from tools import large_inputs, made_up, small_inputs, spoilt
 from tools.running import NAMES
 
 
@@ -13,6 +15,35 @@ def generated(*words, **more):
     with tempfile.TemporaryDirectory() as folder:
         large_inputs.generate(folder, *words, **more)
         return made_up.files_in(folder)
+
+
+def digest(files):
+    """The beginning of a sum of files."""
+    total = hashlib.sha256(b"".join(b"%d:%b" % (len(it), it) for it in files))
+    return total.hexdigest()[:16]
+
+
+class Kept(unittest.TestCase):
+    """A case is known by its number, and times are compared over the same data: so the bytes that
+    a seed gives stay as they are. Whoever changes a generator changes these sums with it."""
+
+    def test_large_files_are_those_of_before(self):
+        self.assertEqual(digest(generated(300, 40, 20, 1)), "5ff60038bd47d558")
+        self.assertEqual(digest(generated(300, 40, 20, 1, taken_back=0.5)), "2eb205be131b228b")
+
+    def test_cases_are_those_of_before(self):
+        with tempfile.TemporaryDirectory() as folder:
+            compared = [it for n in range(12) for it in made_up.case(random.Random(n), folder)]
+            fuzzed = [it for n in range(30) for it in fuzz.case(1, n, folder)[0]]
+        self.assertEqual((digest(compared), digest(fuzzed)),
+                         ("e8526f9f862ab248", "968a62df75b8e17f"))
+
+    def test_spoilt_files_are_those_of_before(self):
+        files = []
+        for n in range(12):
+            made = dict(zip(NAMES, made_up.small(random.Random(n))))
+            files += spoilt.all_spoilt(random.Random(n), made).values()
+        self.assertEqual(digest(files), "1a50a0179f02b4a9")
 
 
 class Small(unittest.TestCase):

@@ -23,6 +23,9 @@ class Explore(unittest.TestCase):
         self.assertIn("156 states, 294 steps", found)
         self.assertTrue(found.endswith("relation holds in each"))
 
+    def test_a_sender_goes_round_its_ring(self):
+        self.assertIn("2019 states, 4621 steps", explore.explore(1, 1, 2, 3))
+
     def test_a_pool_with_one_end_mark_has_fewer_states(self):
         explore.ENDS = 1
         found = explore.explore(1, 2, 1, 1)

@@ -88,6 +88,13 @@ class Comparing(unittest.TestCase):
             self.assertTrue(comparing.contradicts(report(wrong), PATHS, REFUSED), wrong)
         self.assertTrue(comparing.contradicts((0, fits, b""), PATHS, REFUSED))
 
+    def test_a_fault_of_payees_is_one_of_their_file(self):
+        refusal = 1, b"", b"payee fault 2 at row 1\n"
+        report = 1, b"f/payees: row 1: the party is blank (fault 2)\n", b""
+        self.assertFalse(comparing.contradicts(report, [*PATHS, "f/payees"], refusal))
+        report = 1, report[1].replace(b"f/payees", b"f/tis"), b""
+        self.assertTrue(comparing.contradicts(report, [*PATHS, "f/payees"], refusal))
+
     def test_a_refusal_without_a_fault_fits_no_report(self):
         self.assertTrue(comparing.contradicts((1, b"", b""), PATHS, (1, b"", b"")))
 

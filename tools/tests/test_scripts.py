@@ -46,7 +46,8 @@ class Fuzz(unittest.TestCase):
 class Sizes(unittest.TestCase):
     def test_a_file_is_filled_up_to_its_room_and_no_further(self):
         self.assertEqual(sizes.filled(b"ab", lambda n: b"%03d" % n, 9), b"ab000001")
-        self.assertEqual(len(sizes.filled(b"", lambda n: b"%03d" % n, 9)), 9)
+        self.assertEqual([len(sizes.filled(b"ab", lambda n: b"%03d" % n, most))
+                          for most in (10, 11, 12)], [8, 11, 11])
 
     def test_territories_each_stand_within_the_one_before(self):
         rows = sizes.tis(4).split(b"\n")
