@@ -72,14 +72,14 @@ edits:
 	tests/edits.sh $(CRATE)
 
 compare:
-	python3 bench/compare.py --program $(PROGRAM) --cases 2000
-	python3 bench/merges.py --program $(PROGRAM) --cases 2000
+	python3 -m bench.compare --program $(PROGRAM) --cases 2000
+	python3 -m bench.merges --program $(PROGRAM) --cases 2000
 
 fuzz:
-	python3 bench/fuzz.py --program $(PROGRAM) --cases 100000 --jobs 4
+	python3 -m bench.fuzz --program $(PROGRAM) --cases 100000 --jobs 4
 
 sizes:
-	python3 bench/sizes.py --program $(PROGRAM)
+	python3 -m bench.sizes --program $(PROGRAM)
 
 refuse:
 	tests/refuse.sh $(PROGRAM)
@@ -88,14 +88,14 @@ refuse:
 	tests/refuse_calls.sh crates/refusal_runs/out/refusal_runs
 
 bench:
-	python3 bench/bench.py --program $(PROGRAM) --lines 1000000 --works 20000 --parties 400 16000 --repeats 5
+	python3 -m bench.bench --program $(PROGRAM) --lines 1000000 --works 20000 --parties 400 16000 --repeats 5
 	cd crates/mail_bench && rt run < stdin > /dev/null
-	python3 bench/mail.py --program crates/mail_bench/out/mail_bench
+	python3 -m bench.mail --program crates/mail_bench/out/mail_bench
 
 explore:
-	python3 model/explore.py 2 1 1
-	python3 model/explore.py 1 1 2 --mailboxes 2
-	python3 model/explore.py 1 1 2 --mailboxes 2 --wrong all
+	python3 -m model.explore 2 1 1
+	python3 -m model.explore 1 1 2 --mailboxes 2
+	python3 -m model.explore 1 1 2 --mailboxes 2 --wrong all
 
 months:
 	cluster/test.sh $(PROGRAM)

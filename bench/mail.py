@@ -1,11 +1,12 @@
-#!/usr/bin/env python3
-"""Times one mailbox of linked nodes, and a pool of them, apart from a run: `mail_bench`, and the plain program's.
+"""Times a mailbox of linked nodes, and a pool of them, apart from a run: `mail_bench` and the plain
+program's.
 
-    python3 mail.py --program PATH [--times 5] [--repeats 5]
+    python3 -m bench.mail --program PATH [--times 5] [--repeats 5]
 
-One or two senders post a million times each, to one mailbox or to those of a pool in turn, so many times one after the other; both
-programs in turn, so that noise hits both alike. Shown is the best wall time of a posting in nanoseconds, threads and their start, and
-what opens a pool, included.
+One or two senders post a million times each, to one mailbox or to those of a pool in turn, and all
+of this is done as often as --times says. Both programs run in turn, so that noise hits both alike.
+Shown is the best wall time of a posting in nanoseconds, with the start of the threads and what
+opens a pool in it.
 """
 import argparse
 import os
@@ -13,43 +14,56 @@ import subprocess
 import sys
 import time
 
-from bench import build_plain
+from tools import plain
+from tools.measuring import load
+from tools.running import program_at
 
 POSTS = 1_000_000
 
-# each is what a line of the input says but for the posts
+# Each is what a line of the input says, apart from the number of posts.
 MAILBOXES = [f"{senders} {nodes}" for senders in (1, 2) for nodes in (1, 8, 64)]
-POOLS = [f"pool {senders} {readers} {mailboxes} 64" for mailboxes in (4, 400) for senders, readers in ((1, 1), (2, 1), (2, 2))]
+POOLS = [f"pool {senders} {readers} {mailboxes} 64"
+         for mailboxes in (4, 400) for senders, readers in ((1, 1), (2, 1), (2, 2))]
 
 
 def senders_of(words):
+    """How many senders there are."""
     return int(words.split(" ")[1 if words.startswith("pool") else 0])
 
 
+def nanoseconds(name, program, words, times):
+    """What a posting takes in one run of a program, which has to receive all that was posted."""
+    line = f"{words} {POSTS}"
+    posts = senders_of(words) * POSTS
+    came = f"{line}: {posts} posts, {posts * (POSTS + 1) // 2}\n"
+    begin = time.perf_counter()
+    done = subprocess.run([program], input=f"{line}\n" * times, stdout=subprocess.PIPE, text=True,
+                          check=True)
+    took = (time.perf_counter() - begin) / (times * posts) * 1e9
+    if done.stdout != came * times:
+        sys.exit(f"{name}, {line}: not all that was posted came")
+    return took
+
+
 def main():
-    parser = argparse.ArgumentParser(formatter_class=argparse.RawDescriptionHelpFormatter, description=__doc__)
-    parser.add_argument("--program", required=True)
+    parser = argparse.ArgumentParser(prog="bench.mail", description=__doc__,
+                                     formatter_class=argparse.RawDescriptionHelpFormatter)
+    parser.add_argument("--program", required=True, type=program_at)
     parser.add_argument("--times", type=int, default=5)
     parser.add_argument("--repeats", type=int, default=5)
     a = parser.parse_args()
-    plain = os.path.join(os.path.dirname(build_plain()), "mail")
-    programs = {"proved": os.path.abspath(a.program), "plain": plain}
+    programs = {"proved": a.program, "plain": plain.build(name="mail")}
     best = {}
-    load = os.getloadavg()[0]
+    before = load()
     for _ in range(a.repeats):
         for words in MAILBOXES + POOLS:
-            line = f"{words} {POSTS}"
-            posts = senders_of(words) * POSTS
-            came = f"{line}: {posts} posts, {posts * (POSTS + 1) // 2}\n"
             for name, program in programs.items():
-                begin = time.perf_counter()
-                done = subprocess.run([program], input=f"{line}\n" * a.times, stdout=subprocess.PIPE, text=True, check=True)
-                took = (time.perf_counter() - begin) / (a.times * posts) * 1e9
-                if done.stdout != came * a.times:
-                    sys.exit(f"{name}, {line}: not all that was posted came")
+                took = nanoseconds(name, program, words, a.times)
                 best[words, name] = min(took, best.get((words, name), took))
-    print(f"nanoseconds a posting, best of {a.repeats}, {os.cpu_count()} cores, load {load:.1f} to {os.getloadavg()[0]:.1f}")
-    for title, lines in (("senders, nodes", MAILBOXES), ("pool: senders, readers, mailboxes, nodes", POOLS)):
+    print(f"nanoseconds a posting, best of {a.repeats}, {os.cpu_count()} cores, "
+          f"load {before:.1f} to {load():.1f}")
+    for title, lines in (("senders, nodes", MAILBOXES),
+                         ("pool: senders, readers, mailboxes, nodes", POOLS)):
         print(f"{title:<42}" + "".join(f"{name:>10}" for name in programs))
         for words in lines:
             shown = ", ".join(words.removeprefix("pool ").split(" "))

@@ -1,9 +1,11 @@
-#!/usr/bin/env python3
-"""Cuts made-up lists of usage lines in parts, runs the program over each part, and merges the statement texts: at once, in two
-groups, and into a file. Each time it has to be the program's text of the whole list. A third of all is merged with one of the texts
-damaged too: the plain program and the program have to say the same, and where it is refused nothing is printed.
+"""Cuts made-up usage lists in parts, runs the program over each part, and merges the statements.
 
-    python3 merges.py --program PATH [--cases 300] [--seed 1]
+    python3 -m bench.merges --program PATH [--cases 300] [--seed 1]
+
+The texts are merged at once, in two groups, and into a file. Each time the result has to be the
+program's text of the whole list. A third of all cases is also merged with one of the texts damaged:
+the plain program and the program have to say the same, and where the merge is refused nothing may
+be printed.
 """
 import argparse
 import os
@@ -11,20 +13,29 @@ import random
 import sys
 import tempfile
 
-from bench import build_plain
-from compare import NAMES, damaged, realistic, run, run_options, small, words_of, written
+from tools import plain
+from tools.damage import damaged
+from tools.made_up import realistic, small
+from tools.running import NAMES, program_at, run, run_options, words_of, written
 
 
 def parts_of(rng, usage):
-    """The usage lines of a list in one to six lists, some of them without lines. No field of a line has a line feed."""
+    """The usage lines of a list in one to six lists, some of them without lines.
+
+    No field of a line may have a line feed.
+    """
     header, *lines = usage.split(b"\n")
     lines = [line for line in lines if line]
     cuts = sorted(rng.randint(0, len(lines)) for _ in range(rng.randint(0, 5)))
-    return [b"\n".join([header, *lines[begin:end], b""]) for begin, end in zip([0, *cuts], [*cuts, len(lines)])]
+    bounds = zip([0, *cuts], [*cuts, len(lines)])
+    return [b"\n".join([header, *lines[begin:end], b""]) for begin, end in bounds]
 
 
 def unlike(rng, text):
-    """A statement text after an accident: cut off, a row doubled, left out, moved or of other numbers, or bytes changed."""
+    """A statement text after an accident.
+
+    It is cut off, or a row is doubled, left out, moved or has another field, or bytes are changed.
+    """
     rows = text.split(b"\n")
     place = rng.randrange(len(rows))
     accident = rng.randrange(7)
@@ -40,37 +51,38 @@ def unlike(rng, text):
         rows.insert(rng.randrange(len(rows)), rows.pop(place))
     else:
         fields = rows[place].split(b",")
-        wrong = [b"", b"0", b"-1", b"01", b"+1", b"x", b"1000000000001", b"OPEN", b'"1"', b"R", b"S", b"M", b"T", b"L"]
+        wrong = [b"", b"0", b"-1", b"01", b"+1", b"x", b"1000000000001", b"OPEN", b'"1"',
+                 b"R", b"S", b"M", b"T", b"L"]
         fields[rng.randrange(len(fields))] = rng.choice(wrong)
         rows[place] = b",".join(fields)
     return b"\n".join(rows)
 
 
 def merged(program, folder, texts):
-    """What merging texts comes to."""
+    """The outcome of merging texts."""
     paths = written(folder, {f"{n}.csv": text for n, text in enumerate(texts)})
     return run([program, "merge", *paths])
 
 
 def merged_into(program, folder, texts):
-    """What merging texts into a file comes to: the same, and that nothing is printed."""
+    """The outcome of merging texts into a file, with the file's text behind what was printed."""
     paths = written(folder, {f"{n}.csv": text for n, text in enumerate(texts)})
     target = os.path.join(folder, "merged")
-    status, printed, told = run([program, "merge", "--output", target, *paths])
+    status, printed, message = run([program, "merge", "--output", target, *paths])
     if status:
-        return status, b"a file" if os.path.exists(target) else printed, told
+        return status, b"a file" if os.path.exists(target) else printed, message
     with open(target, "rb") as file:
         text = file.read()
     os.remove(target)
-    return status, printed + text, told
+    return status, printed + text, message
 
 
 def texts_of(rng, program, folder):
-    """The statements of a made-up run by its parts, and of the whole; none if its inputs are refused."""
-    files = dict(zip(NAMES, small(rng) if rng.random() < 0.7 else realistic(rng, os.path.join(folder, "made"))))
-    parts = parts_of(rng, files["usage"])
+    """The statements of a made-up run by its parts, and of the whole; none if it is refused."""
+    made = os.path.join(folder, "made")
+    files = dict(zip(NAMES, small(rng) if rng.random() < 0.7 else realistic(rng, made)))
     outcomes = []
-    for usage in [*parts, files["usage"]]:
+    for usage in [*parts_of(rng, files["usage"]), files["usage"]]:
         paths = written(os.path.join(folder, "run"), {**files, "usage": usage})
         outcomes.append(run(words_of(program, "run", run_options(paths, (1, 1, 16)))))
     if any(outcome[0] for outcome in outcomes):
@@ -78,13 +90,23 @@ def texts_of(rng, program, folder):
     return [outcome[1] for outcome in outcomes[:-1]], outcomes[-1][1]
 
 
+def come_to(rng, program, plain_program, folder, texts, whole):
+    """Whether the texts, merged at once, in two groups and into a file, come to the whole."""
+    cut = rng.randint(0, len(texts))
+    groups = [merged(program, folder, group)[1] for group in (texts[:cut], texts[cut:]) if group]
+    answers = [merge(program, folder, some)
+               for merge in (merged, merged_into) for some in (texts, groups)]
+    answers.append(merged(plain_program, folder, texts))
+    return all(answer == (0, whole, b"") for answer in answers)
+
+
 def main():
-    parser = argparse.ArgumentParser(description=__doc__)
-    parser.add_argument("--program", required=True)
+    parser = argparse.ArgumentParser(prog="bench.merges", description=__doc__)
+    parser.add_argument("--program", required=True, type=program_at)
     parser.add_argument("--cases", type=int, default=300)
     parser.add_argument("--seed", type=int, default=1)
     a = parser.parse_args()
-    program, plain = os.path.abspath(a.program), build_plain()
+    program, plain_program = a.program, plain.build()
     sets, refused, differing = 0, 0, 0
     with tempfile.TemporaryDirectory() as folder:
         for n in range(a.cases):
@@ -94,20 +116,20 @@ def main():
                 continue
             texts, whole = made
             sets += 1
-            cut = rng.randint(0, len(texts))
-            groups = [merged(program, folder, group)[1] for group in (texts[:cut], texts[cut:]) if group]
-            answers = [merge(program, folder, some) for merge in (merged, merged_into) for some in (texts, groups)]
-            if any(answer != (0, whole, b"") for answer in answers) or merged(plain, folder, texts) != (0, whole, b""):
+            if not come_to(rng, program, plain_program, folder, texts, whole):
                 differing += 1
                 print(f"case {n} of seed {a.seed}: the parts do not merge to the whole")
             if rng.random() < 1 / 3:
                 place = rng.randrange(len(texts))
                 spoilt = [*texts[:place], unlike(rng, texts[place]), *texts[place + 1:]]
-                outcome, wanted = merged(program, folder, spoilt), merged(plain, folder, spoilt)
+                outcome = merged(program, folder, spoilt)
+                wanted = merged(plain_program, folder, spoilt)
+                into_file = merged_into(program, folder, spoilt)
                 refused += outcome[0] == 1
-                if outcome != wanted or merged_into(program, folder, spoilt) != wanted or outcome[0] and outcome[1]:
+                if outcome != wanted or into_file != wanted or outcome[0] and outcome[1]:
                     differing += 1
-                    print(f"case {n} of seed {a.seed}: a damaged text: {outcome} where the plain program says {wanted}")
+                    print(f"case {n} of seed {a.seed}: a damaged text: {outcome} "
+                          f"where the plain program says {wanted}")
     print(f"{sets} sets of statement texts, {refused} damaged ones refused: {differing} wrong")
     return 1 if differing or not sets else 0
 

@@ -1,14 +1,16 @@
 #!/usr/bin/env bash
-# A month of 16 parts under Slurm on this machine alone: munged, slurmctld and slurmd are started for it, on the loopback
-# address and with configurations of their own in a temporary folder, and are ended again. The process of one part is killed
-# while it runs: nothing may be merged then, and the part is run again alone. The merged text has to be that of the plain
-# program of bench/ over the whole list. Nothing is installed, and no Slurm that runs here already is touched.
+# Runs a month of 16 parts under Slurm on this machine alone: munged, slurmctld and slurmd are
+# started for it, on the loopback address and with configurations of their own in a temporary
+# folder, and are ended again. The process of one part is killed while it runs: nothing may be
+# merged then, and the part is run again alone. The merged text has to be that of the plain program
+# of bench/ over the whole list. Nothing is installed, and no Slurm that runs here already is
+# touched.
 #
-#   cluster/one_machine.sh PROGRAM [LINES]   a month of so many usage lines, 1,600,000 if it is not said
+#   cluster/one_machine.sh PROGRAM [LINES]   a month of LINES usage lines, 1,600,000 by default
 #   cluster/one_machine.sh --needs           only says which commands are missing
 set -euo pipefail
 here=$(realpath "$(dirname "$0")")
-bench=$(realpath "$here/../bench")
+top=$(realpath "$here/..")
 
 missing=()
 for word in sbatch squeue sinfo scontrol slurmctld slurmd munged python3 cargo sha256sum; do
@@ -23,9 +25,13 @@ fi
 PATH=$PATH:/usr/sbin:/usr/local/sbin
 program=$(realpath "$1")
 lines=${2:-1600000}
-[[ $lines =~ ^[1-9][0-9]{2,7}$ ]] && ((lines <= 20000000)) || { echo 'one_machine.sh: LINES is a number from 100 to 20000000' >&2 && exit 2; }
+[[ $lines =~ ^[1-9][0-9]{2,7}$ ]] && ((lines <= 20000000)) || {
+    echo 'one_machine.sh: LINES is a number from 100 to 20000000' >&2
+    exit 2
+}
 
-# The path of a socket has at most 107 bytes, so a long TMPDIR will not do, and munged refuses folders that others may write to.
+# The path of a socket has at most 107 bytes, so a long TMPDIR will not do, and munged refuses
+# folders that others may write to.
 room=$(mktemp -d --tmpdir month.XXXXXX)
 daemons=()
 end() {
@@ -57,7 +63,10 @@ wait_for() {
     shift 2
     until "$@"; do
         for daemon in "${daemons[@]}"; do
-            kill -0 "$daemon" 2> /dev/null || { echo "one_machine.sh: a daemon ended before $what" >&2 && exit 1; }
+            kill -0 "$daemon" 2> /dev/null || {
+                echo "one_machine.sh: a daemon ended before $what" >&2
+                exit 1
+            }
         done
         ((left > 0)) || { echo "one_machine.sh: waited in vain until $what" >&2 && exit 1; }
         left=$((left - 1))
@@ -70,7 +79,8 @@ wait_for() {
 chmod 711 "$room"
 mkdir -m 700 "$room/munge" "$room/state" "$room/spool"
 (umask 077 && head -c 1024 /dev/urandom > "$room/munge/key")
-start munged munged --foreground --key-file="$room/munge/key" --socket="$room/munged.socket" --pid-file="$room/munge/pid" \
+start munged munged --foreground --key-file="$room/munge/key" --socket="$room/munged.socket" \
+    --pid-file="$room/munge/pid" \
     --log-file="$room/munge/log" --seed-file="$room/munge/seed"
 wait_for 20 'munged listens' test -S "$room/munged.socket"
 
@@ -103,7 +113,8 @@ NodeName=$host NodeAddr=127.0.0.1 CPUs=$(nproc) RealMemory=$memory State=UNKNOWN
 PartitionName=one Nodes=$host Default=YES MaxTime=INFINITE State=UP
 TEXT
 export SLURM_CONF=$room/slurm.conf
-# Since version 23 slurmd looks for control groups unless it is told not to; earlier ones do not know the word.
+# Since version 23 slurmd looks for control groups unless it is told not to; earlier ones do not
+# know the word.
 version=$(slurmd -V | grep -o '[0-9]*' | head -n 1 || true)
 ((${version:-0} < 23)) || echo 'CgroupPlugin=disabled' > "$room/cgroup.conf"
 
@@ -116,10 +127,10 @@ wait_for 60 'the node is idle' is_idle
 
 month=$here/month
 cd "$room"
-python3 "$bench/large.py" made --lines "$lines" --works 20000 --parties 400 --seed 3
+PYTHONPATH=$top python3 -m bench.large made --lines "$lines" --works 20000 --parties 400 --seed 3
 files=(--tis made/tis.csv --cwr made/works.cwr --usage made/usage.csv)
-(cd "$bench/plain" && cargo build --release --offline --quiet)
-"$bench/plain/target/release/plain" run "${files[@]}" --workers 1 --readers 1 --nodes 64 --whole > whole.statements
+plain=$(PYTHONPATH=$top python3 -m tools.plain)
+"$plain" run "${files[@]}" --workers 1 --readers 1 --nodes 64 --whole > whole.statements
 
 # Waits until the process that runs the part with this name is there, and kills it.
 cat > kill_part.py <<'TEXT'
@@ -135,7 +146,8 @@ while time.monotonic() < end:
                 words = file.read().split(b"\0")
         except OSError:
             continue
-        if any(word.endswith(b"royalty_run") for word in words[:2]) and b"run" in words and sys.argv[1].encode() in words:
+        is_run = any(word.endswith(b"royalty_run") for word in words[:2]) and b"run" in words
+        if is_run and sys.argv[1].encode() in words:
             os.kill(int(entry), signal.SIGKILL)
             print("killed process", entry, "of", sys.argv[1])
             sys.exit()

@@ -1,6 +1,7 @@
 #!/usr/bin/env bash
-# A task of a month's job array: makes a part. It is given the folder of these scripts, the month's folder, and what is added to the
-# task's index to give the number of the part. Slurm runs a copy of this file, so that it knows the folder from its words alone.
+# A task of a month's job array: makes a part. It is given the folder of these scripts, the month's
+# folder, and what is added to the task's index to give the number of the part. Slurm runs a copy of
+# this file, which knows the folder from its arguments alone.
 #SBATCH --ntasks=1
 #SBATCH --cpus-per-task=2
 #SBATCH --mem=2G

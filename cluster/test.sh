@@ -1,14 +1,15 @@
 #!/usr/bin/env bash
-# A month as docs/CLUSTER.md tells it, without Slurm: sbatch, squeue and scontrol are stand-ins here, which run the same
-# scripts. The list is made up, has 4,000 lines and is cut in 16 parts; the merged text has to be that of the plain program
-# over the whole list. Parts are killed, and tables, parts and statements changed, which has to be found. It takes python3
-# and cargo, and half a minute. PROGRAM may be the plain program too: it is given the option --output here.
+# Runs months as docs/CLUSTER.md tells it, without Slurm: sbatch, squeue and scontrol are stand-ins
+# here, which run the same scripts. The list is made up, has 4,000 lines and is cut in 16 parts; the
+# merged text has to be that of the plain program over the whole list. Parts are killed, and tables,
+# parts and statements changed, which has to be found. It takes python3 and cargo, and half a
+# minute. PROGRAM may be the plain program too: it is given the option --output here.
 #
 #   cluster/test.sh PROGRAM
 set -euo pipefail
 program=$(realpath "$1")
 here=$(realpath "$(dirname "$0")")
-bench=$(realpath "$here/../bench")
+top=$(realpath "$here/..")
 month=$here/month
 temporary=$(mktemp -d)
 trap 'rm -rf "$temporary"' EXIT
@@ -17,12 +18,13 @@ mkdir "$room"
 cd "$room"
 failed=0
 
-# check NAME STATUS TEXT WORD..: the words end with this status, and what they write has the text in it.
+# check NAME STATUS TEXT WORD..: the command ends with this status, and what it writes has the text.
 check() {
     local name=$1 status=$2 text=$3 got=0
     shift 3
     "$@" > said 2>&1 || got=$?
-    [[ $got == "$status" && $(< said) == *"$text"* ]] || not_so "$name: status $got, wanted $status and '$text'; it wrote: $(head -c 1000 said)"
+    [[ $got == "$status" && $(< said) == *"$text"* ]] ||
+        not_so "$name: status $got, wanted $status and '$text'; it wrote: $(head -c 1000 said)"
 }
 
 # hold NAME WORD..: the words end with status 0.
@@ -37,12 +39,11 @@ not_so() {
 
 # --- The programs, and what stands in for Slurm ---
 
-(cd "$bench/plain" && cargo build --release --offline --quiet)
-plain=$bench/plain/target/release/plain
+plain=$(PYTHONPATH=$top python3 -m tools.plain)
 takes_output=no
 [[ $("$program" run --help 2> /dev/null) != *--output* ]] || takes_output=yes
 
-# The program with a note of each call, and with an accident where a file in `accidents` is named for it.
+# The program with a note of each call, and an accident where a file in `accidents` is named for it.
 mkdir accidents bin
 cat > royalty_run <<TEXT
 #!/usr/bin/env bash
@@ -76,7 +77,8 @@ exit "$status"
 TEXT
 chmod +x royalty_run
 
-# As sbatch does, it runs a copy of the script in the folder that it is given. A job that waits for one that failed is never run.
+# As sbatch does, it runs a copy of the script in the folder that it is given. A job that waits for
+# one that failed is never run.
 cat > bin/sbatch <<TEXT
 #!/usr/bin/env bash
 spool=$(printf %q "$room/spool")
@@ -117,7 +119,8 @@ done
 for index in "${indices[@]-}"; do
     log=${output//%A/$id}
     log=${log//%j/$id}
-    SLURM_ARRAY_TASK_ID=$index bash "$script" "$@" > "${log//%a/$index}" 2>&1 < /dev/null || result=badly
+    SLURM_ARRAY_TASK_ID=$index bash "$script" "$@" > "${log//%a/$index}" 2>&1 < /dev/null ||
+        result=badly
 done
 echo "$result" > "$spool/$id.result"
 TEXT
@@ -131,67 +134,37 @@ export PATH="$room/bin:$PATH"
 
 # --- Cutting ---
 
-# The rows of the parts are those of the list, by the reader of python3, and no part has more lines or bytes than it may.
-cat > compare_cut.py <<'TEXT'
-import csv, glob, hashlib, io, os, random, subprocess, sys
-
-HEADER = "usage,work,territory,right,amount"
-NAMES = ["u1", '"CLUB ""LIDO"", 3 MAY"', '"two\nlines"', '"two\r\nlines, with a comma"', '"\n"', '""""', '7" disc', '"a"b', ""]
-
-
-def rows(text):
-    return [row for row in csv.reader(io.StringIO(text, newline="")) if row]
-
-
-def compare(number, text, lines, most, by_pipe):
-    folder = f"cut-{number}"
-    given = text.encode()
-    with open("list.csv", "wb") as file:
-        file.write(given)
-    words = [sys.argv[1], "--lines", str(lines), "--bytes", str(most), "-" if by_pipe else "list.csv", folder]
-    said = subprocess.run(words, input=given if by_pipe else None, stdout=subprocess.PIPE, check=True).stdout.decode()
-    names = sorted(glob.glob(f"{folder}/part-*.csv"))
-    header, *wanted = rows(text.removeprefix("\ufeff"))
-    found, sums = [], ""
-    for k, name in enumerate(names, 1):
-        with open(name, "rb") as file:
-            part = file.read()
-        first, *lines_of_part = rows(part.decode())
-        assert name == f"{folder}/part-{k:04d}.csv" and first == header, name
-        assert len(lines_of_part) <= lines and len(part) <= most and (lines_of_part or len(names) == 1), name
-        found += lines_of_part
-        sums += f"{hashlib.sha256(part).hexdigest()}  part-{k:04d}.csv\n"
-    assert found == wanted, (text, found)
-    assert open(f"{folder}/sums").read() == sums
-    assert said == f"{len(names)} part{'s' * (len(names) > 1)}, {len(wanted)} usage lines\n", said
-
-
-rng = random.Random(5)
-for number in range(40):
-    ends = rng.choice([["\n"], ["\r\n"], ["\r"], ["\n", "\r\n", "\n\n"]])
-    lines = [f"{rng.choice(NAMES)},W{k},276,P,{k}" for k in range(rng.choice([0, 1, 7, 8, 300]))]
-    text = rng.choice(["", "\ufeff"]) + "".join(line + rng.choice(ends) for line in [HEADER, *lines])
-    if rng.random() < 0.5:
-        text = text.rstrip("\r\n")
-    compare(number, text, rng.choice([1, 4, 7, 8, 1000]), rng.choice([90, 200, 268_435_455]), number % 4 == 0)
-# Fields in quotes on either side of where a block of the list ends.
-many = "".join(f'"{rng.choice("abc")}{"x" * rng.randint(0, 9)}\n"",",W{k},276,P,{k}\r\n' for k in range(9000))
-compare(40, HEADER + "\r\n" + many, 1000, 20_000, False)
-compare(41, HEADER + "\r\n" + many + '7" disc,W1,276,P,1\r\n' + many, 1000, 268_435_455, False)
-TEXT
-hold 'cutting lists' python3 compare_cut.py "$here/cut"
+# That parts have the rows of their list is tested by tools/tests/test_cut.py.
+{
+    echo usage,work,territory,right,amount
+    printf 'u%s,W1,276,P,1\n' {1..9}
+} > list.csv
+check 'cutting a list' 0 '3 parts, 9 usage lines' "$here/cut" --lines 4 list.csv cut-0
+cutting_by_pipe() { "$here/cut" --lines 4 - cut-1 < list.csv; }
+check 'cutting standard input' 0 '3 parts, 9 usage lines' cutting_by_pipe
+(cd cut-1 && sha256sum --check --quiet sums) > said 2>&1 || not_so "the sums of parts: $(< said)"
+cmp -s cut-0/sums cut-1/sums || not_so 'a list and standard input give other parts'
+mkdir link_of_cut link_of_month
+ln -s "$here/cut" link_of_cut/
+ln -s "$month" link_of_month/
+check 'cutting through a link' 0 '9 parts, 9 usage lines' link_of_cut/cut --lines 1 list.csv cut-2
 : > empty.csv
 check 'an empty file' 1 'it has no header' "$here/cut" empty.csv cut-empty
 echo 'usage,work,territory,right' > other.csv
 check 'another header' 1 'does not begin with the header' "$here/cut" other.csv cut-other
-{ printf 'usage,work,territory,right,amount\nu1,W1,276,P,1\n"u2,W1,276,P,1\n'; yes 'u3,W1,276,P,1' | head -n 100000 || true; } > open.csv
-check 'a quote that is not closed' 1 'row 2 has more than 1048576 bytes; is a quote not closed?' "$here/cut" open.csv cut-open
+{
+    printf 'usage,work,territory,right,amount\nu1,W1,276,P,1\n"u2,W1,276,P,1\n'
+    yes 'u3,W1,276,P,1' | head -n 100000 || true
+} > open.csv
+check 'a quote that is not closed' 1 'row 2 has more than 1048576 bytes; is a quote not closed?' \
+    "$here/cut" open.csv cut-open
 check 'a list that is not there' 4 'absent.csv' "$here/cut" absent.csv cut-absent
 check 'a folder with parts in it' 4 'part-0001.csv' "$here/cut" list.csv cut-0
 
 # --- A month ---
 
-python3 "$bench/large.py" made --lines 4000 --works 300 --parties 60 --seed 7 --taken-back 0.1
+PYTHONPATH=$top python3 -m bench.large made --lines 4000 --works 300 --parties 60 --seed 7 \
+    --taken-back 0.1
 python3 - <<'TEXT'
 import csv
 
@@ -202,12 +175,14 @@ with open("usage.csv", "w", newline="") as file:
     for k, row in enumerate(rows):
         if k % 3 == 0:
             row[0] = f'Club "Lido", night {k}'
-        writer = csv.writer(file, lineterminator="\r\n" if k % 5 == 0 else "\n", quoting=csv.QUOTE_ALL if k % 4 == 0 else csv.QUOTE_MINIMAL)
-        writer.writerow(row)
+        end = "\r\n" if k % 5 == 0 else "\n"
+        quoting = csv.QUOTE_ALL if k % 4 == 0 else csv.QUOTE_MINIMAL
+        csv.writer(file, lineterminator=end, quoting=quoting).writerow(row)
 with open("made/works.cwr") as file:
     parties = sorted({line[19:28].strip() for line in file if line[:3] in ("SPT", "SWT")})
 with open("payees.csv", "w", newline="") as file:
-    csv.writer(file).writerows([["party", "payee"], *([party, 'Moon, "M"'] for party in parties[:20])])
+    rows = [[party, 'Moon, "M"'] for party in parties[:20]]
+    csv.writer(file).writerows([["party", "payee"], *rows])
 with open("usage.csv", "rb+") as file:
     file.truncate(len(file.read().rstrip(b"\r\n")))
 with open("made/tis.csv") as file:
@@ -222,7 +197,8 @@ files=(--tis tis.csv --cwr works.cwr --usage usage.csv)
 cut=("${files[@]}" --payees payees.csv --program royalty_run --lines 250)
 plan=(--workers 1 --readers 1 --nodes 16)
 "$plain" run "${files[@]}" --payees payees.csv "${plan[@]}" --whole > whole
-"$plain" run --tis fewer.csv --cwr works.cwr --usage usage.csv --payees payees.csv "${plan[@]}" --whole > whole_of_fewer
+"$plain" run --tis fewer.csv --cwr works.cwr --usage usage.csv --payees payees.csv "${plan[@]}" \
+    --whole > whole_of_fewer
 "$plain" run "${files[@]}" "${plan[@]}" --whole > whole_without_payees
 
 # new FOLDER: a month whose parts are not made yet; no accidents happen.
@@ -249,7 +225,8 @@ is_merged() {
 called() {
     local name=$1
     shift
-    [[ $(sort calls 2> /dev/null) == "$(printf '%s\n' "$@" | sort)" ]] || not_so "$name: the program was called for $(sort calls | tr '\n' ';')"
+    [[ $(sort calls 2> /dev/null) == "$(printf '%s\n' "$@" | sort)" ]] ||
+        not_so "$name: the program was called for $(sort calls | tr '\n' ';')"
     rm -f calls
 }
 
@@ -266,7 +243,8 @@ check 'before it is run' 1 'part-0016: it is not made' "$month" status slurm
 hold 'submit' "$month" submit slurm --at-once 2 -- --partition=one
 called 'submit' "${all[@]}" "$last"
 is_merged 'submit' slurm whole
-[[ $(find spool -name '*.script' | wc -l) == 5 ]] || not_so 'submit: the parts are not in four arrays'
+[[ $(find spool -name '*.script' | wc -l) == 5 ]] ||
+    not_so 'submit: the parts are not in four arrays'
 hold 'submit once more' "$month" submit slurm
 called 'submit once more' "$last"
 hold 'again with nothing to do' "$month" again slurm
@@ -280,10 +258,13 @@ touch accidents/part-0005.kill accidents/part-0012.kill_job
 hold 'submit, and two are killed' "$month" submit killed
 called 'submit, and two are killed' "${all[@]}"
 not_merged 'two are killed' killed
-[[ $(< "spool/$(find spool -name '*.script' | wc -l).result") == never ]] || not_so 'two are killed: the job that merges was run'
+[[ $(< "spool/$(find spool -name '*.script' | wc -l).result") == never ]] ||
+    not_so 'two are killed: the job that merges was run'
 check 'merging without two' 1 '2 of 16 parts are not made; nothing was merged' "$month" merge killed
-check 'the status of a killed part' 1 'part-0005: the program was killed by signal 9' "$month" status killed
-check 'the status of a killed job' 1 'part-0012: it was begun, and has not ended' "$month" status killed
+check 'the status of a killed part' 1 'part-0005: the program was killed by signal 9' \
+    "$month" status killed
+check 'the status of a killed job' 1 'part-0012: it was begun, and has not ended' \
+    "$month" status killed
 not_merged 'merging without two' killed
 rm accidents/part-0012.kill_job
 hold 'again, and one is killed' "$month" again killed
@@ -296,7 +277,8 @@ is_merged 'again' killed whole
 
 new here
 touch accidents/part-0005.kill
-check 'run, and one is killed' 1 'part-0005: the program was killed by signal 9' "$month" run here -j 4
+check 'run, and one is killed' 1 'part-0005: the program was killed by signal 9' \
+    "$month" run here -j 4
 called 'run, and one is killed' "${all[@]}"
 not_merged 'run, and one is killed' here
 rm accidents/part-0005.kill
@@ -304,7 +286,8 @@ hold 'run once more' "$month" run here
 called 'run once more' 'run part-0005' "$last"
 is_merged 'run once more' here whole
 hold 'merging in groups' "$month" merge here --group 3
-[[ $(wc -l < calls) == 9 ]] || not_so 'merging in groups: it is not six groups, two groups and one text'
+[[ $(wc -l < calls) == 9 ]] ||
+    not_so 'merging in groups: it is not six groups, two groups and one text'
 is_merged 'merging in groups' here whole
 with_few_files() (
     ulimit -n 37
@@ -313,14 +296,16 @@ with_few_files() (
 hold 'merging with few files' with_few_files
 is_merged 'merging with few files' here whole
 touch accidents/merge_touch
-check 'statements that change while they are merged' 1 'changed while parts were merged' "$month" merge here
+check 'statements that change while they are merged' 1 'changed while parts were merged' \
+    "$month" merge here
 rm accidents/merge_touch
 touch accidents/merge
 check 'a merged text of other lines' 1 'the list has 4000 usage lines' "$month" run here
 cmp -s here/month.statements whole || not_so 'a merged text of other lines is kept'
 
 rm accidents/*
-hold 'cutting without payees' "$month" cut without "${files[@]}" --program royalty_run --lines 700 --workers 2 --readers=2
+hold 'cutting without payees' \
+    "$month" cut without "${files[@]}" --program royalty_run --lines 700 --workers 2 --readers=2
 hold 'running without payees' "$month" run without
 is_merged 'running without payees' without whole_without_payees
 [[ $(wc -l < without/manifest) == 10 ]] || not_so 'a month without payees has another manifest'
@@ -345,10 +330,17 @@ put_back() {
 new tables
 for k in {1..8}; do hold "part $k" "$month" part tables "$k"; done
 damage tables/inputs/territories.csv
-for k in {9..16}; do check "part $k, with another table" 1 'inputs/territories.csv is not what the manifest says' "$month" part tables "$k"; done
-check 'run with another table' 1 'inputs/territories.csv is not what the manifest says' "$month" run tables
-check 'submit with another table' 1 'inputs/territories.csv is not what the manifest says' "$month" submit tables
-check 'status with another table' 1 'part-0009: inputs/territories.csv is not what the manifest says' "$month" status tables
+for k in {9..16}; do
+    check "part $k, with another table" 1 'inputs/territories.csv is not what the manifest says' \
+        "$month" part tables "$k"
+done
+check 'run with another table' 1 'inputs/territories.csv is not what the manifest says' \
+    "$month" run tables
+check 'submit with another table' 1 'inputs/territories.csv is not what the manifest says' \
+    "$month" submit tables
+check 'status with another table' 1 \
+    'part-0009: inputs/territories.csv is not what the manifest says' \
+    "$month" status tables
 put_back tables/inputs/territories.csv
 rm -f calls
 hold 'run with the table as it was' "$month" run tables -j 4
@@ -356,7 +348,8 @@ called 'run with the table as it was' "${all[@]:8}" "$last"
 is_merged 'run with the table as it was' tables whole
 for file in territories.csv payees.csv works.cwr royalty_run; do
     damage "tables/inputs/$file"
-    check "merging with another $file" 1 "inputs/$file is not what the manifest says" "$month" merge tables
+    check "merging with another $file" 1 "inputs/$file is not what the manifest says" \
+        "$month" merge tables
     rm -f "tables/inputs/$file"
     check "merging without $file" 1 "inputs/$file is missing" "$month" merge tables
     put_back "tables/inputs/$file"
@@ -366,7 +359,8 @@ new renewed
 for k in {1..8}; do hold "part $k" "$month" part renewed "$k"; done
 hold 'renew' "$month" renew renewed --tis fewer.csv
 for k in {9..16}; do hold "part $k, by the new table" "$month" part renewed "$k"; done
-check 'merging parts of two tables' 1 'part-0008: it was made from another inputs/territories.csv' "$month" merge renewed
+check 'merging parts of two tables' 1 'part-0008: it was made from another inputs/territories.csv' \
+    "$month" merge renewed
 not_merged 'merging parts of two tables' renewed
 rm -f calls
 hold 'again by the new table' "$month" again renewed
@@ -375,34 +369,48 @@ is_merged 'again by the new table' renewed whole_of_fewer
 hold 'renew once more' "$month" renew renewed --tis tis.csv
 check 'a merged text of another table' 1 'not merged' "$month" status renewed
 
+# In the folder of the link there is no cut.
+hold 'a month through a link' link_of_month/month cut through_a_link "${cut[@]}"
+[[ -f through_a_link/parts/part-0016.csv ]] || not_so 'a month through a link has no parts'
+
 new while
 touch accidents/part-0002.touch
-check 'registrations that change while a part is run' 1 'changed while it was run' "$month" part while 2
-check 'its status' 1 'part-0002: a table, the registrations, the program or the part changed' "$month" status while
+check 'registrations that change while a part is run' 1 'changed while it was run' \
+    "$month" part while 2
+check 'its status' 1 'part-0002: a table, the registrations, the program or the part changed' \
+    "$month" status while
 
 made touched
 damage touched/parts/part-0003.statements
-check 'statements touched by hand' 1 'parts/part-0003.statements changed after it was made' "$month" merge touched
+check 'statements touched by hand' 1 'parts/part-0003.statements changed after it was made' \
+    "$month" merge touched
 hold 'run after that' "$month" run touched
 called 'run after that' 'run part-0003' "$last"
 truncate -s -10 touched/parts/part-0004.statements
-check 'statements cut off' 1 'part-0004: its statements changed after it was made' "$month" merge touched
+check 'statements cut off' 1 'part-0004: its statements changed after it was made' \
+    "$month" merge touched
 touch -r touched/parts/part-0004.csv touched/parts/part-0004.statements
-check 'statements cut off, with an old time' 1 'parts/part-0004.statements changed after it was made' "$month" merge touched
+check 'statements cut off, with an old time' 1 \
+    'parts/part-0004.statements changed after it was made' \
+    "$month" merge touched
 rm touched/parts/part-0005.statements touched/parts/part-0006.made
 check 'statements that are missing' 1 'part-0005: its statements are missing' "$month" merge touched
 check 'a part of which nothing is told' 1 'part-0006: it is not made' "$month" merge touched
 cp touched/parts/part-0008.made touched/parts/part-0007.made
-check 'a part of which another one is told' 1 'part-0007: parts/part-0007.made is damaged' "$month" merge touched
+check 'a part of which another one is told' 1 'part-0007: parts/part-0007.made is damaged' \
+    "$month" merge touched
 cmp -s touched/month.statements whole || not_so 'month.statements did not stay as it was'
 hold 'again after all of that' "$month" again touched
-called 'again after all of that' 'run part-0004' 'run part-0005' 'run part-0006' 'run part-0007' "$last"
+called 'again after all of that' \
+    'run part-0004' 'run part-0005' 'run part-0006' 'run part-0007' "$last"
 is_merged 'again after all of that' touched whole
 
 made parts
 damage parts/parts/part-0003.csv
-check 'a part that changed' 1 'parts/part-0003.csv is not what the manifest says' "$month" merge parts
-check 'making a part that changed' 1 'parts/part-0003.csv is not what the manifest says' "$month" part parts 3
+check 'a part that changed' 1 'parts/part-0003.csv is not what the manifest says' \
+    "$month" merge parts
+check 'making a part that changed' 1 'parts/part-0003.csv is not what the manifest says' \
+    "$month" part parts 3
 rm -f parts/parts/part-0003.csv
 check 'a part that is missing' 1 'parts/part-0003.csv is missing' "$month" merge parts
 check 'making a part that is missing' 1 'parts/part-0003.csv is missing' "$month" part parts 3
@@ -410,24 +418,30 @@ put_back parts/parts/part-0003.csv
 hold 'a part that is back' "$month" run parts
 is_merged 'a part that is back' parts whole
 sed -i '/part-0016/d' parts/manifest
-check 'a manifest that lacks a part' 1 'the manifest has 15 parts, and the plan 16' "$month" merge parts
+check 'a manifest that lacks a part' 1 'the manifest has 15 parts, and the plan 16' \
+    "$month" merge parts
 
 # --- Refusals ---
 
 { sed -n 1p made/usage.csv; echo $'"two\nlines",W1,276,P,1'; sed 1d made/usage.csv; } > faulty.csv
-hold 'cutting a list with a fault' "$month" cut faulty --tis tis.csv --cwr works.cwr --usage faulty.csv --program royalty_run --lines 2000
+hold 'cutting a list with a fault' \
+    "$month" cut faulty --tis tis.csv --cwr works.cwr --usage faulty.csv --program royalty_run \
+    --lines 2000
 check 'a list with a fault' 1 'part-0001: the program ended with status 1' "$month" run faulty
 check 'the fault' 1 'usage fault 2 at row 1' "$month" status faulty
 check 'a folder that is not empty' 2 'faulty is not empty' "$month" cut faulty "${cut[@]}"
 check 'no folder' 4 'there is no folder absent' "$month" status absent
 mkdir begun
 check 'a folder without a manifest' 4 'has no manifest' "$month" merge begun
-check 'no table' 4 'cannot read absent' "$month" cut new_one --tis absent --cwr works.cwr --usage usage.csv --program royalty_run
+check 'no table' 4 'cannot read absent' \
+    "$month" cut new_one --tis absent --cwr works.cwr --usage usage.csv --program royalty_run
 check 'no registrations' 2 '--cwr is missing' "$month" cut new_one --tis tis.csv --usage usage.csv
 check 'an option twice' 2 '--tis is given twice' "$month" cut new_one --tis a --tis b
 check 'an option that is none' 2 '--speed does not belong here' "$month" cut new_one --speed 3
-check 'too many workers' 2 '--workers is a number from 1 to 8' "$month" cut new_one "${files[@]}" --workers 9
-check 'a list without a header' 1 'does not begin with the header' "$month" cut other --tis tis.csv --cwr works.cwr --usage other.csv --program royalty_run
+check 'too many workers' 2 '--workers is a number from 1 to 8' \
+    "$month" cut new_one "${files[@]}" --workers 9
+check 'a list without a header' 1 'does not begin with the header' \
+    "$month" cut other --tis tis.csv --cwr works.cwr --usage other.csv --program royalty_run
 check 'what of it is there' 4 'has no manifest' "$month" run other
 check 'a command that is none' 2 'there is no command merg' "$month" merg faulty
 check 'no words' 2 'month cut FOLDER' "$month"

@@ -1,47 +1,66 @@
-#!/usr/bin/env python3
-"""The linked mailboxes (words, program points and steps) beside the abstract ones (lists, and links in flight), executable.
+"""Explores a model of the mailboxes: all states of small ones, beside lists of what was sent.
 
-It says once more, in another language, what the definitions of crates/queue_core/specs say, under the same names: Mailbox.antt,
-Events.antt and Pool.antt, Pooled.antt and PoolSteps.antt, the relation between the two in Chain.antt, Links.antt, Box.antt and PoolShows.antt,
-and in PoolLaws.antt which event each step is. There are several mailboxes over one table of nodes, where a sender has one ring for all of them.
-A mailbox alone is a pool of one. A failed check names the clause. Nothing here is proved, and the proofs do not rest on it.
+    python3 -m model.explore SENDERS NODES POSTS [MOST] [--mailboxes COUNT] [--ends COUNT]
+        [--wrong NAME]
+    python3 -m model.explore --vectors COUNT SEED [--mailboxes MOST] [--long]
 
-explore.py SENDERS NODES POSTS [MOST] [--mailboxes COUNT] [--ends COUNT] [--wrong NAME]
-    visits every state that any interleaving reaches, with at most POSTS posts a sender, in whichever mailboxes, and an end mark in each or,
-    with --ends, in at most COUNT, and checks in each state the whole relation between the two, the order of what is received, that no node is in two mailboxes, and the held
-    nodes, and of each step that its event is the one that event_in names, and may happen; stops at MOST states
-explore.py --vectors COUNT SEED [--mailboxes MOST] [--long]
-    prints random schedules with what each step answers, of one mailbox or of two to MOST, for a test of the product's own core; long ones
-    have three senders that go round their rings several times
+The model has the linked mailboxes (words, program points and steps) and the abstract ones (lists,
+and links in flight). It says once more, in another language, what the definitions of
+crates/queue_core/specs say, under the same names: Mailbox.antt, Events.antt and Pool.antt;
+Pooled.antt and PoolSteps.antt; the relation between the two in Chain.antt, Links.antt, Box.antt and
+PoolShows.antt; and in PoolLaws.antt which event each step is. There are several mailboxes over one
+table of nodes, where a sender has one ring for all of them. A mailbox alone is a pool of one. A
+failed check names the clause. Nothing here is proved, and the proofs do not rest on it.
 
-Wrong cores, each of which the exploration finds out, no_turn only where a sender posts twice; --wrong all tries each of them, and 1 1 2 is enough:
+The first form visits every state that any interleaving reaches, with at most POSTS posts a sender,
+in whichever mailboxes, and an end mark in each or, with --ends, in at most COUNT. It checks in each
+state the whole relation between the two, the order of what is received, that no node is in two
+mailboxes, and the held nodes; and of each step that its event is the one that event_in names, and
+may happen. It stops at MOST states.
+
+The second form prints random schedules with what each step answers, of one mailbox or of two to
+MOST, for a test of the product's own core. Long ones have three senders that go round their rings
+several times.
+
+The exploration finds each of these wrong cores out, no_turn only where a sender posts twice;
+--wrong all tries each of them, for which 1 1 2 is enough:
+
     no_successor   the tail is returned without a successor
     link_first     the link is stored before the exchange
     stub_left      the stub is exchanged in while it is still left, since it is the tail
-    stub_twice     the stub is exchanged in after a node that is not the last, and so while it is still left
+    stub_twice     the stub is exchanged in after a node that is not the last, while it is left
     no_turn        a node is filled without a look at its turn
     given_in_take  a node is given back inside the take that returns it
+
 Wrong pools, with --mailboxes 2:
+
     own_turn       the turn of a node is compared with the posts of one mailbox, and not of all
     second_call    a sender in a call in one mailbox begins one in another
     other_reader   a reader gives back what the reader of another mailbox holds
     ended_in_all   an end mark in one mailbox ends the sender in all of them
 """
+import argparse
 import random
 import sys
 from collections import deque, namedtuple
 
-REST, LINE, AMOUNT, NULL, SWAP, LINK, SECOND, STUBHEAD, NODEHEAD, LAST = "Rest Line Amount Null Swap Link Second StubHead NodeHead Last".split()
+# The points of a program between two atomic steps.
+REST, LINE, AMOUNT, NULL, SWAP, LINK = "Rest Line Amount Null Swap Link".split()
+SECOND, STUBHEAD, NODEHEAD, LAST = "Second StubHead NodeHead Last".split()
+
 END, STUB = ("End",), "Stub"
 WRONGS = "no_successor link_first stub_left stub_twice no_turn given_in_take".split()
 WRONG_POOLS = "own_turn second_call other_reader ended_in_all".split()
+
+# What the command line asks for: a wrong core or pool, long schedules, and the most end marks.
 WRONG = None
 LONG = False
 ENDS = 64
 
 # ---- the abstract mailbox: Mailbox.antt, Events.antt, Received.antt
 
-# items has a place for each sender; an entry is (sender, place) or STUB. given is kept sorted, since nothing looks at its order.
+# items has a place for each sender; an entry is (sender, place) or STUB. given is kept sorted,
+# since nothing looks at its order.
 Mailbox = namedtuple("Mailbox", "items order in_flight passed given")
 
 
@@ -67,7 +86,8 @@ def last_of(m, p):
 
 
 def sent(m, p):
-    return [item for k, item in enumerate(items_of(m, p)) if (p, k) in m.order and (p, k) not in m.in_flight]
+    return [item for k, item in enumerate(items_of(m, p))
+            if (p, k) in m.order and (p, k) not in m.in_flight]
 
 
 def passed_entries(m):
@@ -98,20 +118,25 @@ def slot_at(ring, m, p, k):
     return slot_of(ring, item_at(m, p, k), k)
 
 
+def may_fill(ring, m, p, item):
+    """yields what stands against filling an item"""
+    items = items_of(m, p)
+    if sent(m, p) != list(items):
+        yield "MayFill.all_sent"
+    if END in items:
+        yield "MayFill.not_ended"
+    slots = [slot_at(ring, m, p, k) for k in range(len(items))]
+    for k, slot in enumerate(slots):
+        is_next = slot == slot_of(ring, item, len(items)) and slot not in slots[k + 1:]
+        if is_next and (p, k) not in m.given:
+            yield "MayFill.slot_free"
+
+
 def may(ring, m, event):
     """yields what stands against the event"""
     what, *of = event
     if what == "Fill":
-        p, item = of
-        items = items_of(m, p)
-        if sent(m, p) != list(items):
-            yield "MayFill.all_sent"
-        if END in items:
-            yield "MayFill.not_ended"
-        slots = [slot_at(ring, m, p, k) for k in range(len(items))]
-        for k, slot in enumerate(slots):
-            if slot == slot_of(ring, item, len(items)) and slot not in slots[k + 1:] and (p, k) not in m.given:
-                yield "MayFill.slot_free"
+        yield from may_fill(ring, m, *of)
     elif what == "Exchange":
         if not items_of(m, *of):
             yield "MayExchange.some"
@@ -175,10 +200,12 @@ def received_in_order(ring, m):
         if END in got and got != all_sent:
             yield "all_with_end"
     for p, k in held_entries(m):
-        if any(slot_at(ring, m, p, j) == slot_at(ring, m, p, k) for j in range(k + 1, len(items_of(m, p)))):
+        later = range(k + 1, len(items_of(m, p)))
+        if any(slot_at(ring, m, p, j) == slot_at(ring, m, p, k) for j in later):
             yield "held_alone"
 
-# ---- the pool: an abstract mailbox each, and the posts of each sender over all of them in the order of filling, as mailbox and place there
+# ---- the pool: an abstract mailbox each, and the posts of each sender over all of them in the
+# order of filling, as mailbox and place there
 
 Pool = namedtuple("Pool", "boxes posts")
 
@@ -192,7 +219,7 @@ def is_given(q, p, at):
 
 
 def may_in(ring, q, b, event):
-    """yields what stands against the event in a mailbox of a pool, or would stand against it in a mailbox alone"""
+    """yields what stands against the event in a mailbox of a pool, or in a mailbox alone"""
     if event[0] == "Fill":
         p, item = event[1:]
         if any(sent(m, p) != list(items_of(m, p)) for m in q.boxes):
@@ -210,19 +237,25 @@ def after_in(b, event, q):
         posts = put(posts, p, posts[p] + ((b, len(items_of(q.boxes[b], p))),))
     return Pool(put(q.boxes, b, after(event, q.boxes[b])), posts)
 
-# ---- the core of a pool: Pooled.antt, PoolSteps.antt. What the last calls answered is left out, since no step looks at it.
+# ---- the core of a pool: Pooled.antt, PoolSteps.antt. What the last calls answered is left out,
+# since no step looks at it.
 
-# point and mailbox are of the sender's call; at rest its mailbox is 0. holders has the mailbox whose reader holds a node, or None.
+# point and mailbox are of the sender's call; at rest its mailbox is 0. holders has the mailbox
+# whose reader holds a node, or None.
 Node = namedtuple("Node", "next turn line amount")
 Sender = namedtuple("Sender", "point mailbox count ended")
 Reader = namedtuple("Reader", "point tail")
 Pooled = namedtuple("Pooled", "ring heads nodes holders senders readers")
 
+# A step that is due, the core that it leaves, the event that it is, and what it answers.
+Due = namedtuple("Due", "step core event answer", defaults=(None, None))
+
 
 def opening_pooled(W, B, N):
     stubs = range(W * (N + B), W * (N + B) + B)
     return Pooled(
-        N, tuple(stub + 1 for stub in stubs), (Node(0, 0, 0, 0),) * stubs.stop, (None,) * stubs.stop,
+        N, tuple(stub + 1 for stub in stubs),
+        (Node(0, 0, 0, 0),) * stubs.stop, (None,) * stubs.stop,
         (Sender((REST,), 0, 0, (False,) * B),) * W, tuple(Reader((REST,), stub) for stub in stubs))
 
 
@@ -284,9 +317,13 @@ def with_reader(l, b, *point, **what):
     return l._replace(readers=put(l.readers, b, l.readers[b]._replace(point=point, **what)))
 
 
+def with_holder(l, n, holder):
+    return l._replace(holders=put(l.holders, n, holder))
+
+
 def takes(l, b):
     tail = l.readers[b].tail
-    n = with_reader(l, b, REST, tail=l.nodes[tail].next - 1)._replace(holders=put(l.holders, tail, b))
+    n = with_holder(with_reader(l, b, REST, tail=l.nodes[tail].next - 1), tail, b)
     return with_node(n, tail, turn=l.nodes[tail].turn + 1) if WRONG == "given_in_take" else n
 
 
@@ -312,86 +349,120 @@ def begins(l, b, p):
 
 
 def sender_steps(l, q, b, p, posts):
+    """yields the steps of a sender that are due in a mailbox"""
     sender = l.senders[p]
-    if begins(l, b, p):
+    if begins(l, b, p) and sender.count < posts:
         item = post(p, sender.count)
-        if sender.count < posts:
-            if finds_free(l, q, b, p, item):
-                yield ("LoadTurn", p, *item[1:]), with_sender(l, p, point=(LINE, item), mailbox=b), ("Fill", p, item), None
-            else:
-                yield ("LoadTurn", p, *item[1:]), l, None, "Full"
+        step = ("LoadTurn", p, *item[1:])
+        if finds_free(l, q, b, p, item):
+            yield Due(step, with_sender(l, p, point=(LINE, item), mailbox=b), ("Fill", p, item))
+        else:
+            yield Due(step, l, answer="Full")
     if begins(l, b, p) and sum(sender.ended) < ENDS:
         n = with_node(l, node_of(l, b, p, END), line=line_word(END))
-        yield ("EndLine", p), with_sender(n, p, point=(AMOUNT, END), mailbox=b), ("Fill", p, END), None
+        n = with_sender(n, p, point=(AMOUNT, END), mailbox=b)
+        yield Due(("EndLine", p), n, ("Fill", p, END))
     kind, *due = point_in(l, b, p)
-    if not due:
-        return
-    item, node = due[0], node_of(l, b, p, due[0])
+    if due:
+        yield from call_steps(l, b, p, kind, *due)
+
+
+def call_steps(l, b, p, kind, item, *link):
+    """yields the step of a sender that is in a call in a mailbox"""
+    sender, node, last = l.senders[p], node_of(l, b, p, item), l.heads[b] - 1
     if kind == LINE:
-        yield ("StoreLine", p), with_sender(with_node(l, node, line=line_word(item)), p, point=(AMOUNT, item)), None, None
+        n = with_node(l, node, line=line_word(item))
+        yield Due(("StoreLine", p), with_sender(n, p, point=(AMOUNT, item)))
     elif kind == AMOUNT:
-        yield ("StoreAmount", p), with_sender(with_node(l, node, amount=amount_word(item)), p, point=(NULL, item)), None, None
+        n = with_node(l, node, amount=amount_word(item))
+        yield Due(("StoreAmount", p), with_sender(n, p, point=(NULL, item)))
     elif kind == NULL:
-        yield ("StoreNull", p), with_sender(with_node(l, node, next=0), p, point=(SWAP, item)), None, None
-    elif kind == SWAP and WRONG == "link_first" and len(due) == 1:
-        yield ("LinkFirst", p), with_sender(with_node(l, l.heads[b] - 1, next=node + 1), p, point=(SWAP, item, l.heads[b] - 1)), None, None
+        n = with_node(l, node, next=0)
+        yield Due(("StoreNull", p), with_sender(n, p, point=(SWAP, item)))
+    elif kind == SWAP and WRONG == "link_first" and not link:
+        n = with_node(l, last, next=node + 1)
+        yield Due(("LinkFirst", p), with_sender(n, p, point=(SWAP, item, last)))
     elif kind == SWAP:
-        yield ("SwapHead", p), with_head(with_sender(l, p, point=(LINK, item, l.heads[b] - 1)), b, node + 1), ("Exchange", p), None
+        n = with_head(with_sender(l, p, point=(LINK, item, last)), b, node + 1)
+        yield Due(("SwapHead", p), n, ("Exchange", p))
     elif kind == LINK:
-        n = with_node(l, due[1], next=node + 1)
-        ended = (True,) * len(l.heads) if WRONG == "ended_in_all" else put(sender.ended, b, True)
-        n = with_sender(n, p, point=(REST,), mailbox=0, count=sender.count + (item != END), ended=ended if item == END else sender.ended)
-        yield ("StoreLink", p), n, ("Link", p), "Sent"
+        ended = sender.ended
+        if item == END and WRONG == "ended_in_all":
+            ended = (True,) * len(l.heads)
+        elif item == END:
+            ended = put(ended, b, True)
+        n = with_node(l, link[0], next=node + 1)
+        n = with_sender(n, p, point=(REST,), mailbox=0, count=sender.count + (item != END),
+                        ended=ended)
+        yield Due(("StoreLink", p), n, ("Link", p), "Sent")
 
 
 def reader_steps(l, q, b):
+    """yields the steps of a mailbox's reader that are due"""
     (kind, *due), tail, stub = l.readers[b].point, l.readers[b].tail, stub_in(l, b)
+    load_next = ("LoadNext",)
     if kind == REST and tail == stub:
         if has_next(l, b):
-            yield ("LoadNext",), with_reader(l, b, SECOND, tail=l.nodes[tail].next - 1), ("Pass",), None
+            n = with_reader(l, b, SECOND, tail=l.nodes[tail].next - 1)
+            yield Due(load_next, n, ("Pass",))
         else:
-            yield ("LoadNext",), with_reader(l, b, STUBHEAD), None, None
+            yield Due(load_next, with_reader(l, b, STUBHEAD))
     elif kind in (REST, SECOND) and tail != stub:
         if has_next(l, b):
-            yield ("LoadNext",), takes(l, b), ("Pass",), f"Held({tail})"
+            yield Due(load_next, takes(l, b), ("Pass",), f"Held({tail})")
         elif WRONG == "no_successor":
-            yield ("LoadNext",), with_reader(l, b, REST)._replace(holders=put(l.holders, tail, b)), ("Pass",), f"Held({tail})"
+            n = with_holder(with_reader(l, b, REST), tail, b)
+            yield Due(load_next, n, ("Pass",), f"Held({tail})")
         else:
-            yield ("LoadNext",), with_reader(l, b, NODEHEAD), None, None
+            yield Due(load_next, with_reader(l, b, NODEHEAD))
     elif kind == LAST:
         if has_next(l, b):
-            yield ("LoadNext",), takes(l, b), ("Pass",), f"Held({tail})"
+            yield Due(load_next, takes(l, b), ("Pass",), f"Held({tail})")
         else:
-            yield ("LoadNext",), with_reader(l, b, REST), None, "Busy"
-    elif kind == STUBHEAD:
-        if WRONG == "stub_left" and not is_last(l, b):
-            yield ("LoadHead",), with_reader(l, b, NULL), None, None
-        else:
-            yield ("LoadHead",), with_reader(l, b, REST), None, "Empty" if is_last(l, b) else "Busy"
-    elif kind == NODEHEAD:
-        if is_last(l, b) or WRONG == "stub_twice":
-            yield ("LoadHead",), with_reader(l, b, NULL), None, None
-        else:
-            yield ("LoadHead",), with_reader(l, b, REST), None, "Busy"
+            yield Due(load_next, with_reader(l, b, REST), answer="Busy")
+    elif kind in (STUBHEAD, NODEHEAD):
+        yield load_head(l, b, kind)
     elif kind == NULL:
-        yield ("StubNull",), with_reader(with_node(l, stub, next=0), b, SWAP), None, None
+        yield Due(("StubNull",), with_reader(with_node(l, stub, next=0), b, SWAP))
     elif kind == SWAP:
-        yield ("StubSwap",), with_head(with_reader(l, b, LINK, l.heads[b] - 1), b, stub + 1), ("StubIn",), None
+        n = with_head(with_reader(l, b, LINK, l.heads[b] - 1), b, stub + 1)
+        yield Due(("StubSwap",), n, ("StubIn",))
     elif kind == LINK:
-        yield ("StubLink",), with_reader(with_node(l, due[0], next=stub + 1), b, LAST), ("StubLink",), None
+        n = with_reader(with_node(l, due[0], next=stub + 1), b, LAST)
+        yield Due(("StubLink",), n, ("StubLink",))
     if kind == REST:
-        for n, holder in enumerate(l.holders):
-            if holder == b or holder is not None and WRONG == "other_reader":
-                # it gives back the last entry that stands in the node: event_in names the first, and the two have to be one
-                entries = [e for e in held_entries(q.boxes[b]) if node_in(l, q, b, e) == n]
-                event = ("GiveBack", *entries[-1]) if entries else None
-                yield ("LoadLine", n), l, None, None
-                yield ("LoadAmount", n), l, None, None
-                yield ("GiveBack", n), with_node(l, n, turn=l.nodes[n].turn + 1)._replace(holders=put(l.holders, n, None)), event, None
+        yield from held_steps(l, q, b)
+
+
+def load_head(l, b, kind):
+    """the step of a reader that loads the head, at the stub or at a node"""
+    step, last = ("LoadHead",), is_last(l, b)
+    if kind == STUBHEAD:
+        goes_on = WRONG == "stub_left" and not last
+    else:
+        goes_on = WRONG == "stub_twice" or last
+    if goes_on:
+        return Due(step, with_reader(l, b, NULL))
+    answer = "Empty" if kind == STUBHEAD and last else "Busy"
+    return Due(step, with_reader(l, b, REST), answer=answer)
+
+
+def held_steps(l, q, b):
+    """yields the steps of a mailbox's reader with the nodes that it holds"""
+    for n, holder in enumerate(l.holders):
+        if holder == b or holder is not None and WRONG == "other_reader":
+            # It gives back the last entry that stands in the node: event_in names the first, and
+            # the two have to be one.
+            entries = [e for e in held_entries(q.boxes[b]) if node_in(l, q, b, e) == n]
+            event = ("GiveBack", *entries[-1]) if entries else None
+            yield Due(("LoadLine", n), l)
+            yield Due(("LoadAmount", n), l)
+            left = with_holder(with_node(l, n, turn=l.nodes[n].turn + 1), n, None)
+            yield Due(("GiveBack", n), left, event)
 
 
 def steps_in(l, q, b, posts):
-    """yields each step that is due in a mailbox, the core that it leaves, the event that it is, and what it answers"""
+    """yields each step that is due in a mailbox"""
     for p in range(len(l.senders)):
         yield from sender_steps(l, q, b, p, posts)
     yield from reader_steps(l, q, b)
@@ -407,8 +478,9 @@ def held_in(l, q, b, n):
 def event_in(l, q, b, step):
     what, *of = step
     if what == "LoadTurn":
-        p, line, amount = of
-        return ("Fill", p, ("Post", line, amount)) if is_free(l, p, ("Post", line, amount)) else None
+        p, *words = of
+        item = ("Post", *words)
+        return ("Fill", p, item) if is_free(l, p, item) else None
     if what == "EndLine":
         return ("Fill", *of, END)
     if what == "SwapHead":
@@ -426,7 +498,8 @@ def event_in(l, q, b, step):
         return ("GiveBack", *held[0]) if held and held[0] != STUB else None
     return None
 
-# ---- the relation: Chain.antt, Links.antt, Box.antt, PoolShows.antt. Each part yields the clauses that do not hold.
+# ---- the relation: Chain.antt, Links.antt, Box.antt, PoolShows.antt. Each part yields the clauses
+# that do not hold.
 
 Links = namedtuple("Links", "node next head tail points point")
 
@@ -522,7 +595,10 @@ def show_links(k, m):
 
 
 def place_of(ring, posts, b, item, k):
-    """the place of an item among its sender's nodes: a post goes round the ring by its number, an end mark has the node of its mailbox"""
+    """the place of an item among its sender's nodes
+
+    A post goes round the ring by its number, and an end mark has the node of its mailbox.
+    """
     return ring + b if item == END else posts.index((b, k)) % ring
 
 
@@ -535,7 +611,8 @@ def node_in(l, q, b, e):
 
 def links_in(l, q, b):
     return Links(
-        node=lambda e: node_in(l, q, b, e), next=lambda n: node_at(l, n).next, head=l.heads[b], tail=l.readers[b].tail,
+        node=lambda e: node_in(l, q, b, e), next=lambda n: node_at(l, n).next,
+        head=l.heads[b], tail=l.readers[b].tail,
         points=lambda p: point_in(l, b, p), point=l.readers[b].point)
 
 
@@ -547,7 +624,8 @@ def shows_linked(l, q, b):
             yield "counted.ended"
     if any(m.items[len(l.senders):]):
         yield "no_others: somebody who is no sender has filled"
-    if {node_in(l, q, b, e) for e in held_entries(m)} != {n for n, holder in enumerate(l.holders) if holder == b}:
+    held = {n for n, holder in enumerate(l.holders) if holder == b}
+    if {node_in(l, q, b, e) for e in held_entries(m)} != held:
         yield "held: the nodes that are held are not those of the entries that are"
 
 
@@ -568,7 +646,9 @@ def shows_items(l, q, b):
         if kind in (NULL, SWAP) and not holds_item(l, n, due[0]):
             yield "items.stored: line and amount"
     for e in m.order:
-        if e != STUB and e not in m.given and not holds_item(l, node_in(l, q, b, e), item_at(m, *e)):
+        if e == STUB or e in m.given:
+            continue
+        if not holds_item(l, node_in(l, q, b, e), item_at(m, *e)):
             yield "items.kept: the words of an entry that is not given back"
 
 
@@ -594,8 +674,12 @@ def shows(l, q):
 
 
 def standing(m):
-    """an entry stands in its node from when it is filled until it is given back; the stub always does"""
-    return [STUB] + [(p, k) for p, items in enumerate(m.items) for k in range(len(items)) if (p, k) not in m.given]
+    """the entries that stand in their nodes: from when they are filled until they are given back
+
+    The stub always does.
+    """
+    return [STUB] + [(p, k) for p, items in enumerate(m.items) for k in range(len(items))
+                     if (p, k) not in m.given]
 
 
 def are_apart(l, q):
@@ -605,13 +689,17 @@ def are_apart(l, q):
 
 
 def tells(l, q):
-    """what the laws say of the loads of a core that shows the mailboxes: PoolLoadTurnTells, PoolHeadTells, PoolHeldTells, PoolGiveBackTells"""
+    """what the laws say of the loads of a core that shows the mailboxes
+
+    PoolLoadTurnTells, PoolHeadTells, PoolHeldTells, PoolGiveBackTells.
+    """
     for p, sender in enumerate(l.senders):
         if sender.point == (REST,) and not all(sender.ended):
             node = node_of(l, 0, p, post(p, sender.count))
             stood = [at for at in q.posts[p] if node_in(l, q, at[0], (p, at[1])) == node]
             if is_free(l, p, post(p, sender.count)) != all(is_given(q, p, at) for at in stood):
-                yield "PoolLoadTurnTells: a node is found free that was not given back, or the other way round"
+                yield ("PoolLoadTurnTells: a node is found free that was not given back, "
+                       "or the other way round")
     for b, m in enumerate(q.boxes):
         left = left_entries(m)
         if l.readers[b].tail == stub_in(l, b) and is_last(l, b) and left != (STUB,):
@@ -620,17 +708,19 @@ def tells(l, q):
             n = node_in(l, q, b, e)
             if not holds_item(l, n, item_at(m, *e)):
                 yield "PoolHeldTells: the words of a node that is held"
-            if any(node_in(l, q, d, other) == n for d, at in enumerate(q.boxes) for other in left_entries(at)):
+            if any(node_in(l, q, d, other) == n
+                   for d, at in enumerate(q.boxes) for other in left_entries(at)):
                 yield "PoolGiveBackTells: an entry that is left stands in a node that is held"
 
 # ---- exploration
 
 
 class Refused(Exception):
-    pass
+    """A clause does not hold, or a step is not the event that it should be."""
 
 
 def check(clauses, step):
+    """refuses the first of the clauses that do not hold"""
     for clause in clauses:
         raise Refused(f"at {shown(step)}: {clause}")
 
@@ -644,11 +734,21 @@ def led_to(l, q, b, step, event):
     if event:
         check(may_in(l.ring, q, b, event), step)
     if event != event_in(l, q, b, step):
-        raise Refused(f"at {shown(step)}: the event is {event}, and event_in names {event_in(l, q, b, step)}")
+        named = event_in(l, q, b, step)
+        raise Refused(f"at {shown(step)}: the event is {event}, and event_in names {named}")
     return after_in(b, event, q) if event else q
 
 
+def check_state(N, l, q, b, step):
+    """refuses a state that does not hold what it should, after a step in a mailbox"""
+    check(shows(l, q), step)
+    check(received_in_order(N, q.boxes[b]), step)
+    check(are_apart(l, q), step)
+    check(tells(l, q), step)
+
+
 def explore(W, B, N, K, most=3_000_000):
+    """visits every state, and answers in words how many there are"""
     start = opening_pooled(W, B, N), opening_pool(W, B)
     check(shows(*start), ("opening",))
     seen = {start}
@@ -657,26 +757,30 @@ def explore(W, B, N, K, most=3_000_000):
     answers = {}
     while todo:
         l, q = todo.popleft()
-        for b in range(B):
-            for step, l2, event, note in steps_in(l, q, b, K):
-                made += 1
-                if note:
-                    key = note.split("(")[0]
-                    answers[key] = answers.get(key, 0) + 1
-                    if note == "Empty" and any(got_of(q.boxes[b], p) != sent(q.boxes[b], p) for p in range(W)):
-                        raise Refused(f"at {shown(step)}: Empty though a sender is not wholly received")
-                x = (l2, led_to(l, q, b, step, event))
-                if x not in seen:
-                    check(shows(*x), step)
-                    check(received_in_order(N, x[1].boxes[b]), step)
-                    check(are_apart(*x), step)
-                    check(tells(*x), step)
-                    seen.add(x)
-                    todo.append(x)
-                    if len(seen) > most:
-                        return f"stopped at {most} states, {made} steps, answers {answers}: relation holds in each so far"
+        for b, (step, core, event, answer) in ((b, x) for b in range(B)
+                                               for x in steps_in(l, q, b, K)):
+            made += 1
+            if answer:
+                key = answer.split("(")[0]
+                answers[key] = answers.get(key, 0) + 1
+                box = q.boxes[b]
+                if answer == "Empty" and any(got_of(box, p) != sent(box, p) for p in range(W)):
+                    raise Refused(f"at {shown(step)}: "
+                                  "Empty though a sender is not wholly received")
+            state = (core, led_to(l, q, b, step, event))
+            if state not in seen:
+                check_state(N, *state, b, step)
+                seen.add(state)
+                todo.append(state)
+                if len(seen) > most:
+                    return (f"stopped at {most} states, {made} steps, answers {answers}: "
+                            "relation holds in each so far")
     ends = "" if ENDS >= B else f", end marks {ENDS}"
-    return f"senders {W}, mailboxes {B}, nodes {N}, posts {K}{ends}: {len(seen)} states, {made} steps, answers {answers}: relation holds in each"
+    return (f"senders {W}, mailboxes {B}, nodes {N}, posts {K}{ends}: {len(seen)} states, "
+            f"{made} steps, answers {answers}: relation holds in each")
+
+
+# ---- schedules
 
 STEPS = ["LoadTurn", "StoreLine", "EndLine", "StoreAmount", "StoreNull", "SwapHead", "StoreLink"]
 
@@ -689,86 +793,106 @@ def picked(rng, l, due):
     W, B = len(l.senders), len(l.heads)
     b = rng.randint(0, B) if B > 1 else 0
     p, n = rng.randint(0, W), rng.randint(0, len(l.nodes))
-    return b, rng.choice([(rng.choice(STEPS), p), ("LoadNext",), ("LoadHead",), ("StubNull",), ("StubSwap",), ("StubLink",), ("GiveBack", n)])
+    return b, rng.choice([(rng.choice(STEPS), p), ("LoadNext",), ("LoadHead",), ("StubNull",),
+                          ("StubSwap",), ("StubLink",), ("GiveBack", n)])
 
 
 def vectors(count, seed, most_mailboxes):
-    """Each schedule: a head 'core SENDERS NODES' or 'pool SENDERS MAILBOXES NODES', its steps, those of a pool 'in' a mailbox, with 'moved' or
-    'not', and after each step that finished a call what the call answered; last the words head, of each mailbox, and next, turn, line, amount
-    of each node."""
+    """prints random schedules
+
+    Each has a head 'core SENDERS NODES' or 'pool SENDERS MAILBOXES NODES'; its steps, those of a
+    pool 'in' a mailbox, with 'moved' or 'not', and after each step that finished a call what the
+    call answered; last the words head, of each mailbox, and next, turn, line, amount of each node.
+    """
     rng = random.Random(seed)
-    posts = 25 if LONG else 6
     for _ in range(count):
         W, N = 3 if LONG else rng.randint(1, 3), rng.randint(1, 3)
         B = 1 if most_mailboxes == 1 else rng.randint(2, most_mailboxes)
-        l, q = opening_pooled(W, B, N), opening_pool(W, B)
         print(f"core {W} {N}" if B == 1 else f"pool {W} {B} {N}")
-        for _ in range(800 * B if LONG else rng.randint(5, 120 * B)):
-            due = [(b, x) for b in range(B) for x in steps_in(l, q, b, posts) if x[0][0] not in ("LoadLine", "LoadAmount")]
-            picks = [(b, x) for b, x in due if not LONG or x[0][0] != "EndLine" or l.senders[x[0][1]].count == posts]
-            if not picks:
-                break
-            b, step = picked(rng, l, picks)
-            if LONG and step[0] == "EndLine" and (b, step) not in [(c, x[0]) for c, x in picks]:
-                continue
-            if step[0] == "LoadTurn":
-                p = step[1]
-                count_of = l.senders[p].count if p < W else 0
-                step = ("LoadTurn", p, *post(p, count_of)[1:])
-                if p < W and count_of >= posts:
-                    continue
-            found = [x for c, x in due if (c, x[0]) == (b, step)]
-            where = f"{shown(step)} in {b}" if B > 1 else shown(step)
-            if not found:
-                print(f"{where} not")
-                continue
-            _, l2, event, note = found[0]
-            l, q = l2, led_to(l, q, b, step, event)
-            print(f"{where} moved" + (f" {note}" if note else ""))
-        for head in l.heads:
-            print(f"head {head}")
-        for n, node in enumerate(l.nodes):
-            held = "" if l.holders[n] is None else f" held by {l.holders[n]}" if B > 1 else " held"
-            print(f"node {n} {node.next} {node.turn} {node.line} {node.amount}{held}")
-        print()
+        print_words(run_schedule(rng, W, B, N))
 
 
-def main(words):
+def run_schedule(rng, W, B, N):
+    """makes random steps, prints each, and answers the core that they leave"""
+    posts = 25 if LONG else 6
+    l, q = opening_pooled(W, B, N), opening_pool(W, B)
+    for _ in range(800 * B if LONG else rng.randint(5, 120 * B)):
+        due = [(b, x) for b in range(B) for x in steps_in(l, q, b, posts)
+               if x.step[0] not in ("LoadLine", "LoadAmount")]
+        picks = [(b, x) for b, x in due
+                 if not LONG or x.step[0] != "EndLine" or l.senders[x.step[1]].count == posts]
+        if not picks:
+            break
+        b, step = picked(rng, l, picks)
+        if LONG and step[0] == "EndLine" and (b, step) not in [(c, x.step) for c, x in picks]:
+            continue
+        if step[0] == "LoadTurn":
+            p = step[1]
+            count_of = l.senders[p].count if p < W else 0
+            step = ("LoadTurn", p, *post(p, count_of)[1:])
+            if p < W and count_of >= posts:
+                continue
+        found = [x for c, x in due if (c, x.step) == (b, step)]
+        where = f"{shown(step)} in {b}" if B > 1 else shown(step)
+        if not found:
+            print(f"{where} not")
+            continue
+        _, core, event, answer = found[0]
+        l, q = core, led_to(l, q, b, step, event)
+        print(f"{where} moved" + (f" {answer}" if answer else ""))
+    return l
+
+
+def print_words(l):
+    """prints the words of a core at the end of a schedule"""
+    B = len(l.heads)
+    for head in l.heads:
+        print(f"head {head}")
+    for n, node in enumerate(l.nodes):
+        holder = l.holders[n]
+        held = "" if holder is None else f" held by {holder}" if B > 1 else " held"
+        print(f"node {n} {node.next} {node.turn} {node.line} {node.amount}{held}")
+    print()
+
+
+def options():
+    """the command line"""
+    parser = argparse.ArgumentParser(prog="model.explore", description=__doc__,
+                                     formatter_class=argparse.RawDescriptionHelpFormatter)
+    parser.add_argument("numbers", nargs="*", type=int, help="SENDERS NODES POSTS [MOST]")
+    parser.add_argument("--vectors", nargs=2, type=int, metavar=("COUNT", "SEED"))
+    parser.add_argument("--mailboxes", type=int, default=1)
+    parser.add_argument("--ends", type=int, default=ENDS)
+    parser.add_argument("--long", action="store_true")
+    parser.add_argument("--wrong", metavar="NAME")
+    a = parser.parse_args()
+    if not a.vectors and len(a.numbers) not in (3, 4):
+        parser.error("there have to be SENDERS NODES POSTS, or --vectors COUNT SEED")
+    a.wrongs = WRONGS if a.mailboxes == 1 else WRONGS + WRONG_POOLS
+    if a.wrong not in (None, "all", *a.wrongs):
+        parser.error(f"--wrong is all or one of {' '.join(a.wrongs)}")
+    return a
+
+
+def main():
     global ENDS, LONG, WRONG
-    name, mailboxes = None, 1
-    if "--wrong" in words:
-        at = words.index("--wrong")
-        name = words[at + 1]
-        del words[at:at + 2]
-    if "--mailboxes" in words:
-        at = words.index("--mailboxes")
-        mailboxes = int(words[at + 1])
-        del words[at:at + 2]
-    if "--ends" in words:
-        at = words.index("--ends")
-        ENDS = int(words[at + 1])
-        del words[at:at + 2]
-    if "--long" in words:
-        LONG = True
-        words.remove("--long")
-    wrongs = WRONGS if mailboxes == 1 else WRONGS + WRONG_POOLS
-    if not words or name not in (None, "all", *wrongs):
-        sys.exit(__doc__)
-    if words[0] == "--vectors":
-        WRONG = name
-        vectors(int(words[1]), int(words[2]), mailboxes)
+    a = options()
+    ENDS, LONG = a.ends, a.long
+    if a.vectors:
+        WRONG = a.wrong
+        vectors(*a.vectors, a.mailboxes)
         return
     found_out = []
-    for WRONG in wrongs if name == "all" else [name]:
+    for WRONG in a.wrongs if a.wrong == "all" else [a.wrong]:
         head = f"{WRONG}: " if WRONG else ""
-        W, N, K, *most = (int(w) for w in words[:4])
+        W, N, K, *most = a.numbers
         try:
-            print(head + explore(W, mailboxes, N, K, *most))
+            print(head + explore(W, a.mailboxes, N, K, *most))
         except Refused as broken:
             print(f"{head}{'found out' if WRONG else 'refused'} {broken}")
             found_out.append(WRONG)
-    sys.exit(found_out != wrongs if name == "all" else len(found_out))
+    sys.exit(found_out != a.wrongs if a.wrong == "all" else len(found_out))
 
 
 if __name__ == "__main__":
-    main(sys.argv[1:])
+    main()

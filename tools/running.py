@@ -1,0 +1,56 @@
+"""Runs a program over files, and catches its status, its output and its message."""
+import argparse
+import os
+import subprocess
+
+# The options that name the files of a run. The last one may be left out.
+NAMES = ("tis", "cwr", "usage", "payees")
+
+
+def program_at(path):
+    """The whole path of a program, as the value of an option."""
+    whole = os.path.abspath(path)
+    if not (os.path.isfile(whole) and os.access(whole, os.X_OK)):
+        raise argparse.ArgumentTypeError(f"{path} is no program")
+    return whole
+
+
+def run_options(paths, plan):
+    """The options of a run: its files, and its workers, readers and nodes."""
+    return [*zip(NAMES, paths), *zip(("workers", "readers", "nodes"), plan)]
+
+
+def words_of(program, command, options):
+    """A command line as a list: the program, its command, and options with their values."""
+    words = [program, command]
+    for name, value in options:
+        words += [f"--{name}", str(value)]
+    return words
+
+
+def written(folder, files):
+    """Writes files, given by name, into a folder, which is made if need be; their paths."""
+    os.makedirs(folder, exist_ok=True)
+    paths = []
+    for name, data in files.items():
+        paths.append(os.path.join(folder, name))
+        with open(paths[-1], "wb") as file:
+            file.write(data)
+    return paths
+
+
+def message_in(errors):
+    """What a program wrote to standard error, without its own name in front."""
+    return errors.split(b": ", 1)[-1]
+
+
+def run(words, seconds=None):
+    """The status of a command line, what it printed, and its message.
+
+    Where it takes longer than `seconds` it is ended, and a text stands for its status.
+    """
+    try:
+        done = subprocess.run(words, capture_output=True, timeout=seconds)
+    except subprocess.TimeoutExpired:
+        return f"no end in {seconds} s", b"", b""
+    return done.returncode, done.stdout, message_in(done.stderr)

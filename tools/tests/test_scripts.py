@@ -1,0 +1,99 @@
+"""Tests of what the scripts of bench/ compute by themselves."""
+import os
+import random
+import tempfile
+import unittest
+
+from bench import bench, fuzz, mail, merges, sizes
+from tools.running import NAMES
+
+
+class Merges(unittest.TestCase):
+    def test_parts_have_all_lines_in_order_and_each_the_header(self):
+        header, lines = b"usage,work", [b"u%d,W" % n for n in range(9)]
+        counts = set()
+        for seed in range(60):
+            parts = merges.parts_of(random.Random(seed), b"\n".join([header, *lines, b""]))
+            rows = [part.split(b"\n") for part in parts]
+            self.assertTrue(all(it[0] == header and it[-1] == b"" for it in rows))
+            self.assertEqual([row for it in rows for row in it[1:-1]], lines)
+            counts.add(len(parts))
+        self.assertEqual(counts, set(range(1, 7)))
+
+    def test_a_text_after_an_accident_is_another_one(self):
+        text = b"L,A,u1,60\nS,A,1,60\nR,,1,60\nT,,1,60\n"
+        changed = sum(merges.unlike(random.Random(seed), text) != text for seed in range(100))
+        self.assertGreater(changed, 80)
+
+
+class Fuzz(unittest.TestCase):
+    def test_a_number_gives_one_case_whatever_was_made_before(self):
+        with tempfile.TemporaryDirectory() as folder, tempfile.TemporaryDirectory() as other:
+            made = [fuzz.case(1, number, folder) for number in range(40)]
+            self.assertEqual(made[33], fuzz.case(1, 33, other))
+            self.assertNotEqual(made[33], fuzz.case(2, 33, other))
+        self.assertEqual({len(files) for files, _ in made}, {3, len(NAMES)})
+        for _, (workers, readers, nodes) in made:
+            self.assertTrue(1 <= workers <= 8 and 1 <= readers <= 8 and 1 <= nodes <= 64)
+
+    def test_payees_are_quoted_and_of_parties_of_the_file(self):
+        line = b"SPT" + b"0" * 16 + b'E,"      \n'
+        tables = {fuzz.payees_of(random.Random(seed), line) for seed in range(30)}
+        self.assertTrue(all(it.startswith(b"party,payee\n") for it in tables))
+        self.assertTrue(any(b'"E,"""' in it for it in tables))
+
+
+class Sizes(unittest.TestCase):
+    def test_a_file_is_filled_up_to_its_room_and_no_further(self):
+        self.assertEqual(sizes.filled(b"ab", lambda n: b"%03d" % n, 9), b"ab000001")
+        self.assertEqual([len(sizes.filled(b"ab", lambda n: b"%03d" % n, most))
+                          for most in (10, 11, 12)], [8, 11, 11])
+
+    def test_territories_each_stand_within_the_one_before(self):
+        rows = sizes.tis(4).split(b"\n")
+        self.assertEqual(rows, [b"code,groups", b"2136,", b"1,2136", b"2,1", b"3,2", b""])
+
+    def test_parties_are_as_many_as_asked_for_and_256_a_work(self):
+        data = sizes.parties(600)
+        self.assertEqual((data.count(b"SPT"), data.count(b"NWR")), (600, 3))
+        works = data.split(b"NWR")[1:]
+        self.assertEqual([it.count(b"SPT") for it in works], [256, 256, 88])
+
+    def test_payees_have_names_of_the_width_behind_the_first_two(self):
+        rows = sizes.payees(4, 12).split(b"\n")[1:-1]
+        self.assertEqual([it.split(b",")[0] for it in rows[:2]], [b"P0", b"P1"])
+        self.assertEqual({len(it.split(b",")[0]) for it in rows[2:]}, {12})
+
+    def test_a_work_number_stands_in_its_columns(self):
+        self.assertEqual(sizes.nwr(b"W1")[81:], b"W1\n")
+
+
+class Bench(unittest.TestCase):
+    def test_postings_are_counted_with_those_to_the_residue(self):
+        with tempfile.TemporaryDirectory() as folder:
+            path = os.path.join(folder, "out")
+            with open(path, "wb") as file:
+                file.write(b"L,A,u1,6\nS,A,1,6\nM,OPEN,u1,4\nR,,1,4\nT,,2,10\n")
+            self.assertEqual(bench.postings_in(path), 2)
+
+    def test_times_are_those_of_the_best_runs_with_the_median_of_pairs(self):
+        ours, theirs = bench.Row("ours", []), bench.Row("theirs", [])
+        ours.walls, theirs.walls = [3.0, 2.0, 4.0], [1.0, 2.0, 2.0]
+        ours.wall, theirs.wall = 2.0, 1.0
+        self.assertEqual(bench.times(ours, theirs),
+                         "2.00 times the time (median of the repeats 2.00)")
+
+    def test_a_row_of_the_table_is_markdown(self):
+        self.assertEqual(bench.row_of(["1 x 1", "0.50"]), "| 1 x 1 | 0.50 |")
+
+    def test_a_plan_stands_in_its_options(self):
+        self.assertEqual(bench.with_plan(["run"], 4, 2, 64), [
+            "run", "--workers", "4", "--readers", "2", "--nodes", "64"])
+
+    def test_senders_are_the_first_number_of_a_line(self):
+        self.assertEqual(mail.senders_of("2 64"), 2)
+        self.assertEqual(mail.senders_of("pool 1 2 400 64"), 1)
+
+
+if __name__ == "__main__":
+    unittest.main()
