@@ -1,5 +1,5 @@
-//! What the rows ask. A question is a line of words, which stand one blank apart, and its answer is what the program
-//! does with them.
+//! What the rows ask. A question is a line of arguments, one blank apart, and its answer is what the program does with
+//! them.
 //!
 //! An answer has the status, and in brackets what went to standard output and to standard error, with a stroke `|` for
 //! each line end.
@@ -16,10 +16,12 @@ use std::thread::Threads;
 /// What divides a line from the text that its answer is compared with.
 pub const ARROW: &str = " -> ";
 
-/// How much of a text is shown: all of one of at most so many bytes, and of a longer one the first, and then two dots.
+/// How much of an output is shown.
 #[derive(Clone, Copy)]
 struct Shown {
+    /// The most bytes of an output that is shown whole.
     whole: usize,
+    /// How many bytes are shown of a longer one, before two dots.
     first: usize,
 }
 
@@ -28,7 +30,7 @@ const ALL: Shown = Shown {
     first: usize::MAX,
 };
 
-/// The answer to the words of a line, which stand so far apart.
+/// The answer to the arguments of a line, between which a sign stands.
 pub fn whole<R: Files + Threads + Wait + Sync>(
     rt: &R,
     alloc: Global,
@@ -71,7 +73,7 @@ pub fn beginning<R: Files + Threads + Wait + Sync>(
     Ok(told(alloc, status, out.kept(), err.kept(), shown)?)
 }
 
-/// The status, and which of the outputs has the text that a question has in brackets after its line.
+/// The status, and which of the outputs has the text that stands in brackets after the line of a question.
 pub fn teller<R: Files + Threads + Wait + Sync>(
     rt: &R,
     alloc: Global,
@@ -93,8 +95,8 @@ pub fn teller<R: Files + Threads + Wait + Sync>(
     Ok(format!(in alloc; "{status} {teller}")?)
 }
 
-/// What comes through two outputs that hold their bytes back until they are brought through, which the first cannot do
-/// where it is stopped.
+/// What comes through two outputs that hold their bytes back until they are flushed. The first cannot be flushed where
+/// it is stopped.
 pub fn through<R: Files + Threads + Wait + Sync>(
     rt: &R,
     alloc: Global,
@@ -107,7 +109,8 @@ pub fn through<R: Files + Threads + Wait + Sync>(
     Ok(told(alloc, status, out.through(), err.through(), ALL)?)
 }
 
-/// What two outputs take that refuse a write after so many bytes. A question has the two numbers before its line.
+/// What two outputs take that refuse one write, each after a number of bytes. A question has the two numbers before its
+/// line.
 pub fn through_narrow<R: Files + Threads + Wait + Sync>(
     rt: &R,
     alloc: Global,
@@ -121,7 +124,7 @@ pub fn through_narrow<R: Files + Threads + Wait + Sync>(
     Ok(told(alloc, status, out.kept(), err.kept(), ALL)?)
 }
 
-/// The status that the program answers to the words of a line, which stand so far apart.
+/// The status that the program answers to the arguments of a line, between which a sign stands.
 pub fn status_of<R: Files + Threads + Wait + Sync>(
     rt: &R,
     alloc: Global,
@@ -130,16 +133,16 @@ pub fn status_of<R: Files + Threads + Wait + Sync>(
     out: &mut Output,
     err: &mut Output,
 ) -> Result<u8> {
-    let words = words_in(alloc, line, between)?;
-    Ok(program(rt, alloc, words.as_slice(), out, err))
+    let arguments = arguments_in(alloc, line, between)?;
+    Ok(program(rt, alloc, arguments.as_slice(), out, err))
 }
 
-fn words_in(alloc: Global, line: &str, between: char) -> Result<Vec<String>, AllocError> {
-    let mut words = Vec::new(alloc);
-    for word in line.split(between) {
-        words.push(String::from_str(alloc, word)?)?;
+fn arguments_in(alloc: Global, line: &str, between: char) -> Result<Vec<String>, AllocError> {
+    let mut arguments = Vec::new(alloc);
+    for argument in line.split(between) {
+        arguments.push(String::from_str(alloc, argument)?)?;
     }
-    Ok(words)
+    Ok(arguments)
 }
 
 /// The number before the first blank, and what follows it.
@@ -162,7 +165,7 @@ fn told(
     on_one_line(alloc, text.as_str())
 }
 
-/// What is shown of a text, and dots where it goes on.
+/// What is shown of an output, and dots where it goes on.
 fn shown_of(bytes: &[u8], shown: Shown) -> (&str, &'static str) {
     if bytes.len() <= shown.whole {
         return (text_of(bytes), "");

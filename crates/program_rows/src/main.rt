@@ -1,6 +1,6 @@
-//! Asks what stands in tables of the program `royalty_run` (`row_tables`), and compares the answers.
+//! Asks the program `royalty_run` what stands in tables (`row_tables`), and compares its answers.
 //!
-//! Its arguments name the tables. A heading has the word for what is asked, and numbers.
+//! The arguments name the tables. A heading has the word for what is asked, and numbers.
 #![tactic(auto)]
 
 mod asks;

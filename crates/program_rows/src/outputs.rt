@@ -3,14 +3,15 @@
 use std::alloc::Global;
 use std::io::{self, Write};
 
-/// An output that takes so many bytes, refuses once, and then takes all that is still written. It keeps its bytes.
+/// An output that takes a number of bytes, refuses one write, and then takes all that is still written. It keeps what
+/// it takes.
 #[derive(Drop)]
 pub struct Output {
     room: usize,
-    /// Whether it cannot bring its bytes through.
+    /// Whether it cannot be flushed.
     is_stopped: bool,
     kept: Vec<u8>,
-    /// How many bytes were brought through.
+    /// How many bytes came through, since they were written before it was flushed.
     through: usize,
     /// How many bytes came in one write at most.
     pub longest: usize,
@@ -37,7 +38,7 @@ impl Output {
         self.kept.as_slice()
     }
 
-    /// Those that were brought through.
+    /// Those that came through.
     pub fn through(&self) -> &[u8] {
         self.kept.get(..self.through).unwrap_or(&[])
     }
