@@ -1,0 +1,44 @@
+//! The texts of failures that no small file brings about.
+
+use crate::asks::on_one_line;
+use anyhow::{Result, bail};
+use cwr_share::{CwrFault, PayeeFault};
+use line_split::LineFault;
+use pair_split::PairFault;
+use royalty_program::{Failure, words_of};
+use run_inputs::Fault;
+use std::alloc::Global;
+use std::io;
+use tis_tree::TisFault;
+
+/// The text of the failure of a name.
+pub fn text_of_failure(alloc: Global, name: &str) -> Result<String> {
+    let failure = failure_named(alloc, name)?;
+    let text = format!(in alloc; "{failure}")?;
+    Ok(on_one_line(alloc, text.as_str())?)
+}
+
+fn failure_named(alloc: Global, name: &str) -> Result<Failure> {
+    match name {
+        "the share of pair 7" => Ok(Failure::from(PairFault::Share(7))),
+        "too many pairs" => Ok(Failure::from(PairFault::Many)),
+        "memory of pairs" => Ok(Failure::from(PairFault::Memory)),
+        "words that are no text" => failure_of_words(alloc, io::ErrorKind::InvalidData),
+        "other words" => failure_of_words(alloc, io::ErrorKind::Other),
+        "too many territories" => Ok(Failure::from(Fault::Tis(TisFault::Rows))),
+        "too many payees" => Ok(Failure::from(Fault::Cwr(CwrFault::Accounts))),
+        "too many rows of payees" => Ok(Failure::from(Fault::Payee(PayeeFault::Rows))),
+        "the party of row 7" => Ok(Failure::from(Fault::Payee(PayeeFault::Twice(7)))),
+        "too many lines" => Ok(Failure::from(Fault::Usage(LineFault::Lines))),
+        "memory of a run" => Ok(Failure::from(Fault::Room)),
+        _ => bail!("no failure has this name"),
+    }
+}
+
+/// Why there are no words, by the kind of the error.
+fn failure_of_words(alloc: Global, kind: io::ErrorKind) -> Result<Failure> {
+    match words_of(alloc, Err(io::Error::from(kind))) {
+        Ok(_) => bail!("an error is taken for words"),
+        Err(failure) => Ok(failure),
+    }
+}
