@@ -1,0 +1,152 @@
+//! Claims, and the division against its definition, computed slowly.
+
+ghost use Rattle.std.specs.Prelude.{◌<◌, ◌≤◌, ◌↔◌, All, IsTrue, unsigned_abs};
+
+use crate::asked::{Asked, named_and_numbered};
+use crate::rooms;
+use anyhow::{Result, ensure};
+use line_split::{Account, ClaimFault, Claims, MOST_AMOUNT, Portions, portion_by_rank, split};
+use std::alloc::{AllocError, Global};
+
+pub fn add_answer(alloc: Global, asked: &Asked<'_>, answer: &mut String) -> Result<()> {
+    match asked.ask {
+        "portions" => add_portions(alloc, asked.text(), answer),
+        "divided" => add_divided(alloc, asked.text(), answer),
+        "claims" => add_claims(alloc, claims_in(alloc, asked.text())?.as_slice(), answer),
+        "kept" => add_kept(alloc, claims_in(alloc, asked.text())?.as_slice(), answer),
+        "room_of" => add_room_of(alloc, claims_in(alloc, asked.text())?.as_slice(), answer),
+        "fault" => add_fault(fault_in(asked.text()), answer),
+        _ => rooms::add_answer(alloc, asked, answer),
+    }
+}
+
+/// The claims in a text, each an account and its share, `ACCOUNT=SHARE`.
+pub fn claims_in(alloc: Global, text: &str) -> Result<Vec<(Account, u32)>, AllocError> {
+    let mut list = Vec::new(alloc);
+    for word in text.split_whitespace() {
+        let (account, share) = word.split_once('=').unwrap_or((word, ""));
+        list.push((account.parse().unwrap_or(0), share.parse().unwrap_or(0)))?;
+    }
+    Ok(list)
+}
+
+/// Whether all accounts in a list are parties'.
+fn are_parties(list: &[(Account, u32)]) -> bool
+    ensures { IsTrue result ↔ All (λ claim. 0 < claim.0) list.now }
+{
+    list.iter().all(|claim| claim.0 > 0)
+}
+
+/// The claims of a good list.
+fn claims_of(alloc: Global, list: &[(Account, u32)]) -> Result<Claims> {
+    ensure!(are_parties(list), "a claim of the residue's account");
+    let claims = Claims::of(alloc, list)?;
+    ensure!(claims.list().len() == list.len(), "more or fewer claims than in the list");
+    Ok(claims)
+}
+
+/// Adds the claims of a list in order, or its fault.
+fn add_claims(alloc: Global, list: &[(Account, u32)], answer: &mut String) -> Result<()> {
+    ensure!(are_parties(list), "a claim of the residue's account");
+    match Claims::of(alloc, list) {
+        Ok(claims) => write!(answer, "{:?}", claims.list())?,
+        Err(fault) => write!(answer, "{fault:?}")?,
+    }
+    Ok(())
+}
+
+/// Adds how many claims find room where those of a list stand.
+fn add_room_of(alloc: Global, list: &[(Account, u32)], answer: &mut String) -> Result<()> {
+    let claims = claims_of(alloc, list)?;
+    write!(answer, "{}", claims.spare())?;
+    Ok(())
+}
+
+/// Adds how many of the beginnings of a list come out as claims as they stand.
+fn add_kept(alloc: Global, list: &[(Account, u32)], answer: &mut String) -> Result<()> {
+    let mut kept = 0u32;
+    for end in 1..=list.len() {
+        let claims = claims_of(alloc, &list[..end])?;
+        if claims.list() == &list[..end] {
+            kept = kept.saturating_add(1);
+        }
+    }
+    write!(answer, "{kept}")?;
+    Ok(())
+}
+
+/// Whether a portion has this size and, where it is not 0, the amount's sign.
+fn is_signed(portion: i64, size: u64, amount: i64) -> bool {
+    portion.unsigned_abs() == size && (portion == 0 || (portion < 0) == (amount < 0))
+}
+
+/// Whether each portion of an amount is the slow program's, with the amount's sign.
+fn are_by_rank(amount: i64, claims: &Claims, portions: &Portions) -> bool
+    requires { unsigned_abs amount ≤ MOST_AMOUNT }
+{
+    for place in 0..claims.list().len() + 1 {
+        let size = portion_by_rank(amount.unsigned_abs(), claims, place);
+        match portions.list().get(place) {
+            Some(portion) if is_signed(portion.1, size, amount) => {}
+            _ => return false,
+        }
+    }
+    true
+}
+
+/// The portions of an amount, each of which has to be the slow program's.
+fn divided(alloc: Global, amount: i64, claims: &Claims) -> Result<Portions> {
+    ensure!(amount.unsigned_abs() <= MOST_AMOUNT, "too large an amount");
+    let room = claims.list().len() + 1;
+    let mut portions = Portions::room(alloc, room)?;
+    split(amount, claims, &mut portions);
+    ensure!(portions.spare() == room, "more or less room than before");
+    ensure!(are_by_rank(amount, claims, &portions), "not as by rank: {amount}");
+    Ok(portions)
+}
+
+/// Adds the portions of an amount by the claims that follow it.
+fn add_portions(alloc: Global, question: &str, answer: &mut String) -> Result<()> {
+    let (amount, claims) = question.split_once(' ').unwrap_or((question, ""));
+    let claims = claims_of(alloc, claims_in(alloc, claims)?.as_slice())?;
+    let portions = divided(alloc, amount.parse()?, &claims)?;
+    write!(answer, "{:?}", portions.list())?;
+    Ok(())
+}
+
+/// Divides amounts by each beginning of the claims that follow them after a slash.
+fn add_divided(alloc: Global, question: &str, answer: &mut String) -> Result<()> {
+    let (amounts, claims) = question.split_once('/').unwrap_or((question, ""));
+    let list = claims_in(alloc, claims)?;
+    for end in 1..=list.len() {
+        divide_each(alloc, amounts, &list.as_slice()[..end])?;
+    }
+    answer.push_str("as by rank")?;
+    Ok(())
+}
+
+/// Divides each amount by the claims in a list.
+fn divide_each(alloc: Global, amounts: &str, list: &[(Account, u32)]) -> Result<()> {
+    let claims = claims_of(alloc, list)?;
+    for amount in amounts.split_whitespace() {
+        let _ = divided(alloc, amount.parse()?, &claims)?;
+    }
+    Ok(())
+}
+
+/// Adds a fault's number, its place and its text.
+fn add_fault(fault: ClaimFault, answer: &mut String) -> Result<()> {
+    write!(answer, "{} {:?} {fault}", fault.number(), fault.place())?;
+    Ok(())
+}
+
+/// The fault of a name and a place.
+fn fault_in(text: &str) -> ClaimFault {
+    let (name, place) = named_and_numbered(text);
+    match name {
+        "Share" => ClaimFault::Share(place),
+        "Twice" => ClaimFault::Twice(place),
+        "Many" => ClaimFault::Many,
+        _ => ClaimFault::Memory,
+    }
+}
