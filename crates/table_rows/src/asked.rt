@@ -1,6 +1,5 @@
 //! What a row asks, and of what.
 
-use anyhow::bail;
 use row_tables::text_of;
 use std::alloc::{AllocError, Global};
 
@@ -29,16 +28,17 @@ impl Asked<'_> {
         text_of(self.question)
     }
 
-    /// The file at a place in the heading, and the question below it.
-    pub fn below(&self, alloc: Global, place: usize) -> Result<Vec<u8>, AllocError> {
-        let mut bytes = Vec::from_slice(alloc, self.file(place))?;
+    /// The last file of the heading, and the question below it.
+    pub fn below(&self, alloc: Global) -> Result<Vec<u8>, AllocError> {
+        let last = self.file(self.files.len().saturating_sub(1));
+        let mut bytes = Vec::from_slice(alloc, last)?;
         bytes.extend_from_slice(self.question)?;
         Ok(bytes)
     }
 
-    /// That nothing answers this.
-    pub fn is_unknown(&self) -> anyhow::Result<()> {
-        bail!("nothing answers to {}", self.ask)
+    /// Adds that nothing answers this.
+    pub fn add_unknown(&self, answer: &mut String) -> Result<(), AllocError> {
+        answer.push_str("no answer: nothing is asked by this word")
     }
 }
 

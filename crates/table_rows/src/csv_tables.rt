@@ -1,22 +1,19 @@
 //! The rows of a text, a text that is cut in two, and the forms of fields.
 
 use crate::asked::{Asked, add_in_brackets};
-use crate::row_writers;
 use csv_table::forms::{code, is_printable, number_up_to};
 use csv_table::{Rows, cut_in_two};
 use std::alloc::{AllocError, Global};
 
-pub fn add_answer(alloc: Global, asked: &Asked<'_>, answer: &mut String) -> anyhow::Result<()> {
+pub fn add_answer(alloc: Global, asked: &Asked<'_>, answer: &mut String) -> Result<(), AllocError> {
     match asked.ask {
-        "rows" => add_rows_of(alloc, asked.question, answer)?,
-        "cut" => add_parts(alloc, asked.question, answer)?,
-        "is" => add_whether_is(alloc, asked.text(), answer)?,
-        "walk" => walk_past_the_end(&mut Rows::of(alloc, asked.question), answer)?,
-        "printable" | "number" | "code" => add_form(asked.ask, asked.text(), answer)?,
-        "unprintable" => add_places(asked.question, answer)?,
-        _ => return row_writers::add_answer(alloc, asked, answer),
+        "rows" => add_rows(&mut Rows::of(alloc, asked.question), answer),
+        "cut" => add_parts(alloc, asked.question, answer),
+        "is" => add_whether_is(alloc, asked.text(), answer),
+        "walk" => walk_past_the_end(&mut Rows::of(alloc, asked.question), answer),
+        "unprintable" => add_places(asked.question, answer),
+        _ => add_form(asked, answer),
     }
-    Ok(())
 }
 
 /// Adds the fields of the row at hand, in brackets, and a stroke after them.
@@ -38,36 +35,23 @@ fn add_rows(rows: &mut Rows<'_>, answer: &mut String) -> Result<(), AllocError> 
     Ok(())
 }
 
-/// Adds the fields of each row of a text.
-fn add_rows_of(alloc: Global, text: &[u8], answer: &mut String) -> Result<(), AllocError> {
-    add_rows(&mut Rows::of(alloc, text), answer)
-}
-
 /// Adds the rows of the two parts of a text that is cut in two, and a caret between them.
 fn add_parts(alloc: Global, text: &[u8], answer: &mut String) -> Result<(), AllocError> {
     let Some((first, second)) = cut_in_two(text) else {
         return answer.push_str("not cut");
     };
-    add_rows_of(alloc, first, answer)?;
+    add_rows(&mut Rows::of(alloc, first), answer)?;
     answer.push('^')?;
-    add_rows_of(alloc, second, answer)
+    add_rows(&mut Rows::of(alloc, second), answer)
 }
 
 /// Adds whether the row before ` = ` has the fields behind it, which strokes divide.
 fn add_whether_is(alloc: Global, text: &str, answer: &mut String) -> Result<(), AllocError> {
     let (row, fields) = text.split_once(" = ").unwrap_or((text, ""));
+    let mut rows = Rows::of(alloc, row.as_bytes());
+    let is_row = rows.next()?;
     let fields: Vec<&str> = fields.split('|').collect(alloc)?;
-    add_whether_next(&mut Rows::of(alloc, row.as_bytes()), fields.as_slice(), answer)
-}
-
-/// Adds whether there is a next row, and its fields are these.
-fn add_whether_next(
-    rows: &mut Rows<'_>,
-    fields: &[&str],
-    answer: &mut String,
-) -> Result<(), AllocError> {
-    let is_next = rows.next()? && rows.is(fields);
-    write!(answer, "{is_next}")
+    write!(answer, "{}", is_row && rows.is(fields.as_slice()))
 }
 
 /// Adds how many fields there are before the first row, whether there is a row, how long the field after its first is,
@@ -83,13 +67,14 @@ fn walk_past_the_end(rows: &mut Rows<'_>, answer: &mut String) -> Result<(), All
 
 /// Adds whether a field is printable, or the number or the code that it writes. The most that it may have or be follows
 /// it after a comma.
-fn add_form(ask: &str, text: &str, answer: &mut String) -> Result<(), AllocError> {
-    let (field, most) = text.split_once(',').unwrap_or((text, ""));
-    let (bytes, most) = (field.as_bytes(), most.parse::<usize>().unwrap_or(0));
-    match ask {
-        "printable" => write!(answer, "{}", is_printable(bytes, most)),
-        "number" => write!(answer, "{:?}", number_up_to(bytes, most as u64)),
-        _ => write!(answer, "{:?}", code(bytes)),
+fn add_form(asked: &Asked<'_>, answer: &mut String) -> Result<(), AllocError> {
+    let (field, most) = asked.text().split_once(',').unwrap_or((asked.text(), ""));
+    let (field, most) = (field.as_bytes(), most.parse::<usize>().unwrap_or(0));
+    match asked.ask {
+        "printable" => write!(answer, "{}", is_printable(field, most)),
+        "number" => write!(answer, "{:?}", number_up_to(field, most as u64)),
+        "code" => write!(answer, "{:?}", code(field)),
+        _ => asked.add_unknown(answer),
     }
 }
 

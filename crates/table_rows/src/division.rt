@@ -3,25 +3,26 @@
 ghost use Rattle.std.specs.Prelude.{◌<◌, ◌≤◌, ◌↔◌, All, IsTrue, unsigned_abs};
 
 use crate::asked::{Asked, named_and_numbered};
-use crate::rooms;
 use anyhow::{Result, ensure};
-use line_split::{Account, ClaimFault, Claims, MOST_AMOUNT, Portions, portion_by_rank, split};
+use line_split::{
+    Account, ClaimFault, Claims, MOST_AMOUNT, MOST_CLAIMED, MOST_CLAIMS, Portions, portion_by_rank,
+    split,
+};
 use std::alloc::{AllocError, Global};
 
 pub fn add_answer(alloc: Global, asked: &Asked<'_>, answer: &mut String) -> Result<()> {
     match asked.ask {
         "portions" => add_portions(alloc, asked.text(), answer),
         "divided" => add_divided(alloc, asked.text(), answer),
-        "claims" => add_claims(alloc, claims_in(alloc, asked.text())?.as_slice(), answer),
-        "kept" => add_kept(alloc, claims_in(alloc, asked.text())?.as_slice(), answer),
-        "room_of" => add_room_of(alloc, claims_in(alloc, asked.text())?.as_slice(), answer),
+        "claims" => add_claims(alloc, asked.text(), answer),
+        "room" => add_room(alloc, asked.text(), answer),
         "fault" => add_fault(fault_in(asked.text()), answer),
-        _ => rooms::add_answer(alloc, asked, answer),
+        _ => Ok(asked.add_unknown(answer)?),
     }
 }
 
 /// The claims in a text, each an account and its share, `ACCOUNT=SHARE`.
-pub fn claims_in(alloc: Global, text: &str) -> Result<Vec<(Account, u32)>, AllocError> {
+fn claims_in(alloc: Global, text: &str) -> Result<Vec<(Account, u32)>, AllocError> {
     let mut list = Vec::new(alloc);
     for word in text.split_whitespace() {
         let (account, share) = word.split_once('=').unwrap_or((word, ""));
@@ -41,37 +42,24 @@ fn are_parties(list: &[(Account, u32)]) -> bool
 fn claims_of(alloc: Global, list: &[(Account, u32)]) -> Result<Claims> {
     ensure!(are_parties(list), "a claim of the residue's account");
     let claims = Claims::of(alloc, list)?;
-    ensure!(claims.list().len() == list.len(), "more or fewer claims than in the list");
+    ensure!(
+        claims.list().len() == list.len(),
+        "more or fewer claims than in the list"
+    );
     Ok(claims)
 }
 
-/// Adds the claims of a list in order, or its fault.
-fn add_claims(alloc: Global, list: &[(Account, u32)], answer: &mut String) -> Result<()> {
-    ensure!(are_parties(list), "a claim of the residue's account");
-    match Claims::of(alloc, list) {
-        Ok(claims) => write!(answer, "{:?}", claims.list())?,
+/// Adds the claims of a list in order and how many find room where they stand, or the list's fault.
+fn add_claims(alloc: Global, question: &str, answer: &mut String) -> Result<()> {
+    let list = claims_in(alloc, question)?;
+    ensure!(
+        are_parties(list.as_slice()),
+        "a claim of the residue's account"
+    );
+    match Claims::of(alloc, list.as_slice()) {
+        Ok(claims) => write!(answer, "{:?} in {}", claims.list(), claims.spare())?,
         Err(fault) => write!(answer, "{fault:?}")?,
     }
-    Ok(())
-}
-
-/// Adds how many claims find room where those of a list stand.
-fn add_room_of(alloc: Global, list: &[(Account, u32)], answer: &mut String) -> Result<()> {
-    let claims = claims_of(alloc, list)?;
-    write!(answer, "{}", claims.spare())?;
-    Ok(())
-}
-
-/// Adds how many of the beginnings of a list come out as claims as they stand.
-fn add_kept(alloc: Global, list: &[(Account, u32)], answer: &mut String) -> Result<()> {
-    let mut kept = 0u32;
-    for end in 1..=list.len() {
-        let claims = claims_of(alloc, &list[..end])?;
-        if claims.list() == &list[..end] {
-            kept = kept.saturating_add(1);
-        }
-    }
-    write!(answer, "{kept}")?;
     Ok(())
 }
 
@@ -101,7 +89,10 @@ fn divided(alloc: Global, amount: i64, claims: &Claims) -> Result<Portions> {
     let mut portions = Portions::room(alloc, room)?;
     split(amount, claims, &mut portions);
     ensure!(portions.spare() == room, "more or less room than before");
-    ensure!(are_by_rank(amount, claims, &portions), "not as by rank: {amount}");
+    ensure!(
+        are_by_rank(amount, claims, &portions),
+        "not as by rank: {amount}"
+    );
     Ok(portions)
 }
 
@@ -114,23 +105,62 @@ fn add_portions(alloc: Global, question: &str, answer: &mut String) -> Result<()
     Ok(())
 }
 
-/// Divides amounts by each beginning of the claims that follow them after a slash.
+/// Divides amounts by each beginning of the claims that follow them after a slash, of every length from 1 on. Adds of how
+/// many of those the claims are the beginning as it stands.
 fn add_divided(alloc: Global, question: &str, answer: &mut String) -> Result<()> {
     let (amounts, claims) = question.split_once('/').unwrap_or((question, ""));
     let list = claims_in(alloc, claims)?;
+    let mut kept = 0u32;
     for end in 1..=list.len() {
-        divide_each(alloc, amounts, &list.as_slice()[..end])?;
+        let is_kept = divide_each(alloc, amounts, &list.as_slice()[..end])?;
+        kept = kept.saturating_add(u32::from(is_kept));
     }
-    answer.push_str("as by rank")?;
+    write!(answer, "as by rank, {kept} kept")?;
     Ok(())
 }
 
-/// Divides each amount by the claims in a list.
-fn divide_each(alloc: Global, amounts: &str, list: &[(Account, u32)]) -> Result<()> {
+/// Divides each amount by the claims in a list. The answer is whether the claims are the list.
+fn divide_each(alloc: Global, amounts: &str, list: &[(Account, u32)]) -> Result<bool> {
     let claims = claims_of(alloc, list)?;
     for amount in amounts.split_whitespace() {
         let _ = divided(alloc, amount.parse()?, &claims)?;
     }
+    Ok(claims.list() == list)
+}
+
+/// Adds the room and the number of claims in room for as many as the question says, before those that follow are taken into
+/// it, then, and when all are taken out.
+fn add_room(alloc: Global, question: &str, answer: &mut String) -> Result<()> {
+    let (room, claims) = question.split_once(' ').unwrap_or((question, ""));
+    let list = claims_in(alloc, claims)?;
+    let mut claims = Claims::room(alloc, room.parse::<usize>()?.min(MOST_CLAIMS))?;
+    fill_and_clear(&mut claims, list.as_slice(), answer)
+}
+
+/// Does so with claims that have no claim yet.
+fn fill_and_clear(claims: &mut Claims, list: &[(Account, u32)], answer: &mut String) -> Result<()> {
+    write!(answer, "{} {}, ", claims.spare(), claims.list().len())?;
+    for (account, claim) in list {
+        push(claims, *account, *claim)?;
+    }
+    ensure!(claims.list() == list, "other claims than were taken in");
+    write!(answer, "{} {}, ", claims.spare(), claims.list().len())?;
+    claims.clear();
+    write!(answer, "{} {}", claims.spare(), claims.list().len())?;
+    Ok(())
+}
+
+/// Adds a claim last, where that is allowed.
+fn push(claims: &mut Claims, account: Account, claim: u32) -> Result<()> {
+    ensure!(
+        account > 0 && claim <= MOST_CLAIMED && claims.list().len() < claims.spare(),
+        "a claim that may not be added"
+    );
+    ensure!(
+        claims.list().iter().all(|other| other.0 < account),
+        "a claim whose account is not the last"
+    );
+    claims.push(account, claim);
     Ok(())
 }
 

@@ -9,10 +9,9 @@ mod division;
 mod pairs;
 mod payees;
 mod registrations;
-mod rooms;
-mod row_writers;
 mod territories;
 mod usage_lines;
+mod written_rows;
 
 use asked::Asked;
 use row_tables::{Rows, Tally, written_out};
@@ -20,9 +19,6 @@ use std::alloc::{AllocError, Global};
 use std::process::ExitCode;
 use std::rt::Files;
 use std::{env, fs, io};
-
-/// How the name of a file ends whose text is written out after it is read.
-const SPELT: &str = ".spelt";
 
 fn main(rt: HostRuntime) -> io::Result<ExitCode> {
     let mut are_right = true;
@@ -32,7 +28,11 @@ fn main(rt: HostRuntime) -> io::Result<ExitCode> {
         println!(rt; "{name}: {tally}")?;
         are_right = are_right && tally.is_right();
     }
-    Ok(if are_right { ExitCode::SUCCESS } else { ExitCode::FAILURE })
+    Ok(if are_right {
+        ExitCode::SUCCESS
+    } else {
+        ExitCode::FAILURE
+    })
 }
 
 /// Asks all rows of the table in a file.
@@ -83,17 +83,18 @@ fn add_answer<R: Files + AllocGlobal>(
     answer: &mut String,
 ) -> anyhow::Result<()> {
     let (ask, names) = rows.heading();
-    let mut files = Vec::new(rt.alloc());
-    for name in names.split_whitespace() {
-        files.push(file_of(rt, name)?)?;
-    }
+    let files = files_of(rt, names)?;
     let question = written_out(rt.alloc(), rows.question())?;
     let asked = Asked {
         ask,
         files: files.as_slice(),
         question: question.as_slice(),
     };
-    add_answer_in(rt.alloc(), table, &asked, answer)
+    match table {
+        "division.txt" => division::add_answer(rt.alloc(), &asked, answer),
+        "written_rows.txt" => Ok(written_rows::add_answer(rt.alloc(), &asked, answer)?),
+        _ => Ok(add_answer_in(rt.alloc(), table, &asked, answer)?),
+    }
 }
 
 /// Adds the answer of the subject that a table is of.
@@ -102,35 +103,24 @@ fn add_answer_in(
     table: &str,
     asked: &Asked<'_>,
     answer: &mut String,
-) -> anyhow::Result<()> {
+) -> Result<(), AllocError> {
     match table {
         "csv_table.txt" => csv_tables::add_answer(alloc, asked, answer),
         "territories.txt" => territories::add_answer(alloc, asked, answer),
         "usage_lines.txt" => usage_lines::add_answer(alloc, asked, answer),
-        "division.txt" => division::add_answer(alloc, asked, answer),
         "pairs.txt" => pairs::add_answer(alloc, asked, answer),
         "registrations.txt" => registrations::add_answer(alloc, asked, answer),
         "payees.txt" => payees::add_answer(alloc, asked, answer),
-        _ => asked.is_unknown(),
+        _ => asked.add_unknown(answer),
     }
 }
 
-/// The bytes of files whose names are joined by plus signs, one after the other.
-fn file_of<R: Files + AllocGlobal>(rt: &R, names: &str) -> io::Result<Vec<u8>> {
-    let mut bytes = Vec::new(rt.alloc());
-    for name in names.split('+') {
-        add_file(rt, name, &mut bytes)?;
+/// What the files have that a heading names, written out.
+fn files_of<R: Files + AllocGlobal>(rt: &R, names: &str) -> io::Result<Vec<Vec<u8>>> {
+    let mut files = Vec::new(rt.alloc());
+    for name in names.split_whitespace() {
+        let text = fs::read_to_string(rt, name)?;
+        files.push(written_out(rt.alloc(), text.as_str())?)?;
     }
-    Ok(bytes)
-}
-
-/// Adds the bytes of a file.
-fn add_file<R: Files + AllocGlobal>(rt: &R, name: &str, bytes: &mut Vec<u8>) -> io::Result<()> {
-    let text = fs::read_to_string(rt, name)?;
-    if name.ends_with(SPELT) {
-        bytes.extend_from_slice(written_out(rt.alloc(), text.as_str())?.as_slice())?;
-    } else {
-        bytes.extend_from_slice(text.as_bytes())?;
-    }
-    Ok(())
+    Ok(files)
 }

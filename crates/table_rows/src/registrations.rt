@@ -1,7 +1,9 @@
 //! CWR files, good and bad, and the claims that they give.
 
+ghost use Rattle.cwr_share.specs.CwrFile.{AreSound};
+ghost use Rattle.cwr_share.specs.Lines.{lines_of};
+
 use crate::asked::{Asked, add_in_brackets, named_and_numbered};
-use anyhow::{Result, bail};
 use csv_table::first_piece;
 use cwr_share::{CwrFault, Payees, Registry, Tally, unknown_territories, unused_payees};
 use line_split::{Line, Right};
@@ -10,49 +12,25 @@ use row_tables::text_of;
 use std::alloc::{AllocError, Global};
 use tis_tree::TisTable;
 
-pub fn add_answer(alloc: Global, asked: &Asked<'_>, answer: &mut String) -> Result<()> {
+pub fn add_answer(alloc: Global, asked: &Asked<'_>, answer: &mut String) -> Result<(), AllocError> {
     match asked.ask {
-        "outcome" => add_outcome(alloc, edited(alloc, asked)?.as_slice(), answer)?,
-        "prefixes" => add_prefixes(alloc, asked.file(0), answer)?,
-        "unknown" => add_unknown(alloc, edited(alloc, asked)?.as_slice(), asked.file(1), answer)?,
-        "fault" => add_fault(fault_in(asked.text()), answer)?,
-        _ => {
-            let registry = Registry::read(alloc, asked.file(0))?;
-            add_answer_of(alloc, &registry, asked, answer)?;
+        "outcome" | "unknown" => {
+            let file = edited(alloc, asked, answer)?;
+            add_answer_of(alloc, file.as_slice(), asked, answer)
         }
+        "prefixes" => add_prefixes(alloc, asked, answer),
+        "fault" => add_fault(fault_in(asked.text()), answer),
+        _ => add_answer_of(alloc, asked.file(0), asked, answer),
     }
-    Ok(())
-}
-
-/// Adds what a registry answers.
-fn add_answer_of(
-    alloc: Global,
-    registry: &Registry,
-    asked: &Asked<'_>,
-    answer: &mut String,
-) -> Result<()> {
-    match asked.ask {
-        "claims" => {
-            let tis = TisTable::read(alloc, asked.file(1))?;
-            add_claims(alloc, &tis, registry, asked.text(), answer)?;
-        }
-        "account" => add_account(registry, asked.question, answer)?,
-        "parties" => add_parties(registry, answer)?,
-        "unused" => {
-            let payees = Payees::read(alloc, asked.below(alloc, 1)?.as_slice())?;
-            add_tally(&unused_payees(&payees, registry), answer)?;
-        }
-        _ => return asked.is_unknown(),
-    }
-    Ok(())
 }
 
 /// A file after an edit, `OLD>NEW`: the first OLD in it is replaced by NEW.
-fn edited(alloc: Global, asked: &Asked<'_>) -> Result<Vec<u8>> {
+fn edited(alloc: Global, asked: &Asked<'_>, answer: &mut String) -> Result<Vec<u8>, AllocError> {
     let (old, new) = first_piece(asked.question, b'>');
     let file = asked.file(0);
     let Some(place) = memmem::find(file, old) else {
-        bail!("the edit has no place");
+        answer.push_str("no place for the edit: ")?;
+        return Vec::from_slice(alloc, file);
     };
     let mut bytes = Vec::from_slice(alloc, file.get(..place).unwrap_or(b""))?;
     bytes.extend_from_slice(new)?;
@@ -60,23 +38,59 @@ fn edited(alloc: Global, asked: &Asked<'_>) -> Result<Vec<u8>> {
     Ok(bytes)
 }
 
-/// Adds how many accounts and works a file gives, or what it is refused for.
-fn add_outcome(alloc: Global, file: &[u8], answer: &mut String) -> Result<(), AllocError> {
+/// Adds what a file answers, or what it is refused for.
+fn add_answer_of(
+    alloc: Global,
+    file: &[u8],
+    asked: &Asked<'_>,
+    answer: &mut String,
+) -> Result<(), AllocError> {
     match Registry::read(alloc, file) {
-        Ok(registry) => {
-            let (accounts, works) = (registry.accounts(), registry.works());
-            write!(answer, "accounts {accounts}, works {works}")
-        }
+        Ok(registry) => add_answer_by(alloc, file, &registry, asked, answer),
         Err(fault) => write!(answer, "{fault:?}"),
     }
 }
 
+/// Adds what the registry of a file answers.
+fn add_answer_by(
+    alloc: Global,
+    file: &[u8],
+    registry: &Registry,
+    asked: &Asked<'_>,
+    answer: &mut String,
+) -> Result<(), AllocError>
+    requires { AreSound (lines_of file.now) }
+{
+    match asked.ask {
+        "outcome" | "prefixes" => add_counts(registry, answer),
+        "account" => add_account(registry, asked.question, answer),
+        "parties" => add_parties(registry, answer),
+        "unused" => add_unused(alloc, registry, asked, answer),
+        "claims" => match TisTable::read(alloc, asked.file(1)) {
+            Ok(tis) => add_claims(alloc, &tis, registry, asked.text(), answer),
+            Err(fault) => write!(answer, "{fault}"),
+        },
+        "unknown" => match TisTable::read(alloc, asked.file(1)) {
+            Ok(tis) => add_tally(&unknown_territories(file, &tis), answer),
+            Err(fault) => write!(answer, "{fault}"),
+        },
+        _ => asked.add_unknown(answer),
+    }
+}
+
+/// Adds how many accounts and works there are.
+fn add_counts(registry: &Registry, answer: &mut String) -> Result<(), AllocError> {
+    let (accounts, works) = (registry.accounts(), registry.works());
+    write!(answer, "accounts {accounts}, works {works}")
+}
+
 /// Adds the outcomes of all prefixes of a file, each with the length from which on it holds.
-fn add_prefixes(alloc: Global, file: &[u8], answer: &mut String) -> Result<(), AllocError> {
+fn add_prefixes(alloc: Global, asked: &Asked<'_>, answer: &mut String) -> Result<(), AllocError> {
+    let file = asked.file(0);
     let mut last = String::new(alloc);
     for end in 0..=file.len() {
         let mut now = String::new(alloc);
-        add_outcome(alloc, &file[..end], &mut now)?;
+        add_answer_of(alloc, &file[..end], asked, &mut now)?;
         if now != last {
             writeln!(answer, "{end}: {now}")?;
             last = now;
@@ -85,12 +99,18 @@ fn add_prefixes(alloc: Global, file: &[u8], answer: &mut String) -> Result<(), A
     Ok(())
 }
 
-/// Adds the share lines of a file whose territory a table does not have.
-fn add_unknown(alloc: Global, file: &[u8], table: &[u8], answer: &mut String) -> Result<()> {
-    let tis = TisTable::read(alloc, table)?;
-    let _registry = Registry::read(alloc, file)?;
-    add_tally(&unknown_territories(file, &tis), answer)?;
-    Ok(())
+/// Adds the rows of a table of payees whose party no registration in force has.
+fn add_unused(
+    alloc: Global,
+    registry: &Registry,
+    asked: &Asked<'_>,
+    answer: &mut String,
+) -> Result<(), AllocError> {
+    let table = asked.below(alloc)?;
+    match Payees::read(alloc, table.as_slice()) {
+        Ok(payees) => add_tally(&unused_payees(&payees, registry), answer),
+        Err(fault) => write!(answer, "{fault}"),
+    }
 }
 
 /// Adds how many there are, and the first ten of them.

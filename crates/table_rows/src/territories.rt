@@ -4,18 +4,13 @@ use crate::asked::{Asked, named_and_numbered};
 use std::alloc::{AllocError, Global};
 use tis_tree::{Code, TisFault, TisTable};
 
-pub fn add_answer(alloc: Global, asked: &Asked<'_>, answer: &mut String) -> anyhow::Result<()> {
+pub fn add_answer(alloc: Global, asked: &Asked<'_>, answer: &mut String) -> Result<(), AllocError> {
     match asked.ask {
-        "contains" | "known" | "length" => {
-            let table = TisTable::read(alloc, asked.file(0))?;
-            add_answer_of(&table, asked.ask, asked.text(), answer)?;
-        }
-        "code" => write!(answer, "{:?}", code_in(asked.text()).map(Code::number))?,
-        "refusal" => add_refusal(alloc, asked.below(alloc, 0)?.as_slice(), answer)?,
-        "fault" => write!(answer, "{}", fault_in(asked.text()))?,
-        _ => return asked.is_unknown(),
+        "code" => write!(answer, "{:?}", code_in(asked.text()).map(Code::number)),
+        "fault" => write!(answer, "{}", fault_in(asked.text())),
+        "refusal" => add_answer_of(alloc, asked.below(alloc)?.as_slice(), asked, answer),
+        _ => add_answer_of(alloc, asked.file(0), asked, answer),
     }
-    Ok(())
 }
 
 /// The code of the number that a text writes.
@@ -23,28 +18,34 @@ fn code_in(text: &str) -> Option<Code> {
     Code::of(text.parse().unwrap_or(0))
 }
 
-/// Adds whether a table says that a group contains a land, or whether it knows a code, or how many rows it has.
+/// Adds what a table answers, or what it is refused for, as the fault's number and the row's.
 fn add_answer_of(
-    table: &TisTable,
-    ask: &str,
-    question: &str,
+    alloc: Global,
+    table: &[u8],
+    asked: &Asked<'_>,
     answer: &mut String,
 ) -> Result<(), AllocError> {
-    let (group, land) = question.split_once(' ').unwrap_or((question, ""));
-    let found = match (ask, code_in(group), code_in(land)) {
-        ("contains", Some(group), Some(land)) => table.contains(group, land),
-        ("known", Some(code), _) => table.known(code),
-        _ => return write!(answer, "{}", table.len()),
-    };
-    write!(answer, "{found}")
-}
-
-/// Adds what a table is refused for, as the fault's number and the row's, where it is refused.
-fn add_refusal(alloc: Global, table: &[u8], answer: &mut String) -> Result<(), AllocError> {
     match TisTable::read(alloc, table) {
-        Ok(_) => answer.push_str("taken"),
+        Ok(table) => add_answer_by(&table, asked, answer),
         Err(fault) => write!(answer, "{} {:?}", fault.number(), fault.place()),
     }
+}
+
+/// Adds whether a table says that a group contains a land, or whether it knows a code, or how many rows it has.
+fn add_answer_by(
+    table: &TisTable,
+    asked: &Asked<'_>,
+    answer: &mut String,
+) -> Result<(), AllocError> {
+    let (group, land) = asked.text().split_once(' ').unwrap_or((asked.text(), ""));
+    let found = match (asked.ask, code_in(group), code_in(land)) {
+        ("contains", Some(group), Some(land)) => table.contains(group, land),
+        ("known", Some(code), _) => table.known(code),
+        ("length", _, _) => return write!(answer, "{}", table.len()),
+        ("refusal", _, _) => return answer.push_str("taken"),
+        _ => return asked.add_unknown(answer),
+    };
+    write!(answer, "{found}")
 }
 
 /// The fault of a name and a row.

@@ -6,15 +6,14 @@ use row_tables::text_of;
 use std::alloc::Global;
 use std::io;
 
-pub fn add_answer(alloc: Global, asked: &Asked<'_>, answer: &mut String) -> anyhow::Result<()> {
+pub fn add_answer(alloc: Global, asked: &Asked<'_>, answer: &mut String) -> io::Result<()> {
     match asked.ask {
-        "written" => add_written(alloc, asked.text(), answer)?,
-        "passed" => add_passed(alloc, asked.question, answer)?,
-        "pages" => add_pages(alloc, asked.text(), answer)?,
-        "refused" => add_refused(alloc, asked.question, answer)?,
-        _ => return asked.is_unknown(),
+        "written" => add_written(alloc, asked.text(), answer),
+        "passed" => add_passed(alloc, asked.question, answer),
+        "pages" => add_pages(alloc, asked.text(), answer),
+        "refused" => add_refused(alloc, asked.question, answer),
+        _ => Ok(asked.add_unknown(answer)?),
     }
-    Ok(())
 }
 
 /// Adds a row, whose fields strokes divide.
