@@ -78,8 +78,8 @@ fn add_form(asked: &Asked<'_>, answer: &mut String) -> Result<(), AllocError> {
     }
 }
 
-/// Adds a line each for a field of 17 bytes, its first 8 and its last 7: with a byte at each of the 17 places, a plus sign
-/// where what is asked of is printable.
+/// Adds a line each for a field of 17 bytes, its first 8, and those from the eleventh on: for each place of a byte in
+/// the field a plus sign, where that part is printable, or a dot.
 fn add_places(byte: &[u8], answer: &mut String) -> Result<(), AllocError> {
     for (first, end, most) in [(0, 17, 17), (0, 8, 8), (10, 17, 8)] {
         for place in 0..17 {

@@ -105,8 +105,8 @@ fn add_portions(alloc: Global, question: &str, answer: &mut String) -> Result<()
     Ok(())
 }
 
-/// Divides amounts by each beginning of the claims that follow them after a slash, of every length from 1 on. Adds of how
-/// many of those the claims are the beginning as it stands.
+/// Divides amounts by the beginnings, of every length from 1 on, of the claims that follow them after a slash. Adds how
+/// many of those beginnings are claims in the order in which they stand.
 fn add_divided(alloc: Global, question: &str, answer: &mut String) -> Result<()> {
     let (amounts, claims) = question.split_once('/').unwrap_or((question, ""));
     let list = claims_in(alloc, claims)?;
@@ -128,8 +128,7 @@ fn divide_each(alloc: Global, amounts: &str, list: &[(Account, u32)]) -> Result<
     Ok(claims.list() == list)
 }
 
-/// Adds the room and the number of claims in room for as many as the question says, before those that follow are taken into
-/// it, then, and when all are taken out.
+/// Makes room for as many claims as the question says, and takes those that follow into it.
 fn add_room(alloc: Global, question: &str, answer: &mut String) -> Result<()> {
     let (room, claims) = question.split_once(' ').unwrap_or((question, ""));
     let list = claims_in(alloc, claims)?;
@@ -137,7 +136,8 @@ fn add_room(alloc: Global, question: &str, answer: &mut String) -> Result<()> {
     fill_and_clear(&mut claims, list.as_slice(), answer)
 }
 
-/// Does so with claims that have no claim yet.
+/// Adds how much room there is and how many claims, before those of a list are taken in, then, and when all are taken
+/// out.
 fn fill_and_clear(claims: &mut Claims, list: &[(Account, u32)], answer: &mut String) -> Result<()> {
     write!(answer, "{} {}, ", claims.spare(), claims.list().len())?;
     for (account, claim) in list {

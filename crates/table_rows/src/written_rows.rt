@@ -69,8 +69,8 @@ fn pass_a_row(
     Ok(())
 }
 
-/// Adds how many pages an output gets of rows of 101 bytes, whether they are as long as pages are, and its length at last.
-/// The buffer of the crate `csv` holds back 8192 bytes at most.
+/// Adds how many pages an output gets of rows of 101 bytes, whether they are as long as pages are, and its length at
+/// last. The buffer of the crate `csv` holds back 8192 bytes at most.
 fn pass_pages(
     count: u32,
     rows: &mut RowWriter,
@@ -93,8 +93,8 @@ fn pass_pages(
     Ok(())
 }
 
-/// Adds what is refused when a page finds no room, of a row of one field: the page, a row after it, the rest, and the text.
-/// What went out before stands between the last two: whether it is nothing.
+/// Adds whether each of these is refused once a page finds no room: the page, a row, the rest and the text. Before the
+/// last stands whether nothing went out.
 fn add_refused(alloc: Global, field: &[u8], answer: &mut String) -> io::Result<()> {
     let mut rows = RowWriter::new(alloc);
     let mut out = Vec::new(alloc);
