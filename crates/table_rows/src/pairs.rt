@@ -6,11 +6,14 @@ use row_tables::text_of;
 use std::alloc::{AllocError, Global};
 
 pub fn add_answer(alloc: Global, asked: &Asked<'_>, answer: &mut String) -> Result<(), AllocError> {
-    if asked.ask == "fault" {
-        return write!(answer, "{}", fault_in(asked.text()));
+    match asked.ask {
+        "split" | "refusal" => {
+            let words = words_in(alloc, asked.text())?;
+            add_split(alloc, asked.ask, words.as_slice(), answer)
+        }
+        "fault" => write!(answer, "{}", fault_in(asked.text())),
+        _ => asked.add_unknown(answer),
     }
-    let words = words_in(alloc, asked.text())?;
-    add_split(alloc, asked.ask, words.as_slice(), answer)
 }
 
 /// The words of a text.

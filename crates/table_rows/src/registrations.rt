@@ -20,7 +20,10 @@ pub fn add_answer(alloc: Global, asked: &Asked<'_>, answer: &mut String) -> Resu
         }
         "prefixes" => add_prefixes(alloc, asked, answer),
         "fault" => add_fault(fault_in(asked.text()), answer),
-        _ => add_answer_of(alloc, asked.file(0), asked, answer),
+        "claims" | "account" | "parties" | "unused" => {
+            add_answer_of(alloc, asked.file(0), asked, answer)
+        }
+        _ => asked.add_unknown(answer),
     }
 }
 

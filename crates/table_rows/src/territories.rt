@@ -9,7 +9,8 @@ pub fn add_answer(alloc: Global, asked: &Asked<'_>, answer: &mut String) -> Resu
         "code" => write!(answer, "{:?}", code_in(asked.text()).map(Code::number)),
         "fault" => write!(answer, "{}", fault_in(asked.text())),
         "refusal" => add_answer_of(alloc, asked.below(alloc)?.as_slice(), asked, answer),
-        _ => add_answer_of(alloc, asked.file(0), asked, answer),
+        "contains" | "known" | "length" => add_answer_of(alloc, asked.file(0), asked, answer),
+        _ => asked.add_unknown(answer),
     }
 }
 

@@ -6,23 +6,24 @@ use row_tables::text_of;
 use std::alloc::{AllocError, Global};
 
 pub fn add_answer(alloc: Global, asked: &Asked<'_>, answer: &mut String) -> Result<(), AllocError> {
-    if asked.ask == "fault" {
-        return write!(answer, "{}", fault_in(asked.text()));
-    }
-    let table = asked.below(alloc)?;
-    match Usage::read(alloc, table.as_slice()) {
-        Ok(usage) => add_answer_by(&usage, asked, answer),
-        Err(fault) => write!(answer, "{} {:?}", fault.number(), fault.place()),
+    match asked.ask {
+        "refusal" | "count" | "lines" => add_answer_of(alloc, asked, answer),
+        "fault" => write!(answer, "{}", fault_in(asked.text())),
+        _ => asked.add_unknown(answer),
     }
 }
 
-/// Adds that a table is taken, or how many lines it has, or each of them.
-fn add_answer_by(usage: &Usage, asked: &Asked<'_>, answer: &mut String) -> Result<(), AllocError> {
-    match asked.ask {
-        "refusal" => answer.push_str("taken"),
-        "count" => write!(answer, "{}", usage.len()),
-        "lines" => add_lines(usage, answer),
-        _ => asked.add_unknown(answer),
+/// Adds that a table is taken, or how many lines it has, or each of them; or what it is refused for, as the fault's
+/// number and the row's.
+fn add_answer_of(alloc: Global, asked: &Asked<'_>, answer: &mut String) -> Result<(), AllocError> {
+    let table = asked.below(alloc)?;
+    match Usage::read(alloc, table.as_slice()) {
+        Ok(usage) => match asked.ask {
+            "refusal" => answer.push_str("taken"),
+            "count" => write!(answer, "{}", usage.len()),
+            _ => add_lines(&usage, answer),
+        },
+        Err(fault) => write!(answer, "{} {:?}", fault.number(), fault.place()),
     }
 }
 
