@@ -1,8 +1,8 @@
 //! How a table spells bytes that are not printed, and texts that repeat themselves.
 //!
 //! `\n`, `\r` and `\t` are a line feed, a carriage return and a tab, and `\xNN` is a byte by two hexadecimal digits.
-//! `{FIRST-LAST:TEXT}` is TEXT for each number from FIRST to LAST, in which `#` is the number, and `%` the number in nine
-//! digits.
+//! `{FIRST-LAST:TEXT}` is TEXT for each number from FIRST to LAST, in which `#` is the number, `%` the number in nine
+//! digits, and `&` the number after it.
 
 use std::alloc::{AllocError, Global};
 
@@ -75,6 +75,10 @@ fn add_numbered(
         match byte {
             b'#' => bytes.extend_from_slice(format!(in alloc; "{number}")?.as_bytes())?,
             b'%' => bytes.extend_from_slice(format!(in alloc; "{number:09}")?.as_bytes())?,
+            b'&' => {
+                let next = number.saturating_add(1);
+                bytes.extend_from_slice(format!(in alloc; "{next}")?.as_bytes())?;
+            }
             _ => bytes.push(*byte)?,
         }
     }
