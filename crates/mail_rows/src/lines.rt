@@ -6,8 +6,8 @@ pub fn questions_in(line: &str) -> &str {
         .map_or(line, |(questions, _)| questions)
 }
 
-/// The questions that are asked while an item is held, in a line like `1 holds; 0 posts 3 10; gives back`, and whose item it
-/// is.
+/// Whose item is held, and the questions that are asked meanwhile, in a line like
+/// `1 holds; 0 is; gives back`.
 pub fn while_held(questions: &str) -> Option<(&str, &str)> {
     let (holds, rest) = questions.split_once("; ")?;
     Some((

@@ -1,9 +1,10 @@
 //! The life of a mailbox.
 //!
-//! A question asks a sender by its number: `0 posts 3 10`, to send a post of line 3 and amount 10; `0 ends`, to send its end
-//! mark; and `0 is`, for its number, how many posts it has left, and whether it has ended. `takes` asks the receiver for an
-//! item, which it reads and gives back; `takes in`, to take in the first sender, for its number. `holds; 0 ends; takes; gives
-//! back` asks two questions while an item is held, which is read before and after.
+//! A question asks a sender by its number: `0 posts 3 10`, to send a post of line 3 and amount 10;
+//! `0 ends`, to send its end mark; and `0 is`, for its number, how many posts it has left, and
+//! whether it has ended. `takes` asks the receiver for an item, which it reads and gives back;
+//! `takes in`, to take in the first sender that is left, for its number. `holds; 0 ends; takes;
+//! gives back` asks two questions while an item is held, which is read before and after them.
 
 ghost use Rattle.std.specs.Prelude.{◌≡◌, All, IfOk, vec_items};
 
@@ -20,7 +21,8 @@ struct Ends<M: Mail> {
     receiver: M::Receiver,
 }
 
-/// The life of a mailbox of so many senders, nodes and posts of each sender at most.
+/// The lines of a life, each with what a mailbox answers to its questions: `of` says how many senders
+/// it has, how many nodes each of them has, and how often each may post.
 pub fn life<M: Mail, R: Wait>(
     rt: &R,
     alloc: Global,
@@ -72,7 +74,8 @@ fn line_of<M: Mail, R: Wait>(
     Ok(format!(in alloc; "{questions}: {}\n", answer?)?)
 }
 
-/// What is answered to questions while an item is held, between the item as it is read before and after them.
+/// What is answered to questions while an item is held, between the item as it is read before and
+/// after them.
 fn answers_while_held<M: Mail, R: Wait>(
     rt: &R,
     alloc: Global,

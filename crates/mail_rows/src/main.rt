@@ -1,7 +1,7 @@
 //! Asks what stands in tables of mailboxes and of pools (`row_tables`), and compares the answers.
 //!
-//! Its arguments name the tables. A heading says what is opened, and the answer of a row is the life of it: a line for each
-//! question, with what is answered behind it.
+//! Its arguments name the tables. A heading says what is opened, and the answer of a row is its life:
+//! lines with questions, each with what is answered to them.
 #![tactic(auto)]
 
 mod lines;

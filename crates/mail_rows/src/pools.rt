@@ -1,9 +1,10 @@
 //! The life of a pool.
 //!
-//! A question asks a sender by its number: `0 posts 1 3 10`, to send to mailbox 1 a post of line 3 and amount 10; `0 ends 1`,
-//! to send its end mark there; `0 ended 1`, whether it has ended there; and `0 is`, for its number and how many posts it
-//! has left. `1 takes` asks the receiver of mailbox 1 for an item, which it reads and gives back. `1 holds; 0 is; gives back`
-//! asks a sender while an item of mailbox 1 is held, which is read before and after. `settles` gathers all receivers and
+//! A question asks a sender by its number: `0 posts 1 3 10`, to send to mailbox 1 a post of line 3
+//! and amount 10; `0 ends 1`, to send its end mark there; `0 ended 1`, whether it has ended there;
+//! and `0 is`, for its number and how many posts it has left. `1 takes` asks the receiver of mailbox
+//! 1 for an item, which it reads and gives back. `1 holds; 0 is; gives back` asks a sender while an
+//! item of mailbox 1 is held, which is read before and after. `settles` gathers all receivers and
 //! takes in all senders, the last first.
 
 ghost use Rattle.std.specs.Prelude.{◌≡◌, ◌<◌, All, IfOk, vec_items};
@@ -22,7 +23,8 @@ struct Ends<P: Pool> {
     mailboxes: u64,
 }
 
-/// The life of a pool of so many senders, mailboxes, nodes and posts of each sender at most.
+/// The lines of a life, each with what a pool answers to its questions: `of` says how many senders
+/// and mailboxes it has, how many nodes each sender has for all its posts, and how often it may post.
 pub fn life<P: Pool>(alloc: Global, pool: &P, of: &str, lines: &str) -> Result<String> {
     let mut ends = open(alloc, pool, of)?;
     lived(alloc, &mut ends, lines)
@@ -193,7 +195,8 @@ fn answer_while_held<P: Pool>(
     held_answer::<P>(alloc, sender, receiver, mailboxes, question)
 }
 
-/// What a sender answers to a question while an item is held, between the item as it is read before and after it.
+/// What a sender answers to a question while an item is held, between the item as it is read before
+/// and after it.
 fn held_answer<P: Pool>(
     alloc: Global,
     sender: &mut P::Sender,
@@ -216,7 +219,8 @@ fn held_answer<P: Pool>(
     Ok(format!(in alloc; "{before:?}; {}; {after:?}", found?)?)
 }
 
-/// Gathers all receivers and takes in all senders, which have to have ended in every mailbox.
+/// Gathers all receivers and takes in all senders, which have to have ended in every mailbox, and
+/// says that it is done.
 fn settled<P: Pool>(alloc: Global, ends: &mut Ends<P>) -> Result<String>
     requires sending { All (λ s. ((P.sender s).pool ≡ (P.tally ends.old.tally).pool) × ((P.sender s).mailboxes ≡ ends.old.mailboxes)) (vec_items ends.old.senders) }
     requires receiving { All (λ r. (P.receiver r).pool ≡ (P.tally ends.old.tally).pool) (vec_items ends.old.receivers) }
