@@ -2,7 +2,7 @@
 
 ghost use Rattle.std.specs.Prelude.{◌<◌, ◌≤◌, unsigned_abs};
 
-use crate::mail_rows::open_two;
+use crate::relay_tests::open_two;
 use mail_box::{Item, LinkMail, LinkReceiver, LinkSender, Posted, Took};
 use std::alloc::{AllocError, Global};
 use std::process::Abort;
