@@ -6,7 +6,7 @@ ROOT = os.path.dirname(os.path.dirname(os.path.realpath(__file__)))
 
 
 def crates_in(text):
-    """What the lines of a crates.txt say: for each crate the names of the libraries that it uses, in the order of the lines."""
+    """For each crate of a crates.txt, in its order, the names of the libraries that it uses."""
     found = {}
     for line in text.splitlines():
         line = line.partition("#")[0]
@@ -34,7 +34,7 @@ def below(name, listed):
 
 
 def above(name, listed):
-    """A crate and all crates of the repository that stand on it, by name, in the order of crates.txt."""
+    """A crate and all crates that stand on it, by name, in the order of crates.txt."""
     return [it for it in listed if name in below(it, listed)]
 
 

@@ -1,9 +1,9 @@
-"""Proves everything from nothing by `rt ci`, and prints what it took, by crate, in minutes of processor time.
+"""Proves everything by `rt ci`, and prints the minutes of processor time that each crate took.
 
     python3 -m tools.prove [--jobs N] [--times FILE] [-- WORD..]
 
-It takes as many jobs as there are processors and as memory holds, 5 GB each, where neither --jobs nor RT_JOBS says. Words
-behind `--` go to `rt ci`.
+It takes as many jobs as there are processors and as memory holds, 5 GB each, where neither --jobs
+nor RT_JOBS says. Words behind `--` go to `rt ci`.
 """
 import argparse
 import os
@@ -34,6 +34,12 @@ def jobs_for(processors, total):
     return max(1, min(processors, total // MEMORY_OF_ONE))
 
 
+def jobs_said():
+    """How many jobs the environment says, if it does."""
+    said = os.environ.get("RT_JOBS", "")
+    return int(said) if re.fullmatch(r"[1-9]\d*", said) else None
+
+
 def part_of(words):
     """The part and the crate that a command of the kit works for, if it is one."""
     tool = os.path.basename(words[0]) if words else ""
@@ -48,7 +54,7 @@ def part_of(words):
 
 
 class Times:
-    """The processor time of the kit's programs that run below a process, looked at every half second."""
+    """The processor time of the kit's programs that run below a process."""
 
     def __init__(self, ancestor):
         self.ancestor, self.seen = ancestor, {}
@@ -92,13 +98,15 @@ def table(found):
     lines = [f"{'crate':20}" + "".join(f"{part:>8}" for part in PARTS) + f"{'minutes':>10}"]
     for name, parts in rows:
         minutes = [parts[part] / 60 for part in PARTS]
-        lines.append(f"{name:20}" + "".join(f"{it:8.1f}" for it in minutes) + f"{sum(minutes):10.1f}")
+        told = "".join(f"{it:8.1f}" for it in minutes)
+        lines.append(f"{name:20}{told}{sum(minutes):10.1f}")
     return lines
 
 
 def prove(words, jobs):
     """Runs `rt ci`: its status and the times of the kit's programs."""
-    begun = subprocess.Popen(["rt", "ci", *words], cwd=ROOT, env={**os.environ, "RT_JOBS": str(jobs)})
+    told = {**os.environ, "RT_JOBS": str(jobs)}
+    begun = subprocess.Popen(["rt", "ci", *words], cwd=ROOT, env=told)
     times, is_over = Times(begun.pid), threading.Event()
 
     def watch():
@@ -119,8 +127,7 @@ def main():
     parser.add_argument("--times", metavar="FILE", help="a file for the table of times")
     parser.add_argument("words", nargs="*", metavar="WORD", help="a word for rt ci")
     words = parser.parse_args()
-    said = os.environ.get("RT_JOBS", "")
-    jobs = words.jobs or (int(said) if re.fullmatch(r"[1-9]\d*", said) else jobs_for(os.cpu_count() or 1, memory()))
+    jobs = words.jobs or jobs_said() or jobs_for(os.cpu_count() or 1, memory())
     began = time.time()
     status, times = prove(words.words, jobs)
     lines = table(times.by_crate())

@@ -1,4 +1,4 @@
-"""Runs every test over builds that prove nothing, several at once, and prints a line for each with its time.
+"""Runs every test over builds that prove nothing, and prints a line for each with its time.
 
     python3 -m tools.suite [NAME..]
 
@@ -29,9 +29,10 @@ class Failed(Exception):
 
 
 class Step:
-    """A step: its name, what it does, the names of the steps before it, and the crates that it concerns.
+    """A step: its name, what it does, the steps before it, and the crates that it concerns.
 
-    A step that concerns no crate is left out where names are given."""
+    A step that concerns no crate is left out where crates are named.
+    """
 
     def __init__(self, name, act, after=(), of=()):
         self.name, self.act, self.after, self.of = name, act, after, of
@@ -39,8 +40,9 @@ class Step:
 
 def ran(words, **how):
     """Runs a command at the top of the repository; what it wrote is the reason where it fails."""
-    how = {"cwd": ROOT, "stdin": subprocess.DEVNULL, "stdout": subprocess.PIPE, "stderr": subprocess.STDOUT, **how}
-    done = subprocess.run(words, errors="replace", check=False, text=True, **how)
+    how = {"cwd": ROOT, "stdin": subprocess.DEVNULL, "errors": "replace", **how}
+    both = {"stdout": subprocess.PIPE, "stderr": subprocess.STDOUT}
+    done = subprocess.run(words, check=False, text=True, **both, **how)
     if done.returncode:
         raise Failed(f"{' '.join(words[:6])}: status {done.returncode}\n{done.stdout or ''}")
     return done.stdout
@@ -56,12 +58,13 @@ def beside(name, file):
 
 
 def run_driver(name):
-    """Runs a program on the tables and the input that lie beside it: it has to print what its file `stdout` has."""
+    """Runs a program on what lies beside it: it has to print what its file `stdout` has."""
     data = os.path.join(ROOT, "crates", name, "data")
     words = [unproved.build(name), *beside(name, "args").decode().split()]
     with tempfile.TemporaryDirectory() as room:
         folder = data if os.path.isdir(data) else room
-        done = subprocess.run(words, input=beside(name, "stdin"), capture_output=True, cwd=folder, check=False)
+        how = {"input": beside(name, "stdin"), "cwd": folder}
+        done = subprocess.run(words, capture_output=True, check=False, **how)
     if done.returncode or done.stdout != beside(name, "stdout"):
         said = (done.stderr + done.stdout).decode(errors="replace")
         raise Failed(f"{name}: status {done.returncode}; it wrote:\n{said}")
@@ -85,7 +88,8 @@ def script(path, of, *words):
 
 def compared(module):
     """A step's comparison with the plain program."""
-    return lambda: ran([sys.executable, "-m", module, "--program", unproved.build(PROGRAM), "--cases", CASES])
+    words = [sys.executable, "-m", module, "--cases", CASES, "--program"]
+    return lambda: ran([*words, unproved.build(PROGRAM)])
 
 
 def steps_of(listed):
@@ -96,23 +100,25 @@ def steps_of(listed):
     steps += [Step(f"build of {it}", lambda it=it: unproved.build(it), of=(it,)) for it in drivers]
     steps += [Step(it, lambda it=it: run_driver(it), (f"build of {it}",), (it,)) for it in drivers]
     built = (f"build of {PROGRAM}",)
-    calls = (f"build of {REFUSED_CALLS}",)
-    steps += [
-        Step("compared inputs", compared("bench.compare"), built, (PROGRAM,)),
-        Step("compared mergers", compared("bench.merges"), built, (PROGRAM,)),
-        Step("refusals of calls", script("tests/refuse_calls.sh", REFUSED_CALLS), calls, (REFUSED_CALLS,)),
-        Step("refusals of the program", script("tests/refuse.sh", PROGRAM, "quick"), built, (PROGRAM,)),
-        Step("the program's script", script("tests/program.sh", PROGRAM), built, (PROGRAM,)),
-        Step("its installation", script("tests/install.sh", PROGRAM), built, (PROGRAM,)),
-        Step("the small model", python("-m", "model.explore", "2", "1", "1")),
-        Step("unit tests of the scripts", python("-m", "unittest", "discover", "-s", "tools/tests", "-t", ".")),
-        Step("names in documents", python("-m", "tools.names")),
-    ]
+    of_program = {
+        "compared inputs": compared("bench.compare"),
+        "compared mergers": compared("bench.merges"),
+        "refusals of the program": script("tests/refuse.sh", PROGRAM, "quick"),
+        "the program's script": script("tests/program.sh", PROGRAM),
+        "its installation": script("tests/install.sh", PROGRAM),
+    }
+    steps += [Step(name, act, built, (PROGRAM,)) for name, act in of_program.items()]
+    calls = script("tests/refuse_calls.sh", REFUSED_CALLS)
+    steps.append(Step("refusals of calls", calls, (f"build of {REFUSED_CALLS}",), (REFUSED_CALLS,)))
+    unit_tests = ("unittest", "discover", "-s", "tools/tests", "-t", ".")
+    steps.append(Step("the small model", python("-m", "model.explore", "2", "1", "1")))
+    steps.append(Step("unit tests of the scripts", python("-m", *unit_tests)))
+    steps.append(Step("names in documents", python("-m", "tools.names")))
     return steps
 
 
 def chosen(steps, names, listed):
-    """The steps that concern one of some crates, with the steps before them; all where none is named."""
+    """The steps that concern one of some crates, with those before them; all where none is named."""
     if not names:
         return steps
     wanted = {it.name for it in steps if any(below(of, listed) & set(names) for of in it.of)}
@@ -131,36 +137,40 @@ def timed(step):
 
 
 def run(steps, jobs, say=print):
-    """Runs steps, so many at once, each when those before it have passed. The names of those that failed or had to be left."""
+    """Runs steps, so many at once, each when those before it have passed.
+
+    The answer is the names of those that failed, or were left since one before them failed.
+    """
     waiting, passed, failed, under_way = list(steps), set(), set(), {}
     with ThreadPoolExecutor(jobs) as pool:
         while waiting or under_way:
-            for step in [it for it in waiting if not set(it.after) - passed and len(under_way) < jobs]:
+            for step in [it for it in waiting if set(it.after) & failed]:
+                waiting.remove(step)
+                failed.add(step.name)
+                say(f"NOT RUN         {step.name}")
+            for step in [it for it in waiting if set(it.after) <= passed]:
                 if len(under_way) < jobs:
                     waiting.remove(step)
                     under_way[pool.submit(timed, step)] = step
-            lost = [it for it in waiting if set(it.after) & failed]
-            for step in lost:
-                waiting.remove(step)
-                failed.add(step.name)
-                say(f"NOT RUN      {step.name}")
-            if not under_way:
-                continue
-            done, _ = wait(under_way, return_when=FIRST_COMPLETED)
-            for future in done:
+            for future in wait(under_way, return_when=FIRST_COMPLETED).done:
                 step = under_way.pop(future)
-                seconds, why = future.result()
-                (failed if why else passed).add(step.name)
-                say(f"{'FAILED' if why else 'ok':6} {seconds:5.1f} s  {step.name}")
-                if why:
-                    say("\n".join("    " + line for line in why.splitlines()[-60:]))
+                (failed if tell(step, *future.result(), say) else passed).add(step.name)
     return failed
+
+
+def tell(step, seconds, why, say):
+    """Says how a step ended, and whether it failed."""
+    say(f"{'FAILED' if why else 'ok':6} {seconds:6.1f} s  {step.name}")
+    if why:
+        say("\n".join("    " + line for line in why.splitlines()[-60:]))
+    return bool(why)
 
 
 def main():
     parser = argparse.ArgumentParser(prog="tools.suite", description=__doc__.splitlines()[0])
     parser.add_argument("names", nargs="*", metavar="NAME", help="a crate")
-    parser.add_argument("--jobs", type=int, default=os.cpu_count() or 1, help="how many steps at once")
+    processors = os.cpu_count() or 1
+    parser.add_argument("--jobs", type=int, default=processors, help="how many steps at once")
     words = parser.parse_args()
     listed = crates()
     unknown = [it for it in words.names if it not in listed]

@@ -23,7 +23,8 @@ class Parts(unittest.TestCase):
         check = ["/kit/bin/rattle", "check", "--crate-name", "line_split", "src/lib.rt"]
         self.assertEqual(part_of(check), ("proofs", "line_split"))
         self.assertEqual(part_of([*check, "--test"]), ("tests", "line_split"))
-        self.assertEqual(part_of([*check, "--incremental", "/tmp/rt-edits-7-x/seed"]), ("edits", "line_split"))
+        edit = [*check, "--incremental", "rt-edits-7-x/seed"]
+        self.assertEqual(part_of(edit), ("edits", "line_split"))
         self.assertEqual(part_of(["/kit/toolchain/bin/clang", "-O3"]), ("builds", "all"))
 
     def test_other_programs_are_passed_over(self):
@@ -36,7 +37,8 @@ class Table(unittest.TestCase):
 
     def test_the_longest_first_and_the_sums_last(self):
         none = {"proofs": 0.0, "tests": 0.0, "edits": 0.0, "builds": 0.0}
-        lines = table({"small": {**none, "proofs": 60.0}, "large": {**none, "proofs": 90.0, "edits": 90.0}})
+        large = {**none, "proofs": 90.0, "edits": 90.0}
+        lines = table({"small": {**none, "proofs": 60.0}, "large": large})
         self.assertEqual([line.split()[0] for line in lines], ["crate", "large", "small", "in"])
         self.assertEqual(lines[-1].split()[2:], ["2.5", "0.0", "1.5", "0.0", "4.0"])
 
