@@ -1,5 +1,5 @@
 //! A pool that counts the items which are taken from it.
-ghost use Rattle.std.specs.Prelude.{◌≡◌};
+ghost use Rattle.std.specs.Prelude.{◌≡◌, ◌<◌};
 
 use pool_box::{Pool, PoolMail, Posted, Took};
 use split_run::CountingPool;
@@ -16,14 +16,22 @@ fn take_often<P: Pool>(receiver: &mut P::Receiver, times: u64) {
     }
 }
 
+/// Sends a post to a mailbox.
+fn send<P: Pool>(rt: &impl Abort, sender: &mut P::Sender, mailbox: u64)
+    requires { mailbox < (P.sender sender.old).mailboxes }
+    ensures { (P.sender sender.new).mailboxes ≡ (P.sender sender.old).mailboxes }
+{
+    assert!(rt; !P::ended(sender, mailbox) && P::left(sender) > 0);
+    assert_eq!(rt; P::try_send(sender, mailbox, 1, 10), Posted::Sent);
+}
+
 /// Sends a post to the first of two mailboxes and two to the second, and ends in the first.
 fn send_all<P: Pool>(rt: &impl Abort, sender: &mut P::Sender)
     requires { (P.sender sender.old).mailboxes ≡ 2 }
 {
-    for mailbox in [0, 1, 1] {
-        assert!(rt; mailbox < 2 && !P::ended(sender, mailbox) && P::left(sender) > 0);
-        assert_eq!(rt; P::try_send(sender, mailbox, 1, 10), Posted::Sent);
-    }
+    send::<P>(rt, sender, 0);
+    send::<P>(rt, sender, 1);
+    send::<P>(rt, sender, 1);
     assert!(rt; !P::ended(sender, 0));
     P::end(sender, 0);
 }
