@@ -20,6 +20,9 @@ from tools.crates import ROOT, below, crates, has_tests, is_program
 PROGRAM = "royalty_run"
 REFUSED_CALLS = "refusal_runs"
 
+# The most seconds that a driver takes.
+MOST_SECONDS = 600
+
 # How many inputs are compared with the plain program's answers.
 CASES = "200"
 
@@ -63,7 +66,7 @@ def run_driver(name):
     words = [unproved.build(name), *beside(name, "args").decode().split()]
     with tempfile.TemporaryDirectory() as room:
         folder = data if os.path.isdir(data) else room
-        how = {"input": beside(name, "stdin"), "cwd": folder}
+        how = {"input": beside(name, "stdin"), "cwd": folder, "timeout": MOST_SECONDS}
         done = subprocess.run(words, capture_output=True, check=False, **how)
     if done.returncode or done.stdout != beside(name, "stdout"):
         said = (done.stderr + done.stdout).decode(errors="replace")
@@ -131,7 +134,7 @@ def timed(step):
     began, why = time.time(), ""
     try:
         step.act()
-    except (Failed, SystemExit, subprocess.CalledProcessError, OSError) as error:
+    except (Failed, SystemExit, subprocess.SubprocessError, OSError) as error:
         why = str(error)
     return time.time() - began, why
 

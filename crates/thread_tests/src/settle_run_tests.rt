@@ -1,6 +1,6 @@
 //! A run that prints its statements to an output which refuses a write.
 
-use crate::run_threads_tests::plan_of;
+use crate::shared::plan_of;
 use settle_run::{Fault, settle, settle_to};
 use small_run::{NO_USES, TERRITORIES, TWO_PARTIES};
 use split_run::Plan;

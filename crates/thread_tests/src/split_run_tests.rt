@@ -6,7 +6,7 @@ ghost use Rattle.block_draw.specs.Views.{drawer_of};
 ghost use Rattle.split_run.specs.Opening.{IsFresh};
 ghost use Rattle.split_run.specs.Sending.{AreFresh, AreReadyFor};
 
-use crate::run_threads_tests::{Inputs, watch};
+use crate::shared::{Inputs, watch};
 use line_split::{MOST_CLAIMS, Portions};
 use mail_box::{Item, LaneMail, LaneReceiver, LaneSender, Mail, receive};
 use small_run::{NO_USES, USES};
