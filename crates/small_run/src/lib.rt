@@ -37,27 +37,8 @@ SPU0000000000000004
 SPT0000000000000005B              040000400004000I2136
 ";
 
-/// A work of three parties with a third each.
-pub const THREE_PARTIES: &str = "\
-NWR0000000000000000SONG                                                          W1
-SPU0000000000000001
-SPT0000000000000002A              033330333303333I2136
-SPT0000000000000003B              033330333303333I2136
-SPT0000000000000004C              033330333303333I2136
-";
-
 /// A table of payees: what B claims is paid to the account of A.
 pub const B_PAID_TO_A: &str = "party,payee\nB,A\n";
-
-/// The work of two parties, the first share line without its last byte.
-pub const SHORT: &str = "\
-NWR0000000000000000SONG                                                          W1
-SPU0000000000000001
-SPT0000000000000002A              060000600006000I213
-SPT0000000000000003A                             E0840
-SPU0000000000000004
-SPT0000000000000005B              040000400004000I2136
-";
 
 /// What a run over them prints.
 pub const STATEMENTS: &str = "\
@@ -66,17 +47,6 @@ S,A,1,60
 L,B,u1,40
 L,B,u2,20
 S,B,2,60
-M,OPEN,u2,30
-M,WORK,u3,7
-T,,2,37
-R,,3,157
-";
-
-/// What it prints where B is paid to the account of A.
-pub const STATEMENTS_OF_ONE_PAYEE: &str = "\
-L,A,u1,100
-L,A,u2,20
-S,A,2,120
 M,OPEN,u2,30
 M,WORK,u3,7
 T,,2,37
