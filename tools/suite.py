@@ -6,6 +6,7 @@ With names of crates it runs only what stands on one of them. The last line is `
 """
 import argparse
 import os
+import shutil
 import subprocess
 import sys
 import tempfile
@@ -19,6 +20,7 @@ from tools.crates import ROOT, below, crates, has_tests, is_program
 # The program, and the programs that scripts run.
 PROGRAM = "royalty_run"
 REFUSED_CALLS = "refusal_runs"
+REPLAY = "queue_replay"
 
 # The most seconds that a driver takes.
 MOST_SECONDS = 600
@@ -60,17 +62,55 @@ def beside(name, file):
         return b""
 
 
+def tables_of(name):
+    """The tables that a driver is given."""
+    return [it for it in beside(name, "args").decode().split() if it.endswith(".txt")]
+
+
+def driven(name, folder, given):
+    """What a driver answers in a folder, with this on standard input."""
+    words = [unproved.build(name), *beside(name, "args").decode().split()]
+    how = {"input": given, "cwd": folder, "timeout": MOST_SECONDS}
+    return subprocess.run(words, capture_output=True, check=False, **how)
+
+
 def run_driver(name):
     """Runs a program on what lies beside it: it has to print what its file `stdout` has."""
     data = os.path.join(ROOT, "crates", name, "data")
-    words = [unproved.build(name), *beside(name, "args").decode().split()]
     with tempfile.TemporaryDirectory() as room:
-        folder = data if os.path.isdir(data) else room
-        how = {"input": beside(name, "stdin"), "cwd": folder, "timeout": MOST_SECONDS}
-        done = subprocess.run(words, capture_output=True, check=False, **how)
+        done = driven(name, data if os.path.isdir(data) else room, beside(name, "stdin"))
     if done.returncode or done.stdout != beside(name, "stdout"):
         said = (done.stderr + done.stdout).decode(errors="replace")
         raise Failed(f"{name}: status {done.returncode}; it wrote:\n{said}")
+
+
+def spoilt(table):
+    """A table whose last answer is another, by a sign at its end."""
+    return table.rstrip("\n") + "!\n"
+
+
+def run_spoilt(name):
+    """Runs a driver on each table with a wrong answer in it: it has to fail, and say where."""
+    for table in tables_of(name):
+        with tempfile.TemporaryDirectory() as room:
+            folder = os.path.join(room, "data")
+            shutil.copytree(os.path.join(ROOT, "crates", name, "data"), folder)
+            path = os.path.join(folder, table)
+            with open(path, encoding="utf-8") as f:
+                text = f.read()
+            with open(path, "w", encoding="utf-8") as f:
+                f.write(spoilt(text))
+            done = driven(name, folder, beside(name, "stdin"))
+        if done.returncode != 1 or f"{table}:".encode() not in done.stderr:
+            raise Failed(f"{name}: status {done.returncode} where {table} has a wrong answer")
+
+
+def run_spoilt_schedule(name):
+    """Replays schedules, one step of which is answered otherwise: the replay has to disagree."""
+    given = beside(name, "stdin").replace(b" moved\n", b" not\n", 1)
+    done = driven(name, os.path.join(ROOT, "crates", name, "data"), given)
+    if done.returncode != 1 or b"line 2 does not agree" not in done.stdout:
+        raise Failed(f"{name}: status {done.returncode} where a schedule has a wrong answer")
 
 
 def run_tests(name):
@@ -103,6 +143,11 @@ def steps_of(listed):
     steps += [Step(f"build of {it}", lambda it=it: unproved.build(it), of=(it,)) for it in drivers]
     steps += [Step(it, lambda it=it: run_driver(it), (f"build of {it}",), (it,)) for it in drivers]
     built = (f"build of {PROGRAM}",)
+    for name in [it for it in drivers if tables_of(it)]:
+        act = lambda it=name: run_spoilt(it)
+        steps.append(Step(f"wrong answers in {name}", act, (f"build of {name}",), (name,)))
+    replay = lambda: run_spoilt_schedule(REPLAY)
+    steps.append(Step("a wrong schedule", replay, (f"build of {REPLAY}",), (REPLAY,)))
     of_program = {
         "compared inputs": compared("bench.compare"),
         "compared mergers": compared("bench.merges"),
@@ -121,7 +166,7 @@ def steps_of(listed):
 
 
 def chosen(steps, names, listed):
-    """The steps that concern one of some crates, with those before them; all where none is named."""
+    """The steps that concern one of some crates, with those before them; or all."""
     if not names:
         return steps
     wanted = {it.name for it in steps if any(below(of, listed) & set(names) for of in it.of)}

@@ -2,7 +2,7 @@
 import time
 import unittest
 
-from tools.suite import Failed, Step, chosen, run, steps_of
+from tools.suite import Failed, Step, chosen, run, spoilt, steps_of, tables_of
 
 LISTED = {"low": [], "middle": ["low"], "top": ["middle"], "apart": []}
 
@@ -71,6 +71,18 @@ class Run(unittest.TestCase):
 
         self.ended([Step(str(n), act) for n in range(6)], jobs=2)
         self.assertLessEqual(max(most), 2)
+
+
+class Spoilt(unittest.TestCase):
+    """Tables with a wrong answer."""
+
+    def test_the_last_answer_is_another(self):
+        self.assertEqual(spoilt("[of]\na => 1\nb => 2\n"), "[of]\na => 1\nb => 2!\n")
+        self.assertEqual(spoilt("[of]\na =>\n    1\n\n"), "[of]\na =>\n    1!\n")
+
+    def test_each_driver_of_tables_has_some(self):
+        self.assertIn("merges.txt", tables_of("run_rows"))
+        self.assertEqual(tables_of("royalty_run"), [])
 
 
 class StepsOf(unittest.TestCase):
