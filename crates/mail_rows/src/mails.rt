@@ -35,7 +35,8 @@ pub fn life<M: Mail, R: Wait>(
 }
 
 fn open<M: Mail>(alloc: Global, mail: &M, of: &str) -> Result<Ends<M>>
-    ensures { IfOk result (λ ends. All (λ s. (M.sender s).mailbox ≡ (M.receiver ends.receiver).mailbox) (vec_items ends.senders)) }
+    ensures { IfOk result (λ ends. All (λ s. (M.sender s).mailbox ≡ (M.receiver ends.receiver).mailbox)
+        (vec_items ends.senders)) }
 {
     let (senders, nodes, most) = (number_at(of, 0), number_at(of, 1), number_at(of, 2));
     if senders == 0 || senders > 8 || nodes == 0 || nodes > 64 || most > 1_000_000 {
@@ -103,7 +104,8 @@ fn answers<M: Mail, R: Wait>(
     questions: &str,
 ) -> Result<String>
     requires { All (λ s. (M.sender s).mailbox ≡ (M.receiver ends.old.receiver).mailbox) (vec_items ends.old.senders) }
-    ensures senders { All (λ s. (M.sender s).mailbox ≡ (M.receiver ends.new.receiver).mailbox) (vec_items ends.new.senders) }
+    ensures senders { All (λ s. (M.sender s).mailbox ≡ (M.receiver ends.new.receiver).mailbox)
+        (vec_items ends.new.senders) }
     ensures same { (M.receiver ends.new.receiver).mailbox ≡ (M.receiver ends.old.receiver).mailbox }
 {
     let mut found = String::new(alloc);
@@ -123,7 +125,8 @@ fn answer<M: Mail, R: Wait>(
     question: &str,
 ) -> Result<String>
     requires { All (λ s. (M.sender s).mailbox ≡ (M.receiver ends.old.receiver).mailbox) (vec_items ends.old.senders) }
-    ensures senders { All (λ s. (M.sender s).mailbox ≡ (M.receiver ends.new.receiver).mailbox) (vec_items ends.new.senders) }
+    ensures senders { All (λ s. (M.sender s).mailbox ≡ (M.receiver ends.new.receiver).mailbox)
+        (vec_items ends.new.senders) }
     ensures same { (M.receiver ends.new.receiver).mailbox ≡ (M.receiver ends.old.receiver).mailbox }
 {
     match question {
@@ -157,7 +160,8 @@ fn take<M: Mail, R: Wait>(rt: &R, receiver: &mut M::Receiver) -> Took<(u64, Item
 /// Takes in the first sender, which has to have ended. The number of the sender.
 fn take_in<M: Mail, R: Wait>(rt: &R, ends: &mut Ends<M>) -> Result<u64>
     requires { All (λ s. (M.sender s).mailbox ≡ (M.receiver ends.old.receiver).mailbox) (vec_items ends.old.senders) }
-    ensures senders { All (λ s. (M.sender s).mailbox ≡ (M.receiver ends.new.receiver).mailbox) (vec_items ends.new.senders) }
+    ensures senders { All (λ s. (M.sender s).mailbox ≡ (M.receiver ends.new.receiver).mailbox)
+        (vec_items ends.new.senders) }
     ensures same { (M.receiver ends.new.receiver).mailbox ≡ (M.receiver ends.old.receiver).mailbox }
 {
     if ends.senders.is_empty() || !M::ended(&ends.senders[0]) {

@@ -31,8 +31,10 @@ pub fn life<P: Pool>(alloc: Global, pool: &P, of: &str, lines: &str) -> Result<S
 }
 
 fn open<P: Pool>(alloc: Global, pool: &P, of: &str) -> Result<Ends<P>>
-    ensures sending { IfOk result (λ ends. All (λ s. ((P.sender s).pool ≡ (P.tally ends.tally).pool) × ((P.sender s).mailboxes ≡ ends.mailboxes)) (vec_items ends.senders)) }
-    ensures receiving { IfOk result (λ ends. All (λ r. (P.receiver r).pool ≡ (P.tally ends.tally).pool) (vec_items ends.receivers)) }
+    ensures sending { IfOk result (λ ends. All (λ s. ((P.sender s).pool ≡ (P.tally ends.tally).pool)
+        × ((P.sender s).mailboxes ≡ ends.mailboxes)) (vec_items ends.senders)) }
+    ensures receiving { IfOk result (λ ends. All (λ r. (P.receiver r).pool ≡ (P.tally ends.tally).pool)
+        (vec_items ends.receivers)) }
 {
     let (senders, mailboxes) = (number_at(of, 0), number_at(of, 1));
     let (nodes, most) = (number_at(of, 2), number_at(of, 3));
@@ -53,7 +55,8 @@ fn open<P: Pool>(alloc: Global, pool: &P, of: &str) -> Result<Ends<P>>
 
 /// Lines, each with what is answered to its questions.
 fn lived<P: Pool>(alloc: Global, ends: &mut Ends<P>, lines: &str) -> Result<String>
-    requires sending { All (λ s. ((P.sender s).pool ≡ (P.tally ends.old.tally).pool) × ((P.sender s).mailboxes ≡ ends.old.mailboxes)) (vec_items ends.old.senders) }
+    requires sending { All (λ s. ((P.sender s).pool ≡ (P.tally ends.old.tally).pool)
+        × ((P.sender s).mailboxes ≡ ends.old.mailboxes)) (vec_items ends.old.senders) }
     requires receiving { All (λ r. (P.receiver r).pool ≡ (P.tally ends.old.tally).pool) (vec_items ends.old.receivers) }
 {
     let mut found = String::new(alloc);
@@ -66,9 +69,11 @@ fn lived<P: Pool>(alloc: Global, ends: &mut Ends<P>, lines: &str) -> Result<Stri
 
 /// A line of questions and of what is answered to them.
 fn line_of<P: Pool>(alloc: Global, ends: &mut Ends<P>, questions: &str) -> Result<String>
-    requires sending { All (λ s. ((P.sender s).pool ≡ (P.tally ends.old.tally).pool) × ((P.sender s).mailboxes ≡ ends.old.mailboxes)) (vec_items ends.old.senders) }
+    requires sending { All (λ s. ((P.sender s).pool ≡ (P.tally ends.old.tally).pool)
+        × ((P.sender s).mailboxes ≡ ends.old.mailboxes)) (vec_items ends.old.senders) }
     requires receiving { All (λ r. (P.receiver r).pool ≡ (P.tally ends.old.tally).pool) (vec_items ends.old.receivers) }
-    ensures sending { All (λ s. ((P.sender s).pool ≡ (P.tally ends.new.tally).pool) × ((P.sender s).mailboxes ≡ ends.new.mailboxes)) (vec_items ends.new.senders) }
+    ensures sending { All (λ s. ((P.sender s).pool ≡ (P.tally ends.new.tally).pool)
+        × ((P.sender s).mailboxes ≡ ends.new.mailboxes)) (vec_items ends.new.senders) }
     ensures receiving { All (λ r. (P.receiver r).pool ≡ (P.tally ends.new.tally).pool) (vec_items ends.new.receivers) }
 {
     let answer = match while_held(questions) {
@@ -81,9 +86,11 @@ fn line_of<P: Pool>(alloc: Global, ends: &mut Ends<P>, questions: &str) -> Resul
 
 /// What a sender or the receiver of a mailbox answers to a question.
 fn answer<P: Pool>(alloc: Global, ends: &mut Ends<P>, question: &str) -> Result<String>
-    requires sending { All (λ s. ((P.sender s).pool ≡ (P.tally ends.old.tally).pool) × ((P.sender s).mailboxes ≡ ends.old.mailboxes)) (vec_items ends.old.senders) }
+    requires sending { All (λ s. ((P.sender s).pool ≡ (P.tally ends.old.tally).pool)
+        × ((P.sender s).mailboxes ≡ ends.old.mailboxes)) (vec_items ends.old.senders) }
     requires receiving { All (λ r. (P.receiver r).pool ≡ (P.tally ends.old.tally).pool) (vec_items ends.old.receivers) }
-    ensures sending { All (λ s. ((P.sender s).pool ≡ (P.tally ends.new.tally).pool) × ((P.sender s).mailboxes ≡ ends.new.mailboxes)) (vec_items ends.new.senders) }
+    ensures sending { All (λ s. ((P.sender s).pool ≡ (P.tally ends.new.tally).pool)
+        × ((P.sender s).mailboxes ≡ ends.new.mailboxes)) (vec_items ends.new.senders) }
     ensures receiving { All (λ r. (P.receiver r).pool ≡ (P.tally ends.new.tally).pool) (vec_items ends.new.receivers) }
 {
     let number = number_at(question, 0) as usize;
@@ -180,9 +187,11 @@ fn answer_while_held<P: Pool>(
     mailbox: &str,
     question: &str,
 ) -> Result<String>
-    requires sending { All (λ s. ((P.sender s).pool ≡ (P.tally ends.old.tally).pool) × ((P.sender s).mailboxes ≡ ends.old.mailboxes)) (vec_items ends.old.senders) }
+    requires sending { All (λ s. ((P.sender s).pool ≡ (P.tally ends.old.tally).pool)
+        × ((P.sender s).mailboxes ≡ ends.old.mailboxes)) (vec_items ends.old.senders) }
     requires receiving { All (λ r. (P.receiver r).pool ≡ (P.tally ends.old.tally).pool) (vec_items ends.old.receivers) }
-    ensures sending { All (λ s. ((P.sender s).pool ≡ (P.tally ends.new.tally).pool) × ((P.sender s).mailboxes ≡ ends.new.mailboxes)) (vec_items ends.new.senders) }
+    ensures sending { All (λ s. ((P.sender s).pool ≡ (P.tally ends.new.tally).pool)
+        × ((P.sender s).mailboxes ≡ ends.new.mailboxes)) (vec_items ends.new.senders) }
     ensures receiving { All (λ r. (P.receiver r).pool ≡ (P.tally ends.new.tally).pool) (vec_items ends.new.receivers) }
 {
     let number = number_at(question, 0) as usize;
@@ -222,9 +231,11 @@ fn held_answer<P: Pool>(
 /// Gathers all receivers and takes in all senders, which have to have ended in every mailbox, and
 /// says that it is done.
 fn settled<P: Pool>(alloc: Global, ends: &mut Ends<P>) -> Result<String>
-    requires sending { All (λ s. ((P.sender s).pool ≡ (P.tally ends.old.tally).pool) × ((P.sender s).mailboxes ≡ ends.old.mailboxes)) (vec_items ends.old.senders) }
+    requires sending { All (λ s. ((P.sender s).pool ≡ (P.tally ends.old.tally).pool)
+        × ((P.sender s).mailboxes ≡ ends.old.mailboxes)) (vec_items ends.old.senders) }
     requires receiving { All (λ r. (P.receiver r).pool ≡ (P.tally ends.old.tally).pool) (vec_items ends.old.receivers) }
-    ensures sending { All (λ s. ((P.sender s).pool ≡ (P.tally ends.new.tally).pool) × ((P.sender s).mailboxes ≡ ends.new.mailboxes)) (vec_items ends.new.senders) }
+    ensures sending { All (λ s. ((P.sender s).pool ≡ (P.tally ends.new.tally).pool)
+        × ((P.sender s).mailboxes ≡ ends.new.mailboxes)) (vec_items ends.new.senders) }
     ensures receiving { All (λ r. (P.receiver r).pool ≡ (P.tally ends.new.tally).pool) (vec_items ends.new.receivers) }
 {
     for _ in 0..ends.receivers.len() {

@@ -1,9 +1,9 @@
-//! Replays schedules of mailboxes and of pools: those of its standard input, as a model of them in another language answered
-//! them, and those of the tables that its arguments name, which were written by hand (`by_hand`).
+//! Replays schedules of mailboxes and of pools: those of its standard input, as a model of them in another language
+//! answered them, and those of the tables that its arguments name, which were written by hand (`by_hand`).
 //!
-//! A schedule of the model is `core SENDERS NODES` or `pool SENDERS MAILBOXES NODES`, then its steps, those of a pool `in` a
-//! mailbox, each with `moved` or `not` and what a call that it finished answered; then the words; then a blank
-//! line. Each answer is compared and, at the end of a schedule, every word.
+//! A schedule of the model is `core SENDERS NODES` or `pool SENDERS MAILBOXES NODES`, then its steps, those of a
+//! pool `in` a mailbox, each with `moved` or `not` and what a call that it finished answered; then the words; then
+//! a blank line. Each answer is compared and, at the end of a schedule, every word.
 #![tactic(auto)]
 
 mod by_hand;

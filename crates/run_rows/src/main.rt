@@ -1,4 +1,5 @@
-//! Asks what stands in tables of explanations, of merged statements and of runs (`row_tables`), and compares the answers.
+//! Asks what stands in tables of explanations, of merged statements and of runs (`row_tables`), and compares the
+//! answers.
 //!
 //! Its arguments name the tables. A heading has the word for what is asked, and files.
 #![tactic(auto)]

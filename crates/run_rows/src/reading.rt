@@ -29,8 +29,8 @@ impl<'a> Read for Drip<'a> {
     }
 }
 
-/// What a reader of a text answers, so often as the heading says. Behind the times it may say before how many last bytes the
-/// reader refuses once, and that it is interrupted there.
+/// What a reader of a text answers, so often as the heading says. Behind the times it may say before how many last
+/// bytes the reader refuses once, and that it is interrupted there.
 pub fn lines(alloc: Global, of: &str, question: &str) -> Result<String> {
     let text = written_out(alloc, question)?;
     let (times, refusal) = of.split_once(' ').unwrap_or((of, ""));

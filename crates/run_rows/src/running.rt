@@ -40,8 +40,8 @@ fn explanation(alloc: Global, inputs: &Inputs, row: u64) -> Result<String> {
     })
 }
 
-/// What a run by a plan of workers, readers and nodes comes to, lent its inputs and given them. Where the question has the
-/// name of a file behind the plan, the statements have to be its bytes.
+/// What a run by a plan of workers, readers and nodes comes to, lent its inputs and given them. Where the question
+/// has the name of a file behind the plan, the statements have to be its bytes.
 pub fn statements<R: Files + AllocGlobal + Threads + Wait + Sync>(
     rt: &R,
     alloc: Global,

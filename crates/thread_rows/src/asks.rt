@@ -35,8 +35,8 @@ pub fn answer<R: Files + AllocGlobal + Threads + Wait + Sync>(
     }
 }
 
-/// What a book has: of few usage lines each account's postings and their sum, and of many the sum alone. Where there are many
-/// accounts, the residue's sum, and the least and the greatest of the others.
+/// What a book has: of few usage lines each account's postings and their sum, and of many the sum alone. Where
+/// there are many accounts, the residue's sum, and the least and the greatest of the others.
 fn shown(alloc: Global, inputs: &Inputs, book: &Book) -> Result<String> {
     let mut text = String::new(alloc);
     if book.accounts() > 10 {
@@ -84,7 +84,8 @@ fn book<R: Threads + Wait + Sync>(
     shown(alloc, inputs, &book)
 }
 
-/// The book of the runs by all plans of some numbers of workers, of readers and of nodes, `1 2/1 8/1 64`; or two that differ.
+/// The book of the runs by all plans of some numbers of workers, of readers and of nodes, `1 2/1 8/1 64`; or two
+/// that differ.
 fn books<R: Threads + Wait + Sync>(
     rt: &R,
     alloc: Global,
@@ -152,8 +153,8 @@ fn told<R: Threads + Wait + Sync>(
     gate.told(alloc)
 }
 
-/// The book of a run by a plan whose first worker is held at its first line until the other has come to so many lines, for at
-/// most so many turns.
+/// The book of a run by a plan whose first worker is held at its first line until the other has come to so many
+/// lines, for at most so many turns.
 fn workers_meet<R: Threads + Wait + Sync>(
     rt: &R,
     alloc: Global,

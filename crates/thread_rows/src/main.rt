@@ -1,7 +1,8 @@
-//! Asks what stands in a table of runs over mailboxes of each kind and over pools (`row_tables`), and compares the answers.
+//! Asks what stands in a table of runs over mailboxes of each kind and over pools (`row_tables`), and compares the
+//! answers.
 //!
-//! Its arguments name the tables. A heading has the word for what is asked, the kind of mailboxes, and the files of the
-//! registrations and of the usage lines; a question has numbers.
+//! Its arguments name the tables. A heading has the word for what is asked, the kind of mailboxes, and the files of
+//! the registrations and of the usage lines; a question has numbers.
 #![tactic(auto)]
 
 mod asks;
