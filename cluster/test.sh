@@ -95,6 +95,7 @@ while [[ ${1-} == --* ]]; do
         --output=*) output=${1#*=} ;;
         --array=*) array=${1#*=} ;;
         --dependency=afterok:*) waits=${1#*:} ;;
+        --cpus-per-task=*) echo "${1#*=}" >> "$spool/processors" ;;
         --kill-on-invalid-dep=yes | --partition=*) ;;
         *) echo "sbatch: unknown option $1" >&2 && exit 1 ;;
     esac
@@ -250,6 +251,7 @@ called 'submit once more' "$last"
 hold 'again with nothing to do' "$month" again slurm
 called 'again with nothing to do' "$last"
 is_merged 'again with nothing to do' slurm whole
+[[ $(sort -u spool/processors) == 2 ]] || not_so 'submit: tasks have other processors'
 touch accidents/queue
 check 'submit while jobs are under way' 1 'jobs of this month are under way' "$month" submit slurm
 
@@ -307,6 +309,8 @@ rm accidents/*
 hold 'cutting without payees' \
     "$month" cut without "${files[@]}" --program royalty_run --lines 700 --workers 2 --readers=2
 hold 'running without payees' "$month" run without
+hold 'submit with more threads' "$month" submit without
+[[ $(tail -n 1 spool/processors) == 4 ]] || not_so 'submit with more threads: other processors'
 is_merged 'running without payees' without whole_without_payees
 [[ $(wc -l < without/manifest) == 10 ]] || not_so 'a month without payees has another manifest'
 
