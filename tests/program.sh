@@ -230,6 +230,14 @@ for bytes in $most $((most + 1)); do
     wait
 done
 
+# A list of more than half the most bytes is read to its last line, which has a fault.
+awk 'BEGIN { u = sprintf("%064d", 1); w = sprintf("%064d", 2)
+    print "usage,work,territory,right,amount"
+    for (n = 1; n <= 1000000; n++) print u "," w ",0276," (n < 1000000 ? "P" : "X") ",1000000000000" }' >long.csv
+[ "$(stat -c %s long.csv)" -gt $((most / 2)) ] || { echo 'program.sh: the long list is too short'; failed=$((failed + 1)); }
+check 'a fault in the last line of a long list' 1 '' 'royalty_run: usage fault 4 at row 1000000\n' "$program" run --tis territories.csv --cwr works.cwr --usage long.csv "${plan[@]}"
+rm long.csv
+
 # Memory is refused for a large file.
 check 'little memory' 3 '' 'royalty_run: out of room\n' bash -c 'ulimit -v 65536; exec "$0" "$@"' "$program" run --tis large --cwr works.cwr --usage usage.csv "${plan[@]}"
 

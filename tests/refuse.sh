@@ -75,8 +75,9 @@ is_cut_off() {
 }
 
 # sweep VARIABLE CHECK: refuses one number after another; where the answer is not whole, CHECK has to hold. `refusals` counts these.
+# Only where one of the last two is refused may the output file be there, whole: it gets its name when its bytes are on the disk.
 sweep() {
-    local number=0 answered=0
+    local number=0 answered=0 named=()
     refusals=0
     while ((answered < past)); do
         number=$((number + 1))
@@ -85,11 +86,15 @@ sweep() {
             answered=$((answered + 1))
         elif "$2"; then
             answered=0 refusals=$((refusals + 1))
+            is_as_before || named+=("$refusals")
         else
             fail "$1=$number"
         fi
     done
     ((refusals > 0)) || fail "$1: nothing was refused"
+    for number in ${named[@]+"${named[@]}"}; do
+        ((number > refusals - 2)) || fail "$1: the file had its name at refusal $number of $refusals"
+    done
 }
 
 # sweep_all THREADS [FILES]: all of it over the words, whose run starts so many threads that it cannot do without, and opens, gives permissions, brings to the disk or renames so many
