@@ -230,12 +230,17 @@ for bytes in $most $((most + 1)); do
     wait
 done
 
-# A list of more than half the most bytes is read to its last line, which has a fault.
+# A list of a million lines, of more than half the most bytes, whose works are not registered: all of it stays with the residue, and a
+# check counts it. Then its last line has a fault, and is read.
 awk 'BEGIN { u = sprintf("%064d", 1); w = sprintf("%064d", 2)
     print "usage,work,territory,right,amount"
-    for (n = 1; n <= 1000000; n++) print u "," w ",0276," (n < 1000000 ? "P" : "X") ",1000000000000" }' >long.csv
+    for (n = 1; n <= 1000000; n++) print u "," w ",0276,P,1000000000000" }' >long.csv
 [ "$(stat -c %s long.csv)" -gt $((most / 2)) ] || { echo 'program.sh: the long list is too short'; failed=$((failed + 1)); }
-check 'a fault in the last line of a long list' 1 '' 'royalty_run: usage fault 4 at row 1000000\n' "$program" run --tis territories.csv --cwr works.cwr --usage long.csv "${plan[@]}"
+long=(--tis territories.csv --cwr works.cwr --usage long.csv)
+check 'a million lines that stay with the residue' 0 'T,,1000000,1000000000000000000\nR,,1000000,1000000000000000000\n' '' bash -c '"$0" "$@" | tail -n 2' "$program" run "${long[@]}" "${plan[@]}"
+check 'a check of a million lines' 0 'long.csv: usage lines: 1000000\n' '' bash -c '"$0" "$@" | grep "usage lines:"' "$program" check "${long[@]}"
+sed -i '1000001s/,P,/,X,/' long.csv
+check 'a fault in the last line of a long list' 1 '' 'royalty_run: usage fault 4 at row 1000000\n' "$program" run "${long[@]}" "${plan[@]}"
 rm long.csv
 
 # Memory is refused for a large file.
