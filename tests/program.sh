@@ -242,6 +242,9 @@ check 'a check of a million lines' 0 'long.csv: usage lines: 1000000\n' '' bash 
 sed -i '1000001s/,P,/,X,/' long.csv
 check 'a fault in the last line of a long list' 1 '' 'royalty_run: usage fault 4 at row 1000000\n' "$program" run "${long[@]}" "${plan[@]}"
 rm long.csv
+# Of many faults the first hundred are told, and how many more there are.
+awk 'BEGIN { print "usage,work,territory,right,amount"; for (n = 1; n <= 6000; n++) print "u,W,276,X,1" }' >faulty.csv
+check 'a check of six thousand faults' 1 'faulty.csv: further faults: 5900\n' '' bash -c '"$0" "$@" >told; status=$?; grep further told; exit "$status"' "$program" check --tis territories.csv --cwr works.cwr --usage faulty.csv
 
 # Memory is refused for a large file.
 check 'little memory' 3 '' 'royalty_run: out of room\n' bash -c 'ulimit -v 65536; exec "$0" "$@"' "$program" run --tis large --cwr works.cwr --usage usage.csv "${plan[@]}"
