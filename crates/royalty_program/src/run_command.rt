@@ -28,8 +28,11 @@ Records of other types are skipped, and nothing checks that the file is CWR, or 
 The answer is CSV too. A row L,payee,usage,amount for each portion of a payee, then its sum
 S,payee,count,total; for each portion of the residue M,reason,usage,amount with the reason WORK,
 LAND, OVER or OPEN, then T,,count,total; last R,,lines,amount.
-The numbers of workers, readers and nodes have no bearing on it. A row M,WORK is a usage line whose
-work has no registration: many of them say that the wrong file, or half of one, went in.
+A row M,WORK is a usage line whose work has no registration: many of them say that the wrong file,
+or half of one, went in.
+The numbers of workers, readers and nodes have no bearing on it, only on the time that it takes:
+4, 2 and 64 suit a machine with four processors that does nothing else, and 2, 1 and 64 one with two
+or one that others keep busy.
 With `--output F` the statements go to a new file beside F, which takes the name F once it is whole;
 whatever fails before that, F stays as it was. Only where its folder cannot be brought to the disk
 behind the new name does status 4 leave F whole and new.

@@ -4,8 +4,7 @@
 //!
 //! - `working` is a worker's half of a run, and `working::sending` how it sends a posting;
 //! - `reading` is a reader's half;
-//! - `mailboxes` is what lies between them: `mailboxes::separate` and `mailboxes::pooled` are its two kinds, and
-//!   `mailboxes::bells` says where there is something to take;
+//! - `mailboxes` is what lies between them: `mailboxes::separate` and `mailboxes::pooled` are its two kinds;
 //! - `running` is a whole run: `running::opening` is what it opens before it starts a thread, `running::starting` how it
 //!   starts them, and `running` itself puts together what they give back.
 //!

@@ -8,7 +8,6 @@ ghost use Rattle.split_run.specs.Opening.{AreMailboxes, BelongWhateverTheyGet, l
 ghost use Rattle.split_run.specs.Running.{AllBelong, HaveTakenInEach, MayTakeIn};
 ghost use Rattle.split_run.specs.Sending.{HasEndedAt, HasSpent, HaveSentOne, room_of};
 
-pub(crate) mod bells;
 pub(crate) mod pooled;
 pub(crate) mod separate;
 
@@ -71,6 +70,9 @@ pub(crate) trait Mailboxes: Sync {
         requires lines { lines ≤ 1000000 }
         ensures mailboxes { IfOk result (λ r. AreMailboxes workers accounts nodes (room_of is_shared lines) (lists_by senders r.0.items) (inboxes_by receiver r.1.items)) }
         ensures kept { IfOk result (λ r. BelongWhateverTheyGet (belongs r.2) (inboxes_by receiver r.1.items)) };
+
+    /// Whether a worker has the same nodes for all mailboxes.
+    fn has_one_ring() -> bool;
 
     /// Sends a posting to the mailbox of an account.
     fn try_send<R: Wait>(

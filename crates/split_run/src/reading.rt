@@ -5,18 +5,14 @@ ghost use Rattle.split_run.specs.Reading.{AreUntouched, HasAllEnds, HasKept, Has
 
 use crate::MOST_NODES;
 use crate::mailboxes::Mailboxes;
-use crate::mailboxes::bells::Bells;
-use crossbeam_utils::Backoff;
 use line_split::Account;
 use payee_book::{Book, Journal};
 use queue_core::Item;
+use run_signals::ReaderSignals;
 use std::alloc::{AllocError, Global};
 use std::snapshot::Snapshot;
 use std::sync::Wait;
 use std::sync::atomic::{AtomicBool, Ordering};
-
-/// How often a reader looks in vain at its bells before it goes to each mailbox.
-const IDLE_TURNS: u32 = 64;
 
 /// The mailboxes of the accounts that one reader serves, and what it has taken from them.
 #[derive(Drop)]
@@ -29,7 +25,7 @@ pub(crate) struct Reader<B: Mailboxes> {
     pub workers: u64,
     /// Which of the readers it is, from 0, and how many there are: its accounts are those whose number leaves this one when it is divided
     /// by how many they are.
-    number: usize,
+    pub number: usize,
     readers: usize,
     /// How many end marks each mailbox has given.
     ends: Vec<u64>,
@@ -76,21 +72,17 @@ impl<B: Mailboxes> Reader<B> {
         })
     }
 
-    /// Takes from its mailboxes until every one has given an end mark of each worker: from those whose bells have rung, if there
-    /// are bells, and now and then, or where there are none, from each in turn. False: the run was stopped, or a posting was
-    /// refused its memory.
-    pub fn serve<R: Wait>(&mut self, rt: &R, stop: &AtomicBool, bells: Option<&Bells>) -> bool
+    /// Takes from its mailboxes until every one has given an end mark of each worker: from those that the workers tell it of, and now
+    /// and then from each in turn. False: the run was stopped, or a posting was refused its memory.
+    pub fn serve<R: Wait>(&mut self, rt: &R, stop: &AtomicBool, signals: &mut ReaderSignals<'_>) -> bool
         requires taken { HasKept B.receiver self.old }
         ensures served { result ≡ true → HasKeptAll B.receiver self.new }
         ensures same { IsSameReader self.old self.new }
     {
-        let turn = Backoff::new();
-        let mut idle = 0u32;
         for _ in rt.forever() {
-            let everywhere = bells.is_none() || idle >= IDLE_TURNS;
-            if self.take_round(rt, if everywhere { None } else { bells }) {
-                idle = 0;
-                turn.reset();
+            let everywhere = signals.must_look_everywhere();
+            if self.take_round(rt, signals, everywhere) {
+                signals.stop_waiting();
                 continue;
             }
             if everywhere && self.have_ended() {
@@ -99,8 +91,7 @@ impl<B: Mailboxes> Reader<B> {
             if stop.load(Ordering::SeqCst) {
                 return false;
             }
-            idle = if everywhere { 0 } else { idle + 1 };
-            turn.snooze();
+            signals.wait(rt);
         }
         unreachable!()
     }
@@ -116,16 +107,22 @@ impl<B: Mailboxes> Reader<B> {
         }
     }
 
-    /// Takes from the mailboxes whose bells have rung or, if there are no bells, from each in turn. False: none had anything.
-    fn take_round<R: Wait>(&mut self, rt: &R, bells: Option<&Bells>) -> bool
+    /// Takes from the mailboxes that the workers tell of and, if it has to be everywhere, from each in turn. False: none had anything.
+    fn take_round<R: Wait>(&mut self, rt: &R, signals: &mut ReaderSignals<'_>, everywhere: bool) -> bool
         requires taken { HasKept B.receiver self.old }
         ensures taken { HasKept B.receiver self.new }
         ensures same { IsSameReader self.old self.new }
     {
-        match bells {
-            Some(bells) => self.take_rung(rt, bells),
-            None => self.take_each(rt),
+        let mut took = false;
+        for worker in 0..signals.workers() {
+            if self.take_told(rt, signals, worker) {
+                took = true;
+            }
         }
+        if everywhere && self.take_each(rt) {
+            took = true;
+        }
+        took
     }
 
     /// Takes from each mailbox in turn. False: none had anything.
@@ -144,34 +141,37 @@ impl<B: Mailboxes> Reader<B> {
         took
     }
 
-    /// Takes from the mailboxes whose bells have rung. False: none had anything.
-    fn take_rung<R: Wait>(&mut self, rt: &R, bells: &Bells) -> bool
+    /// Takes from the mailboxes that a worker tells of. False: none had anything.
+    fn take_told<R: Wait>(&mut self, rt: &R, signals: &mut ReaderSignals<'_>, worker: usize) -> bool
         requires taken { HasKept B.receiver self.old }
         ensures taken { HasKept B.receiver self.new }
         ensures same { IsSameReader self.old self.new }
+        ensures accounts { length self.new.journal ≡ length self.old.journal }
     {
         let mut took = false;
-        for word in 0..bells.words(self.number) {
-            if self.take_word(rt, bells, word) {
+        for _ in 0..MOST_NODES {
+            let Some(accounts) = signals.hear(worker) else {
+                break;
+            };
+            if self.take_some(rt, accounts) {
                 took = true;
             }
         }
         took
     }
 
-    /// Takes from those mailboxes that have their bells in one word. False: none had anything.
-    fn take_word<R: Wait>(&mut self, rt: &R, bells: &Bells, word: usize) -> bool
+    /// Takes from the mailboxes of up to three accounts. False: none had anything.
+    fn take_some<R: Wait>(&mut self, rt: &R, accounts: [Option<usize>; 3]) -> bool
         requires taken { HasKept B.receiver self.old }
         ensures taken { HasKept B.receiver self.new }
         ensures same { IsSameReader self.old self.new }
         ensures accounts { length self.new.journal ≡ length self.old.journal }
     {
-        let mut rung = bells.still(self.number, word);
         let mut took = false;
-        for _ in 0..rung.count_ones() {
-            let bell = rung.trailing_zeros() as usize;
-            rung &= rung.wrapping_sub(1);
-            let account = bells.account(self.number, word, bell);
+        for account in accounts {
+            let Some(account) = account else {
+                continue;
+            };
             if self.take_at(rt, account) {
                 took = true;
             }

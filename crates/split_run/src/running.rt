@@ -19,7 +19,6 @@ mod starting;
 
 use crate::gate::Gate;
 use crate::mailboxes::Mailboxes;
-use crate::mailboxes::bells::Bells;
 use crate::mailboxes::pooled::Pooled;
 use crate::mailboxes::separate::Separate;
 use crate::reading::{Reader, ReaderResult};
@@ -32,15 +31,13 @@ use mail_box::Mail;
 use opening::{Worker, readers_of, workers_of};
 use payee_book::Book;
 use pool_box::Pool;
+use run_signals::Signals;
 use starting::{WorkerResult, run_threads};
 use std::alloc::{AllocError, Global};
 use std::snapshot::Snapshot;
 use std::sync::Wait;
 use std::thread::Threads;
 use tis_tree::TisTable;
-
-/// From so many accounts on readers look at their bells: with fewer it is faster to go to each mailbox.
-const MANY_ACCOUNTS: u16 = 1_000;
 
 /// The statements of all accounts, worked out by the threads of a plan over a mailbox of any kind for each account. They do not
 /// depend on the plan, the mailboxes, the gate or the order in which the threads run, and their totals come to all amounts.
@@ -144,7 +141,8 @@ fn run_on<B: Mailboxes, G: Gate, R: Threads + Wait + Sync>(
 {
     let accounts = inputs.registry.accounts();
     let workers = plan.workers;
-    let bells = bells_for(alloc, accounts, plan.readers)?;
+    let ring = if B::has_one_ring() { Some(plan.nodes) } else { None };
+    let signals = Signals::open(alloc, workers, plan.readers, ring)?;
     let (mut draw, opened, kept, jobs, readers) = open_all(
         alloc,
         mailboxes,
@@ -161,7 +159,7 @@ fn run_on<B: Mailboxes, G: Gate, R: Threads + Wait + Sync>(
         jobs,
         readers,
         threads,
-        bells.as_ref(),
+        &signals,
     ) else {
         return Err(RunFault::Room);
     };
@@ -170,16 +168,6 @@ fn run_on<B: Mailboxes, G: Gate, R: Threads + Wait + Sync>(
     let mut gathered = B::gather(kept, inboxes);
     take_in_all::<B, R>(rt, inputs, &mut draw, &mut gathered, worked)?;
     Ok(book)
-}
-
-/// Bells, where there are many accounts.
-fn bells_for(alloc: Global, accounts: u16, readers: u64) -> Result<Option<Bells>, AllocError>
-    requires { 0 < readers }
-{
-    if accounts < MANY_ACCOUNTS {
-        return Ok(None);
-    }
-    Ok(Some(Bells::open(alloc, accounts, readers)?))
 }
 
 /// Opens all that a run needs before it starts a thread: the draw of its blocks, the mailboxes of all accounts, as they are kept

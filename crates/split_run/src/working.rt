@@ -21,7 +21,6 @@ mod sending;
 use crate::LINES_IN_BLOCK;
 use crate::gate::Gate;
 use crate::mailboxes::Mailboxes;
-use crate::mailboxes::bells::Bells;
 use crate::mailboxes::pooled::Pooled;
 use crate::mailboxes::separate::Separate;
 use block_draw::Drawer;
@@ -29,6 +28,7 @@ use cwr_share::{Registry, Work};
 use line_split::{Claims, MOST_CLAIMS, MOST_LINES, Portions, Usage, split};
 use mail_box::Mail;
 use pool_box::Pool;
+use run_signals::WorkerSignals;
 use sending::{send_end, send_line};
 use std::array::from_mut;
 use std::sync::Wait;
@@ -75,8 +75,9 @@ pub fn work<M: Mail, G: Gate, R: Wait>(
         registry,
         usage,
     };
+    let mut signals = WorkerSignals::new(None, worker);
     work_on::<Separate<'_, M>, G, R>(
-        rt, senders, inputs, drawer, worker, claims, portions, gate, stop, None,
+        rt, senders, inputs, drawer, worker, claims, portions, gate, stop, &mut signals,
     )
 }
 
@@ -114,13 +115,14 @@ pub fn work_pool<P: Pool, G: Gate, R: Wait>(
         usage,
     };
     prove!(registry.accounts() >= 1, "there is the residue's account");
+    let mut signals = WorkerSignals::new(None, worker);
     let senders = from_mut(sender).as_mut_slice();
     work_on::<Pooled<'_, P>, G, R>(
-        rt, senders, inputs, drawer, worker, claims, portions, gate, stop, None,
+        rt, senders, inputs, drawer, worker, claims, portions, gate, stop, &mut signals,
     )
 }
 
-/// What both do, over mailboxes of any kind: each posting is rung for, if there are bells.
+/// What both do, over mailboxes of any kind: the readers are told of each posting, in a run.
 pub(crate) fn work_on<B: Mailboxes, G: Gate, R: Wait>(
     rt: &R,
     senders: &mut [B::Sender],
@@ -131,7 +133,7 @@ pub(crate) fn work_on<B: Mailboxes, G: Gate, R: Wait>(
     portions: &mut Portions,
     gate: &G,
     stop: &AtomicBool,
-    bells: Option<&Bells>,
+    signals: &mut WorkerSignals<'_>,
 ) -> bool
     requires accounts { length (B.senders senders.old) ≡ account_count inputs }
     requires ready { AreReadyFor B.is_shared (B.senders senders.old) (line_count inputs) }
@@ -150,7 +152,9 @@ pub(crate) fn work_on<B: Mailboxes, G: Gate, R: Wait>(
             return false;
         }
         let Some(block) = drawer.draw() else {
-            return send_ends::<B, R>(rt, senders, accounts as usize, stop, bells);
+            let sent = send_ends::<B, R>(rt, senders, accounts as usize, stop, signals);
+            signals.end();
+            return sent;
         };
         if !work_block::<B, G, R>(
             rt,
@@ -162,7 +166,7 @@ pub(crate) fn work_on<B: Mailboxes, G: Gate, R: Wait>(
             portions,
             gate,
             stop,
-            bells,
+            signals,
         ) {
             return false;
         }
@@ -181,7 +185,7 @@ fn work_block<B: Mailboxes, G: Gate, R: Wait>(
     portions: &mut Portions,
     gate: &G,
     stop: &AtomicBool,
-    bells: Option<&Bells>,
+    signals: &mut WorkerSignals<'_>,
 ) -> bool
     requires accounts { length (B.senders senders.old) ≡ account_count inputs }
     requires sound { IsRegistered inputs.registry.now }
@@ -200,7 +204,7 @@ fn work_block<B: Mailboxes, G: Gate, R: Wait>(
     for place in first..end {
         let found = works[place - first];
         if !work_line::<B, G, R>(
-            rt, senders, inputs, place, found, worker, claims, portions, gate, stop, bells,
+            rt, senders, inputs, place, found, worker, claims, portions, gate, stop, signals,
         ) {
             return false;
         }
@@ -220,7 +224,7 @@ fn work_line<B: Mailboxes, G: Gate, R: Wait>(
     portions: &mut Portions,
     gate: &G,
     stop: &AtomicBool,
-    bells: Option<&Bells>,
+    signals: &mut WorkerSignals<'_>,
 ) -> bool
     requires accounts { length (B.senders senders.old) ≡ account_count inputs }
     requires sound { IsRegistered inputs.registry.now }
@@ -245,7 +249,7 @@ fn work_line<B: Mailboxes, G: Gate, R: Wait>(
     );
     split(line.amount, claims, portions);
     gate.pass(worker, place as u64);
-    send_line::<B, R>(rt, senders, place as u64, portions.list(), stop, bells)
+    send_line::<B, R>(rt, senders, place as u64, portions.list(), stop, signals)
 }
 
 /// The works of the lines from one place to another, at most a block of them. They lie far apart in memory, and look-ups
@@ -273,14 +277,14 @@ fn send_ends<B: Mailboxes, R: Wait>(
     senders: &mut [B::Sender],
     accounts: usize,
     stop: &AtomicBool,
-    bells: Option<&Bells>,
+    signals: &mut WorkerSignals<'_>,
 ) -> bool
     requires accounts { accounts ≡ length (B.senders senders.old) }
     requires ready { AreReadyFor B.is_shared (B.senders senders.old) 0 }
     ensures { result ≡ true → HaveEnded B.is_shared (B.senders senders.old) (B.senders senders.new) (λ account. []) }
 {
     for account in 0..accounts {
-        if !send_end::<B, R>(rt, senders, account, stop, bells) {
+        if !send_end::<B, R>(rt, senders, account, stop, signals) {
             return false;
         }
     }

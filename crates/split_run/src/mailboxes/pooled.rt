@@ -75,6 +75,10 @@ impl<P: Pool> Mailboxes for Pooled<'_, P> {
         Ok((lists, inboxes, KeptPool { tally, workers }))
     }
 
+    fn has_one_ring() -> bool {
+        true
+    }
+
     fn try_send<R: Wait>(
         _rt: &R,
         all: &mut [P::Sender],

@@ -56,6 +56,10 @@ impl<M: Mail> Mailboxes for Separate<'_, M> {
         Ok((lists, inboxes, ()))
     }
 
+    fn has_one_ring() -> bool {
+        false
+    }
+
     fn try_send<R: Wait>(
         rt: &R,
         all: &mut [M::Sender],

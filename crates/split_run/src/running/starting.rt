@@ -8,13 +8,13 @@ ghost use Rattle.split_run.specs.Running.{AreGivenFor, EachGoesWith, HasWorked, 
 
 use crate::gate::Gate;
 use crate::mailboxes::Mailboxes;
-use crate::mailboxes::bells::Bells;
 use crate::reading::{Reader, ReaderResult};
 use crate::running::opening::Worker;
 use crate::working::{Inputs, work_on};
 use block_draw::Drawer;
 use cwr_share::Registry;
 use line_split::Usage;
+use run_signals::{ReaderSignals, Signals, WorkerSignals};
 use std::alloc::Global;
 use std::snapshot::Snapshot;
 use std::sync::Wait;
@@ -66,13 +66,14 @@ fn read_in_thread<B: Mailboxes, R: Wait>(
     rt: &R,
     reader: Reader<B>,
     stop: &AtomicBool,
-    bells: Option<&Bells>,
+    signals: &Signals,
 ) -> Option<ReaderResult<B>>
     requires taken { HasKept B.receiver reader }
     ensures { IfSome result (HasServed B.receiver reader) }
 {
     let mut reader = reader;
-    if reader.serve(rt, stop, bells) {
+    let mut signals = ReaderSignals::new(signals, reader.number);
+    if reader.serve(rt, stop, &mut signals) {
         Some(reader.into_result())
     } else {
         None
@@ -85,7 +86,7 @@ fn start_reader<'s, E, B: Mailboxes + 's, R: Threads + Wait + Sync>(
     rt: &'s R,
     reader: Reader<B>,
     stop: &'s AtomicBool,
-    bells: Option<&'s Bells>,
+    signals: &'s Signals,
 ) -> Option<PromisedHandle<Option<ReaderResult<B>>, ReaderPromise<B>>>
     requires taken { HasKept B.receiver reader }
     ensures { IfSome result (λ started. started.promise.reader.value ≡ reader) }
@@ -99,7 +100,7 @@ fn start_reader<'s, E, B: Mailboxes + 's, R: Threads + Wait + Sync>(
             move || -> Option<ReaderResult<B>>
                 requires { HasKept B.receiver reader }
                 ensures { IfSome result (HasServed B.receiver reader) }
-            { read_in_thread::<B, R>(rt, reader, stop, bells) },
+            { read_in_thread::<B, R>(rt, reader, stop, signals) },
         )
         .ok()
 }
@@ -112,12 +113,13 @@ fn work_in_thread<B: Mailboxes, G: Gate, R: Wait>(
     worker: Worker<B>,
     number: u64,
     stop: &AtomicBool,
-    bells: Option<&Bells>,
+    signals: &Signals,
 ) -> Option<WorkerResult<B>>
     requires { IsReady B.is_shared B.senders (account_count inputs) (line_count inputs) worker }
     ensures { IfSome result (HasWorked B.is_shared B.senders (division_in inputs.entry) (lines_in inputs.entry) worker) }
 {
     let mut worker = worker;
+    let mut signals = WorkerSignals::new(Some(signals), number);
     let done = work_on::<B, G, R>(
         rt,
         worker.senders.as_mut_slice(),
@@ -128,7 +130,7 @@ fn work_in_thread<B: Mailboxes, G: Gate, R: Wait>(
         &mut worker.portions,
         gate,
         stop,
-        bells,
+        &mut signals,
     );
     if done {
         Some(WorkerResult {
@@ -149,7 +151,7 @@ fn start_worker<'s, E, B: Mailboxes + 's, G: Gate, R: Threads + Wait + Sync>(
     worker: Worker<B>,
     number: u64,
     stop: &'s AtomicBool,
-    bells: Option<&'s Bells>,
+    signals: &'s Signals,
 ) -> Option<PromisedHandle<Option<WorkerResult<B>>, WorkerPromise<B>>>
     requires { IsReady B.is_shared B.senders (account_count inputs) (line_count inputs) worker }
     ensures inputs { IfSome result (λ started. IsPromisedOf inputs.entry started.promise) }
@@ -167,7 +169,7 @@ fn start_worker<'s, E, B: Mailboxes + 's, G: Gate, R: Threads + Wait + Sync>(
             move || -> Option<WorkerResult<B>>
                 requires { IsReady B.is_shared B.senders (account_count inputs) (line_count inputs) worker }
                 ensures { IfSome result (HasWorked B.is_shared B.senders (division_in inputs.entry) (lines_in inputs.entry) worker) }
-            { work_in_thread::<B, G, R>(rt, inputs, gate, worker, number, stop, bells) },
+            { work_in_thread::<B, G, R>(rt, inputs, gate, worker, number, stop, signals) },
         )
         .ok()
 }
@@ -179,7 +181,7 @@ fn start_readers<'s, E, B: Mailboxes + 's, R: Threads + Wait + Sync>(
     readers: Vec<Reader<B>>,
     cut: u64,
     stop: &'s AtomicBool,
-    bells: Option<&'s Bells>,
+    signals: &'s Signals,
     room: Vec<PromisedHandle<Option<ReaderResult<B>>, ReaderPromise<B>>>,
 ) -> Option<Vec<PromisedHandle<Option<ReaderResult<B>>, ReaderPromise<B>>>>
     requires room { vec_len room ≡ 0 }
@@ -193,7 +195,7 @@ fn start_readers<'s, E, B: Mailboxes + 's, R: Threads + Wait + Sync>(
         if started.len() as u64 == cut {
             return None;
         }
-        let handle = start_reader::<E, B, R>(scope, rt, reader, stop, bells)?;
+        let handle = start_reader::<E, B, R>(scope, rt, reader, stop, signals)?;
         started.push(handle).ok()?;
     }
     Some(started)
@@ -208,7 +210,7 @@ fn start_workers<'s, E, B: Mailboxes + 's, G: Gate, R: Threads + Wait + Sync>(
     jobs: Vec<Worker<B>>,
     cut: u64,
     stop: &'s AtomicBool,
-    bells: Option<&'s Bells>,
+    signals: &'s Signals,
     room: Vec<PromisedHandle<Option<WorkerResult<B>>, WorkerPromise<B>>>,
 ) -> Option<Vec<PromisedHandle<Option<WorkerResult<B>>, WorkerPromise<B>>>>
     requires room { vec_len room ≡ 0 }
@@ -225,7 +227,7 @@ fn start_workers<'s, E, B: Mailboxes + 's, G: Gate, R: Threads + Wait + Sync>(
         if number == cut {
             return None;
         }
-        let handle = start_worker::<E, B, G, R>(scope, rt, inputs, gate, job, number, stop, bells)?;
+        let handle = start_worker::<E, B, G, R>(scope, rt, inputs, gate, job, number, stop, signals)?;
         started.push(handle).ok()?;
         number += 1;
     }
@@ -242,7 +244,7 @@ pub(crate) fn run_threads<B: Mailboxes, G: Gate, R: Threads + Wait + Sync>(
     workers: Vec<Worker<B>>,
     readers: Vec<Reader<B>>,
     cut: u64,
-    bells: Option<&Bells>,
+    signals: &Signals,
 ) -> Option<(Vec<Option<WorkerResult<B>>>, Vec<Option<ReaderResult<B>>>)>
     requires few { length workers.items ≤ 8 }
     requires ready { All (IsReady B.is_shared B.senders (account_count inputs) (line_count inputs)) workers.items }
@@ -274,7 +276,7 @@ pub(crate) fn run_threads<B: Mailboxes, G: Gate, R: Threads + Wait + Sync>(
                 readers,
                 cut,
                 stop,
-                bells,
+                signals,
                 reading_room,
             ) else {
                 stop.store(true, Ordering::SeqCst);
@@ -288,7 +290,7 @@ pub(crate) fn run_threads<B: Mailboxes, G: Gate, R: Threads + Wait + Sync>(
                 workers,
                 cut - count,
                 stop,
-                bells,
+                signals,
                 working_room,
             ) else {
                 stop.store(true, Ordering::SeqCst);

@@ -7,10 +7,9 @@ ghost use Rattle.split_run.specs.Sending.{AreReadyFor, HasEndedAt, HasSpent, Hav
 ghost use Rattle.split_run.specs.Working.{HaveSentPortions};
 
 use crate::mailboxes::Mailboxes;
-use crate::mailboxes::bells::{Bells, ring};
-use crossbeam_utils::Backoff;
 use line_split::Account;
 use queue_core::Posted;
+use run_signals::{Turn, WorkerSignals};
 use std::sync::Wait;
 use std::sync::atomic::{AtomicBool, Ordering};
 
@@ -22,6 +21,7 @@ fn send<B: Mailboxes, R: Wait>(
     line: u64,
     amount: i64,
     stop: &AtomicBool,
+    signals: &mut WorkerSignals<'_>,
 ) -> bool
     requires account { account < length (B.senders senders.old) }
     requires open { (s : _) → (slice_index_or (B.senders senders.old) account s).is_ended ≡ false }
@@ -31,15 +31,16 @@ fn send<B: Mailboxes, R: Wait>(
     ensures sent { MatchBool result (HaveSentOne B.is_shared account line amount (B.senders senders.old) (B.senders senders.new)) (B.senders senders.new ≡ B.senders senders.old) }
     ensures spent { result ≡ true → HasSpent B.is_shared (B.senders senders.old) (B.senders senders.new) 1 }
 {
-    let turn = Backoff::new();
+    let mut turn = Turn::new();
     for _ in rt.forever() {
         if stop.load(Ordering::SeqCst) {
             return false;
         }
         if let Posted::Sent = B::try_send(rt, senders, account, line, amount) {
+            signals.stop_waiting(&turn);
             return true;
         }
-        turn.snooze();
+        signals.wait(rt, &mut turn, account);
     }
     unreachable!()
 }
@@ -52,7 +53,7 @@ fn send_portion<B: Mailboxes, R: Wait>(
     line: u64,
     amount: i64,
     stop: &AtomicBool,
-    bells: Option<&Bells>,
+    signals: &mut WorkerSignals<'_>,
 ) -> bool
     requires account { account < length (B.senders senders.old) }
     requires line { line ≤ 999999 }
@@ -65,8 +66,8 @@ fn send_portion<B: Mailboxes, R: Wait>(
         return true;
     }
     let place = account as usize;
-    let sent = send::<B, R>(rt, senders, place, line, amount, stop);
-    ring(bells, place);
+    let sent = send::<B, R>(rt, senders, place, line, amount, stop, signals);
+    signals.tell(place);
     sent
 }
 
@@ -78,7 +79,7 @@ pub(crate) fn send_line<B: Mailboxes, R: Wait>(
     line: u64,
     portions: &[(Account, i64)],
     stop: &AtomicBool,
-    bells: Option<&Bells>,
+    signals: &mut WorkerSignals<'_>,
 ) -> bool
     requires line { line ≤ 999999 }
     requires accounts { All (λ account. account < length (B.senders senders.old)) (map (λ portion. portion.0) portions.now) }
@@ -90,7 +91,7 @@ pub(crate) fn send_line<B: Mailboxes, R: Wait>(
     ensures spent { result ≡ true → HasSpent B.is_shared (B.senders senders.old) (B.senders senders.new) 257 }
 {
     for portion in portions {
-        if !send_portion::<B, R>(rt, senders, portion.0, line, portion.1, stop, bells) {
+        if !send_portion::<B, R>(rt, senders, portion.0, line, portion.1, stop, signals) {
             return false;
         }
     }
@@ -103,22 +104,22 @@ pub(crate) fn send_end<B: Mailboxes, R: Wait>(
     senders: &mut [B::Sender],
     account: usize,
     stop: &AtomicBool,
-    bells: Option<&Bells>,
+    signals: &mut WorkerSignals<'_>,
 ) -> bool
     requires account { account < length (B.senders senders.old) }
     requires open { (s : _) → (slice_index_or (B.senders senders.old) account s).is_ended ≡ false }
     ensures { MatchBool result (HasEndedAt account (B.senders senders.old) (B.senders senders.new)) (B.senders senders.new ≡ B.senders senders.old) }
 {
-    let turn = Backoff::new();
+    let mut turn = Turn::new();
     for _ in rt.forever() {
         if stop.load(Ordering::SeqCst) {
             return false;
         }
         if let Posted::Sent = B::end(rt, senders, account) {
-            ring(bells, account);
+            signals.stop_waiting(&turn);
             return true;
         }
-        turn.snooze();
+        signals.wait(rt, &mut turn, account);
     }
     unreachable!()
 }

@@ -1,6 +1,6 @@
 use Rattle.std.specs.Prelude.{◌≡◌, length}
 use Rattle.split_run.specs.Reading.{HasKept, IsSameReader}
-use Rattle.split_run.proofs.reading.Reader.take_word.Given as goal
+use Rattle.split_run.proofs.reading.Reader.take_told.Given as goal
 
 abbrev pub invariant-loop : goal.invariant-loop
 invariant-loop g l = record {

@@ -1,9 +1,9 @@
 use Rattle.std.specs.Prelude.{◌≡◌, length}
 use Rattle.split_run.specs.Reading.{HasKept, IsSameReader}
-use Rattle.split_run.proofs.reading.Reader.take_rung.Given as goal
+use Rattle.split_run.proofs.reading.Reader.take_some.Given as goal
 
-abbrev pub invariant-loop-word : goal.invariant-loop-word
-invariant-loop-word g l = record {
+abbrev pub invariant-loop-account : goal.invariant-loop-account
+invariant-loop-account g l = record {
   taken : HasKept g.B.Mailboxes.receiver l.self;
   same : IsSameReader l.initial.self l.self;
   accounts : length l.self.journal ≡ length l.initial.self.journal;
