@@ -17,10 +17,9 @@ mod worker;
 use crate::ring::Ring;
 use crate::sleeper::Sleeper;
 use crossbeam_utils::CachePadded;
+pub use reader::ReaderSignals;
 use std::alloc::{AllocError, Global};
 use std::sync::atomic::{AtomicU64, Ordering};
-
-pub use reader::ReaderSignals;
 pub use turn::Turn;
 pub use worker::WorkerSignals;
 
@@ -75,8 +74,7 @@ impl Signals {
 
     /// The ring of a worker and a reader, both counted from 0.
     fn ring(&self, worker: usize, reader: usize) -> Option<&Ring> {
-        self.rings
-            .get(worker.wrapping_mul(self.readers.len()).wrapping_add(reader))
+        self.rings.get(worker.wrapping_mul(self.readers.len()).wrapping_add(reader))
     }
 
     /// The reader of an account: the accounts are dealt out in turn.

@@ -79,7 +79,13 @@ fn wait_for_room<R: Wait>(rt: &R, signals: &mut WorkerSignals<'_>, room: &Atomic
 }
 
 /// Makes room once the worker sleeps: first a reader takes something on whom it doesn't depend.
-fn make_room<R: Wait>(rt: &R, shared: &Signals, other: usize, own: usize, room: &AtomicBool) -> bool {
+fn make_room<R: Wait>(
+    rt: &R,
+    shared: &Signals,
+    other: usize,
+    own: usize,
+    room: &AtomicBool,
+) -> bool {
     wait_until_asleep(rt, &shared.workers);
     ReaderSignals::new(shared, other).stop_waiting();
     let is_asleep = is_asleep(&shared.workers);
@@ -113,7 +119,9 @@ fn send_and_wait<R: Wait>(rt: &R, shared: &Signals, room: &AtomicBool) -> bool {
 }
 
 #[test]
-fn worker_of_a_pool_is_woken_by_the_reader_of_its_oldest_node(rt: HostRuntime) -> Result<(), AllocError> {
+fn worker_of_a_pool_is_woken_by_the_reader_of_its_oldest_node(
+    rt: HostRuntime,
+) -> Result<(), AllocError> {
     let shared = &sleepy(rt.alloc(), 1, 2, Some(3))?;
     let room = &AtomicBool::new(false);
     let (is_woken, is_left_asleep) = join(
@@ -214,13 +222,36 @@ fn each_reader_hears_of_its_own_mailboxes(rt: HostRuntime) -> Result<(), AllocEr
     second.tell(16_383);
     let mut even = ReaderSignals::new(shared, 0);
     let mut odd = ReaderSignals::new(shared, 1);
-    let three = [Some(0), Some(2), Some(4), None, None, None, None, None, None];
+    let three = [
+        Some(0),
+        Some(2),
+        Some(4),
+        None,
+        None,
+        None,
+        None,
+        None,
+        None,
+    ];
     assert_eq!(rt; heard(&mut even, 0), three);
-    let three = [Some(1), Some(3), Some(5), None, None, None, None, None, None];
+    let three = [
+        Some(1),
+        Some(3),
+        Some(5),
+        None,
+        None,
+        None,
+        None,
+        None,
+        None,
+    ];
     assert_eq!(rt; heard(&mut odd, 0), three);
     assert_eq!(rt; heard(&mut odd, 1), [None; 9]);
     first.end();
-    assert!(rt; !even.must_look_everywhere(), "one of two workers has ended");
+    assert!(rt;
+        !even.must_look_everywhere(),
+        "one of two workers has ended"
+    );
     second.end();
     assert!(rt; even.must_look_everywhere(), "both have");
     let two = [Some(6), Some(8), None, None, None, None, None, None, None];
@@ -252,11 +283,15 @@ fn word_of_an_earlier_round_is_not_read(rt: HostRuntime) -> Result<(), AllocErro
     let ring = Ring::open(rt.alloc())?;
     assert_eq!(rt; ring.read(0), None);
     ring.write(0, with_hint(with_hint(0, 16_383), 0));
-    let read = ring.read(0).map(|(number, word)| (number, accounts_of(word)));
+    let read = ring
+        .read(0)
+        .map(|(number, word)| (number, accounts_of(word)));
     assert_eq!(rt; read, Some((0, [None, Some(16_383), Some(0)])));
     assert_eq!(rt; ring.read(WORDS), None);
     ring.write(5 * WORDS, with_hint(0, 1));
-    let read = ring.read(WORDS).map(|(number, word)| (number, accounts_of(word)));
+    let read = ring
+        .read(WORDS)
+        .map(|(number, word)| (number, accounts_of(word)));
     assert_eq!(rt; read, Some((5 * WORDS, [None, None, Some(1)])));
     Ok(())
 }

@@ -74,7 +74,12 @@ impl<B: Mailboxes> Reader<B> {
 
     /// Takes from its mailboxes until every one has given an end mark of each worker: from those that the workers tell it of, and now
     /// and then from each in turn. False: the run was stopped, or a posting was refused its memory.
-    pub fn serve<R: Wait>(&mut self, rt: &R, stop: &AtomicBool, signals: &mut ReaderSignals<'_>) -> bool
+    pub fn serve<R: Wait>(
+        &mut self,
+        rt: &R,
+        stop: &AtomicBool,
+        signals: &mut ReaderSignals<'_>,
+    ) -> bool
         requires taken { HasKept B.receiver self.old }
         ensures served { result ≡ true → HasKeptAll B.receiver self.new }
         ensures same { IsSameReader self.old self.new }
@@ -108,7 +113,12 @@ impl<B: Mailboxes> Reader<B> {
     }
 
     /// Takes from the mailboxes that the workers tell of and, if it has to be everywhere, from each in turn. False: none had anything.
-    fn take_round<R: Wait>(&mut self, rt: &R, signals: &mut ReaderSignals<'_>, everywhere: bool) -> bool
+    fn take_round<R: Wait>(
+        &mut self,
+        rt: &R,
+        signals: &mut ReaderSignals<'_>,
+        everywhere: bool,
+    ) -> bool
         requires taken { HasKept B.receiver self.old }
         ensures taken { HasKept B.receiver self.new }
         ensures same { IsSameReader self.old self.new }

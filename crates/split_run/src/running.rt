@@ -141,7 +141,11 @@ fn run_on<B: Mailboxes, G: Gate, R: Threads + Wait + Sync>(
 {
     let accounts = inputs.registry.accounts();
     let workers = plan.workers;
-    let ring = if B::has_one_ring() { Some(plan.nodes) } else { None };
+    let ring = if B::has_one_ring() {
+        Some(plan.nodes)
+    } else {
+        None
+    };
     let signals = Signals::open(alloc, workers, plan.readers, ring)?;
     let (mut draw, opened, kept, jobs, readers) = open_all(
         alloc,
@@ -152,14 +156,7 @@ fn run_on<B: Mailboxes, G: Gate, R: Threads + Wait + Sync>(
         plan.nodes,
     )?;
     let Some((worked, read)) = run_threads(
-        rt,
-        alloc,
-        inputs,
-        gate,
-        jobs,
-        readers,
-        threads,
-        &signals,
+        rt, alloc, inputs, gate, jobs, readers, threads, &signals,
     ) else {
         return Err(RunFault::Room);
     };

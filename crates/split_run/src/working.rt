@@ -77,7 +77,16 @@ pub fn work<M: Mail, G: Gate, R: Wait>(
     };
     let mut signals = WorkerSignals::new(None, worker);
     work_on::<Separate<'_, M>, G, R>(
-        rt, senders, inputs, drawer, worker, claims, portions, gate, stop, &mut signals,
+        rt,
+        senders,
+        inputs,
+        drawer,
+        worker,
+        claims,
+        portions,
+        gate,
+        stop,
+        &mut signals,
     )
 }
 
@@ -118,7 +127,16 @@ pub fn work_pool<P: Pool, G: Gate, R: Wait>(
     let mut signals = WorkerSignals::new(None, worker);
     let senders = from_mut(sender).as_mut_slice();
     work_on::<Pooled<'_, P>, G, R>(
-        rt, senders, inputs, drawer, worker, claims, portions, gate, stop, &mut signals,
+        rt,
+        senders,
+        inputs,
+        drawer,
+        worker,
+        claims,
+        portions,
+        gate,
+        stop,
+        &mut signals,
     )
 }
 

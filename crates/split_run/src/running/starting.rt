@@ -227,7 +227,9 @@ fn start_workers<'s, E, B: Mailboxes + 's, G: Gate, R: Threads + Wait + Sync>(
         if number == cut {
             return None;
         }
-        let handle = start_worker::<E, B, G, R>(scope, rt, inputs, gate, job, number, stop, signals)?;
+        let handle = start_worker::<E, B, G, R>(
+            scope, rt, inputs, gate, job, number, stop, signals,
+        )?;
         started.push(handle).ok()?;
         number += 1;
     }
