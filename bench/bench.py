@@ -5,9 +5,10 @@ in Markdown.
         [--seed 1] [--repeats 5] [--nodes 64] [--modes] [--phases] [--lanes PATH]
 
 The program runs with each number of workers and of readers, and beside it the plain program's pool
-of linked nodes with the same plan, with bells where the program has them. The plain program also
-runs on one thread. All of this is done for each number of parties. The table, with the commit and
-the machine above it and the aims below it, is made to be pasted into README.md.
+of linked nodes with the same plan, whose threads tell each other and wait as those of the program
+do (`parked`). The plain program also runs on one thread. All of this is done for each number of
+parties. The table, with the commit and the machine above it and the aims below it, is made to be
+pasted into README.md.
 
 With --modes the plain program also runs without its hints to fetch memory ahead (`prefetch`), which
 Rattle has no word for, and in each of its other modes with threads, with 4 workers and 2 readers.
@@ -16,8 +17,9 @@ compared: linked nodes, lanes, and the plain program's linked queues, with 1, 2 
 2 readers, and 1, 8 and 64 nodes.
 
 The data are made once. Every repeat runs each row once, so that noise hits all alike. Statements go
-to a file, and have to be the same bytes. A time is the best wall time of the repeats, and MB the
-greatest peak memory; how many times as long one program took as another is worked out from these.
+to a file, and have to be the same bytes. A time is the best wall time of the repeats, processor
+seconds are those of all threads in that run, the kernel's included, and MB is the greatest peak
+memory; how many times as long one program took as another is worked out from the wall times.
 """
 import argparse
 import os
@@ -35,8 +37,8 @@ from tools.running import program_at
 
 PLANS = [(workers, readers) for workers in (1, 2, 4, 8) for readers in (1, 2, 4)] + [(8, 8)]
 
-# The program's readers look at bells from this many accounts on, and so does the plain pool here.
-BELLS_FROM = 1_000
+# The plain program's mode that does as the program does, with which each plan is compared.
+MODE = "parked"
 
 
 class Row:
@@ -129,16 +131,15 @@ class Measured:
 
         self.ours = {plan: Row("program {} x {}".format(*plan), [a.program, *words(*plan)])
                      for plan in PLANS}
-        mode = "bells" if parties >= BELLS_FROM else "pool"
-        self.pools = {plan: Row("{} {} x {}".format(mode, *plan),
-                                [plain_program, *words(*plan), "--mode", mode])
+        self.pools = {plan: Row("{} {} x {}".format(MODE, *plan),
+                                [plain_program, *words(*plan), "--mode", MODE])
                       for plan in PLANS}
         self.plain = Row("plain", [plain_program, *words(1, 1), "--times"])
         self.others = []
         if a.modes:
             self.others = [Row("no hints", [no_hints, *words(1, 1)])] + [
                 Row(f"{mode} 4 x 2", [plain_program, *words(4, 2), "--mode", mode])
-                for mode in ("threads", "channels", "batches", "linked")]
+                for mode in ("threads", "channels", "batches", "linked", "pool", "rings")]
         self.rows = [*self.ours.values(), *self.pools.values(), self.plain, *self.others]
         for _ in range(a.repeats):
             for row in self.rows:
@@ -151,9 +152,7 @@ class Measured:
 
     def cells(self, plan):
         """What the table says of a plan."""
-        ours, pool = self.ours[plan], self.pools[plan]
-        return [f"{ours.wall:.2f}", f"{pool.wall:.2f}", f"{ours.wall / pool.wall:.2f}",
-                f"{ours.memory:.0f}"]
+        return cells_of(self.ours[plan], self.pools[plan])
 
     def worst(self):
         """The plan that took longest beside the plain pool, and how many times as long."""
@@ -163,6 +162,22 @@ class Measured:
     def is_one_text(self):
         """Whether all rows gave the same statements."""
         return len({row.digest for row in self.rows}) == 1
+
+
+def heads_of(parties):
+    """The heads of the cells with a number of parties."""
+    return [f"{parties:,} parties", "plain pool", "times as long", "processor s of both", "MB"]
+
+
+def cells_of(ours, pool):
+    """What the table says of the program beside the plain pool."""
+    return [f"{ours.wall:.2f}", f"{pool.wall:.2f}", f"{ours.wall / pool.wall:.2f}",
+            f"{ours.processor:.2f}, {pool.processor:.2f}", f"{ours.memory:.0f}"]
+
+
+def cells_alone(row):
+    """What it says of a program that stands beside none."""
+    return [f"{row.wall:.2f}", "", "", f"{row.processor:.2f}", f"{row.memory:.0f}"]
 
 
 def postings_in(path):
@@ -181,16 +196,13 @@ def print_table(a, measured, before):
     print(f"{time.strftime('%Y-%m-%d')}, commit {commit()}, {machine()}, "
           f"load {before:.1f} to {load():.1f}.")
     print(f"{a.lines:,} usage lines of {a.works:,} works, {a.nodes} nodes, best of {a.repeats}.\n")
-    heads = ["workers x readers"]
-    for m in measured:
-        heads += [f"{m.parties:,} parties", "plain pool", "times as long", "MB"]
+    heads = ["workers x readers", *(head for m in measured for head in heads_of(m.parties))]
     print(row_of(heads))
     print("|" + "---|" * len(heads))
     for plan in PLANS:
         cells = [cell for m in measured for cell in m.cells(plan)]
         print(row_of(["{} x {}".format(*plan), *cells]))
-    cells = [cell for m in measured
-             for cell in (f"{m.plain.wall:.2f}", "", "", f"{m.plain.memory:.0f}")]
+    cells = [cell for m in measured for cell in cells_alone(m.plain)]
     print(row_of(["the plain program, one thread", *cells]))
 
 

@@ -4,10 +4,13 @@ Markdown.
     python3 -m bench.busy --program PATH [--lines 1000000] [--works 20000] [--parties 400]
         [--seed 1] [--repeats 3] [--loops 8] [--seconds 120]
 
-So many loops that only count are started, and ended by their ids when all runs are over. Beside
+So many loops that only count are started, and ended by their ids when the runs are over. Beside
 them the plain program runs on one thread, and the program by a few plans; the least time of each
 stands in the table, with the processor time of that run. A run that takes more seconds than
 --seconds is ended, and has `over` in its place. Statements have to be the same bytes.
+
+Beside such loops the program also divides a short list with so few nodes that its worker waits for
+a reader every few postings. The least time for that stands below the table.
 """
 import argparse
 import contextlib
@@ -17,13 +20,19 @@ import sys
 import tempfile
 import time
 
-from bench.bench import make_data, row_of, with_plan
+from bench.bench import make_data, postings_in, row_of, with_plan
 from tools import plain
 from tools.measuring import commit, digest_of, load, machine, run_measured
 from tools.running import program_at
 
 # The plans, each with how many times the plain program's time it may take there.
 PLANS = {(1, 1): 3, (2, 1): 3, (4, 2): 3, (8, 8): 8}
+
+# The short list, which comes to some 9,000 postings; its workers, readers and nodes; and how many
+# seconds it may take.
+SHORT = {"lines": 4_000, "works": 500, "parties": 50}
+SHORT_PLAN = (1, 4, 3)
+SHORT_SECONDS = 5
 
 # What a loop does until it is ended.
 LOOP = "while True: pass"
@@ -77,6 +86,31 @@ def met(best, beside, most):
     return None not in (best.wall, beside.wall) and best.wall <= most * beside.wall
 
 
+def short_aim(postings):
+    """The aim of the short list, in words."""
+    workers, readers, nodes = SHORT_PLAN
+    return (f"{workers} x {readers} with {nodes} nodes takes at most {SHORT_SECONDS} s for "
+            f"{postings:,} postings")
+
+
+def short_took(best, postings):
+    """What the short list took, in words."""
+    took = ("took too long and was ended" if best.wall is None else
+            f"took {best.wall:.2f} s, and {best.processor:.2f} s of processor time")
+    return (f"{SHORT['lines']:,} usage lines of {SHORT['works']:,} works and {SHORT['parties']:,} "
+            f"parties, {postings:,} postings, {SHORT_PLAN[2]} nodes: {best.name} {took}.")
+
+
+def is_soon(best):
+    """Whether the short list took no more than it may."""
+    return best.wall is not None and best.wall <= SHORT_SECONDS
+
+
+def is_one_text(bests):
+    """Whether all of these that ended gave the same statements."""
+    return len({best.digest for best in bests if best.digest}) <= 1
+
+
 def measure(a, plain_program):
     """The plain program and each plan, run in turn beside the loops."""
     with tempfile.TemporaryDirectory() as folder:
@@ -90,6 +124,23 @@ def measure(a, plain_program):
                 for best in (beside, *ours.values()):
                     best.run(folder, a.seconds)
     return beside, ours
+
+
+def measure_short(a, plain_program):
+    """The plain program and the program over the short list, and how many postings it comes to.
+
+    The plain program runs once, before the loops, for the statements alone.
+    """
+    with tempfile.TemporaryDirectory() as folder:
+        files = make_data(argparse.Namespace(**SHORT, seed=a.seed), SHORT["parties"], folder)
+        beside = Best("the plain program", [plain_program, *with_plan(files, 1, 1, 64)])
+        beside.run(folder, a.seconds)
+        postings = postings_in(os.path.join(folder, "out"))
+        ours = Best("{} x {}".format(*SHORT_PLAN), [a.program, *with_plan(files, *SHORT_PLAN)])
+        with loops(a.loops):
+            for _ in range(a.repeats):
+                ours.run(folder, a.seconds)
+    return beside, ours, postings
 
 
 def options():
@@ -110,7 +161,9 @@ def options():
 def main():
     a = options()
     before = load()
-    beside, ours = measure(a, plain.build())
+    plain_program = plain.build()
+    beside, ours = measure(a, plain_program)
+    short_beside, short, postings = measure_short(a, plain_program)
     print(f"{time.strftime('%Y-%m-%d')}, commit {commit()}, {machine()}, load {before:.1f} before.")
     print(f"{a.lines:,} usage lines of {a.works:,} works and {a.parties:,} parties, 64 nodes, "
           f"best of {a.repeats} beside {a.loops} busy loops.\n")
@@ -118,11 +171,13 @@ def main():
     print("|---|---|---|---|")
     for best in (*ours.values(), beside):
         print(row_of(cells_of(best, beside)))
+    print("\n" + short_took(short, postings))
     print("\n" + row_of(["aim", "met"]) + "\n|---|---|")
     for plan, most in PLANS.items():
         aim = "{} x {} takes at most {} times as long as the plain program".format(*plan, most)
         print(row_of([aim, "yes" if met(ours[plan], beside, most) else "no"]))
-    if len({best.digest for best in (beside, *ours.values()) if best.digest}) > 1:
+    print(row_of([short_aim(postings), "yes" if is_soon(short) else "no"]))
+    if not (is_one_text([beside, *ours.values()]) and is_one_text([short_beside, short])):
         print("\nthe statements differ")
         return 1
     return 0

@@ -1,7 +1,8 @@
 """What is told of runs beside busy loops, and that the loops end."""
 import unittest
 
-from bench.busy import Best, cells_of, loops, met
+from bench.busy import (
+    Best, cells_of, is_one_text, is_soon, loops, met, short_aim, short_took)
 
 
 def best(wall, processor=None):
@@ -33,6 +34,24 @@ class Busy(unittest.TestCase):
         self.assertTrue(met(best(4.5), best(1.5), 3))
         self.assertFalse(met(best(4.6), best(1.5), 3))
         self.assertFalse(met(best(None), best(1.5), 3))
+
+    def test_the_short_list_is_told_of_with_its_postings(self):
+        self.assertEqual(short_took(best(0.5, 0.25), 8896),
+                         "4,000 usage lines of 500 works and 50 parties, 8,896 postings, 3 nodes: "
+                         "1 x 1 took 0.50 s, and 0.25 s of processor time.")
+        self.assertTrue(short_took(best(None), 8896).endswith("1 x 1 took too long and was ended."))
+        self.assertEqual(short_aim(8896),
+                         "1 x 4 with 3 nodes takes at most 5 s for 8,896 postings")
+
+    def test_the_short_list_may_take_five_seconds(self):
+        self.assertEqual([is_soon(best(wall)) for wall in (5.0, 5.1, None)], [True, False, False])
+
+    def test_statements_are_those_of_the_runs_that_ended(self):
+        ours, theirs, none = best(1.5), best(1.5), best(None)
+        ours.digest, theirs.digest = "a", "a"
+        self.assertTrue(is_one_text([ours, theirs, none]))
+        theirs.digest = "b"
+        self.assertFalse(is_one_text([ours, theirs, none]))
 
 
 if __name__ == "__main__":

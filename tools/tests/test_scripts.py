@@ -86,6 +86,16 @@ class Bench(unittest.TestCase):
     def test_a_row_of_the_table_is_markdown(self):
         self.assertEqual(bench.row_of(["1 x 1", "0.50"]), "| 1 x 1 | 0.50 |")
 
+    def test_a_plan_has_the_times_of_both_and_what_their_processors_took(self):
+        ours, pool = bench.Row("ours", []), bench.Row("pool", [])
+        ours.wall, ours.processor, ours.memory = 3.0, 4.5, 113.4
+        pool.wall, pool.processor = 2.0, 3.25
+        cells = bench.cells_of(ours, pool)
+        self.assertEqual(cells, ["3.00", "2.00", "1.50", "4.50, 3.25", "113"])
+        self.assertEqual(bench.cells_alone(ours), ["3.00", "", "", "4.50", "113"])
+        self.assertEqual(len(bench.heads_of(16_000)), len(cells))
+        self.assertEqual(len(bench.cells_alone(ours)), len(cells))
+
     def test_a_plan_stands_in_its_options(self):
         self.assertEqual(bench.with_plan(["run"], 4, 2, 64), [
             "run", "--workers", "4", "--readers", "2", "--nodes", "64"])

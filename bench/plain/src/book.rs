@@ -1,8 +1,8 @@
 //! The postings of each account, gathered on one thread or on several.
 
-use crate::bells::Bells;
 use crate::linked::{self, Backoff, Receiver, Table, Took};
 use crate::pool::{self, Pool};
+use crate::signals::{ReaderSignals, Signals, Turn};
 use crate::split::{BLOCK, Input, Scratch};
 use std::mem::{replace, take};
 use std::sync::OnceLock;
@@ -33,8 +33,10 @@ pub enum Mode {
     Linked,
     /// The same with one table of nodes for all queues.
     Pool,
-    /// The same again, and a bit for each account that tells its reader where something may wait.
-    Bells,
+    /// The same again, and rings in which workers name to readers the accounts that got something.
+    Rings,
+    /// The same, and threads that wait sleep until they are woken.
+    Parked,
 }
 
 impl Mode {
@@ -46,7 +48,8 @@ impl Mode {
             "batches" => Mode::Batches,
             "linked" => Mode::Linked,
             "pool" => Mode::Pool,
-            "bells" => Mode::Bells,
+            "rings" => Mode::Rings,
+            "parked" => Mode::Parked,
             _ => return None,
         })
     }
@@ -102,7 +105,8 @@ impl Job<'_> {
             Mode::Batches => self.batches(plan),
             Mode::Linked => self.linked(plan),
             Mode::Pool => self.pool(plan, None),
-            Mode::Bells => self.pool(plan, Some(&Bells::new(self.accounts(), plan.readers))),
+            Mode::Rings => self.pool(plan, Some(&Signals::open(plan.workers, plan.readers, plan.nodes, false))),
+            Mode::Parked => self.pool(plan, Some(&Signals::open(plan.workers, plan.readers, plan.nodes, true))),
         }
     }
 
@@ -232,9 +236,9 @@ impl Job<'_> {
         self.queues(plan, |a| table.receiver(a), senders, None)
     }
 
-    fn pool(&self, plan: &Plan, bells: Option<&Bells>) -> Book {
+    fn pool(&self, plan: &Plan, signals: Option<&Signals>) -> Book {
         let pool = &Pool::open(self.accounts(), plan.workers, plan.nodes);
-        self.queues(plan, |a| pool.receiver(a), |worker| pool.sender(worker), bells)
+        self.queues(plan, |a| pool.receiver(a), |worker| pool.sender(worker), signals)
     }
 
     fn queues<'q, S: Post>(
@@ -242,7 +246,7 @@ impl Job<'_> {
         plan: &Plan,
         receiver: impl Fn(usize) -> Receiver<'q> + Sync,
         sender: impl Fn(usize) -> S + Sync,
-        bells: Option<&Bells>,
+        signals: Option<&Signals>,
     ) -> Book {
         let drawn = &AtomicUsize::new(0);
         let (receiver, sender) = (&receiver, &sender);
@@ -253,27 +257,31 @@ impl Job<'_> {
                     s.spawn(move || {
                         let own = (0..self.accounts()).skip(r).step_by(readers);
                         let own = own.map(|a| (a, receiver(a))).collect();
-                        Serving::new(self.accounts(), own, workers).serve(bells.map(|bells| (bells, r)))
+                        Serving::new(self.accounts(), own, plan).serve(signals.map(|signals| signals.reader(r)))
                     })
                 })
                 .collect();
             for worker in 0..workers {
                 s.spawn(move || {
                     let mut sender = sender(worker);
+                    let mut signals = signals.map(|signals| signals.worker(worker));
                     self.work(drawn, |account, p| {
-                        let mut turn = Backoff::new();
+                        let mut turn = Turn::new();
                         while !sender.try_send(account as usize, p.line as u64, p.amount) {
-                            turn.wait();
+                            match &mut signals {
+                                None => turn.wait(),
+                                Some(signals) => signals.wait(&mut turn),
+                            }
                         }
-                        if let Some(bells) = bells {
-                            bells.ring(account as usize);
+                        if let Some(signals) = &mut signals {
+                            signals.tell(account as usize, &turn);
                         }
                     });
                     for account in 0..self.accounts() {
                         sender.end(account);
-                        if let Some(bells) = bells {
-                            bells.ring(account);
-                        }
+                    }
+                    if let Some(signals) = &mut signals {
+                        signals.end();
                     }
                 });
             }
@@ -285,17 +293,19 @@ impl Job<'_> {
 /// A reader at work: its mailboxes, what it took, and how many end marks are to come.
 struct Serving<'q> {
     own: Vec<(usize, Receiver<'q>)>,
+    readers: usize,
     book: Book,
     ends: usize,
 }
 
 impl<'q> Serving<'q> {
-    fn new(accounts: usize, own: Vec<(usize, Receiver<'q>)>, workers: usize) -> Serving<'q> {
-        let ends = own.len() * workers;
-        Serving { own, book: vec![Vec::new(); accounts], ends }
+    fn new(accounts: usize, own: Vec<(usize, Receiver<'q>)>, plan: &Plan) -> Serving<'q> {
+        let ends = own.len() * plan.workers;
+        Serving { own, readers: plan.readers, book: vec![Vec::new(); accounts], ends }
     }
 
     /// Takes from a mailbox until it gives nothing. Whether it gave anything.
+    #[inline]
     fn take_from(&mut self, place: usize) -> bool {
         let (account, receiver) = &mut self.own[place];
         let mut took = false;
@@ -312,20 +322,40 @@ impl<'q> Serving<'q> {
         took
     }
 
-    /// Takes from each mailbox in turn, or from those whose bell was rung, up to the last end mark.
-    fn serve(mut self, bells: Option<(&Bells, usize)>) -> Book {
+    /// Takes from each mailbox in turn. Whether any gave anything.
+    fn take_from_all(&mut self) -> bool {
+        let mut took = false;
+        for place in 0..self.own.len() {
+            took |= self.take_from(place);
+        }
+        took
+    }
+
+    /// Takes from each mailbox in turn, or where there are signals from those that workers name, up to the last end mark.
+    fn serve(self, signals: Option<ReaderSignals>) -> Book {
+        match signals {
+            None => self.serve_in_turn(),
+            Some(signals) => self.serve_named(signals),
+        }
+    }
+
+    fn serve_in_turn(mut self) -> Book {
         let mut turn = Backoff::new();
         while self.ends > 0 {
+            if self.take_from_all() { turn.reset() } else { turn.wait() }
+        }
+        in_order(self.book)
+    }
+
+    fn serve_named(mut self, mut signals: ReaderSignals) -> Book {
+        while self.ends > 0 {
+            let is_everywhere = signals.must_look_everywhere();
             let mut took = false;
-            match bells {
-                None => {
-                    for place in 0..self.own.len() {
-                        took |= self.take_from(place);
-                    }
-                }
-                Some((bells, reader)) => bells.answer(reader, |place| took |= self.take_from(place)),
+            signals.answer(|account| took |= self.take_from(account / self.readers));
+            if is_everywhere {
+                took |= self.take_from_all();
             }
-            if took { turn.reset() } else { turn.wait() }
+            if took { signals.stop_waiting() } else { signals.wait() }
         }
         in_order(self.book)
     }

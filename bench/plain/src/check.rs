@@ -275,7 +275,7 @@ fn usage(sheet: &mut Sheet, bytes: &[u8]) {
     let header = ["usage", "work", "territory", "right", "amount"];
     let many = (6, "there are more than 1000000 usage lines".into());
     let text = |field: &[u8]| {
-        (1..=64).contains(&field.len()) && field.iter().all(|b| (b' '..=b'~').contains(&b))
+        (1..=64).contains(&field.len()) && field.iter().all(|b| (b' '..=b'~').contains(b))
     };
     let count = table(sheet, bytes, &header, 1_000_000, many, |row| {
         if !text(row[0]) || !text(row[1]) {

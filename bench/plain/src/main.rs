@@ -1,9 +1,9 @@
 //! `royalty_run run`, `explain` and `check` once more, as one would write them by hand in Rust, with no proofs. The words and the
-//! text that comes out are the same. And `merge`, with the paths of statement texts behind it, merges them, as `merge_statements` does. `--mode` says how the book is filled: one (where there is no such word), threads, channels,
-//! batches, linked, pool or bells. With `--times` it says how long each phase took. With `--whole` the usage list may have any number
-//! of lines, and 4,294,967,295 bytes.
+//! text that comes out are the same. And `merge`, with the paths of statement texts behind it, merges them, as
+//! `merge_statements` does. `--mode` says how the book is filled: one (where there is no such word), threads, channels, batches,
+//! linked, pool, rings or parked. With `--times` it says how long each phase took. With `--whole` the usage list may have any
+//! number of lines, and 4,294,967,295 bytes.
 
-mod bells;
 mod book;
 mod check;
 mod cwr;
@@ -13,6 +13,7 @@ mod merge;
 mod payees;
 mod pool;
 mod rows;
+mod signals;
 mod split;
 mod text;
 mod tis;
@@ -41,8 +42,11 @@ const LARGEST_LIST: Most = Most { bytes: LARGEST_FILE, lines: 1_000_000 };
 /// The list of a month: places in it are kept in 32 bits.
 const WHOLE_LIST: Most = Most { bytes: u32::MAX as u64, lines: u64::MAX };
 
-/// The values of the six options that have to be there, the path of the payees, whether times are told, the mode, and the limits of the list.
-fn words() -> Option<(Vec<String>, Option<String>, bool, Mode, Most)> {
+/// The values of the six options that have to be there, the path of the payees, whether times are told, the mode, and the limits
+/// of the list.
+type Words = (Vec<String>, Option<String>, bool, Mode, Most);
+
+fn words() -> Option<Words> {
     let names = ["--tis", "--cwr", "--usage", "--workers", "--readers", "--nodes", "--payees"];
     let mut values: Vec<Option<String>> = vec![None; names.len()];
     let (mut times, mut mode, mut most) = (false, Mode::One, LARGEST_LIST);
