@@ -54,7 +54,9 @@ check 'a party with two payees' 1 '' 'royalty_run: payee fault 3 at row 2\n' "$p
 check 'two tables of payees' 2 '' '*' "$program" run "${files[@]}" --payees payees.csv --payees payees.csv "${plan[@]}"
 check 'help' 0 '*' '' "$program" --help
 kit=$(rt version)
-check 'the version' 0 "royalty_run 0.1.0\nlogic ${kit##* logic }\n" '' "$program" --version
+logic="logic ${kit##* logic }"
+! grep -q 'not proved, for trials' "$program" || logic='not proved, for trials'
+check 'the version' 0 "royalty_run 0.1.0\n$logic\n" '' "$program" --version
 check 'a bad table' 1 '' 'royalty_run: tis fault 1 at row 0\n' "$program" run --tis usage.csv --cwr works.cwr --usage usage.csv "${plan[@]}"
 facts='territories.csv: territories: 22
 works.cwr: works with a registration in force: 3
@@ -155,6 +157,16 @@ check 'an output in no directory' 4 '' 'royalty_run: cannot write absent/all.csv
 check 'an output that is a directory' 4 '' 'royalty_run: cannot write kept\n' "$program" run "${files[@]}" "${plan[@]}" --output kept
 ln -s all.csv kept/link.csv
 check 'an output that is a link' 4 '' 'royalty_run: cannot write kept/link.csv\n' "$program" run "${files[@]}" "${plan[@]}" --output kept/link.csv
+cp usage.csv before.csv
+ln usage.csv kept/hard.csv
+ln -s ../usage.csv kept/soft.csv
+for path in territories.csv works.cwr usage.csv ./usage.csv kept/../usage.csv kept/hard.csv kept/soft.csv; do
+    check "statements in place of the input $path" 2 '' "royalty_run: $path is an input, which the output would replace\n" "$program" run "${files[@]}" "${plan[@]}" --output "$path"
+done
+check 'statements in place of the payees' 2 '' 'royalty_run: ./payees.csv is an input, which the output would replace\n' "$program" run "${files[@]}" --payees payees.csv "${plan[@]}" --output ./payees.csv
+check 'statements in place of an input that is not there' 2 '' 'royalty_run: absent is an input, which the output would replace\n' "$program" run --tis absent --cwr works.cwr --usage usage.csv "${plan[@]}" --output absent
+holds 'statements in place of an input' usage.csv before.csv
+rm kept/hard.csv kept/soft.csv
 check 'an output that is a device' 4 '' 'royalty_run: cannot write /dev/null\n' "$program" run "${files[@]}" "${plan[@]}" --output /dev/null
 check 'two outputs' 2 '' '*' "$program" run "${files[@]}" "${plan[@]}" --output kept/one.csv --output kept/two.csv
 lies 'outputs that are refused' kept all.csv link.csv

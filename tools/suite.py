@@ -18,7 +18,7 @@ from tools import unproved
 from tools.crates import ROOT, below, crates, has_tests, is_program
 
 # The program, and the programs that scripts run.
-PROGRAM = "royalty_run"
+PROGRAM = unproved.PROGRAM
 REFUSED_CALLS = "refusal_runs"
 REPLAY = "queue_replay"
 

@@ -6,7 +6,7 @@ use Rattle.std.specs.Result.{IfErr, IfOk, IsOk, OnErr, OnOk}
 use Rattle.royalty_program.specs.Status.{IsOfCheck, status_of}
 use Rattle.std.specs.declared.io.ErrorKind.{ErrorKind}
 use Rattle.royalty_program.specs.declared.failure.Failure.{Failure}
-use Rattle.royalty_program.specs.declared.failure.Failure.TheVariants.{Words, NotText, Pairs, Input, Row, Room, File, Output, Target, Statement, Many, Changed}
+use Rattle.royalty_program.specs.declared.failure.Failure.TheVariants.{Words, NotText, Pairs, Input, Row, Room, File, Output, Target, Statement, Many, Changed, Replaces}
 
 -- a failure has no status of an answer
 pub fails_with : (failure : Failure) → status_of failure ≢ 0
@@ -22,6 +22,7 @@ fails_with (Target path) is = cc is
 fails_with (Statement fault path) is = cc is
 fails_with Many is = cc is
 fails_with (Changed path) is = cc is
+fails_with (Replaces path) is = cc is
 
 -- and that of a check no status of a report
 pub check_fails_with : (holds : List ℕ → List ℕ → Type 0) (refuses : List ℕ → ErrorKind → Type 0) (words : List (List ℕ)) (failure : Failure) → IsOfCheck holds refuses words failure → status_of failure ≢ 1
@@ -37,6 +38,7 @@ check_fails_with holds refuses words (Target path) is = λ same. cc same
 check_fails_with holds refuses words (Statement fault path) is = λ same. is.0
 check_fails_with holds refuses words Many is = λ same. is.0
 check_fails_with holds refuses words (Changed path) is = λ same. cc same
+check_fails_with holds refuses words (Replaces path) is = λ same. cc same
 
 -- what was printed stays as it is sent on
 pub sent_on : (old mid new : Option (List ℕ)) (text : List ℕ) → Appends old mid text → Keeps mid new → Appends old new text

@@ -9,7 +9,8 @@ use Rattle.clap.specs.declared.error.Error.{Error}
 use Rattle.clap.specs.declared.error.kind.ErrorKind.TheVariants as kinds
 use Rattle.pair_split.specs.Pair.{word_at}
 use Rattle.royalty_program.specs.Answered.{AskForOutput, IsDelivered, NameOutput}
-use Rattle.royalty_program.specs.Asked.{AskForHelp, IsMergeError, path_if_given}
+use Rattle.royalty_program.specs.Asked.{AskForHelp, IsMergeError, inputs_given, path_if_given}
+use Rattle.royalty_program.specs.InputPaths.{InputPaths, IsApart}
 use Rattle.royalty_program.specs.MergeCommand.{merge_app}
 use Rattle.royalty_program.specs.RunCommand.{run_app}
 use Rattle.royalty_program.specs.Status.{IsOfMerge}
@@ -38,6 +39,11 @@ pub unmerged_words : (gives : List ℕ → List ℕ → Type 0) (words : List (L
 unmerged_words gives words error not_memory (inl is) = inr (λ accepted. not_memory (accepted_is_memory merge_app words error is accepted))
 unmerged_words gives words error not_memory (inr wrong) = inl wrong
 
+-- where no output is named, none is an input
+apart_from : (paths : InputPaths) (output : Option (List ℕ)) → ((path : List ℕ) → ¬ (output ≡ Some path)) → IsApart paths output
+apart_from paths None none = tt
+apart_from paths (Some path) none = absurd (none path refl)
+
 module _ (keeps : List ℕ → Option (List ℕ) → Type 0) (words : List (List ℕ)) where
   -- a text stays where it went as the output is seen through
   pub delivered_on : (old mid new : Option (List ℕ)) (text : List ℕ) → IsDelivered keeps words old mid text → Keeps mid new → IsDelivered keeps words old new text
@@ -47,11 +53,16 @@ module _ (keeps : List ℕ → Option (List ℕ) → Type 0) (words : List (List
       | inr (path, named, has, same) ↦ inr (path, named, has, kept_on old mid new same kept)
     ];
     kept_if_named = λ path asks. ((went.kept_if_named path asks).0, kept_on old mid new (went.kept_if_named path asks).1 kept);
+    apart = went.apart;
   }
 
   -- words that ask for no output file are answered on standard output
   pub delivered_out : (old new : Option (List ℕ)) (text : List ℕ) → ((path : List ℕ) → ¬ AskForOutput words path) → Appends old new text → IsDelivered keeps words old new text
-  delivered_out old new text none added = record { printed_or_kept = inl added; kept_if_named = λ path asks. absurd (none path asks) }
+  delivered_out old new text none added = record {
+    printed_or_kept = inl added;
+    kept_if_named = λ path asks. absurd (none path asks);
+    apart = λ run. apart_from (inputs_given run_app (drop 1 words)) (path_if_given run_app (codes "output") (drop 1 words)) (λ path named. none path (inl (run, named)));
+  }
 
   -- no other words do
   pub no_output : ¬ (word_at words 1 ≡ codes "run") → ¬ (word_at words 1 ≡ codes "merge") → (path : List ℕ) → ¬ AskForOutput words path
@@ -67,17 +78,19 @@ module _ (keeps : List ℕ → Option (List ℕ) → Type 0) (words : List (List
   ]
 
   -- a run goes where its option says
-  pub delivered_run : (output : Option (List ℕ)) (old new : Option (List ℕ)) (text : List ℕ) → word_at words 1 ≡ codes "run" → output ≡ path_if_given run_app (codes "output") (drop 1 words)
-      → IsPut output keeps old new text → IsDelivered keeps words old new text
-  delivered_run None old new text command is put = delivered_out old new text
+  pub delivered_run : (paths : InputPaths) (output : Option (List ℕ)) (old new : Option (List ℕ)) (text : List ℕ) → word_at words 1 ≡ codes "run"
+      → paths ≡ inputs_given run_app (drop 1 words) → output ≡ path_if_given run_app (codes "output") (drop 1 words)
+      → IsApart paths output → IsPut output keeps old new text → IsDelivered keeps words old new text
+  delivered_run paths None old new text command of_words is apart put = delivered_out old new text
       (λ path asks. elim asks [ inl (run, named) ↦ cc | inr (merge, named) ↦ absurd (differ (sym command ∙ merge.command) refl) ])
       put
-  delivered_run (Some output) old new text command is put = record {
+  delivered_run paths (Some output) old new text command of_words is apart put = record {
     printed_or_kept = inr (output, inl (command, sym is), put.0, put.1);
     kept_if_named = λ path asks. elim asks [
       | inl (run, named) ↦ let same : output ≡ path = cc in (subst (λ (p : List ℕ). keeps p (Some text)) same put.0, put.1)
       | inr (merge, named) ↦ absurd (differ (sym command ∙ merge.command) refl)
     ];
+    apart = λ run. subst (λ (o : Option (List ℕ)). IsApart (inputs_given run_app (drop 1 words)) o) is (subst (λ (p : InputPaths). IsApart p (Some output)) of_words apart);
   }
 
   -- and so does a merge
@@ -92,6 +105,7 @@ module _ (keeps : List ℕ → Option (List ℕ) → Type 0) (words : List (List
       | inl (run, named) ↦ absurd (differ (sym command ∙ run.command) refl)
       | inr (merge, named) ↦ let same : output ≡ path = cc in (subst (λ (p : List ℕ). keeps p (Some text)) same put.0, put.1)
     ];
+    apart = λ run. absurd (differ (sym command ∙ run.command) refl);
   }
 
   -- a report goes to standard output

@@ -14,9 +14,9 @@ use Rattle.royalty_program.specs.Asked.{AreRunWords, IsDivision, inputs_given, n
 use Rattle.royalty_program.specs.CheckCommand.{check_app}
 use Rattle.royalty_program.specs.ExplainCommand.{explain_app}
 use Rattle.royalty_program.specs.Files.{AreStatementsOver, IsExplanationOver, IsReportOver}
-use Rattle.royalty_program.specs.Status.{FailFor, IsOfCheck, IsOfDivision, IsOfExplanation, IsOfMerge, IsOfNoInput, IsOfOutput, IsOfPaths, IsOfTexts, IsOfRun, IsRefusal, IsUnexplained, status_of}
+use Rattle.royalty_program.specs.Status.{FailFor, IsOfCheck, IsOfDivision, IsOfExplanation, IsOfMerge, IsOfNoInput, IsOfOutput, IsOfPaths, IsOfRunOutput, IsOfTexts, IsOfRun, IsRefusal, IsUnexplained, status_of}
 use Rattle.royalty_program.specs.declared.failure.Failure.{Failure}
-use Rattle.royalty_program.specs.declared.failure.Failure.TheVariants.{Words, NotText, Pairs, Input, Row, Room, File, Output, Target, Statement, Many, Changed}
+use Rattle.royalty_program.specs.declared.failure.Failure.TheVariants.{Words, NotText, Pairs, Input, Row, Room, File, Output, Target, Statement, Many, Changed, Replaces}
 use Rattle.royalty_program.specs.InputPaths.{InputPaths, paths_in}
 use Rattle.royalty_program.specs.declared.inputs.Inputs.{Inputs}
 use Rattle.royalty_program.specs.declared.explain_command.ExplainWords.{ExplainWords}
@@ -36,13 +36,13 @@ over_in_order holds words asked text r read over = subst (λ (paths : InputPaths
 
 -- a run fails for the files that its options name, and for that of its output
 pub fails_given : (holds : List ℕ → List ℕ → Type 0) (refuses : List ℕ → ErrorKind → Type 0) (words : List (List ℕ)) (asked : RunWords) → AreReadFrom words asked → (failure : Failure)
-    → IsOfOutput asked.output (IsOfPaths holds refuses (paths_in asked.inputs)) failure → IsOfRun holds refuses words failure
+    → IsOfRunOutput asked.output (IsOfPaths holds refuses (paths_in asked.inputs)) failure → IsOfRun holds refuses words failure
 fails_given holds refuses words asked read failure is = as_run failure is
   where
     given : (failure : Failure) → IsOfPaths holds refuses (paths_in asked.inputs) failure → IsOfPaths holds refuses (inputs_given run_app words) failure
     given failure is = subst (λ (paths : InputPaths). IsOfPaths holds refuses paths failure) read.inputs is
 
-    as_run : (failure : Failure) → IsOfOutput asked.output (IsOfPaths holds refuses (paths_in asked.inputs)) failure
+    as_run : (failure : Failure) → IsOfRunOutput asked.output (IsOfPaths holds refuses (paths_in asked.inputs)) failure
         → IsOfRun holds refuses words failure
     as_run (Words error) none = absurd none
     as_run NotText none = none
@@ -56,6 +56,7 @@ fails_given holds refuses words asked read failure is = as_run failure is
     as_run (Statement fault path) none = none
     as_run Many none = none
     as_run (Changed path) none = none
+    as_run (Replaces path) named = sym read.output ∙ ap (option_map string_bytes) named
 
 -- and so does a merge
 pub unmerged_given : (gives : List ℕ → List ℕ → Type 0) (words : List (List ℕ)) (asked : MergeWords) → AreMergeFrom words asked → (failure : Failure)
@@ -78,6 +79,7 @@ unmerged_given gives words asked read failure is = as_merge failure is
     as_merge (Statement fault path) is = given (Statement fault path) is
     as_merge Many is = given Many is
     as_merge (Changed path) is = given (Changed path) is
+    as_merge (Replaces path) none = none
 
 -- the merge is that of the paths that the words name
 pub merged_given : (gives : List ℕ → List ℕ → Type 0) (words : List (List ℕ)) (asked : MergeWords) (text : List ℕ) → AreMergeFrom words asked
@@ -107,6 +109,7 @@ as_unexplained holds refuses paths row (Target path) none = none
 as_unexplained holds refuses paths row (Statement fault path) none = none
 as_unexplained holds refuses paths row Many none = none
 as_unexplained holds refuses paths row (Changed path) none = none
+as_unexplained holds refuses paths row (Replaces path) none = none
 
 -- and its words fail for that
 pub unexplained_given : (holds : List ℕ → List ℕ → Type 0) (refuses : List ℕ → ErrorKind → Type 0) (words : List (List ℕ)) (asked : ExplainWords) → AreExplainedFrom words asked → (failure : Failure)
@@ -130,6 +133,7 @@ unexplained_given holds refuses words asked read failure is =
     as_asked (Statement fault path) none = none
     as_asked Many none = none
     as_asked (Changed path) none = none
+    as_asked (Replaces path) none = none
 
 -- a check reports on the paths that the options are given
 pub reported_given : (holds : List ℕ → List ℕ → Type 0) (words : List (List ℕ)) (inputs : Inputs) (sound : Bool) (text : List ℕ) → AreCheckedFrom words inputs
@@ -158,6 +162,7 @@ unchecked_given holds refuses words inputs read failure is none =
     as_asked (Statement fault path) is none = (is, none)
     as_asked Many is none = (is, none)
     as_asked (Changed path) is none = (is, none)
+    as_asked (Replaces path) is none = (is, none)
 
 -- how the program ends: an answer ends with 0, a report that tells of a fault with 1, both with 4 where the output refuses them, and a failure with its status
 pub ends_with : {T E : Type 0} (r : Result (Result T E × Bool) Failure) (status : ℕ) (holds gives : List ℕ → List ℕ → Type 0) (refuses : List ℕ → ErrorKind → Type 0) (words : List (List ℕ)) (mid new : Option (List ℕ))

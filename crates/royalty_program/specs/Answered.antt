@@ -13,7 +13,7 @@ use Rattle.royalty_program.specs.CheckCommand.{check_app}
 use Rattle.royalty_program.specs.ExplainCommand.{explain_app}
 use Rattle.royalty_program.specs.MergeCommand.{AreFewAndDifferent, merge_app}
 use Rattle.royalty_program.specs.MergeFiles.{IsMergeOver}
-use Rattle.royalty_program.specs.InputPaths.{paths_in}
+use Rattle.royalty_program.specs.InputPaths.{IsApart, paths_in}
 use Rattle.royalty_program.specs.Files.{AreStatementsOver, IsExplanationOver, IsReportOver}
 use Rattle.royalty_program.specs.declared.commands.Asked.{Asked}
 use Rattle.royalty_program.specs.declared.commands.Asked.TheVariants.{Check, Division, Explanation, Merge, Run}
@@ -143,7 +143,8 @@ AskForOutput words path =
     ⊎ (AskForMerge words × (path_if_given merge_app (codes "output") (drop 1 words) ≡ Some path))
 
 -- The text went to standard output, or it is kept in the file that the words name, and then nothing was printed. Only help is printed
--- although words name a file.
+-- although words name a file. The file that a run names is none of its inputs.
 pub record IsDelivered (keeps : List ℕ → Option (List ℕ) → Type 0) (words : List (List ℕ)) (before after : Option (List ℕ)) (text : List ℕ) : Type 0 where
   pub printed_or_kept : Appends before after text ⊎ ((path : List ℕ) × NameOutput words path × keeps path (Some text) × Keeps before after)
   pub kept_if_named : (path : List ℕ) → AskForOutput words path → keeps path (Some text) × Keeps before after
+  pub apart : AskForRun words → IsApart (inputs_given run_app (drop 1 words)) (path_if_given run_app (codes "output") (drop 1 words))

@@ -1,5 +1,5 @@
 -- The paths of the files of a run.
-use Rattle.std.specs.Prelude.{List, Option, string_bytes, ℕ}
+use Rattle.std.specs.Prelude.{◌≢◌, List, None, Option, Some, string_bytes, ℕ, ⊤}
 use Rattle.std.specs.Option.{option_map}
 use Rattle.royalty_program.specs.declared.inputs.Inputs.{Inputs}
 
@@ -18,3 +18,20 @@ paths_in inputs = record {
   cwr = string_bytes inputs.cwr;
   usage = string_bytes inputs.usage;
 }
+
+-- the path of no table of payees
+abbrev pub IsNotGiven : Option (List ℕ) → (path : List ℕ) → Type 0
+IsNotGiven None path = ⊤
+IsNotGiven (Some payees) path = path ≢ payees
+
+-- it is the path of no input
+pub record IsNoInput (paths : InputPaths) (path : List ℕ) : Type 0 where
+  pub tis : path ≢ paths.tis
+  pub payees : IsNotGiven paths.payees path
+  pub cwr : path ≢ paths.cwr
+  pub usage : path ≢ paths.usage
+
+-- nor is that of an output, where one is named
+abbrev pub IsApart : InputPaths → (output : Option (List ℕ)) → Type 0
+IsApart paths None = ⊤
+IsApart paths (Some path) = IsNoInput paths path

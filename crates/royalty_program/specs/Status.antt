@@ -27,13 +27,13 @@ use Rattle.royalty_program.specs.MergeCommand.{merge_app}
 use Rattle.royalty_program.specs.SplitCommand.{split_app}
 use Rattle.royalty_program.specs.MergeFiles.{AreTooMany, GivesFault, HasChanged, HoldsOf, IsFaultAt, IsFirstRefused}
 use Rattle.royalty_program.specs.declared.failure.Failure.{Failure}
-use Rattle.royalty_program.specs.declared.failure.Failure.TheVariants.{Words, NotText, Pairs, Input, Row, Room, File, Output, Target, Statement, Many, Changed}
+use Rattle.royalty_program.specs.declared.failure.Failure.TheVariants.{Words, NotText, Pairs, Input, Row, Room, File, Output, Target, Statement, Many, Changed, Replaces}
 use Rattle.run_inputs.specs.declared.fault.Fault.{Fault}
 use Rattle.run_inputs.specs.declared.fault.Fault.TheVariants as input
 use Rattle.pair_split.specs.declared.pair_fault.PairFault.{PairFault}
 use Rattle.pair_split.specs.declared.pair_fault.PairFault.TheVariants as fault
 
--- 1 for an input or a text of statements that is refused, 2 for words that are, 3 for lack of memory, 4 for a file that cannot be
+-- 1 for an input or a text of statements that is refused, 2 for words that are, also since the output is an input, 3 for lack of memory, 4 for a file that cannot be
 -- read or written, or changed meanwhile, and for an output that cannot be written
 abbrev pub status_of : Failure → ℕ
 status_of (Words error) = 2
@@ -48,6 +48,7 @@ status_of (Target path) = 4
 status_of (Statement fault path) = 1
 status_of Many = 1
 status_of (Changed path) = 4
+status_of (Replaces path) = 2
 
 -- the status says that a report tells of a fault, which is no failure
 abbrev pub IsReportOfFault : (status : ℕ) → List (List ℕ) → Type 0
@@ -83,6 +84,7 @@ text_of (Statement f path) =
     Some (codes "royalty_run: statement fault " ++ decimal (statement.number_of_fault f) ++ codes " at row " ++ decimal (statement.row_of_fault f) ++ codes " of " ++ string_bytes path ++ codes "\n")
 text_of Many = Some (codes "royalty_run: the statements are of more than 1000000000000000000 usage lines\n")
 text_of (Changed path) = Some (codes "royalty_run: " ++ string_bytes path ++ codes " changed while it was read\n")
+text_of (Replaces path) = Some (codes "royalty_run: " ++ string_bytes path ++ codes " is an input, which the output would replace\n")
 
 -- words and inputs are refused for what is wrong with them: lack of memory is a failure of its own, and help is none
 abbrev pub IsRefusal : Failure → Type 0
@@ -97,6 +99,7 @@ IsRefusal (Target path) = ⊤
 IsRefusal (Statement f path) = ⊤
 IsRefusal Many = ⊤
 IsRefusal (Changed path) = ⊤
+IsRefusal (Replaces path) = ⊤
 IsRefusal _ = ⊥
 
 -- lack of memory is no failure of a file, which any other error leaves unread
@@ -151,10 +154,16 @@ abbrev pub IsOfOutput : (output : Option (String Global)) → (Failure → Type 
 IsOfOutput output IsOf (Target path) = output ≡ Some path
 IsOfOutput output IsOf failure = IsOf failure
 
--- and the words of a run fail for that, for the file of their output, or for themselves where clap does not accept them
+-- that of a run is no input either
+abbrev pub IsOfRunOutput : (output : Option (String Global)) → (Failure → Type 0) → Failure → Type 0
+IsOfRunOutput output IsOf (Replaces path) = output ≡ Some path
+IsOfRunOutput output IsOf failure = IsOfOutput output IsOf failure
+
+-- and the words of a run fail for that, for the file of their output, which is an input or cannot be written, or for themselves where clap does not accept them
 abbrev pub IsOfRun : (holds : List ℕ → List ℕ → Type 0) (refuses : List ℕ → io.ErrorKind → Type 0) → List (List ℕ) → Failure → Type 0
 IsOfRun holds refuses words (Words error) = ¬ AreAccepted run_app words
 IsOfRun holds refuses words (Target path) = path_if_given run_app (codes "output") words ≡ Some (string_bytes path)
+IsOfRun holds refuses words (Replaces path) = path_if_given run_app (codes "output") words ≡ Some (string_bytes path)
 IsOfRun holds refuses words failure =
     IsOfPaths holds refuses (inputs_given run_app words) failure
 

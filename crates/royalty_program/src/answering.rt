@@ -1,12 +1,13 @@
 //! What the program does with its words, and the status that it answers.
 
-ghost use Rattle.std.specs.Prelude.{◌≡◌, ◌≢◌, ◌≤◌, ◌⊎◌, ℕ, List, true, false, IfOk, IfErr, IsOk, OnErr, OnOk, codes, drop, if◌then◌else◌, map, string_bytes};
+ghost use Rattle.std.specs.Prelude.{◌≡◌, ◌≢◌, ◌≤◌, ◌⊎◌, ℕ, List, None, true, false, IfOk, IfErr, IsOk, OnErr, OnOk, codes, drop, if◌then◌else◌, map, string_bytes};
 ghost use Rattle.std.specs.Io.KnownBytes.{Appends, Keeps};
-ghost use Rattle.royalty_program.specs.Asked.{AreRun, IsDivision};
+ghost use Rattle.royalty_program.specs.Asked.{AreRun, IsDivision, path_if_given};
 ghost use Rattle.royalty_program.specs.Answered.{IsAnswered, IsDelivered, NameOutput};
 ghost use Rattle.royalty_program.specs.Files.{for_any_error, on_disk};
 ghost use Rattle.royalty_program.specs.MergeFiles.{any_text};
 ghost use Rattle.royalty_program.specs.Targets.{IsLeftOrHas, in_any_file};
+ghost use Rattle.royalty_program.specs.RunCommand.{run_app};
 ghost use Rattle.royalty_program.specs.Status.{FailFor, IsOfCheck, IsOfDivision, IsOfExplanation, IsOfMerge, IsOfRun, IsRefusal, IsReportOfFault, IsStatusOfSilence, failure_of_kind, status_of};
 ghost use Rattle.royalty_program.specs.declared.failure.Failure.{Failure};
 ghost use Rattle.royalty_program.specs.declared.failure.Failure.TheVariants.{Output, Room};
@@ -71,7 +72,7 @@ pub fn program<R: Files + Threads + Wait + Sync, W: Write, E: Write>(
         × IsAnswered on_disk any_text (map string_bytes words.now) false text }
     ensures quiet { (result ≡ 0) ⊎ IsReportOfFault result (map string_bytes words.now) → err.new ≡ err.old }
     ensures silent { IsStatusOfSilence result (map string_bytes words.now) → out.new ≡ out.old }
-    ensures accepted { AreRun (map string_bytes words.now) → result ≢ 2 }
+    ensures accepted { AreRun (map string_bytes words.now) → path_if_given run_app (codes "output") (drop 1 (map string_bytes words.now)) ≡ None → result ≢ 2 }
     ensures failed { result ≢ 0 → ¬ IsReportOfFault result (map string_bytes words.now) → (failure : Failure) × (result ≡ status_of failure)
         × ((failure ≡ Output) ⊎ FailFor on_disk any_text for_any_error (map string_bytes words.now) failure) }
 {
@@ -100,10 +101,12 @@ fn end<W: Write, E: Write>(
     }
 }
 
-/// Prints the rows of a division, the statements of a run, merged statements, the explanation of a
-/// usage line or a report over these files, or help; or keeps statements in the file that the words
-/// name. Answers whether no report tells of a fault.
-fn answer<R: Threads + Wait + Sync, S: Source, T: Target, W: Write>(
+/// Does what the words ask for over any files: `program` is this over those of the system.
+///
+/// It prints the rows of a division, the statements of a run, merged statements, the explanation of
+/// a usage line or a report, or help; or keeps statements in the file that the words name. Answers
+/// whether no report tells of a fault.
+pub fn answer<R: Threads + Wait + Sync, S: Source, T: Target, W: Write>(
     rt: &R,
     alloc: Global,
     files: &S,

@@ -39,6 +39,8 @@ pub enum Failure {
     Many,
     /// The file of this path changed between two readings.
     Changed(String),
+    /// The statements of a run were to go to this path, which an input has too.
+    Replaces(String),
 }
 
 impl fmt::Display for Failure {
@@ -79,6 +81,10 @@ impl fmt::Display for Failure {
             Failure::Changed(path) => {
                 write!(f, "royalty_run: {path} changed while it was read\n")
             }
+            Failure::Replaces(path) => write!(
+                f,
+                "royalty_run: {path} is an input, which the output would replace\n"
+            ),
         }
     }
 }
@@ -157,7 +163,11 @@ impl Failure {
     {
         match self {
             Failure::Input(_) | Failure::Statement { .. } | Failure::Many => 1,
-            Failure::Words(_) | Failure::NotText | Failure::Pairs(_) | Failure::Row(_) => 2,
+            Failure::Words(_)
+            | Failure::NotText
+            | Failure::Pairs(_)
+            | Failure::Row(_)
+            | Failure::Replaces(_) => 2,
             Failure::Room => 3,
             Failure::File(_) | Failure::Output | Failure::Target(_) | Failure::Changed(_) => 4,
         }

@@ -1,13 +1,13 @@
 //! A run, an explanation and a report over files.
 
 ghost use Rattle.std.specs.Io.KnownBytes.{Appends};
-ghost use Rattle.std.specs.Prelude.{◌≡◌, ℕ, List, [], Option, IfOk, IfErr, IfSome, IfNone, IsSome, OnErr, OnOk, string_bytes, unwrap_or};
+ghost use Rattle.std.specs.Prelude.{◌≡◌, ℕ, List, [], false, Option, IfOk, IfErr, IfSome, IfNone, IsSome, OnErr, OnOk, string_bytes, unwrap_or};
 ghost use Rattle.std.specs.Option.{option_map};
 ghost use Rattle.check_inputs.specs.Checked.{IsReportOn, files_of, path_if_given, paths_of};
 ghost use Rattle.royalty_program.specs.Files.{AreRead, AreStatementsOver, HaveNoFaultOver, HoldsIfGiven, IsExplanationOver, IsReportOver, paths_at};
-ghost use Rattle.royalty_program.specs.InputPaths.{paths_in};
+ghost use Rattle.royalty_program.specs.InputPaths.{IsApart, IsNoInput, paths_in};
 ghost use Rattle.royalty_program.specs.declared.failure.Failure.TheVariants.{Room};
-ghost use Rattle.royalty_program.specs.Status.{IsOfFile, IsOfNoInput, IsOfOutput, IsOfPaths, IsRefusal, IsUnexplained};
+ghost use Rattle.royalty_program.specs.Status.{IsOfFile, IsOfNoInput, IsOfPaths, IsOfRunOutput, IsRefusal, IsUnexplained};
 ghost use Rattle.royalty_program.specs.Targets.{IsLeftOrHas, IsPut};
 
 use crate::explain_command::ExplainWords;
@@ -57,7 +57,24 @@ pub fn settle_files<R: Threads + Wait + Sync, S: Source, W: Write>(
     }
 }
 
-/// The same into the file of a path: whole, or that is as it was.
+/// Whether a path is that of an input, by whatever name.
+fn is_input<T: Target>(target: &T, inputs: &Inputs, path: &str) -> io::Result<bool>
+    ensures none { IfOk result (λ is_input. is_input ≡ false → IsNoInput (paths_in inputs.now) path.now) }
+{
+    if let Some(payees) = &inputs.payees
+        && target.is_one_file(path, payees.as_str())?
+    {
+        return Ok(true);
+    }
+    Ok(
+        target.is_one_file(path, inputs.tis.as_str())?
+            || target.is_one_file(path, inputs.cwr.as_str())?
+            || target.is_one_file(path, inputs.usage.as_str())?,
+    )
+}
+
+/// The same into the file of a path: whole, or that is as it was. A path that is an input's is
+/// refused before anything is read.
 fn settle_kept<R: Threads + Wait + Sync, S: Source, T: Target>(
     rt: &R,
     alloc: Global,
@@ -68,11 +85,17 @@ fn settle_kept<R: Threads + Wait + Sync, S: Source, T: Target>(
 ) -> Result<(), Failure>
     ensures statements { IfOk result (λ _. (text : List ℕ) × T.keeps target.new (string_bytes path) (Some text)
         × AreStatementsOver (S.holds files.now) (paths_in asked.inputs) text) }
+    ensures apart { IfOk result (λ _. IsNoInput (paths_in asked.inputs) (string_bytes path)) }
     ensures failure { IfErr result IsRefusal }
-    ensures files { IfErr result (IsOfOutput (Some path) (IsOfPaths (S.holds files.now) (S.refuses files.now) (paths_in asked.inputs))) }
+    ensures files { IfErr result (IsOfRunOutput (Some path) (IsOfPaths (S.holds files.now) (S.refuses files.now) (paths_in asked.inputs))) }
     ensures left { OnErr result (IsLeftOrHas (T.keeps target.old (string_bytes path)) (T.keeps target.new (string_bytes path))
         (AreStatementsOver (S.holds files.now) (paths_in asked.inputs))) }
 {
+    match is_input(target, &asked.inputs, path.as_str()) {
+        Ok(false) => {}
+        Ok(true) => return Err(Failure::Replaces(path)),
+        Err(error) => return Err(unkept(error.kind(), path)),
+    }
     let mut draft = match target.begin(alloc, path.as_str()) {
         Ok(draft) => draft,
         Err(error) => return Err(unkept(error.kind(), path)),
@@ -92,8 +115,9 @@ pub fn settle_out<R: Threads + Wait + Sync, S: Source, T: Target, W: Write>(
 ) -> Result<io::Result<()>, Failure>
     ensures statements { IfOk result (λ printed. OnOk printed ((text : List ℕ) × IsPut (option_map string_bytes asked.output) (T.keeps target.new) (W.contents out.old) (W.contents out.new) text
         × AreStatementsOver (S.holds files.now) (paths_in asked.inputs) text)) }
+    ensures apart { IfOk result (λ _. IsApart (paths_in asked.inputs) (option_map string_bytes asked.output)) }
     ensures failure { IfErr result IsRefusal }
-    ensures files { IfErr result (IsOfOutput asked.output (IsOfPaths (S.holds files.now) (S.refuses files.now) (paths_in asked.inputs))) }
+    ensures files { IfErr result (IsOfRunOutput asked.output (IsOfPaths (S.holds files.now) (S.refuses files.now) (paths_in asked.inputs))) }
     ensures silent { IfErr result (λ _. out.new ≡ out.old) }
     ensures left { IfSome asked.output (λ path. IsLeftOrHas (T.keeps target.old (string_bytes path)) (T.keeps target.new (string_bytes path))
         (AreStatementsOver (S.holds files.now) (paths_in asked.inputs))) }

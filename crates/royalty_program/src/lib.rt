@@ -16,5 +16,7 @@ mod sources;
 mod split_command;
 mod targets;
 
-pub use answering::{program, words_of};
+pub use answering::{answer, program, words_of};
 pub use failure::Failure;
+pub use sources::Source;
+pub use targets::Target;

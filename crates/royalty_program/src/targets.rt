@@ -1,7 +1,7 @@
 //! Texts that are kept in files: whole, or not at all.
 
 ghost use Rattle.std.specs.Io.KnownBytes.{Appends};
-ghost use Rattle.std.specs.Prelude.{◌≡◌, ◌⊎◌, ℕ, List, None, Option, Some, Err, IfErr, IfOk, IsOk, IsOkAnd, OnErr, OnOk, string_bytes};
+ghost use Rattle.std.specs.Prelude.{◌≡◌, ◌⊎◌, ℕ, List, None, Option, Some, Err, IfErr, IfOk, IsOk, IsOkAnd, OnErr, OnOk, string_bytes, true};
 ghost use Rattle.royalty_program.specs.Status.{failure_of_target};
 ghost use Rattle.royalty_program.specs.Targets.{IsLeft, IsLeftOrWhole, in_any_file};
 
@@ -10,6 +10,7 @@ use crate::sources::Disk;
 use std::alloc::{AllocError, Global};
 use std::fs::{self, OpenFile, OpenOptions, Permissions};
 use std::io::{self, ErrorKind, Write};
+use std::os::unix::fs::MetadataExt;
 use std::path::Path;
 use std::rt::Files;
 
@@ -21,22 +22,37 @@ pub trait Target {
     /// A text that is being written.
     type Draft: Write + Drop;
 
+    /// A text that is on the disk, and has no path yet.
+    type Stored: Drop;
+
     // Under a path it keeps a file of these bytes, or none.
     ghost keeps: { Self → List ℕ → Option (List ℕ) → Type 0 };
 
     // What a new draft has, where that is known.
     ghost blank: { Option (List ℕ) };
 
+    // What a text on the disk has, where that is known.
+    ghost stored: { Self.Stored → Option (List ℕ) };
+
+    /// Whether two paths name one file, by whatever names.
+    fn is_one_file(&self, path: &str, other: &str) -> io::Result<bool>
+        ensures same { IfOk result (λ is_one. path.now ≡ other.now → is_one ≡ true) };
+
     /// A draft of what a path is to have.
     fn begin(&mut self, alloc: Global, path: &str) -> io::Result<Self::Draft>
         ensures blank { IfOk result (λ draft. Self.Draft.contents draft ≡ blank) }
         ensures left { IsLeft (keeps self.old path.now) (keeps self.new path.now) };
 
-    /// Puts a draft under its path, in place of what may be there. Where that cannot be done, the
-    /// path has what it had, or the whole draft.
-    fn keep(&mut self, draft: Self::Draft, path: &str) -> io::Result<()>
-        ensures kept { OnOk result ((text : List ℕ) → Appends blank (Self.Draft.contents draft) text → keeps self.new path.now (Some text)) }
-        ensures left { OnErr result (IsLeftOrWhole blank (Self.Draft.contents draft) (keeps self.old path.now) (keeps self.new path.now)) };
+    /// Brings a draft to the disk. Where that cannot be done it is thrown away.
+    fn store(&mut self, draft: Self::Draft, path: &str) -> io::Result<Self::Stored>
+        ensures stored { IfOk result (λ text. stored text ≡ Self.Draft.contents draft) }
+        ensures left { IsLeft (keeps self.old path.now) (keeps self.new path.now) };
+
+    /// Puts a text that is on the disk under its path, in place of what may be there. Where that
+    /// cannot be done, the path has what it had, or the whole text.
+    fn keep(&mut self, whole: Self::Stored, path: &str) -> io::Result<()>
+        ensures kept { OnOk result ((text : List ℕ) → Appends blank (stored whole) text → keeps self.new path.now (Some text)) }
+        ensures left { OnErr result (IsLeftOrWhole blank (stored whole) (keeps self.old path.now) (keeps self.new path.now)) };
 
     /// Throws a draft away.
     fn discard(&mut self, draft: Self::Draft, path: &str)
@@ -57,10 +73,15 @@ pub fn finish<T: Target>(
         ⊎ (IsOkAnd written IsOk × IsLeftOrWhole T.blank (T.Draft.contents draft) (T.keeps target.old (string_bytes path)) (T.keeps target.new (string_bytes path)))) }
 {
     match written {
-        Ok(Ok(())) => match target.keep(draft, path.as_str()) {
-            Ok(()) => Ok(()),
-            Err(_) => Err(Failure::Target(path)),
-        },
+        Ok(Ok(())) => {
+            let Ok(whole) = target.store(draft, path.as_str()) else {
+                return Err(Failure::Target(path));
+            };
+            match target.keep(whole, path.as_str()) {
+                Ok(()) => Ok(()),
+                Err(_) => Err(Failure::Target(path)),
+            }
+        }
         Ok(Err(_)) => {
             target.discard(draft, path.as_str());
             Err(Failure::Target(path))
@@ -99,12 +120,32 @@ impl<F: Write> Write for NewFile<F> {
     }
 }
 
+/// A new file that is on the disk whole, under a name of its own.
+#[derive(Drop)]
+pub struct StoredFile {
+    path: String,
+}
+
 impl<'a, R: Files> Target for Disk<'a, R> {
     type Draft = NewFile<R::File>;
+
+    type Stored = StoredFile;
 
     ghost keeps = { λ _. in_any_file };
 
     ghost blank = { None };
+
+    ghost stored = { λ _. None };
+
+    fn is_one_file(&self, path: &str, other: &str) -> io::Result<bool> {
+        if path == other {
+            return Ok(true);
+        }
+        match (node_of(self.rt, path)?, node_of(self.rt, other)?) {
+            (Some(node), Some(other)) => Ok(node == other),
+            _ => Ok(false),
+        }
+    }
 
     /// The draft has the permissions of the file that it is to replace.
     fn begin(&mut self, alloc: Global, path: &str) -> io::Result<NewFile<R::File>> {
@@ -119,14 +160,9 @@ impl<'a, R: Files> Target for Disk<'a, R> {
         Ok(draft)
     }
 
-    fn keep(&mut self, draft: NewFile<R::File>, path: &str) -> io::Result<()> {
-        let whole = draft.file.sync_all();
-        let renamed = match whole {
-            Ok(()) => fs::rename(self.rt, draft.path.as_str(), path),
-            Err(error) => Err(error),
-        };
-        match renamed {
-            Ok(()) => sync_directory(self.rt, path),
+    fn store(&mut self, draft: NewFile<R::File>, _path: &str) -> io::Result<StoredFile> {
+        match draft.file.sync_all() {
+            Ok(()) => Ok(StoredFile { path: draft.path }),
             Err(error) => {
                 throw_away(self.rt, draft);
                 Err(error)
@@ -134,8 +170,28 @@ impl<'a, R: Files> Target for Disk<'a, R> {
         }
     }
 
+    fn keep(&mut self, whole: StoredFile, path: &str) -> io::Result<()> {
+        match fs::rename(self.rt, whole.path.as_str(), path) {
+            Ok(()) => sync_directory(self.rt, path),
+            Err(error) => {
+                let _ = fs::remove_file(self.rt, whole.path.as_str());
+                Err(error)
+            }
+        }
+    }
+
     fn discard(&mut self, draft: NewFile<R::File>, _path: &str) {
         throw_away(self.rt, draft);
+    }
+}
+
+/// The device and the number of the file under a path, where there is one: all names of a file have
+/// the same.
+fn node_of<R: Files>(rt: &R, path: &str) -> io::Result<Option<(u64, u64)>> {
+    match fs::metadata(rt, path) {
+        Ok(found) => Ok(Some((found.dev(), found.ino()))),
+        Err(error) if error.kind() == ErrorKind::NotFound => Ok(None),
+        Err(error) => Err(error),
     }
 }
 

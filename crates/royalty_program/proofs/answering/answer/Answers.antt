@@ -129,7 +129,7 @@ returns-in-Ok-Run-clause-answered g c =
     let command : word_at words 1 ≡ codes "run" = rw (c.in-Ok-Run.is, c.in-Ok-Run.field-0-is) at c.read_words.ensures.named in
     let read : AreReadFrom (drop 1 words) asked = rw (c.in-Ok-Run.is, c.in-Ok-Run.field-0-is) at (c.read_words.ensures.run command) in
     on_ok_weaker c.in_ok-settle_out-in-Ok-Run.field-0
-    (λ wrote. (wrote.0, delivered_run keeps words (option_map string_bytes asked.output) _ _ wrote.0 command read.output wrote.1, answers_run holds gives words asked wrote.0 command read wrote.2))
+    (λ wrote. (wrote.0, delivered_run keeps words (paths_in asked.inputs) (option_map string_bytes asked.output) _ _ wrote.0 command read.inputs read.output c.in_ok-settle_out-in-Ok-Run.ensures.apart wrote.1, answers_run holds gives words asked wrote.0 command read wrote.2))
     c.in_ok-settle_out-in-Ok-Run.ensures.statements
 
 pub returns-in-Ok-Merge-clause-answered : goal.returns-in-Ok-Merge-clause-answered
