@@ -17,8 +17,9 @@ const BITS: u32 = 16;
 /// After so many words a worker wakes a reader that sleeps.
 const WORDS_UNTIL_WAKING: u64 = 8;
 
-/// How often a thread looks again at once before it sleeps.
-const SPINS: u32 = 7;
+/// How often a thread looks again at once before it sleeps, and after how many looks its pauses begin anew with the shortest.
+const SPINS: u32 = 64;
+const SPINS_OF_ROUND: u32 = 4;
 
 /// How long a thread sleeps at most.
 const LONGEST: Duration = Duration::from_millis(2);
@@ -128,6 +129,9 @@ impl Turn {
     /// Spins, and then announces what it waits for and sleeps, in turn. False: it slept, and nobody has woken it.
     fn wait_asleep(&mut self, sleeper: &Sleeper, what: usize) -> bool {
         if self.count < SPINS {
+            if self.count.is_multiple_of(SPINS_OF_ROUND) {
+                self.backoff = Backoff::new();
+            }
             self.wait();
             return true;
         }

@@ -193,6 +193,68 @@ fn reader_is_woken_by_the_end_of_a_worker(rt: HostRuntime) -> Result<(), AllocEr
     Ok(())
 }
 
+/// Waits until a sleep is ended, or a minute is over.
+fn sleep_once<R: Wait>(rt: &R, signals: &mut ReaderSignals<'_>, shared: &Signals) -> bool {
+    for _ in rt.forever() {
+        if !signals.wait(rt) {
+            return false;
+        }
+        if shared.have_ended() {
+            return true;
+        }
+    }
+    unreachable!()
+}
+
+/// Ends with no posting, once the reader sleeps.
+fn end_once_asleep<R: Wait>(rt: &R, shared: &Signals) {
+    wait_until_asleep(rt, &shared.readers);
+    WorkerSignals::new(Some(shared), 0).end();
+}
+
+#[test]
+fn reader_is_woken_by_the_end_of_a_worker_that_sent_nothing(
+    rt: HostRuntime,
+) -> Result<(), AllocError> {
+    let shared = &sleepy(rt.alloc(), 1, 1, None)?;
+    let (is_woken, _) = join(
+        &rt,
+        || sleep_once(&rt, &mut ReaderSignals::new(shared, 0), shared),
+        || end_once_asleep(&rt, shared),
+    );
+    assert!(rt; is_woken, "nobody woke it");
+    Ok(())
+}
+
+#[test]
+fn worker_tells_all_before_it_waits(rt: HostRuntime) -> Result<(), AllocError> {
+    let shared = &Signals::open(rt.alloc(), 1, 1, None)?;
+    let mut worker = WorkerSignals::new(Some(shared), 0);
+    let mut reader = ReaderSignals::new(shared, 0);
+    worker.tell(7);
+    assert_eq!(rt; reader.hear(0), None);
+    let mut turn = Turn::new();
+    assert!(rt; worker.wait(&rt, &mut turn, 7));
+    assert_eq!(rt; reader.hear(0), Some([None, None, Some(7)]));
+    Ok(())
+}
+
+#[test]
+fn worker_that_has_room_sleeps_no_more(rt: HostRuntime) -> Result<(), AllocError> {
+    let shared = &sleepy(rt.alloc(), 1, 1, None)?;
+    let mut worker = WorkerSignals::new(Some(shared), 0);
+    let mut turn = Turn::new();
+    for _ in rt.forever() {
+        if is_asleep(&shared.workers) {
+            break;
+        }
+        assert!(rt; worker.wait(&rt, &mut turn, 7));
+    }
+    worker.stop_waiting(&turn);
+    assert!(rt; !is_asleep(&shared.workers), "it is awake");
+    Ok(())
+}
+
 #[test]
 fn wake_up_that_never_comes_costs_time_alone(rt: HostRuntime) -> Result<(), AllocError> {
     let shared = &Signals::open(rt.alloc(), 1, 1, None)?;

@@ -6,7 +6,10 @@ use std::sync::Wait;
 
 /// How often a thread that waits looks again at once before it sleeps. It never yields: on a busy machine a thread that yields goes
 /// behind all others, and one that was asleep goes before them.
-const SPINS: u32 = 7;
+const SPINS: u32 = 64;
+
+/// After so many looks the pauses between them begin anew with the shortest, so that what is there is seen soon.
+const SPINS_OF_ROUND: u32 = 4;
 
 /// One wait: how often its thread has looked in vain, and whether it has announced that it sleeps.
 #[derive(Drop)]
@@ -41,6 +44,9 @@ impl Turn {
         longest: u64,
     ) -> bool {
         if self.spins < SPINS {
+            if self.spins % SPINS_OF_ROUND == 0 {
+                self.backoff.reset();
+            }
             self.spins += 1;
             self.backoff.spin();
             return true;
