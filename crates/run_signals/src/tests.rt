@@ -1,4 +1,5 @@
-//! Which hints a reader hears, and who wakes whom. A thread that has to be woken would sleep for a minute if nobody woke it.
+//! Which hints a reader hears, and who wakes whom. A thread that has to be woken would sleep for an hour if nobody
+//! woke it, and the test be ended before that.
 
 use crate::ring::{Ring, WORDS, accounts_of, with_hint};
 use crate::sleeper::Sleeper;
@@ -10,10 +11,10 @@ use std::sync::Wait;
 use std::sync::atomic::{AtomicBool, Ordering};
 use std::thread::join;
 
-/// The microseconds of a minute.
-const MINUTE: u64 = 60_000_000;
+/// The microseconds of an hour, which no test is given.
+const HOUR: u64 = 3_600_000_000;
 
-/// Signals under which a thread sleeps for a minute that nobody wakes.
+/// Signals under which a thread sleeps for an hour that nobody wakes.
 fn sleepy(
     alloc: Global,
     workers: u64,
@@ -21,7 +22,7 @@ fn sleepy(
     nodes: Option<u64>,
 ) -> Result<Signals, AllocError> {
     let mut shared = Signals::open(alloc, workers, readers, nodes)?;
-    shared.longest = MINUTE;
+    shared.longest = HOUR;
     Ok(shared)
 }
 
@@ -63,7 +64,7 @@ fn heard(signals: &mut ReaderSignals<'_>, worker: usize) -> [Option<usize>; 9] {
     all
 }
 
-/// Waits for room in the mailbox of account 0. False: the worker slept for a minute.
+/// Waits for room in the mailbox of account 0. False: the worker slept, and nobody woke it.
 fn wait_for_room<R: Wait>(rt: &R, signals: &mut WorkerSignals<'_>, room: &AtomicBool) -> bool {
     let mut turn = Turn::new();
     for _ in rt.forever() {
@@ -134,7 +135,7 @@ fn worker_of_a_pool_is_woken_by_the_reader_of_its_oldest_node(
     Ok(())
 }
 
-/// Waits until something is heard of. False: the reader slept for a minute.
+/// Waits until something is heard of. None: the reader slept, and nobody woke it.
 fn wait_for_hint<R: Wait>(rt: &R, shared: &Signals) -> Option<[Option<usize>; 3]> {
     let mut signals = ReaderSignals::new(shared, 0);
     for _ in rt.forever() {
@@ -193,7 +194,7 @@ fn reader_is_woken_by_the_end_of_a_worker(rt: HostRuntime) -> Result<(), AllocEr
     Ok(())
 }
 
-/// Waits until a sleep is ended, or a minute is over.
+/// Waits until all workers have ended. False: the reader slept, and nobody woke it.
 fn sleep_once<R: Wait>(rt: &R, signals: &mut ReaderSignals<'_>, shared: &Signals) -> bool {
     for _ in rt.forever() {
         if !signals.wait(rt) {
