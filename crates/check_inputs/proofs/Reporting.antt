@@ -1,18 +1,19 @@
 -- A report, put together from its four files and what a run makes of them.
 use Rattle.std.proofs.Common.{◌≡◌, ◌++◌, ◌∙◌, ◌∷◌, [], ℕ, List, Bool, Option, Some, None, true, false, ap, append_assoc, arith, length, refl}
 use Rattle.std.specs.Prelude.{◌==◌, ◌&&◌}
-use Rattle.std.specs.Option.{option_map, option_map_or}
+use Rattle.std.specs.Option.{option_map_or}
 use Rattle.std.proofs.lemmas.List.{length_push}
 use Rattle.cwr_share.proofs.CwrReadings.{file_read_whole}
 use Rattle.cwr_share.specs.CwrFile.{AreSound}
 use Rattle.cwr_share.specs.Registered.{Registered}
 use Rattle.cwr_share.specs.declared.cwr_fault.CwrFault.{CwrFault}
 use Rattle.cwr_share.specs.declared.cwr_fault.CwrFault.TheVariants.{Accounts}
-use Rattle.check_inputs.specs.Checked.{IsReportOn, path_if_given, payee_facts}
+use Rattle.run_inputs.specs.declared.inputs.Inputs.{Inputs}
+use Rattle.check_inputs.specs.Checked.{IsReportOn}
 use Rattle.check_inputs.specs.SoFar.{Adds, GoesOn}
-use Rattle.check_inputs.specs.Found.{AreRegistrationsWithout, Files, Found, IsFoundIn, is_sound}
-use Rattle.check_inputs.specs.Report.{Paths, cwr_facts, cwr_line, fault_lines, payee_line, payees_facts, payees_remark, territories_remark, tis_facts, tis_line, totals_text, usage_facts, usage_line}
-use Rattle.check_inputs.specs.declared.report.File.{File}
+use Rattle.check_inputs.specs.Found.{AreRegistrationsWithout, Found, IsFoundIn, is_sound}
+use Rattle.check_inputs.specs.Report.{cwr_facts, cwr_line, fault_lines, payee_line, payees_facts, payees_path, payees_remark}
+use Rattle.check_inputs.specs.Report.{territories_remark, tis_facts, tis_line, totals_text, usage_facts, usage_line}
 use Rattle.check_inputs.specs.declared.report.Sheet.{Sheet}
 
 -- whether all four hold, one after another
@@ -38,17 +39,17 @@ pub sound_of_four : (found : Found) (none one two three four : Sheet) → none.i
 sound_of_four found none one two three four so_far first second third fourth =
     rw (fourth, third, second, first, so_far) (all_four (length found.of_territories == 0) (length found.of_payees == 0) (length found.of_registrations == 0) (length found.of_usage == 0))
 
-pub put_together : (paths : Paths) (files : Files) (found : Found) (none one two three four five six seven : Sheet) (text : List ℕ) (sound : Bool)
+pub put_together : (paths files : Inputs (List ℕ)) (found : Found) (none one two three four five six seven : Sheet) (text : List ℕ) (sound : Bool)
     → (none.faults.items ≡ []) × (none.facts.items ≡ []) × (none.is_sound ≡ true)
     → GoesOn none one (length found.of_territories) (fault_lines (tis_line paths.territories) paths.territories found.of_territories) (tis_facts paths.territories (length found.of_territories) found.table)
-    → GoesOn one two (length found.of_payees) (fault_lines (payee_line paths.payees) paths.payees found.of_payees)
-    (option_map_or (λ _. payees_facts paths.payees (length found.of_payees) found.rows) files.payees [])
+    → GoesOn one two (length found.of_payees) (fault_lines (payee_line (payees_path paths)) (payees_path paths) found.of_payees)
+    (option_map_or (λ path. payees_facts path (length found.of_payees) found.rows) paths.payees [])
     → GoesOn two three (length found.of_registrations) (fault_lines (cwr_line paths.registrations) paths.registrations found.of_registrations)
     (cwr_facts paths.registrations files.registrations (length found.of_registrations) (length found.of_payees) found.registered)
     → GoesOn three four (length found.of_usage) (fault_lines (usage_line paths.usage) paths.usage found.of_usage) (usage_facts paths.usage (length found.of_usage) found.lines)
     → Adds four five (territories_remark paths.registrations files.registrations (length found.of_registrations) (length found.of_territories) found.table)
-    → Adds five six (payees_remark paths.payees (length found.of_payees) (length found.of_registrations) found.rows found.registered)
-    → Adds six seven (option_map_or (totals_text paths.territories paths.registrations paths.usage (length found.lines)) found.totals [])
+    → Adds five six (payees_remark (payees_path paths) (length found.of_payees) (length found.of_registrations) found.rows found.registered)
+    → Adds six seven (option_map_or (totals_text paths (length found.lines)) found.totals [])
     → IsFoundIn files found → (text ≡ seven.faults.items ++ seven.facts.items) × (sound ≡ seven.is_sound) → IsReportOn paths files text sound
 put_together paths files found none one two three four five six seven text sound begun first second third fourth fifth sixth last is (written, told) = record {
   found = found;
@@ -62,12 +63,6 @@ put_together paths files found none one two three four five six seven text sound
       ) refl;
   told = told ∙ last.sound ∙ sixth.sound ∙ fifth.sound ∙ sound_of_four found none one two three four begun.2 first.sound second.sound third.sound fourth.sound;
 }
-
--- what is said of a table of payees, by whether it is there
-pub facts_given : (file : Option File) (faults : ℕ) (rows : List (List ℕ × List ℕ))
-    → payee_facts file faults rows ≡ option_map_or (λ _. payees_facts (path_if_given file) faults rows) (option_map (λ file. file.bytes.items) file) []
-facts_given None faults rows = refl
-facts_given (Some file) faults rows = refl
 
 -- a CWR file of which no line is left out has sound lines
 pub sound_without : (rows : List (List ℕ × List ℕ)) (lines : List (List ℕ)) (out : List (List ℕ × CwrFault)) (registered : Option Registered) → AreRegistrationsWithout rows lines out registered

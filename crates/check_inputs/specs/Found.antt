@@ -3,14 +3,15 @@ use Rattle.std.specs.Prelude.{ℕ, ◌≡◌, ◌==◌, ◌&&◌, Bool, true, fa
 use Rattle.csv_table.specs.Table.{rows_of}
 use Rattle.cwr_share.specs.CwrReading as cwr
 use Rattle.cwr_share.specs.Lines.{lines_of}
-use Rattle.cwr_share.specs.PayeeReading as payees
+use Rattle.cwr_share.specs.PayeeTable as payees
 use Rattle.cwr_share.specs.Registered.{IsRegistered, Registered}
 use Rattle.cwr_share.specs.declared.cwr_fault.CwrFault.{CwrFault}
 use Rattle.cwr_share.specs.declared.payee_fault.PayeeFault.{PayeeFault}
 use Rattle.line_split.specs.UsageLine.{UsageLine}
-use Rattle.line_split.specs.UsageReading as usage
+use Rattle.line_split.specs.UsageTable as usage
 use Rattle.line_split.specs.declared.line_fault.LineFault.{LineFault}
-use Rattle.tis_tree.specs.TisReading as tis
+use Rattle.run_inputs.specs.declared.inputs.Inputs.{Inputs}
+use Rattle.tis_tree.specs.TisRows as tis
 use Rattle.tis_tree.specs.declared.tis_fault.TisFault.{TisFault}
 use Rattle.usage_totals.specs.Totals.{AreTotalsOf}
 use Rattle.usage_totals.specs.declared.totals.Totals.{Totals}
@@ -24,13 +25,6 @@ ArePayeesWithout (Some file) out rows = payees.IsReadWithout (rows_of file) out 
 abbrev pub AreRegistrationsWithout : List (List ℕ × List ℕ) → List (List ℕ) → List (List ℕ × CwrFault) → Option Registered → Type 0
 AreRegistrationsWithout rows lines out (Some registered) = cwr.IsReadWithout rows lines out registered × IsRegistered registered
 AreRegistrationsWithout rows lines out None = cwr.HasTooManyWithout rows lines out
-
--- the inputs of a run
-pub record Files : Type 0 where
-  pub territories : List ℕ
-  pub payees : Option (List ℕ)
-  pub registrations : List ℕ
-  pub usage : List ℕ
 
 -- the faults of each, and what the rest was read as
 pub record Found : Type 0 where
@@ -57,7 +51,7 @@ abbrev pub is_sound : Found → Bool
 is_sound found = (length found.of_territories == 0) && (length found.of_payees == 0) && (length found.of_registrations == 0) && (length found.of_usage == 0)
 
 -- Each input is read whatever stands in the others: the payees are those of the rows that were read.
-pub record IsFoundIn (files : Files) (found : Found) : Type 0 where
+pub record IsFoundIn (files : Inputs (List ℕ)) (found : Found) : Type 0 where
   pub territories : tis.IsReadWithout (rows_of files.territories) found.of_territories found.table
   pub payees : ArePayeesWithout files.payees found.of_payees found.rows
   pub registrations : AreRegistrationsWithout found.rows (lines_of files.registrations) found.of_registrations found.registered

@@ -1,5 +1,6 @@
 -- The report on the inputs of a run: every fault, and what is in the files that have none.
-use Rattle.std.specs.Prelude.{ℕ, ◌-◌, ◌==◌, ◌&&◌, ◌++◌, ◌∷◌, [], List, Option, codes, count_by, decimal, flat_map, if◌then◌else◌, length, nat_lt, not, take}
+use Rattle.std.specs.Prelude.{ℕ, ◌-◌, ◌==◌, ◌&&◌, ◌++◌, ◌∷◌, [], List, Option, codes}
+use Rattle.std.specs.Prelude.{count_by, decimal, flat_map, if◌then◌else◌, length, nat_lt, not, take, unwrap_or}
 use Rattle.std.specs.Fmt.{signed_decimal}
 use Rattle.std.specs.List.{join_by}
 use Rattle.std.specs.Option.{option_map_or}
@@ -14,20 +15,18 @@ use Rattle.cwr_share.specs.declared.payee_fault.PayeeFault.{PayeeFault}
 use Rattle.line_split.specs.UsageLine.{UsageLine}
 use Rattle.line_split.specs.UsageTable as usage
 use Rattle.line_split.specs.declared.line_fault.LineFault.{LineFault}
+use Rattle.run_inputs.specs.declared.inputs.Inputs.{Inputs}
 use Rattle.tis_tree.specs.TisRows as tis
 use Rattle.tis_tree.specs.declared.tis_fault.TisFault.{TisFault}
 use Rattle.usage_totals.specs.declared.total.Total.{Total}
 use Rattle.usage_totals.specs.declared.totals.Totals.{Totals}
-use Rattle.check_inputs.specs.Found.{Files, Found}
+use Rattle.check_inputs.specs.Found.{Found}
 use Rattle.check_inputs.specs.Messages.{around, cwr_message, fact_line, fault_line, payee_message, remark_line, tis_message, total_line, usage_message}
 use Rattle.check_inputs.specs.declared.words.TheConstants.{MOST_FAULTS}
 
--- the paths of the files
-pub record Paths : Type 0 where
-  pub territories : List ℕ
-  pub payees : List ℕ
-  pub registrations : List ℕ
-  pub usage : List ℕ
+-- where there is no table of payees, a report names none
+abbrev pub payees_path : (paths : Inputs (List ℕ)) → List ℕ
+payees_path paths = unwrap_or paths.payees []
 
 -- how many more faults there are than the first hundred
 abbrev pub more_line : (path : List ℕ) → (count : ℕ) → List ℕ
@@ -37,23 +36,28 @@ more_line path count = if nat_lt MOST_FAULTS count then fact_line path (codes "f
 abbrev pub fault_lines : {X : Type 0} → (line : X → List ℕ) → (path : List ℕ) → List X → List ℕ
 fault_lines line path faults = flat_map line (take MOST_FAULTS faults) ++ more_line path (length faults)
 
+-- a fault of a row of a table, as a line
+abbrev pub row_line : {F : Type 0} → (message : List (List ℕ) → F → List ℕ) → (place : F → Option ℕ) → (number : F → ℕ)
+    → (path : List ℕ) → List (List ℕ) × F → List ℕ
+row_line message place number path e = fault_line path (codes "row ") (place e.1) (message e.0 e.1) (number e.1)
+
 abbrev pub tis_line : (path : List ℕ) → List (List ℕ) × TisFault → List ℕ
-tis_line path e = fault_line path (codes "row ") (tis.place_of_fault e.1) (tis_message e.0 e.1) (tis.number_of_fault e.1)
+tis_line = row_line tis_message tis.place_of_fault tis.number_of_fault
 
 abbrev pub payee_line : (path : List ℕ) → List (List ℕ) × PayeeFault → List ℕ
-payee_line path e = fault_line path (codes "row ") (payees.place_of_fault e.1) (payee_message e.0 e.1) (payees.number_of_fault e.1)
+payee_line = row_line payee_message payees.place_of_fault payees.number_of_fault
+
+abbrev pub usage_line : (path : List ℕ) → List (List ℕ) × LineFault → List ℕ
+usage_line = row_line usage_message usage.place_of_fault usage.number_of_fault
 
 abbrev pub cwr_line : (path : List ℕ) → List ℕ × CwrFault → List ℕ
 cwr_line path e = fault_line path (codes "line ") (cwr.place_of_fault e.1) (cwr_message e.0 e.1) (cwr.number_of_fault e.1)
 
-abbrev pub usage_line : (path : List ℕ) → List (List ℕ) × LineFault → List ℕ
-usage_line path e = fault_line path (codes "row ") (usage.place_of_fault e.1) (usage_message e.0 e.1) (usage.number_of_fault e.1)
-
 -- all faults, in the order in which a run reads the files
-abbrev pub faults_text : Paths → Found → List ℕ
+abbrev pub faults_text : (paths : Inputs (List ℕ)) → Found → List ℕ
 faults_text paths found =
     fault_lines (tis_line paths.territories) paths.territories found.of_territories
-    ++ fault_lines (payee_line paths.payees) paths.payees found.of_payees
+    ++ fault_lines (payee_line (payees_path paths)) (payees_path paths) found.of_payees
     ++ fault_lines (cwr_line paths.registrations) paths.registrations found.of_registrations
     ++ fault_lines (usage_line paths.usage) paths.usage found.of_usage
 
@@ -74,7 +78,7 @@ cwr_numbers path registrations payee_faults registered =
     fact_line path (codes "works with a registration in force") (length registered.works)
     ++ fact_line path (codes "registrations replaced by later ones") (registrations - length registered.works)
     ++ fact_line path (codes "parties in force") (length registered.payees)
-    ++ if_none payee_faults (fact_line path (codes "accounts, the residue's included") (length registered.parties))
+    ++ if_none payee_faults (fact_line path (codes "accounts, the residue's included") (length registered.accounts))
     ++ if_none registrations (remark_line path (codes "no line is an NWR or REV"))
 
 abbrev pub cwr_facts : (path bytes : List ℕ) → (faults payee_faults : ℕ) → Option Registered → List ℕ
@@ -132,25 +136,28 @@ reasons_text path totals =
     ++ total_line path (codes "OVER, claims over 100.06 per cent") totals.claimed_over []
 
 -- what a run makes of so many lines, and what the files have nothing of, where there are lines
-abbrev pub totals_text : (territories registrations usage : List ℕ) → (lines : ℕ) → Totals → List ℕ
-totals_text territories registrations usage lines totals =
-    reasons_text usage totals
-    ++ flat_map (work_line usage) totals.works.items
-    ++ flat_map (territory_line usage) totals.territories.items
-    ++ (if nat_lt 0 lines && (totals.unregistered.lines == lines) then remark_line registrations (codes "it has the work of no usage line") else [])
-    ++ (if nat_lt 0 lines && not totals.knows_a_territory then remark_line territories (codes "it has the territory of no usage line") else [])
+abbrev pub totals_text : (paths : Inputs (List ℕ)) → (lines : ℕ) → Totals → List ℕ
+totals_text paths lines totals =
+    reasons_text paths.usage totals
+    ++ flat_map (work_line paths.usage) totals.works.items
+    ++ flat_map (territory_line paths.usage) totals.territories.items
+    ++ (if nat_lt 0 lines && (totals.unregistered.lines == lines)
+    then remark_line paths.registrations (codes "it has the work of no usage line") else [])
+    ++ (if nat_lt 0 lines && not totals.knows_a_territory
+    then remark_line paths.territories (codes "it has the territory of no usage line") else [])
 
 -- what is in the files that have no fault, and what of it a run passes over; nothing is said of a table of payees that is not there
-abbrev pub facts_text : Paths → Files → Found → List ℕ
+abbrev pub facts_text : (paths files : Inputs (List ℕ)) → Found → List ℕ
 facts_text paths files found =
     tis_facts paths.territories (length found.of_territories) found.table
-    ++ option_map_or (λ _. payees_facts paths.payees (length found.of_payees) found.rows) files.payees []
+    ++ option_map_or (λ path. payees_facts path (length found.of_payees) found.rows) paths.payees []
     ++ cwr_facts paths.registrations files.registrations (length found.of_registrations) (length found.of_payees) found.registered
     ++ usage_facts paths.usage (length found.of_usage) found.lines
     ++ territories_remark paths.registrations files.registrations (length found.of_registrations) (length found.of_territories) found.table
-    ++ payees_remark paths.payees (length found.of_payees) (length found.of_registrations) found.rows found.registered
-    ++ option_map_or (totals_text paths.territories paths.registrations paths.usage (length found.lines)) found.totals []
+    ++ payees_remark (payees_path paths) (length found.of_payees) (length found.of_registrations)
+    found.rows found.registered
+    ++ option_map_or (totals_text paths (length found.lines)) found.totals []
 
 -- the report
-abbrev pub report_of : Paths → Files → Found → List ℕ
+abbrev pub report_of : (paths files : Inputs (List ℕ)) → Found → List ℕ
 report_of paths files found = faults_text paths found ++ facts_text paths files found

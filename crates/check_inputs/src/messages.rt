@@ -1,104 +1,120 @@
 //! What is wrong with a row or a line, in words.
 
-ghost use Rattle.std.specs.Prelude.{◌≡◌, ◌++◌, OnOk};
+ghost use Rattle.std.specs.Prelude.{◌≡◌, ◌++◌, ℕ, List, OnOk};
 ghost use Rattle.cwr_share.specs.Records.{share_fields};
-ghost use Rattle.check_inputs.specs.Messages.{cwr_message, fields_message, payee_message, shares_message, tis_message, usage_message};
+ghost use Rattle.check_inputs.specs.Messages.{cwr_message, fields_message, shares_message};
 
 use crate::words::{add, add_around, add_both, add_number};
-use csv_table::Rows;
+use csv_table::{FileFault, Rows};
 use cwr_share::fields::{ShareFields, TYPE, WORK};
 use cwr_share::{CwrFault, PayeeFault, share_fields_of};
 use line_split::LineFault;
 use std::alloc::AllocError;
 use tis_tree::TisFault;
 
-/// What is wrong with a row of the table of territories.
-pub(crate) fn add_tis(text: &mut Vec<u8>, row: &Rows<'_>, fault: TisFault) -> Result<(), AllocError>
-    ensures { OnOk result (text.new.items ≡ text.old.items ++ tis_message row.now.row fault) }
-{
-    match fault {
-        TisFault::Csv(0) => add(text, "the first row is not code,groups"),
-        TisFault::Csv(_) => add_fields(text, 2, row),
-        TisFault::Code(_) => add_around(
-            text,
-            "code '",
-            row.field(0),
-            "' is not one to four digits, or is 0",
-        ),
-        TisFault::Twice(_) => add_around(text, "code '", row.field(0), "' has an earlier row"),
-        TisFault::Group(_) => add_around(
-            text,
-            "groups '",
-            row.field(1),
-            "' are not all codes of earlier rows",
-        ),
-        TisFault::Rows => add(text, "there are more than 2048 rows"),
-        TisFault::Memory => Ok(()),
+/// A fault of a table that can be told.
+pub(crate) trait Worded: FileFault {
+    // what is wrong with a row
+    ghost message: { List (List ℕ) → Self → List ℕ };
+
+    /// Adds what is wrong with the row at hand.
+    fn add_message(&self, text: &mut Vec<u8>, row: &Rows<'_>) -> Result<(), AllocError>
+        ensures { OnOk result (text.new.items ≡ text.old.items ++ message row.now.row self.now) };
+}
+
+impl Worded for TisFault {
+    ghost use Rattle.check_inputs.specs.Messages.{tis_message};
+
+    ghost message = { tis_message };
+
+    fn add_message(&self, text: &mut Vec<u8>, row: &Rows<'_>) -> Result<(), AllocError> {
+        match self {
+            TisFault::Csv(0) => add(text, "the first row is not code,groups"),
+            TisFault::Csv(_) => add_fields(text, 2, row),
+            TisFault::Code(_) => add_around(
+                text,
+                "code '",
+                row.field(0),
+                "' is not one to four digits, or is 0",
+            ),
+            TisFault::Twice(_) => add_around(text, "code '", row.field(0), "' has an earlier row"),
+            TisFault::Group(_) => add_around(
+                text,
+                "groups '",
+                row.field(1),
+                "' are not all codes of earlier rows",
+            ),
+            TisFault::Rows => add(text, "there are more than 2048 rows"),
+            TisFault::Memory => Ok(()),
+        }
     }
 }
 
-/// What is wrong with a row of the table of payees.
-pub(crate) fn add_payee(
-    text: &mut Vec<u8>,
-    row: &Rows<'_>,
-    fault: PayeeFault,
-) -> Result<(), AllocError>
-    ensures { OnOk result (text.new.items ≡ text.old.items ++ payee_message row.now.row fault) }
-{
-    match fault {
-        PayeeFault::Csv(0) => add(text, "the first row is not party,payee"),
-        PayeeFault::Csv(_) => add_fields(text, 2, row),
-        PayeeFault::Fields(_) => add_both(
-            text,
-            "party '",
-            row.field(0),
-            "' and payee '",
-            row.field(1),
-            "' are not both 1 to 64 printable ASCII characters that are not all spaces",
-        ),
-        PayeeFault::Twice(_) => add_around(text, "party '", row.field(0), "' has an earlier row"),
-        PayeeFault::Rows => add(text, "there are more than 65536 rows"),
-        PayeeFault::Memory => Ok(()),
+impl Worded for PayeeFault {
+    ghost use Rattle.check_inputs.specs.Messages.{payee_message};
+
+    ghost message = { payee_message };
+
+    fn add_message(&self, text: &mut Vec<u8>, row: &Rows<'_>) -> Result<(), AllocError> {
+        match self {
+            PayeeFault::Csv(0) => add(text, "the first row is not party,payee"),
+            PayeeFault::Csv(_) => add_fields(text, 2, row),
+            PayeeFault::Fields(_) => add_both(
+                text,
+                "party '",
+                row.field(0),
+                "' and payee '",
+                row.field(1),
+                "' are not both 1 to 64 printable ASCII characters that are not all spaces",
+            ),
+            PayeeFault::Twice(_) => add_around(
+                text,
+                "party '",
+                row.field(0),
+                "' has an earlier row",
+            ),
+            PayeeFault::Rows => add(text, "there are more than 65536 rows"),
+            PayeeFault::Memory => Ok(()),
+        }
     }
 }
 
-/// What is wrong with a row of the usage list.
-pub(crate) fn add_usage(
-    text: &mut Vec<u8>,
-    row: &Rows<'_>,
-    fault: LineFault,
-) -> Result<(), AllocError>
-    ensures { OnOk result (text.new.items ≡ text.old.items ++ usage_message row.now.row fault) }
-{
-    match fault {
-        LineFault::Csv(0) => add(
-            text,
-            "the first row is not usage,work,territory,right,amount",
-        ),
-        LineFault::Csv(_) => add_fields(text, 5, row),
-        LineFault::Fields(_) => add_both(
-            text,
-            "usage '",
-            row.field(0),
-            "' and work '",
-            row.field(1),
-            "' are not both 1 to 64 printable ASCII characters",
-        ),
-        LineFault::Territory(_) => add_around(
-            text,
-            "territory '",
-            row.field(2),
-            "' is not one to four digits, or is 0",
-        ),
-        LineFault::Right(_) => add_around(text, "right '", row.field(3), "' is not P, M or S"),
-        LineFault::Amount(_) => add_around(
-            text,
-            "amount '",
-            row.field(4),
-            "' is not a whole number from -1000000000000 to 1000000000000",
-        ),
-        LineFault::Lines => add(text, "there are more than 1000000 usage lines"),
-        LineFault::Memory => Ok(()),
+impl Worded for LineFault {
+    ghost use Rattle.check_inputs.specs.Messages.{usage_message};
+
+    ghost message = { usage_message };
+
+    fn add_message(&self, text: &mut Vec<u8>, row: &Rows<'_>) -> Result<(), AllocError> {
+        match self {
+            LineFault::Csv(0) => add(
+                text,
+                "the first row is not usage,work,territory,right,amount",
+            ),
+            LineFault::Csv(_) => add_fields(text, 5, row),
+            LineFault::Fields(_) => add_both(
+                text,
+                "usage '",
+                row.field(0),
+                "' and work '",
+                row.field(1),
+                "' are not both 1 to 64 printable ASCII characters",
+            ),
+            LineFault::Territory(_) => add_around(
+                text,
+                "territory '",
+                row.field(2),
+                "' is not one to four digits, or is 0",
+            ),
+            LineFault::Right(_) => add_around(text, "right '", row.field(3), "' is not P, M or S"),
+            LineFault::Amount(_) => add_around(
+                text,
+                "amount '",
+                row.field(4),
+                "' is not a whole number from -1000000000000 to 1000000000000",
+            ),
+            LineFault::Lines => add(text, "there are more than 1000000 usage lines"),
+            LineFault::Memory => Ok(()),
+        }
     }
 }
 

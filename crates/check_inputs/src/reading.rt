@@ -1,61 +1,43 @@
 //! The inputs, each read on past what is refused in it.
 
-ghost use Rattle.std.specs.Prelude.{◌≡◌, ◌<◌, ℕ, List, IfOk, Option, length};
+ghost use Rattle.std.specs.Prelude.{◌≡◌, [], ℕ, List, IfOk, Option, length};
+ghost use Rattle.csv_table.specs.RowTable.{IsReadWithout};
 ghost use Rattle.csv_table.specs.Table.{rows_of};
 ghost use Rattle.cwr_share.specs.Lines.{lines_of};
-ghost use Rattle.cwr_share.specs.PayeeReading as payees;
 ghost use Rattle.cwr_share.specs.declared.cwr_fault.CwrFault.{CwrFault};
-ghost use Rattle.cwr_share.specs.declared.payee_fault.PayeeFault.{PayeeFault};
-ghost use Rattle.line_split.specs.UsageReading as usage;
-ghost use Rattle.line_split.specs.declared.line_fault.LineFault.{LineFault};
-ghost use Rattle.tis_tree.specs.TisReading as tis;
-ghost use Rattle.tis_tree.specs.declared.tis_fault.TisFault.{TisFault};
 ghost use Rattle.check_inputs.specs.Found.{AreRegistrationsWithout};
-ghost use Rattle.check_inputs.specs.Report.{cwr_line, fault_lines, payee_line, tis_line, usage_line};
+ghost use Rattle.check_inputs.specs.Report.{cwr_line, fault_lines, row_line};
 
+use crate::messages::Worded;
 use crate::told::Told;
-use cwr_share::{CwrFault, CwrReader, PayeeFault, PayeeReader, Payees, Registry};
-use line_split::{LineFault, Usage, UsageReader};
+use csv_table::{RowTable, Rows, TableReader};
+use cwr_share::{CwrFault, CwrReader, Payees, Registry};
 use std::alloc::{AllocError, Global};
-use tis_tree::{TisFault, TisReader, TisTable};
 
-/// Reads a table of territories.
-pub(crate) fn read_tis<'a>(
+/// Reads a table past the rows that are refused, and tells their faults. What is read goes into an empty table.
+pub(crate) fn read_past_faults<'a, T: RowTable>(
     alloc: Global,
     path: &'a str,
     bytes: &[u8],
-) -> Result<(Told<'a>, TisTable), AllocError>
-    ensures { IfOk result (λ read. (out : List (List (List ℕ) × TisFault)) × tis.IsReadWithout (rows_of bytes.now) out read.1
-        × (read.0.text.items ≡ fault_lines (tis_line path.entry.now) path.entry.now out) × (read.0.count ≡ length out)) }
+    empty: T,
+) -> Result<(Told<'a>, T), AllocError>
+where
+    T::Fault: Worded,
+    requires { T.items empty ≡ [] }
+    ensures { IfOk result (λ read. (out : List (List (List ℕ) × T.Fault))
+        × IsReadWithout (T.rules (T.known empty)) (rows_of bytes.now) out (T.items read.1)
+        × (read.0.text.items ≡ fault_lines
+        (row_line T.Fault.message T.Fault.place_in T.Fault.number_in path.entry.now) path.entry.now out)
+        × (read.0.count ≡ length out)) }
 {
     let mut told = Told::none(alloc, path);
-    let mut reader = TisReader::of(alloc, bytes)?;
+    let mut reader = TableReader::of(alloc, bytes, empty)?;
     if !reader.is_headed() {
-        told.tis(reader.row(), TisFault::Csv(0))?;
+        // No field of a row stands in the words for it.
+        told.row(&Rows::of(alloc, b""), &reader.headless())?;
     }
     while let Some(fault) = reader.next_fault(alloc)? {
-        told.tis(reader.row(), fault)?;
-    }
-    told.close()?;
-    Ok((told, reader.finish()))
-}
-
-/// Reads a table of payees.
-pub(crate) fn read_payees<'a>(
-    alloc: Global,
-    path: &'a str,
-    bytes: &[u8],
-) -> Result<(Told<'a>, Payees), AllocError>
-    ensures { IfOk result (λ read. (out : List (List (List ℕ) × PayeeFault)) × payees.IsReadWithout (rows_of bytes.now) out read.1
-        × (read.0.text.items ≡ fault_lines (payee_line path.entry.now) path.entry.now out) × (read.0.count ≡ length out)) }
-{
-    let mut told = Told::none(alloc, path);
-    let mut reader = PayeeReader::of(alloc, bytes)?;
-    if !reader.is_headed() {
-        told.payee(reader.row(), PayeeFault::Csv(0))?;
-    }
-    while let Some(fault) = reader.next_fault(alloc)? {
-        told.payee(reader.row(), fault)?;
+        told.row(reader.row(), &fault)?;
     }
     told.close()?;
     Ok((told, reader.finish()))
@@ -88,25 +70,4 @@ pub(crate) fn read_cwr<'a>(
         }
         Err(_) => Err(AllocError),
     }
-}
-
-/// Reads a usage list.
-pub(crate) fn read_usage<'a>(
-    alloc: Global,
-    path: &'a str,
-    bytes: &[u8],
-) -> Result<(Told<'a>, Usage), AllocError>
-    ensures { IfOk result (λ read. (out : List (List (List ℕ) × LineFault)) × usage.IsReadWithout (rows_of bytes.now) out read.1
-        × (read.0.text.items ≡ fault_lines (usage_line path.entry.now) path.entry.now out) × (read.0.count ≡ length out)) }
-{
-    let mut told = Told::none(alloc, path);
-    let mut reader = UsageReader::of(alloc, bytes)?;
-    if !reader.is_headed() {
-        told.usage(reader.row(), LineFault::Csv(0))?;
-    }
-    while let Some(fault) = reader.next_fault(alloc)? {
-        told.usage(reader.row(), fault)?;
-    }
-    told.close()?;
-    Ok((told, reader.finish()))
 }

@@ -7,25 +7,27 @@ ghost use Rattle.cwr_share.specs.CwrFile.{AreSound};
 ghost use Rattle.cwr_share.specs.Lines.{lines_of};
 ghost use Rattle.cwr_share.specs.declared.cwr_fault.CwrFault.{CwrFault};
 ghost use Rattle.cwr_share.specs.declared.payee_fault.PayeeFault.{PayeeFault};
-ghost use Rattle.line_split.specs.UsageReading as usage;
+ghost use Rattle.line_split.specs.UsageTable as usage;
+ghost use Rattle.run_inputs.specs.Inputs.{map_inputs};
 ghost use Rattle.line_split.specs.declared.line_fault.LineFault.{LineFault};
-ghost use Rattle.tis_tree.specs.TisReading as tis;
+ghost use Rattle.tis_tree.specs.TisRows as tis;
 ghost use Rattle.tis_tree.specs.declared.tis_fault.TisFault.{TisFault};
 ghost use Rattle.usage_totals.specs.declared.totals.Totals.{Totals};
-ghost use Rattle.check_inputs.specs.Checked.{IsReportOn, files_of, path_if_given, paths_of, payee_facts};
+ghost use Rattle.check_inputs.specs.Checked.{IsReportOn, bytes_of, path_if_given, path_of, payee_facts};
 ghost use Rattle.check_inputs.specs.Found.{ArePayeesWithout, AreRegistrationsWithout, AreTotalsIfSound};
 ghost use Rattle.check_inputs.specs.Messages.{fact_line, remark_line};
 ghost use Rattle.check_inputs.specs.SoFar.{Adds, GoesOn};
 ghost use Rattle.check_inputs.specs.Report.{cwr_facts, cwr_line, cwr_numbers, fault_lines, if_none, payee_line, payees_remark, territories_remark};
 ghost use Rattle.check_inputs.specs.Report.{tis_facts, tis_line, totals_text, usage_facts, usage_line};
 
-use crate::reading::{read_cwr, read_payees, read_tis, read_usage};
+use crate::reading::{read_cwr, read_past_faults};
 use crate::remarks::{add_payees_remark, add_territories_remark};
-use crate::summary::{Paths, add_totals};
+use crate::summary::add_totals;
 use crate::told::Told;
 use crate::words::{add_fact, add_remark};
 use cwr_share::{Payees, Registry, count_registrations};
 use line_split::Usage;
+use run_inputs::{Input, Inputs};
 use std::alloc::{AllocError, Global};
 use tis_tree::TisTable;
 use usage_totals::totals_of;
@@ -48,35 +50,36 @@ pub struct File {
     pub bytes: Vec<u8>,
 }
 
+impl Input for File {
+    ghost use Rattle.check_inputs.specs.Checked.{bytes_of};
+
+    ghost bytes = { bytes_of };
+
+    fn bytes(&self) -> &[u8] {
+        self.bytes.as_slice()
+    }
+}
+
 /// Reports on the inputs of a run: a table of territories, a table of payees where there is one, a CWR file and a usage list. Each is
 /// read whatever stands in the others, past each row or line that is refused. The report has the first hundred faults of each, what is in
 /// those that have none, what a run passes over in them, and, where none has a fault, what a run makes of the usage lines.
-pub fn check(
-    alloc: Global,
-    tis: &File,
-    payees: &Option<File>,
-    cwr: &File,
-    usage: &File,
-) -> Result<Checked, AllocError>
-    ensures { IfOk result (λ checked. IsReportOn (paths_of tis.now payees.now cwr.now usage.now) (files_of tis.now payees.now cwr.now usage.now) checked.text.items checked.is_sound) }
+pub fn check(alloc: Global, inputs: &Inputs<File>) -> Result<Checked, AllocError>
+    ensures { IfOk result (λ checked.
+        IsReportOn (map_inputs path_of inputs.now) (map_inputs bytes_of inputs.now)
+        checked.text.items checked.is_sound) }
 {
     let mut sheet = Sheet {
         faults: Vec::new(alloc),
         facts: Vec::new(alloc),
         is_sound: true,
     };
-    let (territories, tis_faults) = sheet.tis(alloc, tis)?;
-    let (rows, payee_faults) = sheet.payees(alloc, payees)?;
-    let (registry, cwr_faults) = sheet.cwr(alloc, cwr, &rows, payee_faults)?;
-    let lines = sheet.usage(alloc, usage)?;
-    sheet.territories_remark(cwr, cwr_faults, &territories, tis_faults)?;
-    sheet.payees_remark(payees, payee_faults, &rows, &registry, cwr_faults)?;
-    let paths = Paths {
-        territories: tis.path.as_str(),
-        registrations: cwr.path.as_str(),
-        usage: usage.path.as_str(),
-    };
-    sheet.totals(alloc, &paths, &territories, &registry, &lines)?;
+    let (territories, tis_faults) = sheet.tis(alloc, &inputs.territories)?;
+    let (rows, payee_faults) = sheet.payees(alloc, &inputs.payees)?;
+    let (registry, cwr_faults) = sheet.cwr(alloc, &inputs.registrations, &rows, payee_faults)?;
+    let lines = sheet.usage(alloc, &inputs.usage)?;
+    sheet.territories_remark(&inputs.registrations, cwr_faults, &territories, tis_faults)?;
+    sheet.payees_remark(&inputs.payees, payee_faults, &rows, &registry, cwr_faults)?;
+    sheet.totals(alloc, inputs, &territories, &registry, &lines)?;
     sheet.finish()
 }
 
@@ -99,7 +102,12 @@ impl Sheet {
             (tis_facts (string_bytes file.now.path) (length out) read.0)) }
     {
         let path = file.path.as_str();
-        let (told, table) = read_tis(alloc, path, file.bytes.as_slice())?;
+        let (told, table) = read_past_faults(
+            alloc,
+            path,
+            file.bytes.as_slice(),
+            TisTable::new(alloc)?,
+        )?;
         self.add_faults(&told)?;
         add_fact_if_sound(
             &mut self.facts,
@@ -113,8 +121,11 @@ impl Sheet {
 
     /// Adds a table of payees, where there is one, and answers how many faults it has.
     fn payees(&mut self, alloc: Global, file: &Option<File>) -> Result<(Payees, u64), AllocError>
-        ensures { IfOk result (λ read. (out : List (List (List ℕ) × PayeeFault)) × ArePayeesWithout (option_map (λ file. file.bytes.items) file.now) out read.0 × (read.1 ≡ length out)
-            × GoesOn self.old self.new (length out) (fault_lines (payee_line (path_if_given file.now)) (path_if_given file.now) out) (payee_facts file.now (length out) read.0)) }
+        ensures { IfOk result (λ read. (out : List (List (List ℕ) × PayeeFault))
+            × ArePayeesWithout (option_map bytes_of file.now) out read.0 × (read.1 ≡ length out)
+            × GoesOn self.old self.new (length out)
+            (fault_lines (payee_line (path_if_given file.now)) (path_if_given file.now) out)
+            (payee_facts file.now (length out) read.0)) }
     {
         let (told, rows) = read_payees_if_given(alloc, file)?;
         self.add_faults(&told)?;
@@ -147,7 +158,13 @@ impl Sheet {
             (usage_facts (string_bytes file.now.path) (length out) lines)) }
     {
         let path = file.path.as_str();
-        let (told, lines) = read_usage(alloc, path, file.bytes.as_slice())?;
+        let bytes = file.bytes.as_slice();
+        let (told, lines) = read_past_faults(
+            alloc,
+            path,
+            bytes,
+            Usage::with_room_for(alloc, bytes)?,
+        )?;
         self.add_faults(&told)?;
         add_usage_facts(&mut self.facts, told.count, path, lines.len() as u64)?;
         Ok(lines)
@@ -195,13 +212,14 @@ impl Sheet {
     fn totals(
         &mut self,
         alloc: Global,
-        paths: &Paths<'_>,
+        inputs: &Inputs<File>,
         table: &TisTable,
         registry: &Option<Registry>,
         lines: &Usage,
     ) -> Result<(), AllocError>
         ensures { OnOk result ((totals : Option Totals) × AreTotalsIfSound self.old.is_sound table.now registry.now lines.now totals
-            × Adds self.old self.new (option_map_or (totals_text paths.now.territories.now paths.now.registrations.now paths.now.usage.now (length lines.now)) totals [])) }
+            × Adds self.old self.new
+            (option_map_or (totals_text (map_inputs path_of inputs.now) (length lines.now)) totals [])) }
     {
         if !self.is_sound {
             return Ok(());
@@ -210,7 +228,7 @@ impl Sheet {
             return Ok(());
         };
         let totals = totals_of(alloc, table, registry, lines)?;
-        add_totals(&mut self.facts, paths, lines.len() as u64, &totals)?;
+        add_totals(&mut self.facts, inputs, lines.len() as u64, &totals)?;
         Ok(())
     }
 
@@ -273,11 +291,17 @@ fn read_payees_if_given<'a>(
     alloc: Global,
     file: &'a Option<File>,
 ) -> Result<(Told<'a>, Payees), AllocError>
-    ensures { IfOk result (λ read. (out : List (List (List ℕ) × PayeeFault)) × ArePayeesWithout (option_map (λ file. file.bytes.items) file.entry.now) out read.1
+    ensures { IfOk result (λ read. (out : List (List (List ℕ) × PayeeFault))
+        × ArePayeesWithout (option_map bytes_of file.entry.now) out read.1
         × (read.0.text.items ≡ fault_lines (payee_line (path_if_given file.entry.now)) (path_if_given file.entry.now) out) × (read.0.count ≡ length out)) }
 {
     match file {
-        Some(file) => read_payees(alloc, file.path.as_str(), file.bytes.as_slice()),
+        Some(file) => read_past_faults(
+            alloc,
+            file.path.as_str(),
+            file.bytes.as_slice(),
+            Payees::none(alloc),
+        ),
         None => Ok((Told::none(alloc, ""), Payees::none(alloc))),
     }
 }
@@ -299,7 +323,9 @@ fn add_payee_facts(
     faults: u64,
     rows: u64,
 ) -> Result<(), AllocError>
-    ensures { OnOk result (text.new.items ≡ text.old.items ++ option_map_or (λ file. if_none faults (fact_line (string_bytes file.path) (codes "parties with a payee") rows)) file.now []) }
+    ensures { OnOk result (text.new.items ≡ text.old.items
+        ++ option_map_or (λ path. if_none faults (fact_line path (codes "parties with a payee") rows))
+        (option_map path_of file.now) []) }
 {
     let Some(file) = file else {
         return Ok(());

@@ -2,50 +2,43 @@
 
 ghost use Rattle.std.specs.Prelude.{◌≡◌, ◌++◌, ◌&&◌, [], OnOk, flat_map, if◌then◌else◌, nat_lt};
 ghost use Rattle.std.specs.Fmt.{signed_decimal};
+ghost use Rattle.check_inputs.specs.Checked.{path_of};
 ghost use Rattle.check_inputs.specs.Messages.{remark_line, total_line, total_text};
 ghost use Rattle.check_inputs.specs.Report.{divided_line, reasons_text, territory_line, totals_text, work_line};
+ghost use Rattle.run_inputs.specs.Inputs.{map_inputs};
 
+use crate::report::File;
 use crate::words::{add, add_amount, add_around, add_number, add_path, add_remark};
+use run_inputs::Inputs;
 use std::alloc::AllocError;
 use usage_totals::{Name, Total, Totals};
-
-/// The paths of the files that totals speak of.
-#[derive(Drop)]
-pub(crate) struct Paths<'a> {
-    /// That of the table of territories.
-    pub(crate) territories: &'a str,
-    /// That of the CWR file.
-    pub(crate) registrations: &'a str,
-    /// That of the usage list.
-    pub(crate) usage: &'a str,
-}
 
 /// Adds what a run makes of so many lines.
 pub(crate) fn add_totals(
     text: &mut Vec<u8>,
-    paths: &Paths<'_>,
+    inputs: &Inputs<File>,
     lines: u64,
     totals: &Totals<'_>,
 ) -> Result<(), AllocError>
-    ensures { OnOk result (text.new.items ≡ text.old.items ++ totals_text paths.now.territories.now paths.now.registrations.now paths.now.usage.now lines totals.now) }
+    ensures { OnOk result (text.new.items
+        ≡ text.old.items ++ totals_text (map_inputs path_of inputs.now) lines totals.now) }
 {
-    add_reasons(text, paths.usage, totals)?;
-    add_works(text, paths.usage, totals.works.as_slice())?;
-    add_territories(text, paths.usage, totals.territories.as_slice())?;
-    let knows_no_work = totals.unregistered.lines == lines;
-    let knows_no_territory = !totals.knows_a_territory;
+    let usage = inputs.usage.path.as_str();
+    add_reasons(text, usage, totals)?;
+    add_works(text, usage, totals.works.as_slice())?;
+    add_territories(text, usage, totals.territories.as_slice())?;
     add_remark_if_any(
         text,
         lines,
-        knows_no_work,
-        paths.registrations,
+        totals.unregistered.lines == lines,
+        inputs.registrations.path.as_str(),
         "it has the work of no usage line",
     )?;
     add_remark_if_any(
         text,
         lines,
-        knows_no_territory,
-        paths.territories,
+        !totals.knows_a_territory,
+        inputs.territories.path.as_str(),
         "it has the territory of no usage line",
     )?;
     Ok(())

@@ -2,20 +2,15 @@
 
 ghost use Rattle.std.specs.Prelude.{◌≡◌, ◌<◌, ◌+◌, ◌++◌, ◌∷◌, ◌^◌, [], ℕ, List, OnOk, Option, codes, decimal};
 ghost use Rattle.cwr_share.specs.declared.cwr_fault.CwrFault.{CwrFault};
-ghost use Rattle.cwr_share.specs.declared.payee_fault.PayeeFault.{PayeeFault};
-ghost use Rattle.line_split.specs.declared.line_fault.LineFault.{LineFault};
-ghost use Rattle.tis_tree.specs.declared.tis_fault.TisFault.{TisFault};
 ghost use Rattle.check_inputs.specs.Messages.{place_text};
-ghost use Rattle.check_inputs.specs.Report.{cwr_line, more_line, payee_line, tis_line, usage_line};
+ghost use Rattle.check_inputs.specs.Report.{cwr_line, more_line, row_line};
 ghost use Rattle.check_inputs.specs.SoFar.{IsTold};
 
-use crate::messages::{add_cwr, add_payee, add_tis, add_usage};
+use crate::messages::{Worded, add_cwr};
 use crate::words::{MOST_FAULTS, add, add_fact, add_number, add_path, add_place};
-use csv_table::Rows;
-use cwr_share::{CwrFault, PayeeFault};
-use line_split::LineFault;
+use csv_table::{FileFault, Rows};
+use cwr_share::CwrFault;
 use std::alloc::{AllocError, Global};
-use tis_tree::TisFault;
 
 /// The faults of a file so far: the first hundred as lines, and how many there are.
 #[derive(Drop)]
@@ -41,11 +36,14 @@ impl<'a> Told<'a> {
         }
     }
 
-    /// Tells one more fault of a table of territories.
-    pub(crate) fn tis(&mut self, row: &Rows<'_>, fault: TisFault) -> Result<(), AllocError>
+    /// Tells one more fault of a table.
+    pub(crate) fn row<F: Worded>(&mut self, row: &Rows<'_>, fault: &F) -> Result<(), AllocError>
         requires { self.old.count + 1 < 2 ^ 64 }
-        ensures told { OnOk result ((faults : List (List (List ℕ) × TisFault)) → IsTold (tis_line self.old.path.now) self.old.text.items self.old.count faults
-            → IsTold (tis_line self.old.path.now) self.new.text.items self.new.count (faults ++ (row.now.row, fault) ∷ [])) }
+        ensures told { OnOk result ((faults : List (List (List ℕ) × F))
+            → IsTold (row_line F.message F.place_in F.number_in self.old.path.now)
+            self.old.text.items self.old.count faults
+            → IsTold (row_line F.message F.place_in F.number_in self.old.path.now)
+            self.new.text.items self.new.count (faults ++ (row.now.row, fault.now) ∷ [])) }
         ensures path { self.new.path.now ≡ self.old.path.now }
     {
         if self.count >= MOST_FAULTS {
@@ -53,24 +51,7 @@ impl<'a> Told<'a> {
             return Ok(());
         }
         self.begin("row ", fault.place())?;
-        add_tis(&mut self.text, row, fault)?;
-        self.end(fault.number())?;
-        Ok(())
-    }
-
-    /// Tells one more fault of a table of payees.
-    pub(crate) fn payee(&mut self, row: &Rows<'_>, fault: PayeeFault) -> Result<(), AllocError>
-        requires { self.old.count + 1 < 2 ^ 64 }
-        ensures told { OnOk result ((faults : List (List (List ℕ) × PayeeFault)) → IsTold (payee_line self.old.path.now) self.old.text.items self.old.count faults
-            → IsTold (payee_line self.old.path.now) self.new.text.items self.new.count (faults ++ (row.now.row, fault) ∷ [])) }
-        ensures path { self.new.path.now ≡ self.old.path.now }
-    {
-        if self.count >= MOST_FAULTS {
-            self.count += 1;
-            return Ok(());
-        }
-        self.begin("row ", fault.place())?;
-        add_payee(&mut self.text, row, fault)?;
+        fault.add_message(&mut self.text, row)?;
         self.end(fault.number())?;
         Ok(())
     }
@@ -88,23 +69,6 @@ impl<'a> Told<'a> {
         }
         self.begin("line ", fault.place())?;
         add_cwr(&mut self.text, line, fault)?;
-        self.end(fault.number())?;
-        Ok(())
-    }
-
-    /// Tells one more fault of a usage list.
-    pub(crate) fn usage(&mut self, row: &Rows<'_>, fault: LineFault) -> Result<(), AllocError>
-        requires { self.old.count + 1 < 2 ^ 64 }
-        ensures told { OnOk result ((faults : List (List (List ℕ) × LineFault)) → IsTold (usage_line self.old.path.now) self.old.text.items self.old.count faults
-            → IsTold (usage_line self.old.path.now) self.new.text.items self.new.count (faults ++ (row.now.row, fault) ∷ [])) }
-        ensures path { self.new.path.now ≡ self.old.path.now }
-    {
-        if self.count >= MOST_FAULTS {
-            self.count += 1;
-            return Ok(());
-        }
-        self.begin("row ", fault.place())?;
-        add_usage(&mut self.text, row, fault)?;
         self.end(fault.number())?;
         Ok(())
     }

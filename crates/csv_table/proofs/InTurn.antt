@@ -1,7 +1,8 @@
 -- Rows, or lines, each of which is as it has to be behind those before it.
-use Rattle.std.proofs.Common.{◌≡◌, ◌<◌, ◌+◌, List, [], ◌∷◌, ◌++◌, length, take, inl, inr, arith, length-append, refl, subst}
+use Rattle.std.proofs.Common.{◌≡◌, ◌<◌, All, List, [], ◌∷◌, ◌++◌, length, inl, inr, arith, length-append, refl, subst}
 use Rattle.std.proofs.Math.Seq.{get_or-append_seam, take-append_seam}
 use Rattle.std.proofs.lemmas.Bool.{cases_lt}
+use Rattle.std.proofs.lemmas.List.Elements.{All-from_get_or}
 use Rattle.std.proofs.lemmas.List.{get_or_append_left, get_or_push, length_push, take-append-le}
 use Rattle.csv_table.specs.FirstFault.{AreInTurn}
 
@@ -25,3 +26,11 @@ module _ {X : Type 0} (IsSound : List (List X) → List X → Type 0) where
         let last : place ≡ length rows = omega (arith, past, within, length_push rows row) in
         rw (last, take-append_seam rows (row ∷ []), get_or_push rows row [] (length rows) refl) good
   ]
+
+-- where what stands before makes no difference, each of them is sound, and that is enough
+module _ {X : Type 0} (IsGood : List X → Type 0) where
+  pub each_sound : (rows : List (List X)) → AreInTurn (λ before. IsGood) rows → All IsGood rows
+  each_sound rows sound = All-from_get_or IsGood rows [] sound
+
+  pub all_sound : (rows : List (List X)) → All IsGood rows → AreInTurn (λ before. IsGood) rows
+  all_sound rows all place within = all place [] within

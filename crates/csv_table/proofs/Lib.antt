@@ -1,6 +1,7 @@
 pub mod Codes
 pub mod Fields
 pub mod InTurn
+pub mod ItemWalks
 pub mod LineFeeds
 pub mod PieceLemmas
 pub mod ReadBack

@@ -89,18 +89,18 @@ module _ (registered : Registered) (work : List ℕ) (registration : Kept) (up :
     row : party < length registered.payees
     within : party < length up.accounts
     name : get_or (names_in registered) party [] ≡ (get_or registered.payees party ([], [])).0
-    payee : get_or registered.parties (account_of party) [] ≡ (get_or registered.payees party ([], [])).1
+    payee : get_or registered.accounts (account_of party) [] ≡ (get_or registered.payees party ([], [])).1
 
   has_account : (party : ℕ) → party < length (names_in registered) → HasAccount party
   has_account party inside =
       let row : party < length registered.payees = omega (arith, inside, length-map registered.payees (λ (row : List ℕ × List ℕ). row.0)) in
       let within : party < length up.accounts =
-      omega (arith, row, ap length up.are.exact, length-map registered.payees (λ (row : List ℕ × List ℕ). row.1), length-map up.accounts (λ (account : ℕ). get_or registered.parties account [])) in
+      omega (arith, row, ap length up.are.exact, length-map registered.payees (λ (row : List ℕ × List ℕ). row.1), length-map up.accounts (λ (account : ℕ). get_or registered.accounts account [])) in
       record {
         row = row;
         within = within;
         name = get_or-map (λ (row : List ℕ × List ℕ). row.0) registered.payees party ([], []) [] row;
-        payee = sym (get_or-map (λ (account : ℕ). get_or registered.parties account []) up.accounts party 0 [] within)
+        payee = sym (get_or-map (λ (account : ℕ). get_or registered.accounts account []) up.accounts party 0 [] within)
             ∙ (ap (λ (texts : List (List ℕ)). get_or texts party []) (sym up.are.exact) ∙ get_or-map (λ (row : List ℕ × List ℕ). row.1) registered.payees party ([], []) [] row);
       }
 
@@ -111,7 +111,7 @@ module _ (registered : Registered) (work : List ℕ) (registration : Kept) (up :
       up.sound.one_payee i j (d, []) before second
       (sym (get_or-map (λ (row : List ℕ × List ℕ). row.0) registered.payees i (d, []) d first) ∙ (same ∙ get_or-map (λ (row : List ℕ × List ℕ). row.0) registered.payees j (d, []) d second)))
 
-  are_paid : ArePaid pay (names_in registered) account_of registered.parties
+  are_paid : ArePaid pay (names_in registered) account_of registered.accounts
   are_paid = record {
     rising = up.sound.rising;
     distinct = once;
@@ -134,7 +134,7 @@ module _ (registered : Registered) (work : List ℕ) (registration : Kept) (up :
   -- the lines as they are kept, by account
   same_kept : registration.lines ≡ lines_of_claimants its_lines its_groups
   same_kept =
-      let parties = of_parties pay (names_in registered) registered.parties account_of are_paid its_lines up.kept.claimants up.kept.compiled named in
+      let parties = of_parties pay (names_in registered) registered.accounts account_of are_paid its_lines up.kept.claimants up.kept.compiled named in
       up.kept.lines
       ∙ (flat_agree (λ (claimant : ℕ × List ℕ). claim_lines (account_of claimant.0) (lines_at (nameless registration) claimant.1)) (λ claimant. claim_lines (account_of claimant.0) (lines_at its_lines claimant.1)) up.kept.claimants
       (λ k d within.
@@ -142,15 +142,15 @@ module _ (registered : Registered) (work : List ℕ) (registration : Kept) (up :
       ap (claim_lines (account_of claimant.0)) (ap (λ (l : List ShareLine). lines_at l claimant.1) (nameless_lines (names_in registered) registration) ∙ lines_at_unnamed its_lines claimant.1)
       ∙ claim_lines_unnamed (account_of claimant.0) (get_or (names_in registered) claimant.0 []) (lines_at its_lines claimant.1) (parties.own k d within))
       ∙ sym (same_lines its_lines (λ (party : ℕ). get_or (names_in registered) party []) account_of up.kept.claimants parties
-      (rise pay (names_in registered) registered.parties account_of are_paid its_lines up.kept.claimants up.kept.compiled named)))
+      (rise pay (names_in registered) registered.accounts account_of are_paid its_lines up.kept.claimants up.kept.compiled named)))
 
   -- claims are worked out from them
   pub are_claim_lines : AreClaimLines its_lines its_groups registration.lines
   are_claim_lines =
       let claimants = up.kept.claimants in
       let compiled = up.kept.compiled in
-      let parties = of_parties pay (names_in registered) registered.parties account_of are_paid its_lines claimants compiled named in
-      let rises = rise pay (names_in registered) registered.parties account_of are_paid its_lines claimants compiled named in
+      let parties = of_parties pay (names_in registered) registered.accounts account_of are_paid its_lines claimants compiled named in
+      let rises = rise pay (names_in registered) registered.accounts account_of are_paid its_lines claimants compiled named in
       let as_many = length_kept in
       record {
         exact = same_kept;
@@ -181,7 +181,7 @@ module _ (table : List (ℕ × List ℕ)) (registered : Registered) (line : Usag
   these : filter counts claims_here ≡ claims_by table registered line lines_here
   these =
       rw same
-      (same_paid (pay registered line.work registration up) (names_in registered) registered.parties (account_of registered line.work registration up) (are_paid registered line.work registration up)
+      (same_paid (pay registered line.work registration up) (names_in registered) registered.accounts (account_of registered line.work registration up) (are_paid registered line.work registration up)
       lines_here up.kept.claimants up.kept.compiled (named registered line.work registration up) table line.territory line.right)
 
   total : total_of (claims_by table registered line lines_here) ≡ total_of claims_here

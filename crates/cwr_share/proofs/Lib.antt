@@ -8,7 +8,7 @@ pub mod FileLemmas
 pub mod FiledLemmas
 pub mod LawLemmas
 pub mod LineLemmas
-pub mod OnePayees
+pub mod PayeeRows
 pub mod OneRegistry
 pub mod OrderLemmas
 pub mod PaidClaims

@@ -158,7 +158,7 @@ same_names rows lines registered other of other_of is other_is k d within =
 
 -- two registries of a file have the same accounts
 pub one_parties : (rows : List (List ℕ × List ℕ)) (lines : List (List ℕ)) (registered other : Registered) → IsFileOf rows lines registered → IsFileOf rows lines other
-    → IsRegistered registered → IsRegistered other → registered.parties ≡ other.parties
+    → IsRegistered registered → IsRegistered other → registered.accounts ≡ other.accounts
 one_parties rows lines registered other of other_of is other_is =
     let same = one-in_order nat_list_cmp_total is.names other_is.names (names_rise registered is) (names_rise other other_is)
     (same_names rows lines registered other of other_of is other_is) (same_names rows lines other registered other_of of other_is is) in

@@ -230,7 +230,7 @@ module _ (works : List WorkNumber) (lists : List (Vec ShareLine Global)) (paired
     pub registered : All (λ lines. AreShareLines lines.items) lists → map (kept_lines (names_of parties)) registrations ≡ items_of lists
         → IsRegistered (registered_as works registrations parties payees)
     registered sound same =
-        subst (λ (registered : List (List ℕ × List ShareLine)). IsRegistered (record { works = registered; payees = map as_row parties; parties = items_of payees }))
+        subst (λ (registered : List (List ℕ × List ShareLine)). IsRegistered (record { works = registered; payees = map as_row parties; accounts = items_of payees }))
         (sym (registered_works works lists registrations parties payees same))
         (record {
           once = once_works;

@@ -1,133 +1,19 @@
--- How the rows of a table of payees are read one by one, and how a party's payee is found.
-use Rattle.std.proofs.Common.{◌≡◌, ◌≤◌, ◌<◌, ◌+◌, ◌⊎◌, AllPairs, zero, suc, get_or, Bool, true, false, is_some, ℕ, List, Option, Some, None, [], ◌∷◌, ◌++◌, length, map, nat_eq, drop, ap, sym, refl, subst, ◌∙◌, append_assoc, inl, inr, arith}
+-- How a party's payee is found.
+use Rattle.std.proofs.Common.{◌≡◌, ◌<◌, AllPairs, zero, suc, get_or, Bool, true, false, is_some, ℕ, List, Option, Some}
+use Rattle.std.proofs.Common.{None, [], ◌∷◌, ◌++◌, length, map, nat_eq, ap, sym, refl, subst, ◌∙◌, inl, inr, arith}
 use Rattle.std.specs.List.{find}
 use Rattle.std.specs.Option.{option_map, option_map_or}
 use Rattle.std.specs.Cmp.Lexicographic.{pointwise}
 use Rattle.std.proofs.lemmas.Bool.{cases_Bool, false_from_ne_true, false≢true}
 use Rattle.std.proofs.lemmas.Cmp.{nat_list_eq_equiv}
-use Rattle.std.proofs.lemmas.List.{append-nil, length_push, length-map, map-append}
+use Rattle.std.proofs.lemmas.List.{append-nil}
 use Rattle.std.proofs.lemmas.List.Elements.{All-cons, All-head, All-tail}
 use Rattle.std.proofs.lemmas.Option.{none-some}
 use Rattle.std.proofs.lemmas.Slice.Eq.{bytes_eq-Decides}
 use Rattle.indexmap.specs.IndexMap.{insert_entry}
 use Rattle.std.specs.Map.{lookup}
-use Rattle.csv_table.specs.ReadOn.{ReadsOn}
-use Rattle.csv_table.specs.ReadOn.ReadsOn.{here, read, left_out, stopped}
-use Rattle.cwr_share.specs.PayeeReading.{IsReadWithout, Reads, Refuses, Stops}
-use Rattle.csv_table.specs.FirstFault.{HasNoHeader}
-use Rattle.csv_table.proofs.InTurn.{sound_push}
-use Rattle.cwr_share.specs.PayeeTable.{AreRows, IsFaultOf, IsFaultOfRow, IsPayeeRow, IsTableOf, header, payee_row_of, place_of_fault}
 use Rattle.cwr_share.specs.Payees.{AreNames, HasRow, IsName, payee_of}
-use Rattle.cwr_share.specs.declared.payees.TheConstants.{MOST_PAYEES}
-use Rattle.cwr_share.specs.declared.payee_fault.PayeeFault.{PayeeFault}
-use Rattle.cwr_share.specs.declared.payee_fault.PayeeFault.TheVariants.{Csv, Rows, Memory}
 use Rattle.cwr_share.proofs.CompiledLemmas.{contains_cases, contains_later}
-
--- the rows below the header that were read so far are this table
-pub record Walked (rows left : List (List (List ℕ))) (number : ℕ) (payees : List (List ℕ × List ℕ)) : Type 0 where
-  pub below : List (List (List ℕ))
-  pub split : rows ≡ header ∷ (below ++ left)
-  pub few : length below ≤ MOST_PAYEES
-  pub sound : AreRows below
-  pub same : payees ≡ map payee_row_of below
-  pub count : length below + 1 ≡ number
-
--- below the header no row is read yet
-pub walked_start : (rows left : List (List (List ℕ))) (number : ℕ) (payees : List (List ℕ × List ℕ)) → rows ≡ header ∷ left → (payees ≡ []) × (number ≡ 1) → Walked rows left number payees
-walked_start rows left number payees is (none, first) =
-    record { below = []; split = is; few = omega arith; sound = λ place within. absurd (omega arith); same = none; count = sym first }
-
--- a row that names a payee adds it to the table
-pub walked_more : (rows left : List (List (List ℕ))) (row : List (List ℕ)) (number : ℕ) (payees grown : List (List ℕ × List ℕ))
-    → Walked rows (row ∷ left) number payees → length payees < MOST_PAYEES → IsPayeeRow payees row → grown ≡ payees ++ payee_row_of row ∷ [] → Walked rows left (number + 1) grown
-walked_more rows left row number payees grown walked few good is = record {
-  below = walked.below ++ row ∷ [];
-  split = walked.split ∙ ap (λ (l : List (List (List ℕ))). header ∷ l) (sym (append_assoc walked.below (row ∷ []) left));
-  few = omega (arith, few, ap length walked.same, length-map walked.below payee_row_of, length_push walked.below row);
-  sound = sound_push (λ before. IsPayeeRow (map payee_row_of before)) walked.below row walked.sound (rw walked.same at good);
-  same = rw (is, walked.same) (sym (map-append payee_row_of walked.below (row ∷ [])));
-  count = rw (length_push walked.below row, walked.count) refl;
-}
-
--- where no row is left, the rows are the table
-pub walked_table : (rows : List (List (List ℕ))) (number : ℕ) (payees : List (List ℕ × List ℕ)) → Walked rows [] number payees → IsTableOf rows payees
-walked_table rows number payees walked = record {
-  below = walked.below;
-  headed = walked.split ∙ ap (λ (l : List (List (List ℕ))). header ∷ l) (append-nil walked.below);
-  few = walked.few;
-  sound = walked.sound;
-  same = walked.same;
-}
-
--- the table is refused for the row at hand, which is the first that is refused
-pub walked_fault : (rows left : List (List (List ℕ))) (row : List (List ℕ)) (number : ℕ) (payees : List (List ℕ × List ℕ)) (fault : PayeeFault)
-    → Walked rows (row ∷ left) number payees → IsFaultOfRow payees number row fault → IsFaultOf rows fault
-walked_fault rows left row number payees fault walked refused =
-    inr (inr (
-      walked.below ++ row ∷ left,
-      walked.split,
-      record {
-        before = walked.below;
-        row = row;
-        after = left;
-        split = refl;
-        sound = walked.sound;
-        refused = rw walked.count (rw walked.same at refused);
-      },
-    ))
-
--- a row that is refused for what is in it is left out
-pub left_out_row : (payees after : List (List ℕ × List ℕ)) (row : List (List ℕ)) (number : ℕ) (fault : PayeeFault) → IsFaultOfRow payees number row fault
-    → (fault ≡ Memory) ⊎ ((after ≡ payees) × (place_of_fault fault ≡ Some number)) → is_some (place_of_fault fault) ≡ true → Refuses payees number row fault × (after ≡ payees)
-left_out_row payees after row number fault refused (inl memory) placed = cc (rw memory at placed)
-left_out_row payees after row number fault refused (inr (same, place)) placed = ((refused, place), same)
-
--- reading on without a row that is left out reads all rows
-pub walked_on : (rows left after : List (List (List ℕ))) (number end : ℕ) (payees last : List (List ℕ × List ℕ))
-    → Walked rows left number payees → ReadsOn Reads Refuses Stops payees number left [] last end after → Walked rows after end last
-walked_on rows left after number end payees last walked (here _ _ _) = walked
-walked_on rows left after number end payees last walked (read _ next _ _ _ row rest _ _ (few, good, is) on) =
-    walked_on rows rest after (number + 1) end next last (walked_more rows rest row number payees next walked few good is) on
-
--- the first row that is left out is the one that a table is refused for
-pub first_left_out : (rows left after : List (List (List ℕ))) (row : List (List ℕ)) (fault : PayeeFault) (more : List (List (List ℕ) × PayeeFault)) (number end : ℕ) (payees last : List (List ℕ × List ℕ))
-    → Walked rows left number payees → ReadsOn Reads Refuses Stops payees number left ((row, fault) ∷ more) last end after → IsFaultOf rows fault
-first_left_out rows left after row fault more number end payees last walked (read _ next _ _ _ one rest _ _ (few, good, is) on) =
-    first_left_out rows rest after row fault more (number + 1) end next last (walked_more rows rest one number payees next walked few good is) on
-first_left_out rows left after row fault more number end payees last walked (left_out _ _ _ _ _ _ rest _ _ (refused, placed) on) =
-    walked_fault rows rest row number payees fault walked refused
-first_left_out rows left after row fault more number end payees last walked (stopped _ _ _ _ rest (is, many)) =
-    rw is (walked_fault rows rest row number payees Rows walked many)
-
--- below its header, whatever its first row is
-below_header : (rows : List (List (List ℕ))) (out : List (List (List ℕ) × PayeeFault)) (payees : List (List ℕ × List ℕ)) (whole : IsReadWithout rows out payees) (rest : List (List (List ℕ)))
-    → rows ≡ header ∷ rest → out ≡ whole.below → ReadsOn Reads Refuses Stops [] 1 rest out payees whole.end []
-below_header rows out payees whole rest is same =
-    subst (λ (l : List (List (List ℕ))). ReadsOn Reads Refuses Stops [] 1 l out payees whole.end []) (ap (drop 1) is)
-    (subst (λ (o : List (List (List ℕ) × PayeeFault)). ReadsOn Reads Refuses Stops [] 1 (drop 1 rows) o payees whole.end []) (sym same) whole.read)
-
--- a text that is read on without a fault is a table
-pub read_whole : (rows : List (List (List ℕ))) (payees : List (List ℕ × List ℕ)) → IsReadWithout rows [] payees → IsTableOf rows payees
-read_whole rows payees whole = by whole.headed
-  where
-    by : ((rest : List (List (List ℕ))) × (rows ≡ header ∷ rest) × ([] ≡ whole.below)) ⊎ (HasNoHeader header rows × ([] ≡ ([], Csv 0) ∷ whole.below)) → IsTableOf rows payees
-    by (inl (rest, is, same)) =
-        walked_table rows whole.end payees
-        (walked_on rows rest [] 1 whole.end [] payees (walked_start rows rest 1 [] is (refl, refl)) (below_header rows [] payees whole rest is same))
-    by (inr (none, is)) = cc is
-
--- the first fault of one that is read on is what it is refused for
-pub first_fault_read : (rows : List (List (List ℕ))) (row : List (List ℕ)) (fault : PayeeFault) (more : List (List (List ℕ) × PayeeFault)) (payees : List (List ℕ × List ℕ))
-    → IsReadWithout rows ((row, fault) ∷ more) payees → IsFaultOf rows fault
-first_fault_read rows row fault more payees whole = by whole.headed
-  where
-    by : ((rest : List (List (List ℕ))) × (rows ≡ header ∷ rest) × ((row, fault) ∷ more ≡ whole.below)) ⊎ (HasNoHeader header rows × ((row, fault) ∷ more ≡ ([], Csv 0) ∷ whole.below)) → IsFaultOf rows fault
-    by (inl (rest, is, same)) =
-        first_left_out rows rest [] row fault more 1 whole.end [] payees (walked_start rows rest 1 [] is (refl, refl)) (below_header rows ((row, fault) ∷ more) payees whole rest is same)
-    by (inr (none, is)) =
-        let same : ◌≡◌ {A = List (List ℕ) × PayeeFault} (row, fault) ([], Csv 0) = cc is in
-        let headless : fault ≡ Csv 0 = ap (λ (e : List (List ℕ) × PayeeFault). e.1) same in
-        inr (inl (headless, none))
 
 -- what a look-up finds is the payee of the row of the party, and nothing where it has no row
 pub looked_up : (payees : List (List ℕ × List ℕ)) (party : List ℕ)

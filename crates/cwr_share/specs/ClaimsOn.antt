@@ -73,7 +73,8 @@ claims_among table land right pay lines payees = filter (λ claim. not (claim.1 
 
 -- the claims on a line by the share lines of its work
 abbrev pub claims_by : List (ℕ × List ℕ) → Registered → UsageLine → List ShareLine → List (ℕ × ℕ)
-claims_by table registered line lines = claims_among table line.territory line.right (payee_of registered.payees) lines (drop 1 registered.parties)
+claims_by table registered line lines =
+    claims_among table line.territory line.right (payee_of registered.payees) lines (drop 1 registered.accounts)
 
 -- the parties of a work have the same payees in two registries
 abbrev pub ArePaidAlike : (work : List ℕ) → Registered → Registered → Type 0

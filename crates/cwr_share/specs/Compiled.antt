@@ -190,7 +190,7 @@ abbrev pub registered_as : List WorkNumber → List Kept → List Numbered → L
 registered_as works registrations parties payees = record {
   works = map (λ entry. (entry.0.items, kept_lines (names_of parties) entry.1)) (zip works registrations);
   payees = map (λ party. (party.0.items, slice_index_or (map (λ payee. payee.items) payees) party.1 [])) parties;
-  parties = map (λ payee. payee.items) payees;
+  accounts = map (λ payee. payee.items) payees;
 }
 
 -- A registration is kept for its claims: by party its lines stand under the account of the party.
@@ -201,8 +201,9 @@ pub record IsKept (parties : List (List ℕ)) (accounts : List ℕ) (kept : Kept
 
 -- The accounts of a registry's parties are those of their payees, and do not fall.
 pub record AreAccounts (registered : Registered) (accounts : List ℕ) : Type 0 where
-  pub exact : map (λ row. row.1) registered.payees ≡ map (λ account. slice_index_or registered.parties account []) accounts
-  pub some : All (λ account. (0 < account) × (account < length registered.parties)) accounts
+  pub exact : map (λ row. row.1) registered.payees
+      ≡ map (λ account. slice_index_or registered.accounts account []) accounts
+  pub some : All (λ account. (0 < account) × (account < length registered.accounts)) accounts
   pub ordered : AllPairs (λ account later. account ≤ later) accounts
 
 -- names no longer than the field of a party number

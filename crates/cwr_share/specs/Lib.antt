@@ -11,7 +11,6 @@ pub mod Found
 pub mod Reading
 pub mod Parties
 pub mod Payees
-pub mod PayeeReading
 pub mod PayeeTable
 pub mod PassedOver
 pub mod CwrReading

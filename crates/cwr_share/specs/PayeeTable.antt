@@ -1,7 +1,8 @@
 -- The table of payees as CSV: a header, and a row for each party that is paid to another account. Rows count from 0, the header's.
-use Rattle.std.specs.Prelude.{ℕ, ◌≡◌, ◌≤◌, ◌<◌, ◌⊎◌, ◌∷◌, [], List, length, map, codes, slice_index_or, Option, Some, None, ⊤}
-use Rattle.csv_table.specs.FirstFault.{AreInTurn, IsFaultOfTable}
+use Rattle.std.specs.Prelude.{ℕ, ◌≡◌, ◌∷◌, [], List, length, codes, slice_index_or, Option, Some, None}
 use Rattle.csv_table.specs.Forms.{IsPrintable}
+use Rattle.csv_table.specs.RowTable as tables
+use Rattle.csv_table.specs.RowTable.{TableRules}
 use Rattle.cwr_share.specs.Fields.{trimmed}
 use Rattle.cwr_share.specs.Payees.{HasRow}
 use Rattle.cwr_share.specs.declared.payees.TheConstants.{MOST_NAME_BYTES, MOST_PAYEES}
@@ -32,30 +33,40 @@ pub record IsPayeeRow (earlier : List (List ℕ × List ℕ)) (row : List (List 
   pub names : HasNames row
   pub new : ¬ HasRow earlier (party_field row)
 
--- rows below the header that name payees, each below those before it
-abbrev pub AreRows : List (List (List ℕ)) → Type 0
-AreRows rows = AreInTurn (λ before. IsPayeeRow (map payee_row_of before)) rows
+-- What a row is refused for, by its number and the earlier rows, where there is room for it: the first thing, in this
+-- order, that is wrong with it.
+abbrev pub IsFaultOfRow : List (List ℕ × List ℕ) → ℕ → List (List ℕ) → PayeeFault → Type 0
+IsFaultOfRow earlier number row (Csv n) = (n ≡ number) × (¬ (length row ≡ length header))
+IsFaultOfRow earlier number row (Fields n) = (n ≡ number) × (length row ≡ length header) × (¬ HasNames row)
+IsFaultOfRow earlier number row (Twice n) =
+    (n ≡ number) × (length row ≡ length header) × HasNames row × HasRow earlier (party_field row)
+IsFaultOfRow earlier number row Rows = ⊥
+IsFaultOfRow earlier number row Memory = ⊥
+
+-- what a table asks of its rows
+abbrev pub payee_rules : TableRules (List ℕ × List ℕ) PayeeFault
+payee_rules = record {
+  header = header;
+  most = MOST_PAYEES;
+  IsRow = IsPayeeRow;
+  item_of = payee_row_of;
+  Refuses = IsFaultOfRow;
+  headless = Csv 0;
+  too_many = Rows;
+  memory = Memory;
+}
 
 -- the rows are this table
-pub record IsTableOf (rows : List (List (List ℕ))) (payees : List (List ℕ × List ℕ)) : Type 0 where
-  pub below : List (List (List ℕ))
-  pub headed : rows ≡ header ∷ below
-  pub few : length below ≤ MOST_PAYEES
-  pub sound : AreRows below
-  pub same : payees ≡ map payee_row_of below
+abbrev pub IsTableOf : List (List (List ℕ)) → List (List ℕ × List ℕ) → Type 0
+IsTableOf = tables.IsTable payee_rules
 
--- what a row is refused for, by its number and the earlier rows: the first thing, in this order, that is not as it has to be
-abbrev pub IsFaultOfRow : List (List ℕ × List ℕ) → ℕ → List (List ℕ) → PayeeFault → Type 0
-IsFaultOfRow earlier number row Rows = MOST_PAYEES ≤ length earlier
-IsFaultOfRow earlier number row (Csv n) = (n ≡ number) × (length earlier < MOST_PAYEES) × (¬ (length row ≡ length header))
-IsFaultOfRow earlier number row (Fields n) = (n ≡ number) × (length earlier < MOST_PAYEES) × (length row ≡ length header) × (¬ HasNames row)
-IsFaultOfRow earlier number row (Twice n) =
-    (n ≡ number) × (length earlier < MOST_PAYEES) × (length row ≡ length header) × HasNames row × HasRow earlier (party_field row)
-IsFaultOfRow earlier number row Memory = ⊤
-
--- What a table is refused for: its header, or else the first row that names no payee. Memory may run out at any row, the header's too.
+-- what they are refused for: the header, the first row that is refused, or lack of memory
 abbrev pub IsFaultOf : List (List (List ℕ)) → PayeeFault → Type 0
-IsFaultOf rows fault = (fault ≡ Memory) ⊎ IsFaultOfTable header (Csv 0) AreRows (λ before. IsFaultOfRow (map payee_row_of before)) rows fault
+IsFaultOf = tables.IsFaultOf payee_rules
+
+-- the rows that are left out, and the table of those that are read
+abbrev pub IsReadWithout : List (List (List ℕ)) → List (List (List ℕ) × PayeeFault) → List (List ℕ × List ℕ) → Type 0
+IsReadWithout = tables.IsReadWithout payee_rules
 
 -- the fault's number
 abbrev pub number_of_fault : PayeeFault → ℕ

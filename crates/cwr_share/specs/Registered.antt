@@ -15,8 +15,8 @@ pub record Registered : Type 0 where
   pub works : List (List ℕ × List ShareLine)
   -- each of their parties with its payee, in any order
   pub payees : List (List ℕ × List ℕ)
-  -- the payees by account, where the residue has an empty text
-  pub parties : List (List ℕ)
+  -- the payee of each account, where the residue has an empty text
+  pub accounts : List (List ℕ)
 
 -- a share line in its limits
 pub record IsShareLine (line : ShareLine) : Type 0 where
@@ -40,8 +40,8 @@ pub record IsRegistered (registered : Registered) : Type 0 where
   pub in_force : (party : List ℕ) → HasRow registered.payees party ↔ IsPartyOf registered.works party
   -- the names of the payees
   pub names : List (List ℕ)
-  pub accounts : registered.parties ≡ [] ∷ names
+  pub accounts : registered.accounts ≡ [] ∷ names
   pub few_names : length names ≤ MOST_ACCOUNTS
   -- each once and in byte order, in which the empty text comes first
-  pub rising : IsStrictlySortedBy (slice_cmp nat_cmp) registered.parties
+  pub rising : IsStrictlySortedBy (slice_cmp nat_cmp) registered.accounts
   pub exact : (payee : List ℕ) → Contains names payee ↔ IsPayeeIn registered.payees payee

@@ -1,7 +1,6 @@
 //! Why bytes are no CWR file.
 
-ghost use Rattle.std.specs.Prelude.{◌≡◌};
-
+use csv_table::FileFault;
 use std::alloc::{AllocError, AllocFailed};
 use thiserror::Error;
 
@@ -38,13 +37,15 @@ pub enum CwrFault {
     Memory,
 }
 
-impl CwrFault {
+impl FileFault for CwrFault {
     ghost use Rattle.cwr_share.specs.CwrFile.{number_of_fault, place_of_fault};
 
-    /// The fault's number: 1 to 9, in the order above.
-    pub fn number(&self) -> u8
-        ensures { result ≡ number_of_fault self.now }
-    {
+    ghost number_in = { number_of_fault };
+
+    ghost place_in = { place_of_fault };
+
+    // The number is 1 to 9, in the order above.
+    fn number(&self) -> u8 {
         match self {
             CwrFault::Short(_) => 1,
             CwrFault::Share(_) => 2,
@@ -58,10 +59,7 @@ impl CwrFault {
         }
     }
 
-    /// The number of the line at fault, where it is one line's.
-    pub fn place(&self) -> Option<u64>
-        ensures { result ≡ place_of_fault self.now }
-    {
+    fn place(&self) -> Option<u64> {
         match *self {
             CwrFault::Short(line)
             | CwrFault::Share(line)

@@ -11,6 +11,7 @@ ghost use Rattle.cwr_share.specs.declared.cwr_fault.CwrFault.TheVariants.{Accoun
 use crate::lines::Lines;
 use crate::reading::Reading;
 use crate::{CwrFault, Payees, Registry};
+use csv_table::FileFault;
 use std::alloc::{AllocError, Global};
 
 /// A CWR file that is read line by line. A line that is refused is left out, and reading can go on.

@@ -1,8 +1,7 @@
 //! Why bytes are no table of payees.
 
-ghost use Rattle.std.specs.Prelude.{◌≡◌};
-
-use std::alloc::{AllocError, AllocFailed};
+use csv_table::FileFault;
+use std::alloc::AllocError;
 use thiserror::Error;
 
 /// Why bytes are no table of payees. Rows count from 0, the header's.
@@ -26,13 +25,15 @@ pub enum PayeeFault {
     Memory,
 }
 
-impl PayeeFault {
+impl FileFault for PayeeFault {
     ghost use Rattle.cwr_share.specs.PayeeTable.{number_of_fault, place_of_fault};
 
-    /// The fault's number: 1 to 5, in the order above.
-    pub fn number(&self) -> u8
-        ensures { result ≡ number_of_fault self.now }
-    {
+    ghost number_in = { number_of_fault };
+
+    ghost place_in = { place_of_fault };
+
+    // The number is 1 to 5, in the order above.
+    fn number(&self) -> u8 {
         match self {
             PayeeFault::Csv(_) => 1,
             PayeeFault::Fields(_) => 2,
@@ -42,10 +43,7 @@ impl PayeeFault {
         }
     }
 
-    /// The number of the row at fault, where it is one row's.
-    pub fn place(&self) -> Option<u64>
-        ensures { result ≡ place_of_fault self.now }
-    {
+    fn place(&self) -> Option<u64> {
         match *self {
             PayeeFault::Csv(row) | PayeeFault::Fields(row) | PayeeFault::Twice(row) => Some(row),
             PayeeFault::Rows | PayeeFault::Memory => None,
@@ -60,17 +58,6 @@ impl From<AllocError> for PayeeFault {
     ghost from_gives = { λ _ fault. fault ≡ Memory };
 
     fn from(_: AllocError) -> PayeeFault {
-        PayeeFault::Memory
-    }
-}
-
-impl<T: Drop> From<AllocFailed<T>> for PayeeFault {
-    ghost use Rattle.std.specs.Prelude.{◌≡◌};
-    ghost use Rattle.cwr_share.specs.declared.payee_fault.PayeeFault.TheVariants.{Memory};
-
-    ghost from_gives = { λ _ fault. fault ≡ Memory };
-
-    fn from(_: AllocFailed<T>) -> PayeeFault {
         PayeeFault::Memory
     }
 }

@@ -1,18 +1,18 @@
 //! The table of payees: who is paid what a party claims.
 
-ghost use Rattle.std.specs.Prelude.{ℕ, List, ◌≡◌, ◌<◌, ◌+◌, ◌⊎◌, ◌++◌, ◌∷◌, [], IfErr, IfNone, IfSome, OnOk, Some, length, slice_index_or};
+ghost use Rattle.std.specs.Prelude.{ℕ, List, ◌≡◌, ◌<◌, [], IfErr, IfNone, IfOk, IfSome, length, slice_index_or};
 ghost use Rattle.csv_table.specs.Forms.{IsPrintable};
+ghost use Rattle.csv_table.specs.Table.{rows_of};
 ghost use Rattle.cwr_share.specs.Fields.{trimmed as trimmed_text};
-ghost use Rattle.cwr_share.specs.PayeeTable.{IsFaultOfRow, IsPayeeRow, payee_row_of, place_of_fault};
-ghost use Rattle.cwr_share.specs.declared.payee_fault.PayeeFault.TheVariants.{Memory};
+ghost use Rattle.cwr_share.specs.PayeeTable.{IsFaultOf, IsTableOf};
 ghost use Rattle.cwr_share.specs.Payees.{AreNames, payee_of};
 ghost use Rattle.cwr_share.specs.declared.payees.TheConstants.{MOST_NAME_BYTES};
 
 use crate::PayeeFault;
 use crate::name::{Name, Sought};
 use crate::share_line::trimmed;
-use csv_table::Rows;
 use csv_table::forms::is_printable;
+use csv_table::{RowTable, Rows, read_table};
 use indexmap::IndexMap;
 use std::alloc::{AllocError, Global};
 use std::marker::Model;
@@ -41,7 +41,76 @@ impl Model for Payees {
     ghost invariant = { λ p. AreNames p.rows.entries };
 }
 
+impl RowTable for Payees {
+    ghost use Rattle.std.specs.Prelude.{ℕ, List};
+    ghost use Rattle.cwr_share.specs.PayeeTable.{payee_rules};
+
+    type Fault = PayeeFault;
+
+    ghost Item = { List ℕ × List ℕ };
+
+    ghost Known = { Unit {0} };
+
+    ghost known = { λ _. tt };
+
+    ghost rules = { λ _. payee_rules };
+
+    ghost items = { λ payees. payees };
+
+    fn is_header(&self, rows: &Rows<'_>) -> bool {
+        rows.is(&["party", "payee"])
+    }
+
+    fn headless(&self) -> PayeeFault {
+        PayeeFault::Csv(0)
+    }
+
+    fn too_many(&self) -> PayeeFault {
+        PayeeFault::Rows
+    }
+
+    fn memory() -> PayeeFault {
+        PayeeFault::Memory
+    }
+
+    fn is_full(&self) -> bool {
+        self.len() >= MOST_PAYEES
+    }
+
+    fn add_row(
+        &mut self,
+        alloc: Global,
+        number: u64,
+        rows: &Rows<'_>,
+    ) -> Result<Option<PayeeFault>, AllocError> {
+        if rows.len() != 2 {
+            return Ok(Some(PayeeFault::Csv(number)));
+        }
+        let Some(party) = name(rows.field(0)) else {
+            return Ok(Some(PayeeFault::Fields(number)));
+        };
+        let Some(payee) = name(rows.field(1)) else {
+            return Ok(Some(PayeeFault::Fields(number)));
+        };
+        if self.rows.get(Sought(party)).is_some() {
+            return Ok(Some(PayeeFault::Twice(number)));
+        }
+        let (party, payee) = (Name::of(alloc, party)?, Name::of(alloc, payee)?);
+        self.rows.insert(party, payee)?;
+        Ok(None)
+    }
+}
+
 impl Payees {
+    /// Reads a table of payees: CSV with the header `party,payee`. The spaces at the ends of a field
+    /// do not count.
+    pub fn read(alloc: Global, bytes: &[u8]) -> Result<Payees, PayeeFault>
+        ensures payees { IfOk result (IsTableOf (rows_of bytes.now)) }
+        ensures fault { IfErr result (IsFaultOf (rows_of bytes.now)) }
+    {
+        read_table(alloc, bytes, Payees::none(alloc))
+    }
+
     /// A table with no rows: every party is its own payee.
     pub fn none(alloc: Global) -> Payees
         ensures { result ≡ [] }
@@ -79,35 +148,6 @@ impl Payees {
             unreachable!()
         };
         party.as_slice()
-    }
-
-    /// Adds the row at hand, which has this number.
-    pub(crate) fn add_row(
-        &mut self,
-        alloc: Global,
-        number: u64,
-        rows: &Rows<'_>,
-    ) -> Result<(), PayeeFault>
-        requires { length self.old < MOST_PAYEES }
-        ensures added { OnOk result (IsPayeeRow self.old rows.now.row × (self.new ≡ self.old ++ payee_row_of rows.now.row ∷ [])) }
-        ensures fault { IfErr result (IsFaultOfRow self.old number rows.now.row) }
-        ensures same { IfErr result (λ fault. (fault ≡ Memory) ⊎ ((self.new ≡ self.old) × (place_of_fault fault ≡ Some number))) }
-    {
-        if rows.len() != 2 {
-            return Err(PayeeFault::Csv(number));
-        }
-        let Some(party) = name(rows.field(0)) else {
-            return Err(PayeeFault::Fields(number));
-        };
-        let Some(payee) = name(rows.field(1)) else {
-            return Err(PayeeFault::Fields(number));
-        };
-        if self.rows.get(Sought(party)).is_some() {
-            return Err(PayeeFault::Twice(number));
-        }
-        let (party, payee) = (Name::of(alloc, party)?, Name::of(alloc, payee)?);
-        self.rows.insert(party, payee)?;
-        Ok(())
     }
 }
 

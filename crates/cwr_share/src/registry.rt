@@ -61,7 +61,7 @@ impl Registry {
 
     /// How many accounts there are: one for each payee, and the residue's.
     pub fn accounts(&self) -> u16
-        ensures accounts { result ≡ length self.now.parties }
+        ensures accounts { result ≡ length self.now.accounts }
         ensures sound { IsRegistered self.now }
     {
         self.parties.payees.len() as u16
@@ -70,23 +70,24 @@ impl Registry {
     /// The payee of each account: a name of the table of payees, or the interested party number of a
     /// party that has no row there. The residue's account has none.
     pub fn parties(&self) -> &[Vec<u8>]
-        ensures { map (λ party. party.items) result.now ≡ self.now.parties }
+        ensures { map (λ party. party.items) result.now ≡ self.now.accounts }
     {
         self.parties.payees.as_slice()
     }
 
     /// The payee of an account.
     pub fn party(&self, account: Account) -> &[u8]
-        requires { account < length self.now.parties }
-        ensures { result.now ≡ slice_index_or self.now.parties account [] }
+        requires { account < length self.now.accounts }
+        ensures { result.now ≡ slice_index_or self.now.accounts account [] }
     {
         self.parties.payees[account as usize].as_slice()
     }
 
     /// The account of a payee. No account has an empty text.
     pub fn account_of(&self, payee: &[u8]) -> Option<Account>
-        ensures some { IfSome result (λ account. (0 < account) × (account < length self.now.parties) × (slice_index_or self.now.parties account [] ≡ payee.now)) }
-        ensures none { IfNone result ((payee.now ≡ []) ⊎ ¬ Contains self.now.parties payee.now) }
+        ensures some { IfSome result (λ account. (0 < account) × (account < length self.now.accounts)
+            × (slice_index_or self.now.accounts account [] ≡ payee.now)) }
+        ensures none { IfNone result ((payee.now ≡ []) ⊎ ¬ Contains self.now.accounts payee.now) }
     {
         if payee.is_empty() {
             return None;

@@ -20,6 +20,8 @@ use Rattle.line_split.specs.declared.reason.Reason.{Reason}
 use Rattle.line_split.specs.declared.usage.Right.{Right}
 use Rattle.line_split.specs.declared.usage.Right.TheVariants.{P, M, S}
 use Rattle.run_inputs.specs.Inputs.{IsReading}
+use Rattle.run_inputs.specs.declared.inputs.Inputs.{Inputs}
+use Rattle.run_inputs.specs.declared.inputs.Tables.{Tables}
 
 -- a row was added to a text, or several were
 abbrev pub AddsRow : (old new : List ℕ) → List (List ℕ) → Type 0
@@ -67,7 +69,7 @@ share_row table registered land right numbers shares e =
 
 -- an account with its payee, which the residue's has none of
 abbrev pub payee_at : Registered → (account : ℕ) → List ℕ
-payee_at registered account = slice_index_or registered.parties account []
+payee_at registered account = slice_index_or registered.accounts account []
 
 -- what an account claims
 abbrev pub claim_row : Registered → ℕ × ℕ → List (List ℕ)
@@ -118,9 +120,13 @@ registration_rows table registered file line reason =
     registration_row (last_opening file line.work) reason ∷ option_map_or (rows_by table registered file line) (last_opening file line.work) []
 
 -- the explanation of the line in a row, by the territories, the registrations and their file
-abbrev pub explanation_rows : List (ℕ × List ℕ) → Registered → (file : List (List ℕ)) → (row : ℕ) → UsageLine → List (List (List ℕ))
-explanation_rows table registered file row line =
-    line_row row line ∷ (registration_rows table registered file line (reason_against table registered line) ++ division_rows registered line.amount (claims_on table registered line))
+abbrev pub explanation_rows : Tables → (file : List (List ℕ)) → (row : ℕ) → UsageLine → List (List (List ℕ))
+explanation_rows tables file row line =
+    let table = tables.territories in
+    let registered = tables.registry in
+    line_row row line
+    ∷ (registration_rows table registered file line (reason_against table registered line)
+    ++ division_rows registered line.amount (claims_on table registered line))
 
 -- the row of a list of usage lines, from 1
 pub record IsRow (lines : List UsageLine) (row : ℕ) (line : UsageLine) : Type 0 where
@@ -130,19 +136,15 @@ pub record IsRow (lines : List UsageLine) (row : ℕ) (line : UsageLine) : Type 
   pub place : row ≡ length before + 1
 
 -- The text explains the line in a row of the usage list of these inputs.
-pub record IsExplanationOf (territories_file : List ℕ) (payees_file : Option (List ℕ)) (registrations_file usage_file : List ℕ) (row : ℕ) (text : List ℕ) : Type 0 where
-  pub table : List (ℕ × List ℕ)
-  pub registered : Registered
-  pub lines : List UsageLine
-  pub read : IsReading territories_file payees_file registrations_file usage_file table registered lines
+pub record IsExplanationOf (files : Inputs (List ℕ)) (row : ℕ) (text : List ℕ) : Type 0 where
+  pub tables : Tables
+  pub read : IsReading files tables
   pub line : UsageLine
-  pub at : IsRow lines row line
-  pub rows : text ≡ text_of (explanation_rows table registered (lines_of registrations_file) row line)
+  pub at : IsRow tables.usage row line
+  pub rows : text ≡ text_of (explanation_rows tables (lines_of files.registrations) row line)
 
 -- the inputs are sound, and the usage list has no such row
-pub record HasNoRow (territories_file : List ℕ) (payees_file : Option (List ℕ)) (registrations_file usage_file : List ℕ) (row : ℕ) : Type 0 where
-  pub table : List (ℕ × List ℕ)
-  pub registered : Registered
-  pub lines : List UsageLine
-  pub read : IsReading territories_file payees_file registrations_file usage_file table registered lines
-  pub beyond : (row ≡ 0) ⊎ (length lines < row)
+pub record HasNoRow (files : Inputs (List ℕ)) (row : ℕ) : Type 0 where
+  pub tables : Tables
+  pub read : IsReading files tables
+  pub beyond : (row ≡ 0) ⊎ (length tables.usage < row)

@@ -1,47 +1,49 @@
 //! What explanations keep to. A law has an empty body: its contract is the law.
 
 ghost use Rattle.std.specs.List.{enumerate_from};
-ghost use Rattle.std.specs.Prelude.{ℕ, ℤ, ◌≡◌, ◌<◌, ◌+◌, ◌==◌, [], List, None, Option, Some, drop, filter, length, map, slice_index_or};
+ghost use Rattle.std.specs.Prelude.{ℕ, ℤ, ◌≡◌, ◌<◌, ◌+◌, ◌==◌, [], List};
+ghost use Rattle.std.specs.Prelude.{None, Some, drop, filter, length, map, slice_index_or};
 ghost use Rattle.cwr_share.specs.ClaimsOn.{claims_by, claims_on, deciding, reason_against};
 ghost use Rattle.cwr_share.specs.Filed.{last_opening, numbers_from, shares_from};
 ghost use Rattle.cwr_share.specs.Lines.{lines_of};
-ghost use Rattle.cwr_share.specs.Registered.{Registered};
 ghost use Rattle.cwr_share.specs.Registrations.{ShareLine};
 ghost use Rattle.explain_line.specs.Explanation.{IsExplanationOf, IsRow, decides, portions_shown};
 ghost use Rattle.line_split.specs.Signs.{signed_portions_of};
 ghost use Rattle.line_split.specs.UsageLine.{UsageLine};
 ghost use Rattle.payee_book.specs.Run.{IsBookOf, portion_for, posting_of};
 ghost use Rattle.run_inputs.specs.Inputs.{IsReading};
+ghost use Rattle.run_inputs.specs.declared.inputs.Inputs.{Inputs};
+ghost use Rattle.run_inputs.specs.declared.inputs.Tables.{Tables};
 
 /// The portions that an explanation shows are the postings of its line in the statements of a run over the same files, those that
 /// are not 0: the statement of each account has this posting of the line, and no other. The run may have read the files by itself.
 pub fn law_explained_portions_are_posted()
-    ensures { (territories_file : List ℕ) (payees_file : Option (List ℕ)) (registrations_file usage_file : List ℕ)
-        (table : List (ℕ × List ℕ)) (registered : Registered) (lines : List UsageLine) (of_run : List (ℕ × List ℕ)) (registered_of_run : Registered) (lines_of_run : List UsageLine)
-        (statements : List (List (ℕ × ℤ))) (place : ℕ) (line : UsageLine) (account : ℕ)
-        → IsReading territories_file payees_file registrations_file usage_file table registered lines
-        → IsReading territories_file payees_file registrations_file usage_file of_run registered_of_run lines_of_run
-        → IsBookOf (λ other. signed_portions_of other.amount (claims_on of_run registered_of_run other)) lines_of_run (length registered_of_run.parties) statements
-        → IsRow lines (place + 1) line → account < length registered.parties
-        → filter (λ posting. posting.0 == place) (slice_index_or statements account []) ≡ posting_of place (portion_for account (portions_shown line.amount (claims_on table registered line))) }
+    ensures { (files : Inputs (List ℕ)) (tables of_run : Tables) (statements : List (List (ℕ × ℤ)))
+        (place : ℕ) (line : UsageLine) (account : ℕ)
+        → IsReading files tables → IsReading files of_run
+        → IsBookOf (λ other. signed_portions_of other.amount (claims_on of_run.territories of_run.registry other))
+        of_run.usage (length of_run.registry.accounts) statements
+        → IsRow tables.usage (place + 1) line → account < length tables.registry.accounts
+        → filter (λ posting. posting.0 == place) (slice_index_or statements account [])
+        ≡ posting_of place
+        (portion_for account (portions_shown line.amount (claims_on tables.territories tables.registry line))) }
 {}
 
 /// Where no reason stands against them, the claims by the share lines that an explanation shows are those that the line is divided by.
 /// And it shows a line of the file for each of these.
 pub fn law_the_claims_shown_are_those_divided()
-    ensures claims { (territories_file : List ℕ) (payees_file : Option (List ℕ)) (registrations_file usage_file : List ℕ)
-        (table : List (ℕ × List ℕ)) (registered : Registered) (lines : List UsageLine) (line : UsageLine)
-        → IsReading territories_file payees_file registrations_file usage_file table registered lines → reason_against table registered line ≡ None
-        → (number : ℕ) × (last_opening (lines_of registrations_file) line.work ≡ Some number)
-        × (claims_by table registered line (shares_from (lines_of registrations_file) number) ≡ claims_on table registered line) }
+    ensures claims { (files : Inputs (List ℕ)) (tables : Tables) (line : UsageLine)
+        → IsReading files tables → reason_against tables.territories tables.registry line ≡ None
+        → (number : ℕ) × (last_opening (lines_of files.registrations) line.work ≡ Some number)
+        × (claims_by tables.territories tables.registry line (shares_from (lines_of files.registrations) number)
+        ≡ claims_on tables.territories tables.registry line) }
     ensures numbers { (file : List (List ℕ)) (number : ℕ) → length (numbers_from file number) ≡ length (shares_from file number) }
 {}
 
 /// A row of the usage list has one explanation: whoever works it out by the definitions comes to the same bytes.
 pub fn law_a_row_has_one_explanation()
-    ensures { (territories_file : List ℕ) (payees_file : Option (List ℕ)) (registrations_file usage_file : List ℕ) (row : ℕ) (text other : List ℕ)
-        → IsExplanationOf territories_file payees_file registrations_file usage_file row text
-        → IsExplanationOf territories_file payees_file registrations_file usage_file row other → text ≡ other }
+    ensures { (files : Inputs (List ℕ)) (row : ℕ) (text other : List ℕ)
+        → IsExplanationOf files row text → IsExplanationOf files row other → text ≡ other }
 {}
 
 /// The share lines of which an explanation says that they decide are those that the claims are the sum of.

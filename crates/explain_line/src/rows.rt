@@ -248,7 +248,7 @@ fn write_claims(
 ) -> Result<(), AllocError>
     requires { length shares.now ≤ MOST_SHARES }
     ensures { OnOk result (AddsRows rows.old.text rows.new.text (map (claim_row registry.now)
-        (claims_among tis.now land right (payee_of registry.now.payees) shares.now (drop 1 registry.now.parties)))) }
+        (claims_among tis.now land right (payee_of registry.now.payees) shares.now (drop 1 registry.now.accounts)))) }
 {
     let payees = payees_by(alloc, registry, shares)?;
     for account in 1..registry.accounts() {

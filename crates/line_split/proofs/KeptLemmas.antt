@@ -7,7 +7,7 @@ use Rattle.std.specs.declared.option.Option.TheVariants.{Some}
 use Rattle.line_split.specs.KeptLines.{line_with, lines_of}
 use Rattle.line_split.specs.UsageLine.{UsageLine}
 use Rattle.line_split.specs.UsageLines.{AreUsageLines, IsUsageLine}
-use Rattle.line_split.specs.declared.usage.TheConstants.{MOST_LINES}
+use Rattle.line_split.specs.declared.TheConstants.{MOST_LINES}
 use Rattle.line_split.specs.declared.usage.UsageDetail.{UsageDetail}
 
 pub length-lines_of : (names : List (List ℕ)) (details : List UsageDetail) → length names ≡ length details → length (lines_of names details) ≡ length details

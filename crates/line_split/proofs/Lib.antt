@@ -10,7 +10,6 @@ pub mod FirstPlaces
 pub mod ByAccount
 pub mod Over
 pub mod UsageRows
-pub mod UsageReadings
 pub mod OneTable
 mod KeptLemmas
 pub mod PortionAccounts

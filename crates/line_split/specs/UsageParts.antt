@@ -1,21 +1,19 @@
 -- Rows of the table of usage lines below its header, or some of them. The first counts as 1.
-use Rattle.std.specs.Prelude.{ℕ, ◌≡◌, ◌≤◌, ◌<◌, ◌+◌, ◌⊎◌, List, All, length, map}
-use Rattle.csv_table.specs.FirstFault.{IsFirstFault}
-use Rattle.line_split.specs.UsageLine.{UsageLine, line_of}
-use Rattle.line_split.specs.UsageTable.{IsLine, IsRefused}
-use Rattle.line_split.specs.declared.usage.TheConstants.{MOST_LINES}
+use Rattle.std.specs.Prelude.{ℕ, ◌≡◌, ◌≤◌, ◌<◌, ◌+◌, List}
+use Rattle.csv_table.specs.RowTable as tables
+use Rattle.line_split.specs.UsageLine.{UsageLine}
+use Rattle.line_split.specs.UsageTable.{usage_rules}
+use Rattle.line_split.specs.declared.TheConstants.{MOST_LINES}
 use Rattle.line_split.specs.declared.line_fault.LineFault.{LineFault}
 use Rattle.line_split.specs.declared.line_fault.LineFault.TheVariants.{Csv, Fields, Territory, Right, Amount, Lines, Memory}
 
--- all are lines, these
-pub record AreLinesOf (rows : List (List (List ℕ))) (lines : List UsageLine) : Type 0 where
-  pub few : length lines ≤ MOST_LINES
-  pub sound : All IsLine rows
-  pub same : lines ≡ map line_of rows
+-- they are these lines
+abbrev pub AreLinesOf : List (List (List ℕ)) → List UsageLine → Type 0
+AreLinesOf = tables.AreItems usage_rules
 
 -- what they are refused for: memory, or else the first row that is no line
 abbrev pub IsFaultIn : List (List (List ℕ)) → LineFault → Type 0
-IsFaultIn rows fault = (fault ≡ Memory) ⊎ IsFirstFault (All IsLine) IsRefused rows fault
+IsFaultIn = tables.IsFaultIn usage_rules
 
 -- a fault of a row, by its number, where so many rows stand before the first
 abbrev pub IsMoved : ℕ → ℕ → (ℕ → LineFault) → LineFault → Type 0

@@ -1,8 +1,9 @@
 -- The table of usage lines: a header, and a row for each line. Rows count from 0, the header's.
-use Rattle.std.specs.Prelude.{ℕ, ◌≡◌, ◌≤◌, ◌<◌, ◌⊎◌, ◌∷◌, [], List, All, length, map, codes, Option, Some, None}
-use Rattle.csv_table.specs.FirstFault.{IsFaultOfTable}
+use Rattle.std.specs.Prelude.{ℕ, ◌≡◌, ◌∷◌, [], List, length, codes, Option, Some, None}
+use Rattle.csv_table.specs.RowTable as tables
+use Rattle.csv_table.specs.RowTable.{TableRules}
 use Rattle.line_split.specs.UsageLine.{HasAmount, HasRight, HasTerritory, HasTexts, UsageLine, line_of}
-use Rattle.line_split.specs.declared.usage.TheConstants.{MOST_LINES}
+use Rattle.line_split.specs.declared.TheConstants.{MOST_LINES}
 use Rattle.line_split.specs.declared.line_fault.LineFault.{LineFault}
 use Rattle.line_split.specs.declared.line_fault.LineFault.TheVariants.{Csv, Fields, Territory, Right, Amount, Lines, Memory}
 
@@ -17,33 +18,44 @@ pub record IsLine (row : List (List ℕ)) : Type 0 where
   pub right : HasRight row
   pub amount : HasAmount row
 
+-- What a row is refused for, by its number, where there is room for it: the first thing, in this order, that is wrong
+-- with it.
+abbrev pub IsFaultOfRow : (number : ℕ) → List (List ℕ) → LineFault → Type 0
+IsFaultOfRow number row (Csv n) = (n ≡ number) × (¬ (length row ≡ length header))
+IsFaultOfRow number row (Fields n) = (n ≡ number) × (length row ≡ length header) × (¬ HasTexts row)
+IsFaultOfRow number row (Territory n) =
+    (n ≡ number) × (length row ≡ length header) × HasTexts row × (¬ HasTerritory row)
+IsFaultOfRow number row (Right n) =
+    (n ≡ number) × (length row ≡ length header) × HasTexts row × HasTerritory row × (¬ HasRight row)
+IsFaultOfRow number row (Amount n) =
+    (n ≡ number) × (length row ≡ length header) × HasTexts row × HasTerritory row × HasRight row × (¬ HasAmount row)
+IsFaultOfRow number row Lines = ⊥
+IsFaultOfRow number row Memory = ⊥
+
+-- what a table asks of its rows, whatever the rows before them
+abbrev pub usage_rules : TableRules UsageLine LineFault
+usage_rules = record {
+  header = header;
+  most = MOST_LINES;
+  IsRow = λ earlier. IsLine;
+  item_of = line_of;
+  Refuses = λ earlier. IsFaultOfRow;
+  headless = Csv 0;
+  too_many = Lines;
+  memory = Memory;
+}
+
 -- the rows are a table of these lines
-pub record IsTableOf (rows : List (List (List ℕ))) (lines : List UsageLine) : Type 0 where
-  pub few : length lines ≤ MOST_LINES
-  pub rows_below : List (List (List ℕ))
-  pub headed : rows ≡ header ∷ rows_below
-  pub sound : All IsLine rows_below
-  pub same : lines ≡ map line_of rows_below
+abbrev pub IsTableOf : List (List (List ℕ)) → List UsageLine → Type 0
+IsTableOf = tables.IsTable usage_rules
 
--- What a row is refused for, by how many earlier lines there are and by its number: the first thing, in this order, that is not as it has to be. Memory is asked for after all that.
-abbrev pub IsFaultOfRow : (earlier : ℕ) → (number : ℕ) → List (List ℕ) → LineFault → Type 0
-IsFaultOfRow earlier number row Lines = MOST_LINES ≤ earlier
-IsFaultOfRow earlier number row (Csv n) = (n ≡ number) × (earlier < MOST_LINES) × (¬ (length row ≡ length header))
-IsFaultOfRow earlier number row (Fields n) = (n ≡ number) × (earlier < MOST_LINES) × (length row ≡ length header) × (¬ HasTexts row)
-IsFaultOfRow earlier number row (Territory n) = (n ≡ number) × (earlier < MOST_LINES) × (length row ≡ length header) × HasTexts row × (¬ HasTerritory row)
-IsFaultOfRow earlier number row (Right n) =
-    (n ≡ number) × (earlier < MOST_LINES) × (length row ≡ length header) × HasTexts row × HasTerritory row × (¬ HasRight row)
-IsFaultOfRow earlier number row (Amount n) =
-    (n ≡ number) × (earlier < MOST_LINES) × (length row ≡ length header) × HasTexts row × HasTerritory row × HasRight row × (¬ HasAmount row)
-IsFaultOfRow earlier number row Memory = (earlier < MOST_LINES) × IsLine row
-
--- the same by the rows before it
-abbrev pub IsRefused : (before : List (List (List ℕ))) → (number : ℕ) → List (List ℕ) → LineFault → Type 0
-IsRefused before number row fault = IsFaultOfRow (length before) number row fault
-
--- What a table is refused for: its header, or else the first row that is no line. Memory may run out at any row, the header's too.
+-- what they are refused for: the header, the first row that is refused, or lack of memory
 abbrev pub IsFaultOf : List (List (List ℕ)) → LineFault → Type 0
-IsFaultOf rows fault = (fault ≡ Memory) ⊎ IsFaultOfTable header (Csv 0) (All IsLine) IsRefused rows fault
+IsFaultOf = tables.IsFaultOf usage_rules
+
+-- the rows that are left out, and the lines of those that are read
+abbrev pub IsReadWithout : List (List (List ℕ)) → List (List (List ℕ) × LineFault) → List UsageLine → Type 0
+IsReadWithout = tables.IsReadWithout usage_rules
 
 -- the fault's number
 abbrev pub number_of_fault : LineFault → ℕ

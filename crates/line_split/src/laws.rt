@@ -5,13 +5,12 @@ ghost use Rattle.std.specs.Prelude.{◌≡◌, ◌<◌, ℕ, ℤ, pos, neg_ℤ, 
 ghost use Rattle.line_split.specs.declared.TheConstants.{FULL_SHARE, MOST_AMOUNT, MOST_CLAIMED, MOST_CLAIMS, RESIDUE};
 ghost use Rattle.line_split.specs.declared.line_fault.LineFault.{LineFault};
 ghost use Rattle.line_split.specs.declared.line_fault.LineFault.TheVariants.{Memory};
-ghost use Rattle.line_split.specs.declared.usage.TheConstants.{MOST_LINES, MOST_TEXT_BYTES};
+ghost use Rattle.line_split.specs.declared.TheConstants.{MOST_LINES, MOST_TEXT_BYTES};
 ghost use Rattle.line_split.specs.Claims.{base_of, participants_of, total_of};
 ghost use Rattle.line_split.specs.FairSplit.{IsFairSplit};
 ghost use Rattle.line_split.specs.Signs.{signed_portions_of};
 ghost use Rattle.line_split.specs.UsageLine.{UsageLine};
-ghost use Rattle.line_split.specs.UsageReading.{IsReadWithout};
-ghost use Rattle.line_split.specs.UsageTable.{IsFaultOf, IsTableOf};
+ghost use Rattle.line_split.specs.UsageTable.{IsFaultOf, IsReadWithout, IsTableOf};
 
 /// The portions add up to the amount; each is its exact share rounded towards zero or away from it, and none
 /// has the other sign than the amount; and a unit left over goes to a greater remainder before a smaller one,

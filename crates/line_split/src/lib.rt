@@ -15,15 +15,14 @@ mod portions;
 mod reason;
 mod text;
 mod usage;
-mod usage_reader;
 
 pub use by_rank::{Working, base_for, portion_by_rank, units_left_of, working_of};
 pub use claims::{ClaimFault, Claims};
+pub use csv_table::FileFault;
 pub use line_fault::LineFault;
 pub use portions::{Portions, split};
 pub use reason::Reason;
-pub use usage::{Line, MOST_LINES, MOST_TEXT_BYTES, Right, Usage};
-pub use usage_reader::UsageReader;
+pub use usage::{Line, Right, Usage};
 
 /// Who a claim or a portion belongs to, by number. 0 is the residue account.
 pub type Account = u16;
@@ -44,3 +43,9 @@ pub const MOST_CLAIMED: u32 = 10_006;
 
 /// The greatest size of a line's amount, in minor units of its currency.
 pub const MOST_AMOUNT: u64 = 1_000_000_000_000;
+
+/// The most lines that one list has.
+pub const MOST_LINES: u64 = 1_000_000;
+
+/// The longest text of a usage or of a work number, in bytes.
+pub const MOST_TEXT_BYTES: usize = 64;

@@ -1,8 +1,7 @@
 //! Why bytes are no table of usage lines.
 
-ghost use Rattle.std.specs.Prelude.{◌≡◌};
-
 use crate::MOST_LINES;
+use csv_table::FileFault;
 use std::alloc::AllocError;
 use thiserror::Error;
 
@@ -32,13 +31,15 @@ pub enum LineFault {
     Memory,
 }
 
-impl LineFault {
+impl FileFault for LineFault {
     ghost use Rattle.line_split.specs.UsageTable.{number_of_fault, place_of_fault};
 
-    /// The fault's number: 1 to 7, in the order above.
-    pub fn number(&self) -> u8
-        ensures { result ≡ number_of_fault self.now }
-    {
+    ghost number_in = { number_of_fault };
+
+    ghost place_in = { place_of_fault };
+
+    // The number is 1 to 7, in the order above.
+    fn number(&self) -> u8 {
         match self {
             LineFault::Csv(_) => 1,
             LineFault::Fields(_) => 2,
@@ -50,10 +51,7 @@ impl LineFault {
         }
     }
 
-    /// The number of the row at fault, where it is one row's.
-    pub fn place(&self) -> Option<u64>
-        ensures { result ≡ place_of_fault self.now }
-    {
+    fn place(&self) -> Option<u64> {
         match *self {
             LineFault::Csv(row)
             | LineFault::Fields(row)

@@ -4,9 +4,9 @@ ghost use Rattle.csv_table.specs.Table.{rows_of};
 ghost use Rattle.line_split.specs.UsageParts.{AreLinesOf, IsFaultIn};
 ghost use Rattle.line_split.specs.UsageTable.{IsFaultOf, IsTableOf};
 
-use crate::usage::{joined, read_lines, read_table, room_for};
+use crate::usage::{joined, room_for};
 use crate::{LineFault, Usage};
-use csv_table::cut_in_two;
+use csv_table::{cut_in_two, read_rows, read_table};
 use std::alloc::Global;
 use std::thread::{Threads, join};
 
@@ -40,10 +40,10 @@ fn table_in_parts<R: Threads + Sync>(
     ensures fault { IfErr result (IsFaultOf (rows_of bytes.now)) }
 {
     if halvings == 0 {
-        return read_table(alloc, bytes, room);
+        return read_table(alloc, bytes, Usage::with_room(alloc, room)?);
     }
     let Some((first, second)) = cut_in_two(bytes) else {
-        return read_table(alloc, bytes, room);
+        return read_table(alloc, bytes, Usage::with_room(alloc, room)?);
     };
     let halvings = halvings - 1;
     let (more, table) = join(
@@ -61,7 +61,7 @@ fn table_in_parts<R: Threads + Sync>(
         Ok(table) => joined(table, more),
         Err(LineFault::Memory) => Err(LineFault::Memory),
         // The cut may have been within quotes, or before the header.
-        Err(_) => read_table(alloc, bytes, room),
+        Err(_) => read_table(alloc, bytes, Usage::with_room(alloc, room)?),
     }
 }
 
@@ -77,10 +77,10 @@ fn lines_in_parts<R: Threads + Sync>(
     ensures fault { IfErr result (IsFaultIn (rows_of bytes.now)) }
 {
     if halvings == 0 {
-        return read_lines(alloc, bytes, room);
+        return read_rows(alloc, bytes, Usage::with_room(alloc, room)?);
     }
     let Some((first, second)) = cut_in_two(bytes) else {
-        return read_lines(alloc, bytes, room);
+        return read_rows(alloc, bytes, Usage::with_room(alloc, room)?);
     };
     let halvings = halvings - 1;
     let (more, lines) = join(
@@ -98,6 +98,6 @@ fn lines_in_parts<R: Threads + Sync>(
         Ok(lines) => joined(lines, more),
         Err(LineFault::Memory) => Err(LineFault::Memory),
         // The cut may have been within quotes.
-        Err(_) => read_lines(alloc, bytes, room),
+        Err(_) => read_rows(alloc, bytes, Usage::with_room(alloc, room)?),
     }
 }

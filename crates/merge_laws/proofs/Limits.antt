@@ -6,13 +6,15 @@ use Rattle.std.specs.List.{AllByRecursion, filter}
 use Rattle.std.specs.List.Sorted.{IsStrictlySortedBy}
 use Rattle.std.specs.Ordering.{nat_cmp}
 use Rattle.std.specs.declared.cmp.Ordering.TheVariants.{Less}
-use Rattle.std.proofs.lemmas.List.{length-append}
+use Rattle.std.proofs.lemmas.List.{length-append, length-map}
 use Rattle.std.proofs.lemmas.List.Elements.{All-append, All-cons, All-head, All-map, All-nil, All-same, All-tail, All-weaker}
 use Rattle.std.proofs.lemmas.List.Filters.{sum_by-filter_both}
 use Rattle.line_split.specs.LargestRemainder.{portions_of}
 use Rattle.line_split.specs.Signs.{int_sum_by, is_not_zero, signed_entry, signed_portions_of, with_sign_of}
 use Rattle.line_split.specs.UsageLine.{UsageLine, amount_of, line_of}
 use Rattle.line_split.specs.UsageTable.{IsLine, IsTableOf}
+use Rattle.line_split.specs.declared.TheConstants.{MOST_LINES}
+use Rattle.csv_table.proofs.InTurn.{each_sound}
 use Rattle.line_split.specs.declared.reason.Reason.{Reason}
 use Rattle.line_split.proofs.Fair.{portions_are_fair}
 use Rattle.line_split.proofs.IntSums.{int_sum_by_size}
@@ -33,9 +35,13 @@ IsInLimits line = IsName line.usage × (unsigned_abs line.amount ≤ 10000000000
 
 pub lines_in_limits : (rows : List (List (List ℕ))) (lines : List UsageLine) → IsTableOf rows lines → All IsInLimits lines
 lines_in_limits rows lines is =
-    All-same IsInLimits lines (map line_of is.rows_below) is.same
-    (All-map IsInLimits line_of is.rows_below (All-weaker IsLine (λ row. IsInLimits (line_of row))
-    (λ row line. (line.texts.0, signed_small 1000000000000 (amount_of row) line.amount)) is.rows_below is.sound))
+    All-same IsInLimits lines (map line_of is.below) is.are.same
+    (All-map IsInLimits line_of is.below (All-weaker IsLine (λ row. IsInLimits (line_of row))
+    (λ row line. (line.texts.0, signed_small 1000000000000 (amount_of row) line.amount)) is.below (each_sound IsLine is.below is.are.sound)))
+
+-- nor are they more than a list has
+pub few_lines : (rows : List (List (List ℕ))) (lines : List UsageLine) → IsTableOf rows lines → length lines ≤ MOST_LINES
+few_lines rows lines is = omega (arith, is.are.few, ap length is.are.same, length-map is.below line_of)
 
 -- Portions
 

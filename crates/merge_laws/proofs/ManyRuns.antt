@@ -1,5 +1,5 @@
 -- The texts of runs have a merge: each comes to so little that many come to sums within the limits.
-use Rattle.std.proofs.Common.{◌≡◌, ◌∙◌, ◌^◌, ◌≤◌, ◌∷◌, [], ℕ, ℤ, unsigned_abs, List, All, Option, length, map, ap, refl, sym, arith}
+use Rattle.std.proofs.Common.{◌≡◌, ◌∙◌, ◌^◌, ◌≤◌, ◌∷◌, [], ℕ, ℤ, unsigned_abs, List, All, length, map, ap, refl, sym, arith}
 use Rattle.std.proofs.lemmas.List.{length-map}
 use Rattle.std.proofs.lemmas.List.Elements.{All-cons, All-head, All-nil, All-tail, All-weaker}
 use Rattle.std.proofs.lemmas.List.Sums.{sum_by-le}
@@ -9,12 +9,14 @@ use Rattle.line_split.specs.Signs.{int_sum_by}
 use Rattle.line_split.specs.UsageLine.{UsageLine}
 use Rattle.line_split.proofs.IntSums.{int_sum_by_size}
 use Rattle.payee_book.specs.Run.{portion_for}
+use Rattle.run_inputs.specs.Inputs.{with_usage}
+use Rattle.run_inputs.specs.declared.inputs.Inputs.{Inputs}
 use Rattle.settle_run.specs.Settled.{AreStatementsOf, reason_of}
 use Rattle.split_run.specs.Divisions.{division_by}
 use Rattle.merge_statements.specs.Merged.{AreInLimits, IsMergeOf, portions_of}
 use Rattle.merge_statements.specs.Statements.{AreStatements, Portion, Rest, Statements, text_of_statements, total_of_rests}
 use Rattle.merge_statements.proofs.Joining.{have_merge, sum_joined}
-use Rattle.merge_laws.proofs.Limits.{amount_small, lines_in_limits, portion_small, rest_small, total_small}
+use Rattle.merge_laws.proofs.Limits.{amount_small, few_lines, lines_in_limits, portion_small, rest_small, total_small}
 use Rattle.merge_laws.proofs.Parts.{payee_small}
 use Rattle.merge_laws.proofs.Runs.{names_rise, text_said}
 use Rattle.merge_laws.proofs.Said.{said_of}
@@ -43,9 +45,9 @@ many_in_limits parts few are = record {
     in_limits : (f : Statements → ℤ) → ((part : Statements) → AreOfRun part → unsigned_abs (f part) ≤ 10 ^ 18) → unsigned_abs (int_sum_by f parts) ≤ 10 ^ 30
     in_limits f small = omega (arith, few, int_sum_by_size f (10 ^ 18) parts (All-weaker AreOfRun (λ part. unsigned_abs (f part) ≤ 10 ^ 18) small parts are))
 
-module _ (territories_file : List ℕ) (payees_file : Option (List ℕ)) (registrations_file : List ℕ) where
+module _ (inputs : Inputs (List ℕ)) where
   abbrev IsRun : List ℕ × List ℕ → Type 0
-  IsRun part = AreStatementsOf territories_file payees_file registrations_file part.0 part.1
+  IsRun part = AreStatementsOf (with_usage part.0 inputs) part.1
 
   -- what a run's text says
   record RunSays (text : List ℕ) : Type 0 where
@@ -53,25 +55,26 @@ module _ (territories_file : List ℕ) (payees_file : Option (List ℕ)) (regist
     are : AreOfRun all
     is : text ≡ text_of_statements all
 
-  run_says : (usage_file text : List ℕ) → AreStatementsOf territories_file payees_file registrations_file usage_file text → RunSays text
+  run_says : (usage_file text : List ℕ) → AreStatementsOf (with_usage usage_file inputs) text → RunSays text
   run_says usage_file text of =
-      let division = division_by of.table of.registered in
-      let reason = reason_of of.table of.registered in
+      let files = with_usage usage_file inputs in
+      let lines = of.tables.usage in
+      let division = division_by of.tables.territories of.tables.registry in
+      let reason = reason_of of.tables.territories of.tables.registry in
       let names = of.read.accounts.names in
-      let says = text_said territories_file payees_file registrations_file usage_file text of.table of.registered of.lines of.read of.statements in
+      let says = text_said files text of.tables of.read of.statements in
       let small : (account : ℕ) (line : UsageLine) → unsigned_abs (portion_for account (division line)) ≤ unsigned_abs line.amount =
-      λ account line. portion_small line.amount (claims_on of.table of.registered line) account in
-      let limits = lines_in_limits (rows_of usage_file) of.lines of.read.uses in
-      let few = of.read.uses.few in
-      let rising = names_rise territories_file payees_file registrations_file usage_file of.table of.registered of.lines of.read in
+      λ account line. portion_small line.amount (claims_on of.tables.territories of.tables.registry line) account in
+      let limits = lines_in_limits (rows_of usage_file) lines of.read.uses in
+      let few = few_lines (rows_of usage_file) lines of.read.uses in
       record {
-        all = said_of division reason names of.lines;
+        all = said_of division reason names lines;
         are = record {
           sound = says.sound;
           lines = few;
-          amount = amount_small division small of.lines limits few;
-          totals = λ payee. payee_small division reason names payee of.lines (10 ^ 18) rising (total_small division small of.lines limits few);
-          rest = rest_small division small of.lines limits few reason;
+          amount = amount_small division small lines limits few;
+          totals = λ payee. payee_small division reason names payee lines (10 ^ 18) (names_rise files of.tables of.read) (total_small division small lines limits few);
+          rest = rest_small division small lines limits few reason;
         };
         is = says.is;
       }

@@ -165,9 +165,9 @@ in_force_named lines work shares sound is = on (find (λ entry. pointwise nat_eq
 rows_named : (payees_file : Option (List ℕ)) (rows : List (List ℕ × List ℕ)) → ArePayees payees_file rows → All (λ row. IsName row.1) rows
 rows_named None rows is = All-same (λ (row : List ℕ × List ℕ). IsName row.1) rows [] is (All-nil (λ (row : List ℕ × List ℕ). IsName row.1))
 rows_named (Some file) rows is =
-    All-same (λ (row : List ℕ × List ℕ). IsName row.1) rows (map payee_row_of is.below) is.same
+    All-same (λ (row : List ℕ × List ℕ). IsName row.1) rows (map payee_row_of is.below) is.are.same
     (All-map (λ (row : List ℕ × List ℕ). IsName row.1) payee_row_of is.below
-    (All-from_get_or (λ row. IsName (payee_row_of row).1) is.below [] (λ place within. (is.sound place within).names.1)))
+    (All-from_get_or (λ row. IsName (payee_row_of row).1) is.below [] (λ place within. (is.are.sound place within).names.1)))
 
 -- a party is paid to a name
 payee_named : (rows : List (List ℕ × List ℕ)) (party : List ℕ) → All (λ row. IsName row.1) rows → IsName party → IsName (payee_of rows party)

@@ -1,5 +1,5 @@
 -- What is said of the parts of a list comes to what is said of the list.
-use Rattle.std.proofs.Common.{◌≡◌, ◌∙◌, ◌+◌, ◌<◌, ◌≤◌, ◌++◌, ◌∷◌, [], ℕ, ℤ, ◌+ℤ◌, unsigned_abs, Bool, true, false, List, All, Option, length, map, ap, refl, sym, subst, arith}
+use Rattle.std.proofs.Common.{◌≡◌, ◌∙◌, ◌+◌, ◌<◌, ◌≤◌, ◌++◌, ◌∷◌, [], ℕ, ℤ, ◌+ℤ◌, unsigned_abs, Bool, true, false, List, All, length, map, ap, refl, sym, subst, arith}
 use Rattle.std.specs.Prelude.{filter, flat_map, if◌then◌else◌, sum_by}
 use Rattle.std.specs.Cmp.Lexicographic.{slice_cmp}
 use Rattle.std.specs.List.{AllByRecursion}
@@ -13,7 +13,6 @@ use Rattle.std.proofs.lemmas.List.Elements.{All-cons, All-head, All-nil, All-tai
 use Rattle.std.proofs.lemmas.List.Sums.{sum_by-cons}
 use Rattle.std.proofs.lemmas.Slice.Eq.{bytes_eq-Decides}
 use Rattle.csv_table.specs.Written.{text_of}
-use Rattle.cwr_share.specs.Registered.{Registered}
 use Rattle.line_split.specs.Signs.{int_sum_by}
 use Rattle.line_split.specs.UsageLine.{UsageLine}
 use Rattle.line_split.specs.declared.reason.Reason.{Reason}
@@ -21,7 +20,9 @@ use Rattle.line_split.proofs.IntSums.{int_sum_by-append, int_sum_by-cons}
 use Rattle.payee_book.specs.Run.{IsBookOf}
 use Rattle.line_split.specs.ReasonTexts.{reason_text}
 use Rattle.payee_book.specs.Text.{rows_of_book}
-use Rattle.run_inputs.specs.Inputs.{IsReading}
+use Rattle.run_inputs.specs.Inputs.{IsReading, with_lines, with_usage}
+use Rattle.run_inputs.specs.declared.inputs.Inputs.{Inputs}
+use Rattle.run_inputs.specs.declared.inputs.Tables.{Tables}
 use Rattle.settle_run.specs.Settled.{AreStatementsOf, reason_of}
 use Rattle.settle_run.proofs.OneText.{read_alike, statements_alike}
 use Rattle.split_run.specs.Divisions.{division_by}
@@ -138,19 +139,19 @@ module _ (division : UsageLine → List (ℕ × ℤ)) (reason : UsageLine → Re
 
 -- Parts of a list
 
-module _ (territories_file : List ℕ) (payees_file : Option (List ℕ)) (registrations_file : List ℕ) where
+module _ (inputs : Inputs (List ℕ)) where
   -- a usage file, with the text of a run over it
   abbrev IsRun : List ℕ × List ℕ → Type 0
-  IsRun part = AreStatementsOf territories_file payees_file registrations_file part.0 part.1
+  IsRun part = AreStatementsOf (with_usage part.0 inputs) part.1
 
-  module _ (table : List (ℕ × List ℕ)) (registered : Registered) (names : List (List ℕ)) where
+  module _ (tables : Tables) (names : List (List ℕ)) where
     abbrev said_here : List UsageLine → Statements
-    said_here = said_of (division_by table registered) (reason_of table registered) names
+    said_here = said_of (division_by tables.territories tables.registry) (reason_of tables.territories tables.registry) names
 
     -- the lines of all files, and what is said of each file's
     record AreSpread (files texts : List (List ℕ)) : Type 0 where
       lines : List UsageLine
-      read : AreLinesOf territories_file payees_file registrations_file table registered files lines
+      read : AreLinesOf inputs files (with_lines lines tables)
       parts : List Statements
       sound : All AreStatements parts
       each : texts ≡ map text_of_statements parts
@@ -159,14 +160,11 @@ module _ (territories_file : List ℕ) (payees_file : Option (List ℕ)) (regist
       count : length lines ≡ sum_by (λ part. part.lines) parts
       amount : int_sum_by (λ line. line.amount) lines ≡ int_sum_by (λ part. part.amount) parts
 
-  -- by the table, the registry and the names of one reading
-  module _ (usage_file : List ℕ) (table : List (ℕ × List ℕ)) (registered : Registered) (lines : List UsageLine)
-      (is : IsReading territories_file payees_file registrations_file usage_file table registered lines) where
+  -- by the tables and the names of one reading
+  module _ (usage_file : List ℕ) (tables : Tables) (is : IsReading (with_usage usage_file inputs) tables) where
     -- of other lines too
-    read_here : (other_file : List ℕ) (other_table : List (ℕ × List ℕ)) (other : Registered) (others : List UsageLine)
-        → IsReading territories_file payees_file registrations_file other_file other_table other others
-        → IsReading territories_file payees_file registrations_file other_file table registered others
-    read_here other_file other_table other others of = record {
+    read_here : (other_file : List ℕ) (others : Tables) → IsReading (with_usage other_file inputs) others → IsReading (with_usage other_file inputs) (with_lines others.usage tables)
+    read_here other_file others of = record {
       territories = is.territories;
       rows = is.rows;
       payees = is.payees;
@@ -175,23 +173,21 @@ module _ (territories_file : List ℕ) (payees_file : Option (List ℕ)) (regist
       uses = of.uses;
     }
 
-    part_said : (other_file text : List ℕ) → (of : AreStatementsOf territories_file payees_file registrations_file other_file text)
-        → IsSaid table registered is.accounts.names of.lines text
+    part_said : (other_file text : List ℕ) → (of : AreStatementsOf (with_usage other_file inputs) text) → IsSaid (with_lines of.tables.usage tables) is.accounts.names text
     unfolding read_here
     part_said other_file text of =
-        let alike = read_alike territories_file payees_file registrations_file usage_file other_file table of.table registered of.registered lines of.lines is of.read in
-        text_said territories_file payees_file registrations_file other_file text table registered of.lines (read_here other_file of.table of.registered of.lines of.read)
-        (statements_alike table of.table registered of.registered of.lines text alike of.statements)
+        let alike = read_alike (with_usage usage_file inputs) other_file tables of.tables is of.read in
+        text_said (with_usage other_file inputs) text (with_lines of.tables.usage tables) (read_here other_file of.tables of.read) (statements_alike tables of.tables text alike of.statements)
 
     spread : (parts : List (List ℕ × List ℕ)) → All IsRun parts
-        → AreSpread table registered is.accounts.names (map (λ part. part.0) parts) (map (λ part. part.1) parts)
+        → AreSpread tables is.accounts.names (map (λ part. part.0) parts) (map (λ part. part.1) parts)
     spread [] each = record {
       lines = [];
       read = refl;
       parts = [];
       sound = All-nil AreStatements;
       each = refl;
-      portions = no_portions (division_by table registered) (reason_of table registered) is.accounts.names;
+      portions = no_portions (division_by tables.territories tables.registry) (reason_of tables.territories tables.registry) is.accounts.names;
       rests = refl;
       count = refl;
       amount = refl;
@@ -200,59 +196,57 @@ module _ (territories_file : List ℕ) (payees_file : Option (List ℕ)) (regist
         let of = All-head IsRun part parts each in
         let later = spread parts (All-tail IsRun part parts each) in
         let says = part_said part.0 part.1 of in
-        let division = division_by table registered in
-        let reason = reason_of table registered in
+        let division = division_by tables.territories tables.registry in
+        let reason = reason_of tables.territories tables.registry in
         let names = is.accounts.names in
-        let first = said_of division reason names of.lines in
+        let first = said_of division reason names of.tables.usage in
         record {
-          lines = of.lines ++ later.lines;
-          read = (of.lines, later.lines, refl, read_here part.0 of.table of.registered of.lines of.read, later.read);
+          lines = of.tables.usage ++ later.lines;
+          read = (of.tables.usage, later.lines, refl, read_here part.0 of.tables of.read, later.read);
           parts = first ∷ later.parts;
           sound = All-cons AreStatements first later.parts says.sound later.sound;
           each = λ i. says.is i ∷ later.each i;
           portions = λ payee.
-              portions_joined division reason names payee of.lines later.lines (names_rise territories_file payees_file registrations_file usage_file table registered lines is)
+              portions_joined division reason names payee of.tables.usage later.lines (names_rise (with_usage usage_file inputs) tables is)
               ∙ ap (λ (l : List Portion). portions_of payee first ++ l) (later.portions payee);
-          rests = rests_joined division reason names of.lines later.lines ∙ ap (λ (l : List Rest). first.rests ++ l) later.rests;
-          count = length-append of.lines later.lines ∙ ap (λ (n : ℕ). length of.lines + n) later.count ∙ sym (sum_by-cons (λ (all : Statements). all.lines) first later.parts);
+          rests = rests_joined division reason names of.tables.usage later.lines ∙ ap (λ (l : List Rest). first.rests ++ l) later.rests;
+          count = length-append of.tables.usage later.lines ∙ ap (λ (n : ℕ). length of.tables.usage + n) later.count ∙ sym (sum_by-cons (λ (all : Statements). all.lines) first later.parts);
           amount =
-              int_sum_by-append (λ (line : UsageLine). line.amount) of.lines later.lines
+              int_sum_by-append (λ (line : UsageLine). line.amount) of.tables.usage later.lines
               ∙ ap (λ (z : ℤ). first.amount +ℤ z) later.amount
               ∙ sym (int_sum_by-cons (λ (all : Statements). all.amount) first later.parts);
         }
 
     -- what is merged of the parts is what is said of the whole list
     merged_parts : (parts : List (List ℕ × List ℕ)) (merged : List ℕ) → All IsRun parts
-        → IsMergeOf (map (λ part. part.1) parts) merged → AreStatementsOfAll territories_file payees_file registrations_file (map (λ part. part.0) parts) merged
+        → IsMergeOf (map (λ part. part.1) parts) merged → AreStatementsOfAll inputs (map (λ part. part.0) parts) merged
     merged_parts parts merged each of =
-        let division = division_by table registered in
-        let reason = reason_of table registered in
+        let division = division_by tables.territories tables.registry in
+        let reason = reason_of tables.territories tables.registry in
         let names = is.accounts.names in
         let all = spread parts each in
         let same = one_list_of_parts of.parts all.parts of.sound all.sound (sym of.each ∙ all.each) in
         let whole = are_together all.parts of.whole (subst (λ (list : List Statements). AreMerged list of.whole) same of.together) in
         let together : AreTogether all.parts (said_of division reason names all.lines) = record {
-          rising = payees_rise division all.lines 1 names (names_rise territories_file payees_file registrations_file usage_file table registered lines is);
-          payees = all_statements division all.lines HasPortion IsName 1 names (names_named territories_file payees_file registrations_file usage_file table registered lines is) (λ name account named some. some);
+          rising = payees_rise division all.lines 1 names (names_rise (with_usage usage_file inputs) tables is);
+          payees = all_statements division all.lines HasPortion IsName 1 names (names_named (with_usage usage_file inputs) tables is) (λ name account named some. some);
           portions = all.portions;
           rests = all.rests;
           lines = all.count;
           amount = all.amount;
         } in
         let one = one_whole all.parts of.whole (said_of division reason names all.lines) whole together in
-        let book = statements_from division all.lines 0 registered.parties in
-        let divided : IsBookOf division all.lines (length registered.parties) book = from_book division all.lines registered.parties in
+        let book = statements_from division all.lines 0 tables.registry.accounts in
+        let divided : IsBookOf division all.lines (length tables.registry.accounts) book = from_book division all.lines tables.registry.accounts in
         let named : IsBookOf division all.lines (length ([] ∷ names)) book =
         subst (λ (parties : List (List ℕ)). IsBookOf division all.lines (length parties) book) is.accounts.accounts divided in
         let sums : int_sum_by total_of (statements_by division all.lines 1 names) +ℤ total_of_rests (rests_by division reason all.lines) ≡ int_sum_by (λ line. line.amount) all.lines =
         subst (λ (s : Statements). int_sum_by total_of s.payees +ℤ total_of_rests s.rests ≡ s.amount) one of.together.sound.adds_up in
-        let rows : text_of (rows_of_book book all.lines registered.parties (map reason all.lines)) ≡ text_of_statements (said_of division reason names all.lines) =
+        let rows : text_of (rows_of_book book all.lines tables.registry.accounts (map reason all.lines)) ≡ text_of_statements (said_of division reason names all.lines) =
         ap (λ (parties : List (List ℕ)). text_of (rows_of_book book all.lines parties (map reason all.lines))) is.accounts.accounts
         ∙ ap text_of (rows_said division all.lines reason names book named) in
         record {
-          table = table;
-          registered = registered;
-          lines = all.lines;
+          tables = with_lines all.lines tables;
           read = all.read;
           statements = record {
             statements = book;
@@ -265,8 +259,8 @@ module _ (territories_file : List ℕ) (payees_file : Option (List ℕ)) (regist
   -- where there is a part, it has a reading
   pub merged_list : (parts : List (List ℕ × List ℕ)) (merged : List ℕ) → 0 < length parts
       → All IsRun parts
-      → IsMergeOf (map (λ part. part.1) parts) merged → AreStatementsOfAll territories_file payees_file registrations_file (map (λ part. part.0) parts) merged
+      → IsMergeOf (map (λ part. part.1) parts) merged → AreStatementsOfAll inputs (map (λ part. part.0) parts) merged
   merged_list [] merged some each of = absurd (omega (arith, some))
   merged_list (part ∷ parts) merged some each of =
       let first = All-head IsRun part parts each in
-      merged_parts part.0 first.table first.registered first.lines first.read (part ∷ parts) merged each of
+      merged_parts part.0 first.tables first.read (part ∷ parts) merged each of

@@ -1,23 +1,22 @@
 -- A list of usage lines that is spread over several files.
-use Rattle.std.specs.Prelude.{ℕ, ◌≡◌, ◌++◌, ◌∷◌, [], List, Option}
-use Rattle.cwr_share.specs.Registered.{Registered}
+use Rattle.std.specs.Prelude.{ℕ, ◌≡◌, ◌++◌, ◌∷◌, [], List}
 use Rattle.line_split.specs.UsageLine.{UsageLine}
-use Rattle.run_inputs.specs.Inputs.{IsReading}
+use Rattle.run_inputs.specs.Inputs.{IsReading, with_lines, with_usage}
+use Rattle.run_inputs.specs.declared.inputs.Inputs.{Inputs}
+use Rattle.run_inputs.specs.declared.inputs.Tables.{Tables}
 use Rattle.settle_run.specs.Settled.{AreStatementsFor}
 
--- these are the lines of the first file and then those of the files behind it, each of which has no more lines than a run takes
-abbrev pub AreLinesOf : (territories_file : List ℕ) (payees_file : Option (List ℕ)) (registrations_file : List ℕ) → List (ℕ × List ℕ) → Registered
-    → List (List ℕ) → List UsageLine → Type 0
-AreLinesOf territories_file payees_file registrations_file table registered [] lines = lines ≡ []
-AreLinesOf territories_file payees_file registrations_file table registered (file ∷ files) lines =
-    (first : List UsageLine) × (others : List UsageLine) × (lines ≡ first ++ others)
-    × IsReading territories_file payees_file registrations_file file table registered first
-    × AreLinesOf territories_file payees_file registrations_file table registered files others
+-- The usage lines are those of the first file and then those of the files behind it, each of which has no more lines
+-- than a run takes. With each of these files the other inputs are read as the same.
+abbrev pub AreLinesOf : (inputs : Inputs (List ℕ)) → (usage_files : List (List ℕ)) → Tables → Type 0
+AreLinesOf inputs [] tables = tables.usage ≡ []
+AreLinesOf inputs (file ∷ files) tables =
+    (first : List UsageLine) × (others : List UsageLine) × (tables.usage ≡ first ++ others)
+    × IsReading (with_usage file inputs) (with_lines first tables)
+    × AreLinesOf inputs files (with_lines others tables)
 
 -- The text of the statements of a whole list, of however many lines.
-pub record AreStatementsOfAll (territories_file : List ℕ) (payees_file : Option (List ℕ)) (registrations_file : List ℕ) (usage_files : List (List ℕ)) (text : List ℕ) : Type 0 where
-  pub table : List (ℕ × List ℕ)
-  pub registered : Registered
-  pub lines : List UsageLine
-  pub read : AreLinesOf territories_file payees_file registrations_file table registered usage_files lines
-  pub statements : AreStatementsFor table registered lines text
+pub record AreStatementsOfAll (inputs : Inputs (List ℕ)) (usage_files : List (List ℕ)) (text : List ℕ) : Type 0 where
+  pub tables : Tables
+  pub read : AreLinesOf inputs usage_files tables
+  pub statements : AreStatementsFor tables text

@@ -5,7 +5,7 @@ use Rattle.clap.specs.declared.builder.arg.Arg.{Arg}
 use Rattle.clap.specs.declared.builder.command.Command.{Command}
 use Rattle.clap.specs.declared.builder.value_parser.ValueParser.TheVariants as vp
 use Rattle.clap.specs.declared.parser.matches.ArgMatches.{ArgMatches}
-use Rattle.line_split.specs.declared.usage.TheConstants.{MOST_LINES}
+use Rattle.line_split.specs.declared.TheConstants.{MOST_LINES}
 use Rattle.royalty_program.specs.Args.{IsRequiredArg, number_rule}
 use Rattle.royalty_program.specs.Asked.{number_given}
 use Rattle.royalty_program.specs.ExplainCommand.{IsExplainCommand, explain_app}

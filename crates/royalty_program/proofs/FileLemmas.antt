@@ -5,15 +5,15 @@ use Rattle.std.specs.Prelude.{String, string_bytes}
 use Rattle.std.specs.declared.alloc.Global.{Global}
 use Rattle.std.specs.declared.io.ErrorKind.{ErrorKind}
 use Rattle.std.specs.declared.io.ErrorKind.TheVariants.{OutOfMemory}
-use Rattle.royalty_program.specs.Status.{IsFirst, IsOfFile, IsOfNoInput, IsOfPaths, IsRead, IsReadIfGiven, failure_of_file, failure_of_run}
+use Rattle.royalty_program.specs.Status.{IsFirst, IsOfFile, IsOfNoInput, IsOfPaths, failure_of_file, failure_of_run}
 use Rattle.royalty_program.specs.Files.{HoldsIfGiven, IsFaultOver}
 use Rattle.run_inputs.specs.declared.fault.Fault.{Fault}
 use Rattle.run_inputs.specs.declared.fault.Fault.TheVariants.{Tis, Cwr, Usage, Room, Payee}
-use Rattle.royalty_program.specs.InputPaths.{InputPaths, paths_in}
-use Rattle.royalty_program.specs.declared.inputs.Inputs.{Inputs}
+use Rattle.run_inputs.specs.Inputs.{map_inputs}
+use Rattle.run_inputs.specs.declared.inputs.Inputs.{Inputs}
 use Rattle.royalty_program.specs.declared.failure.Failure.{Failure}
 
-module _ (holds : List ℕ → List ℕ → Type 0) (refuses : List ℕ → ErrorKind → Type 0) (paths : InputPaths) where
+module _ (holds : List ℕ → List ℕ → Type 0) (refuses : List ℕ → ErrorKind → Type 0) (paths : Inputs (List ℕ)) where
   -- a file that is refused with this kind of error is not read, but for lack of memory
   of_kind : (path : String Global) → IsFirst holds paths (string_bytes path) → (kind : ErrorKind) → refuses (string_bytes path) kind → IsOfPaths holds refuses paths (failure_of_file kind path)
   of_kind path first OutOfMemory refused = tt
@@ -30,30 +30,29 @@ module _ (holds : List ℕ → List ℕ → Type 0) (refuses : List ℕ → Erro
   fails (Usage fault) is = is
   fails Room is = tt
 
--- a file that need not be there was read
-pub read_if_given : (holds : List ℕ → List ℕ → Type 0) (path file : Option (List ℕ)) → HoldsIfGiven holds path file → IsReadIfGiven holds path
-read_if_given holds None file has = tt
-read_if_given holds (Some path) None has = absurd has
-read_if_given holds (Some path) (Some bytes) has = (bytes, has)
+module _ (holds : List ℕ → List ℕ → Type 0) (refuses : List ℕ → ErrorKind → Type 0) (inputs : Inputs (String Global)) (failure : Failure) where
+  abbrev paths : Inputs (List ℕ)
+  paths = map_inputs string_bytes inputs
 
-module _ (holds : List ℕ → List ℕ → Type 0) (refuses : List ℕ → ErrorKind → Type 0) (inputs : Inputs) (failure : Failure) where
   -- of the files of a run the one that is looked at is the first that is not read, where those before it were read
-  pub tis_unread : IsOfFile refuses inputs.tis failure → IsOfPaths holds refuses (paths_in inputs) failure
-  tis_unread fails = of_file holds refuses (paths_in inputs) inputs.tis failure (inl refl) fails
+  pub tis_unread : IsOfFile refuses inputs.territories failure → IsOfPaths holds refuses paths failure
+  tis_unread fails = of_file holds refuses paths inputs.territories failure (inl refl) fails
 
-  pub payees_unread : IsRead holds (string_bytes inputs.tis) → IsSome inputs.payees → IfSome inputs.payees (λ path. IsOfFile refuses path failure) → IsOfPaths holds refuses (paths_in inputs) failure
-  payees_unread read there fails = by inputs.payees refl there fails
-    where
-      by : (given : Option (String Global)) → inputs.payees ≡ given → IsSome given → IfSome given (λ path. IsOfFile refuses path failure) → IsOfPaths holds refuses (paths_in inputs) failure
-      by None is there fails = cc
-      by (Some path) is there fails = of_file holds refuses (paths_in inputs) path failure (inr (inl (ap (option_map string_bytes) is, read))) fails
+  module _ (territories : List ℕ) (read : holds paths.territories territories) where
+    pub payees_unread : IsSome inputs.payees → IfSome inputs.payees (λ path. IsOfFile refuses path failure) → IsOfPaths holds refuses paths failure
+    payees_unread there fails = by inputs.payees refl there fails
+      where
+        by : (given : Option (String Global)) → inputs.payees ≡ given → IsSome given → IfSome given (λ path. IsOfFile refuses path failure) → IsOfPaths holds refuses paths failure
+        by None is there fails = cc
+        by (Some path) is there fails = of_file holds refuses paths path failure (inr (territories, read, inl (ap (option_map string_bytes) (sym is)))) fails
 
-  pub cwr_unread : IsRead holds (string_bytes inputs.tis) → IsReadIfGiven holds (option_map string_bytes inputs.payees) → IsOfFile refuses inputs.cwr failure → IsOfPaths holds refuses (paths_in inputs) failure
-  cwr_unread read paid fails = of_file holds refuses (paths_in inputs) inputs.cwr failure (inr (inr (inl (refl, read, paid)))) fails
+    module _ (payees : Option (List ℕ)) (paid : HoldsIfGiven holds paths.payees payees) where
+      pub cwr_unread : IsOfFile refuses inputs.registrations failure → IsOfPaths holds refuses paths failure
+      cwr_unread fails = of_file holds refuses paths inputs.registrations failure (inr (territories, read, inr (payees, paid, inl refl))) fails
 
-  pub usage_unread : IsRead holds (string_bytes inputs.tis) → IsReadIfGiven holds (option_map string_bytes inputs.payees) → IsRead holds (string_bytes inputs.cwr) → IsOfFile refuses inputs.usage failure
-      → IsOfPaths holds refuses (paths_in inputs) failure
-  usage_unread read paid registered fails = of_file holds refuses (paths_in inputs) inputs.usage failure (inr (inr (inr (refl, read, paid, registered)))) fails
+      pub usage_unread : (registrations : List ℕ) → holds paths.registrations registrations → IsOfFile refuses inputs.usage failure → IsOfPaths holds refuses paths failure
+      usage_unread registrations registered fails =
+          of_file holds refuses paths inputs.usage failure (inr (territories, read, inr (payees, paid, inr (registrations, registered, refl)))) fails
 
 -- what a file fails for is no fault of an input
 pub no_input : (refuses : List ℕ → ErrorKind → Type 0) (path : String Global) (failure : Failure) → IsOfFile refuses path failure → IsOfNoInput failure

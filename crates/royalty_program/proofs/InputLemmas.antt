@@ -6,7 +6,7 @@ use Rattle.clap.specs.declared.builder.command.Command.{Command}
 use Rattle.clap.specs.declared.parser.matches.ArgMatches.{ArgMatches}
 use Rattle.royalty_program.specs.Args.{HasArgs, IsOptionalArg, IsRequiredArg, file_rule, optional_rule}
 use Rattle.royalty_program.specs.InputCommand.{FindsInputs, HasInputArgs, with_inputs}
-use Rattle.royalty_program.specs.InputPaths.{InputPaths}
+use Rattle.run_inputs.specs.Inputs.{inputs_of}
 use Rattle.royalty_program.proofs.OptionLemmas.{HasOptions, are_names, as_optional, has_more, has_value, optional_same, options_of}
 use Rattle.royalty_program.proofs.SplitLemmas.{required_same}
 
@@ -64,9 +64,6 @@ finds_inputs c m more names app inputs options p = record {
 }
 
 -- paths are the same one by one
-abbrev pub paths : (tis : List ℕ) → (payees : Option (List ℕ)) → (cwr usage : List ℕ) → InputPaths
-paths tis payees cwr usage = record { tis = tis; payees = payees; cwr = cwr; usage = usage }
-
 pub same_paths : {tis tis' : List ℕ} {payees payees' : Option (List ℕ)} {cwr cwr' usage usage' : List ℕ} → tis ≡ tis' → payees ≡ payees' → cwr ≡ cwr' → usage ≡ usage'
-    → paths tis payees cwr usage ≡ paths tis' payees' cwr' usage'
+    → inputs_of tis payees cwr usage ≡ inputs_of tis' payees' cwr' usage'
 same_paths same_tis same_payees same_cwr same_usage = rw (same_tis, same_payees, same_cwr, same_usage) refl

@@ -10,7 +10,8 @@ use Rattle.clap.specs.declared.error.kind.ErrorKind.TheVariants as kinds
 use Rattle.pair_split.specs.Pair.{word_at}
 use Rattle.royalty_program.specs.Answered.{AskForOutput, IsDelivered, NameOutput}
 use Rattle.royalty_program.specs.Asked.{AskForHelp, IsMergeError, inputs_given, path_if_given}
-use Rattle.royalty_program.specs.InputPaths.{InputPaths, IsApart}
+use Rattle.royalty_program.specs.OutputPath.{IsApart}
+use Rattle.run_inputs.specs.declared.inputs.Inputs.{Inputs}
 use Rattle.royalty_program.specs.MergeCommand.{merge_app}
 use Rattle.royalty_program.specs.RunCommand.{run_app}
 use Rattle.royalty_program.specs.Status.{IsOfMerge}
@@ -40,7 +41,7 @@ unmerged_words gives words error not_memory (inl is) = inr (λ accepted. not_mem
 unmerged_words gives words error not_memory (inr wrong) = inl wrong
 
 -- where no output is named, none is an input
-apart_from : (paths : InputPaths) (output : Option (List ℕ)) → ((path : List ℕ) → ¬ (output ≡ Some path)) → IsApart paths output
+apart_from : (paths : Inputs (List ℕ)) (output : Option (List ℕ)) → ((path : List ℕ) → ¬ (output ≡ Some path)) → IsApart paths output
 apart_from paths None none = tt
 apart_from paths (Some path) none = absurd (none path refl)
 
@@ -78,7 +79,7 @@ module _ (keeps : List ℕ → Option (List ℕ) → Type 0) (words : List (List
   ]
 
   -- a run goes where its option says
-  pub delivered_run : (paths : InputPaths) (output : Option (List ℕ)) (old new : Option (List ℕ)) (text : List ℕ) → word_at words 1 ≡ codes "run"
+  pub delivered_run : (paths : Inputs (List ℕ)) (output : Option (List ℕ)) (old new : Option (List ℕ)) (text : List ℕ) → word_at words 1 ≡ codes "run"
       → paths ≡ inputs_given run_app (drop 1 words) → output ≡ path_if_given run_app (codes "output") (drop 1 words)
       → IsApart paths output → IsPut output keeps old new text → IsDelivered keeps words old new text
   delivered_run paths None old new text command of_words is apart put = delivered_out old new text
@@ -90,7 +91,7 @@ module _ (keeps : List ℕ → Option (List ℕ) → Type 0) (words : List (List
       | inl (run, named) ↦ let same : output ≡ path = cc in (subst (λ (p : List ℕ). keeps p (Some text)) same put.0, put.1)
       | inr (merge, named) ↦ absurd (differ (sym command ∙ merge.command) refl)
     ];
-    apart = λ run. subst (λ (o : Option (List ℕ)). IsApart (inputs_given run_app (drop 1 words)) o) is (subst (λ (p : InputPaths). IsApart p (Some output)) of_words apart);
+    apart = λ run. subst (λ (o : Option (List ℕ)). IsApart (inputs_given run_app (drop 1 words)) o) is (subst (λ (p : Inputs (List ℕ)). IsApart p (Some output)) of_words apart);
   }
 
   -- and so does a merge

@@ -2,7 +2,8 @@
 use Rattle.std.proofs.Common.{◌≡◌, ◌≢◌, ◌∙◌, ◌⊎◌, ℕ, List, Bool, true, false, Option, Err, Ok, Result, ap, codes, drop, inl, inr, map, refl, subst, sym}
 use Rattle.std.specs.Option.{option_map}
 use Rattle.std.specs.Result.{IfErr, IfOk}
-use Rattle.std.specs.Prelude.{string_bytes}
+use Rattle.std.specs.Prelude.{String, string_bytes}
+use Rattle.std.specs.declared.alloc.Global.{Global}
 use Rattle.std.specs.declared.io.ErrorKind.{ErrorKind}
 use Rattle.pair_split.specs.Pair.{word_at}
 use Rattle.royalty_program.specs.RunCommand.{run_app}
@@ -17,8 +18,8 @@ use Rattle.royalty_program.specs.Files.{AreStatementsOver, IsExplanationOver, Is
 use Rattle.royalty_program.specs.Status.{FailFor, IsOfCheck, IsOfDivision, IsOfExplanation, IsOfMerge, IsOfNoInput, IsOfOutput, IsOfPaths, IsOfRunOutput, IsOfTexts, IsOfRun, IsRefusal, IsUnexplained, status_of}
 use Rattle.royalty_program.specs.declared.failure.Failure.{Failure}
 use Rattle.royalty_program.specs.declared.failure.Failure.TheVariants.{Words, NotText, Pairs, Input, Row, Room, File, Output, Target, Statement, Many, Changed, Replaces}
-use Rattle.royalty_program.specs.InputPaths.{InputPaths, paths_in}
-use Rattle.royalty_program.specs.declared.inputs.Inputs.{Inputs}
+use Rattle.run_inputs.specs.Inputs.{map_inputs}
+use Rattle.run_inputs.specs.declared.inputs.Inputs.{Inputs}
 use Rattle.royalty_program.specs.declared.explain_command.ExplainWords.{ExplainWords}
 use Rattle.royalty_program.specs.declared.run_command.RunWords.{RunWords}
 use Rattle.royalty_program.proofs.EndLemmas.{IsThrough}
@@ -26,23 +27,23 @@ use Rattle.royalty_program.proofs.RunLemmas.{inputs_in_order}
 
 -- statements are those of the paths that the options are given
 pub over_given : (holds : List ℕ → List ℕ → Type 0) (words : List (List ℕ)) (asked : RunWords) (text : List ℕ) → AreReadFrom words asked
-    → AreStatementsOver holds (paths_in asked.inputs) text → AreStatementsOver holds (inputs_given run_app words) text
-over_given holds words asked text read over = subst (λ (paths : InputPaths). AreStatementsOver holds paths text) read.inputs over
+    → AreStatementsOver holds (map_inputs string_bytes asked.inputs) text → AreStatementsOver holds (inputs_given run_app words) text
+over_given holds words asked text read over = subst (λ (paths : Inputs (List ℕ)). AreStatementsOver holds paths text) read.inputs over
 
 -- and in the plain form of the values after the options
 pub over_in_order : (holds : List ℕ → List ℕ → Type 0) (words : List (List ℕ)) (asked : RunWords) (text : List ℕ) (r : AreRunWords words) → AreReadFrom words asked
-    → AreStatementsOver holds (paths_in asked.inputs) text → AreStatementsOver holds (paths_in_order r) text
-over_in_order holds words asked text r read over = subst (λ (paths : InputPaths). AreStatementsOver holds paths text) (read.inputs ∙ inputs_in_order words r) over
+    → AreStatementsOver holds (map_inputs string_bytes asked.inputs) text → AreStatementsOver holds (paths_in_order r) text
+over_in_order holds words asked text r read over = subst (λ (paths : Inputs (List ℕ)). AreStatementsOver holds paths text) (read.inputs ∙ inputs_in_order words r) over
 
 -- a run fails for the files that its options name, and for that of its output
 pub fails_given : (holds : List ℕ → List ℕ → Type 0) (refuses : List ℕ → ErrorKind → Type 0) (words : List (List ℕ)) (asked : RunWords) → AreReadFrom words asked → (failure : Failure)
-    → IsOfRunOutput asked.output (IsOfPaths holds refuses (paths_in asked.inputs)) failure → IsOfRun holds refuses words failure
+    → IsOfRunOutput asked.output (IsOfPaths holds refuses (map_inputs string_bytes asked.inputs)) failure → IsOfRun holds refuses words failure
 fails_given holds refuses words asked read failure is = as_run failure is
   where
-    given : (failure : Failure) → IsOfPaths holds refuses (paths_in asked.inputs) failure → IsOfPaths holds refuses (inputs_given run_app words) failure
-    given failure is = subst (λ (paths : InputPaths). IsOfPaths holds refuses paths failure) read.inputs is
+    given : (failure : Failure) → IsOfPaths holds refuses (map_inputs string_bytes asked.inputs) failure → IsOfPaths holds refuses (inputs_given run_app words) failure
+    given failure is = subst (λ (paths : Inputs (List ℕ)). IsOfPaths holds refuses paths failure) read.inputs is
 
-    as_run : (failure : Failure) → IsOfRunOutput asked.output (IsOfPaths holds refuses (paths_in asked.inputs)) failure
+    as_run : (failure : Failure) → IsOfRunOutput asked.output (IsOfPaths holds refuses (map_inputs string_bytes asked.inputs)) failure
         → IsOfRun holds refuses words failure
     as_run (Words error) none = absurd none
     as_run NotText none = none
@@ -88,14 +89,14 @@ merged_given gives words asked text read over = subst (λ (paths : List (List �
 
 -- an explanation is that of the paths and the row that the options are given
 pub explained_given : (holds : List ℕ → List ℕ → Type 0) (words : List (List ℕ)) (asked : ExplainWords) (text : List ℕ) → AreExplainedFrom words asked
-    → IsExplanationOver holds (paths_in asked.inputs) asked.row text
+    → IsExplanationOver holds (map_inputs string_bytes asked.inputs) asked.row text
     → IsExplanationOver holds (inputs_given explain_app words) (number_given explain_app (codes "row") words) text
 explained_given holds words asked text read over =
     subst (λ (row : ℕ). IsExplanationOver holds (inputs_given explain_app words) row text) read.row
-    (subst (λ (paths : InputPaths). IsExplanationOver holds paths asked.row text) read.inputs over)
+    (subst (λ (paths : Inputs (List ℕ)). IsExplanationOver holds paths asked.row text) read.inputs over)
 
 -- what files fail for is why a line of theirs is not explained
-pub as_unexplained : (holds : List ℕ → List ℕ → Type 0) (refuses : List ℕ → ErrorKind → Type 0) (paths : InputPaths) (row : ℕ) (failure : Failure)
+pub as_unexplained : (holds : List ℕ → List ℕ → Type 0) (refuses : List ℕ → ErrorKind → Type 0) (paths : Inputs (List ℕ)) (row : ℕ) (failure : Failure)
     → IsOfPaths holds refuses paths failure → IsUnexplained holds refuses paths row failure
 as_unexplained holds refuses paths row (Words error) none = none
 as_unexplained holds refuses paths row NotText none = none
@@ -113,10 +114,10 @@ as_unexplained holds refuses paths row (Replaces path) none = none
 
 -- and its words fail for that
 pub unexplained_given : (holds : List ℕ → List ℕ → Type 0) (refuses : List ℕ → ErrorKind → Type 0) (words : List (List ℕ)) (asked : ExplainWords) → AreExplainedFrom words asked → (failure : Failure)
-    → IsUnexplained holds refuses (paths_in asked.inputs) asked.row failure → IsOfExplanation holds refuses words failure
+    → IsUnexplained holds refuses (map_inputs string_bytes asked.inputs) asked.row failure → IsOfExplanation holds refuses words failure
 unexplained_given holds refuses words asked read failure is =
     as_asked failure (subst (λ (row : ℕ). IsUnexplained holds refuses (inputs_given explain_app words) row failure) read.row
-    (subst (λ (paths : InputPaths). IsUnexplained holds refuses paths asked.row failure) read.inputs is))
+    (subst (λ (paths : Inputs (List ℕ)). IsUnexplained holds refuses paths asked.row failure) read.inputs is))
   where
     as_asked : (failure : Failure)
         → IsUnexplained holds refuses (inputs_given explain_app words) (number_given explain_app (codes "row") words) failure
@@ -136,16 +137,17 @@ unexplained_given holds refuses words asked read failure is =
     as_asked (Replaces path) none = none
 
 -- a check reports on the paths that the options are given
-pub reported_given : (holds : List ℕ → List ℕ → Type 0) (words : List (List ℕ)) (inputs : Inputs) (sound : Bool) (text : List ℕ) → AreCheckedFrom words inputs
-    → IsReportOver holds (paths_in inputs) sound text
+pub reported_given : (holds : List ℕ → List ℕ → Type 0) (words : List (List ℕ)) (inputs : Inputs (String Global)) (sound : Bool) (text : List ℕ) → AreCheckedFrom words inputs
+    → IsReportOver holds (map_inputs string_bytes inputs) sound text
     → IsReportOver holds (inputs_given check_app words) sound text
-reported_given holds words inputs sound text read over = subst (λ (paths : InputPaths). IsReportOver holds paths sound text) read over
+reported_given holds words inputs sound text read over = subst (λ (paths : Inputs (List ℕ)). IsReportOver holds paths sound text) read over
 
 -- and fails for what is not read of them
-pub unchecked_given : (holds : List ℕ → List ℕ → Type 0) (refuses : List ℕ → ErrorKind → Type 0) (words : List (List ℕ)) (inputs : Inputs) → AreCheckedFrom words inputs → (failure : Failure)
-    → IsOfPaths holds refuses (paths_in inputs) failure → IsOfNoInput failure → IsOfCheck holds refuses words failure
+pub unchecked_given : (holds : List ℕ → List ℕ → Type 0) (refuses : List ℕ → ErrorKind → Type 0) (words : List (List ℕ)) (inputs : Inputs (String Global))
+    → AreCheckedFrom words inputs → (failure : Failure)
+    → IsOfPaths holds refuses (map_inputs string_bytes inputs) failure → IsOfNoInput failure → IsOfCheck holds refuses words failure
 unchecked_given holds refuses words inputs read failure is none =
-    as_asked failure (subst (λ (paths : InputPaths). IsOfPaths holds refuses paths failure) read is) none
+    as_asked failure (subst (λ (paths : Inputs (List ℕ)). IsOfPaths holds refuses paths failure) read is) none
   where
     as_asked : (failure : Failure)
         → IsOfPaths holds refuses (inputs_given check_app words) failure

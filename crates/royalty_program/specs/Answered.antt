@@ -1,11 +1,15 @@
 -- What is read of a command line, and what answers it.
-use Rattle.std.specs.Prelude.{ℕ, ◌≡◌, ◌<◌, ◌≤◌, ◌⊎◌, Bool, true, List, None, Option, Some, codes, drop, length, map, string_bytes, ⊤}
+use Rattle.std.specs.Prelude.{ℕ, ◌≡◌, ◌<◌, ◌≤◌, ◌⊎◌, Bool, true, List, None}
+use Rattle.std.specs.Prelude.{Option, Some, String, codes, drop, length, map, string_bytes, ⊤}
 use Rattle.std.specs.Option.{option_map}
 use Rattle.std.specs.Io.KnownBytes.{Appends, Keeps}
 use Rattle.line_split.specs.declared.TheConstants.{MOST_AMOUNT}
 use Rattle.royalty_program.specs.RunCommand.{run_app}
 use Rattle.royalty_program.specs.Asked.{AreRunWords, AreAccepted, AskForCheck, AskForExplanation, AskForMerge, AskForRun, IsDivision, IsRun}
 use Rattle.royalty_program.specs.Asked.{amount_of, inputs_given, number_given, number_in, pairs_of, path_if_given, paths_given, paths_in_order}
+use Rattle.std.specs.declared.alloc.Global.{Global}
+use Rattle.run_inputs.specs.Inputs.{map_inputs}
+use Rattle.run_inputs.specs.declared.inputs.Inputs.{Inputs}
 use Rattle.pair_split.specs.PairFault.{AreSound}
 use Rattle.pair_split.specs.Pair.{word_at}
 use Rattle.pair_split.specs.Rows.{split_text}
@@ -13,12 +17,11 @@ use Rattle.royalty_program.specs.CheckCommand.{check_app}
 use Rattle.royalty_program.specs.ExplainCommand.{explain_app}
 use Rattle.royalty_program.specs.MergeCommand.{AreFewAndDifferent, merge_app}
 use Rattle.royalty_program.specs.MergeFiles.{IsMergeOver}
-use Rattle.royalty_program.specs.InputPaths.{IsApart, paths_in}
+use Rattle.royalty_program.specs.OutputPath.{IsApart}
 use Rattle.royalty_program.specs.Files.{AreStatementsOver, IsExplanationOver, IsReportOver}
 use Rattle.royalty_program.specs.declared.commands.Asked.{Asked}
 use Rattle.royalty_program.specs.declared.commands.Asked.TheVariants.{Check, Division, Explanation, Merge, Run}
 use Rattle.royalty_program.specs.declared.explain_command.ExplainWords.{ExplainWords}
-use Rattle.royalty_program.specs.declared.inputs.Inputs.{Inputs}
 use Rattle.royalty_program.specs.declared.merge_command.MergeWords.{MergeWords}
 use Rattle.royalty_program.specs.declared.run_command.RunWords.{RunWords}
 
@@ -48,7 +51,7 @@ IsDivisionOf words (Merge asked) = ⊥
 
 -- the paths and the numbers are those that the options of a run are given
 pub record AreReadFrom (words : List (List ℕ)) (asked : RunWords) : Type 0 where
-  pub inputs : paths_in asked.inputs ≡ inputs_given run_app words
+  pub inputs : map_inputs string_bytes asked.inputs ≡ inputs_given run_app words
   pub plan : asked.plan ≡ record {
     workers = number_given run_app (codes "workers") words;
     readers = number_given run_app (codes "readers") words;
@@ -58,7 +61,7 @@ pub record AreReadFrom (words : List (List ℕ)) (asked : RunWords) : Type 0 whe
 
 -- and in the plain form they are the values after the options, with no path of an output
 pub record AreReadInOrder (words : List (List ℕ)) (run : AreRunWords words) (asked : RunWords) : Type 0 where
-  pub inputs : paths_in asked.inputs ≡ paths_in_order run
+  pub inputs : map_inputs string_bytes asked.inputs ≡ paths_in_order run
   pub plan : asked.plan ≡ record {
     workers = number_in run.workers;
     readers = number_in run.readers;
@@ -82,7 +85,7 @@ IsRunInOrder words run (Merge asked) = ⊥
 
 -- the paths and the row are those that the options of an explanation are given
 pub record AreExplainedFrom (words : List (List ℕ)) (asked : ExplainWords) : Type 0 where
-  pub inputs : paths_in asked.inputs ≡ inputs_given explain_app words
+  pub inputs : map_inputs string_bytes asked.inputs ≡ inputs_given explain_app words
   pub row : asked.row ≡ number_given explain_app (codes "row") words
 
 abbrev pub IsExplanationAsked : List (List ℕ) → Asked → Type 0
@@ -90,8 +93,8 @@ IsExplanationAsked words (Explanation asked) = AreExplainedFrom (drop 1 words) a
 IsExplanationAsked words _ = ⊥
 
 -- the paths are those that the options of a check are given
-abbrev pub AreCheckedFrom : List (List ℕ) → Inputs → Type 0
-AreCheckedFrom words inputs = paths_in inputs ≡ inputs_given check_app words
+abbrev pub AreCheckedFrom : List (List ℕ) → Inputs (String Global) → Type 0
+AreCheckedFrom words inputs = map_inputs string_bytes inputs ≡ inputs_given check_app words
 
 abbrev pub IsCheckAsked : List (List ℕ) → Asked → Type 0
 IsCheckAsked words (Check inputs) = AreCheckedFrom (drop 1 words) inputs

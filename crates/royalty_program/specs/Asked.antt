@@ -5,9 +5,9 @@ use Rattle.clap.specs.Words.{App, HasKind, IsAmong, all_of, fault_of, first_of, 
 use Rattle.clap.specs.declared.error.Error.{Error}
 use Rattle.clap.specs.declared.error.kind.ErrorKind.TheVariants as kinds
 use Rattle.pair_split.specs.Pair.{word_at}
+use Rattle.run_inputs.specs.declared.inputs.Inputs.{Inputs}
 use Rattle.royalty_program.specs.CheckCommand.{check_app}
 use Rattle.royalty_program.specs.ExplainCommand.{explain_app}
-use Rattle.royalty_program.specs.InputPaths.{InputPaths}
 use Rattle.royalty_program.specs.MergeCommand.{AreWrongPaths, merge_app}
 use Rattle.royalty_program.specs.RunCommand.{run_app}
 
@@ -41,11 +41,11 @@ unfoldable pub path_if_given : App → (name : List ℕ) → List (List ℕ) →
 path_if_given app name words = first_of name (matches_of app words)
 
 -- the paths of the files of a run
-abbrev pub inputs_given : App → List (List ℕ) → InputPaths
+abbrev pub inputs_given : App → List (List ℕ) → Inputs (List ℕ)
 inputs_given app words = record {
-  tis = path_given app (codes "tis") words;
+  territories = path_given app (codes "tis") words;
   payees = path_if_given app (codes "payees") words;
-  cwr = path_given app (codes "cwr") words;
+  registrations = path_given app (codes "cwr") words;
   usage = path_given app (codes "usage") words;
 }
 
@@ -129,5 +129,5 @@ pub record IsRun (words : List (List ℕ)) : Type 0 where
   pub options : AreRunWords (drop 1 words)
 
 -- the paths of its files
-abbrev pub paths_in_order : {words : List (List ℕ)} → AreRunWords words → InputPaths
-paths_in_order run = record { tis = run.tis; payees = run.payees; cwr = run.cwr; usage = run.usage }
+abbrev pub paths_in_order : {words : List (List ℕ)} → AreRunWords words → Inputs (List ℕ)
+paths_in_order run = record { territories = run.tis; payees = run.payees; registrations = run.cwr; usage = run.usage }

@@ -4,7 +4,7 @@ use Rattle.clap.specs.Words.{App, new_app, with_rule}
 use Rattle.clap.specs.declared.builder.arg.Arg.{Arg}
 use Rattle.clap.specs.declared.builder.command.Command.{Command}
 use Rattle.clap.specs.declared.builder.value_parser.ValueParser.TheVariants as vp
-use Rattle.line_split.specs.declared.usage.TheConstants.{MOST_LINES}
+use Rattle.line_split.specs.declared.TheConstants.{MOST_LINES}
 use Rattle.royalty_program.specs.Args.{IsRequiredArg, number_rule}
 use Rattle.royalty_program.specs.InputCommand.{HasInputArgs, with_inputs}
 

@@ -1,14 +1,12 @@
 -- What a run answers over files. `holds path bytes` says that the file of a path has these bytes.
-use Rattle.std.specs.Prelude.{ℕ, ◌≤◌, Bool, List, [], None, Option, Some, length, unwrap_or, ⊤}
+use Rattle.std.specs.Prelude.{ℕ, ◌≤◌, Bool, List, None, Option, Some, length, ⊤}
 use Rattle.std.specs.declared.io.ErrorKind.{ErrorKind}
 use Rattle.check_inputs.specs.Checked.{IsReportOn}
-use Rattle.check_inputs.specs.Found.{Files}
-use Rattle.check_inputs.specs.Report.{Paths}
 use Rattle.explain_line.specs.Explanation.{HasNoRow, IsExplanationOf}
 use Rattle.run_inputs.specs.Inputs.{HaveNoFault, IsFaultOf}
 use Rattle.settle_run.specs.Settled.{AreStatementsOf}
-use Rattle.royalty_program.specs.InputPaths.{InputPaths}
 use Rattle.run_inputs.specs.declared.fault.Fault.{Fault}
+use Rattle.run_inputs.specs.declared.inputs.Inputs.{Inputs}
 
 -- What a file of the system has no contract can say, but that it is no larger than the most bytes.
 abbrev pub on_disk : List ℕ → List ℕ → Type 0
@@ -25,48 +23,46 @@ HoldsIfGiven holds (Some path) (Some bytes) = holds path bytes
 HoldsIfGiven holds _ _ = ⊥
 
 -- these are the bytes of the files of these paths
-pub record AreRead (holds : List ℕ → List ℕ → Type 0) (paths : InputPaths) (files : Files) : Type 0 where
-  pub territories : holds paths.tis files.territories
-  pub paid : HoldsIfGiven holds paths.payees files.payees
-  pub registrations : holds paths.cwr files.registrations
-  pub uses : holds paths.usage files.usage
-
--- the paths as a report has them; where there is no table of payees it names none
-abbrev pub paths_at : InputPaths → Paths
-paths_at paths = record { territories = paths.tis; payees = unwrap_or paths.payees []; registrations = paths.cwr; usage = paths.usage }
+pub record AreRead (holds : List ℕ → List ℕ → Type 0) (paths files : Inputs (List ℕ)) : Type 0 where
+  pub territories : holds paths.territories files.territories
+  pub payees : HoldsIfGiven holds paths.payees files.payees
+  pub registrations : holds paths.registrations files.registrations
+  pub usage : holds paths.usage files.usage
 
 -- the text is the statements of the files of these paths
-pub record AreStatementsOver (holds : List ℕ → List ℕ → Type 0) (paths : InputPaths) (text : List ℕ) : Type 0 where
-  pub files : Files
+pub record AreStatementsOver (holds : List ℕ → List ℕ → Type 0) (paths : Inputs (List ℕ)) (text : List ℕ) : Type 0 where
+  pub files : Inputs (List ℕ)
   pub read : AreRead holds paths files
-  pub statements : AreStatementsOf files.territories files.payees files.registrations files.usage text
+  pub statements : AreStatementsOf files text
 
 -- none of the files has a fault
-pub record HaveNoFaultOver (holds : List ℕ → List ℕ → Type 0) (paths : InputPaths) : Type 0 where
-  pub files : Files
+pub record HaveNoFaultOver (holds : List ℕ → List ℕ → Type 0) (paths : Inputs (List ℕ)) : Type 0 where
+  pub files : Inputs (List ℕ)
   pub read : AreRead holds paths files
-  pub sound : HaveNoFault files.territories files.payees files.registrations files.usage
+  pub sound : HaveNoFault files
 
 -- the fault is the first of the first of the files that has one
-pub record IsFaultOver (holds : List ℕ → List ℕ → Type 0) (paths : InputPaths) (fault : Fault) : Type 0 where
-  pub files : Files
+pub record IsFaultOver (holds : List ℕ → List ℕ → Type 0) (paths : Inputs (List ℕ)) (fault : Fault) : Type 0 where
+  pub files : Inputs (List ℕ)
   pub read : AreRead holds paths files
-  pub fault_of : IsFaultOf files.territories files.payees files.registrations files.usage fault
+  pub fault_of : IsFaultOf files fault
 
 -- the text explains the line in a row of the usage list, by the files of these paths
-pub record IsExplanationOver (holds : List ℕ → List ℕ → Type 0) (paths : InputPaths) (row : ℕ) (text : List ℕ) : Type 0 where
-  pub files : Files
+pub record IsExplanationOver (holds : List ℕ → List ℕ → Type 0) (paths : Inputs (List ℕ))
+    (row : ℕ) (text : List ℕ) : Type 0 where
+  pub files : Inputs (List ℕ)
   pub read : AreRead holds paths files
-  pub explanation : IsExplanationOf files.territories files.payees files.registrations files.usage row text
+  pub explanation : IsExplanationOf files row text
 
 -- the files of these paths are sound, and the usage list has no such row
-pub record HasNoRowOver (holds : List ℕ → List ℕ → Type 0) (paths : InputPaths) (row : ℕ) : Type 0 where
-  pub files : Files
+pub record HasNoRowOver (holds : List ℕ → List ℕ → Type 0) (paths : Inputs (List ℕ)) (row : ℕ) : Type 0 where
+  pub files : Inputs (List ℕ)
   pub read : AreRead holds paths files
-  pub beyond : HasNoRow files.territories files.payees files.registrations files.usage row
+  pub beyond : HasNoRow files row
 
 -- the text is the report on the files of these paths, and tells whether they are sound
-pub record IsReportOver (holds : List ℕ → List ℕ → Type 0) (paths : InputPaths) (sound : Bool) (text : List ℕ) : Type 0 where
-  pub files : Files
+pub record IsReportOver (holds : List ℕ → List ℕ → Type 0) (paths : Inputs (List ℕ))
+    (sound : Bool) (text : List ℕ) : Type 0 where
+  pub files : Inputs (List ℕ)
   pub read : AreRead holds paths files
-  pub report : IsReportOn (paths_at paths) files text sound
+  pub report : IsReportOn paths files text sound

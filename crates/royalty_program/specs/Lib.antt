@@ -5,7 +5,7 @@ pub mod CheckCommand
 pub mod ExplainCommand
 pub mod Files
 pub mod InputCommand
-pub mod InputPaths
+pub mod OutputPath
 pub mod MergeCommand
 pub mod MergeFiles
 pub mod RunCommand

@@ -21,15 +21,16 @@ use Rattle.merge_statements.specs.declared.refusal.Refusal.TheVariants as refusa
 use Rattle.merge_statements.specs.declared.refusal.StatementFault.{StatementFault}
 use Rattle.royalty_program.specs.CheckCommand.{check_app}
 use Rattle.royalty_program.specs.ExplainCommand.{explain_app}
-use Rattle.royalty_program.specs.Files.{HasNoRowOver, IsFaultOver}
-use Rattle.royalty_program.specs.InputPaths.{InputPaths}
+use Rattle.royalty_program.specs.Files.{HasNoRowOver, HoldsIfGiven, IsFaultOver}
 use Rattle.royalty_program.specs.MergeCommand.{merge_app}
 use Rattle.royalty_program.specs.SplitCommand.{split_app}
 use Rattle.royalty_program.specs.MergeFiles.{AreTooMany, GivesFault, HasChanged, HoldsOf, IsFaultAt, IsFirstRefused}
 use Rattle.royalty_program.specs.declared.failure.Failure.{Failure}
 use Rattle.royalty_program.specs.declared.failure.Failure.TheVariants.{Words, NotText, Pairs, Input, Row, Room, File, Output, Target, Statement, Many, Changed, Replaces}
+use Rattle.run_inputs.specs.Inputs.{ThisOrLater}
 use Rattle.run_inputs.specs.declared.fault.Fault.{Fault}
 use Rattle.run_inputs.specs.declared.fault.Fault.TheVariants as input
+use Rattle.run_inputs.specs.declared.inputs.Inputs.{Inputs}
 use Rattle.pair_split.specs.declared.pair_fault.PairFault.{PairFault}
 use Rattle.pair_split.specs.declared.pair_fault.PairFault.TheVariants as fault
 
@@ -116,34 +117,27 @@ failure_of_target _ path = Target path
 abbrev pub IsOfFile : (refuses : List ℕ → io.ErrorKind → Type 0) → String Global → Failure → Type 0
 IsOfFile refuses path failure = (kind : io.ErrorKind) × refuses (string_bytes path) kind × (failure ≡ failure_of_file kind path)
 
--- the file of a path was read
-abbrev pub IsRead : (holds : List ℕ → List ℕ → Type 0) → List ℕ → Type 0
-IsRead holds path = (bytes : List ℕ) × holds path bytes
-
--- so was that of a path that need not be there
-abbrev pub IsReadIfGiven : (holds : List ℕ → List ℕ → Type 0) → Option (List ℕ) → Type 0
-IsReadIfGiven holds None = ⊤
-IsReadIfGiven holds (Some path) = IsRead holds path
-
 -- it cannot be read, and that is no lack of memory
 abbrev pub IsUnread : (refuses : List ℕ → io.ErrorKind → Type 0) → List ℕ → Type 0
 IsUnread refuses path = (kind : io.ErrorKind) × refuses path kind × (kind ≢ io_kind.OutOfMemory)
 
 -- it is the first of those of a run, in their order, where those before it were read
-abbrev pub IsFirst : (holds : List ℕ → List ℕ → Type 0) → InputPaths → (path : List ℕ) → Type 0
-IsFirst holds paths path =
-    (path ≡ paths.tis)
-    ⊎ (((paths.payees ≡ Some path) × IsRead holds paths.tis)
-    ⊎ (((path ≡ paths.cwr) × IsRead holds paths.tis × IsReadIfGiven holds paths.payees)
-    ⊎ ((path ≡ paths.usage) × IsRead holds paths.tis × IsReadIfGiven holds paths.payees × IsRead holds paths.cwr)))
+abbrev pub IsFirst : (holds : List ℕ → List ℕ → Type 0) → (paths : Inputs (List ℕ)) → (path : List ℕ) → Type 0
+IsFirst holds paths =
+    ThisOrLater (λ path. path ≡ paths.territories) (holds paths.territories) (λ _.
+    ThisOrLater (λ path. Some path ≡ paths.payees) (HoldsIfGiven holds paths.payees) (λ _.
+    ThisOrLater (λ path. path ≡ paths.registrations) (holds paths.registrations) (λ _.
+    λ path. path ≡ paths.usage)))
 
 -- and it cannot be read
-pub record IsFirstUnread (holds : List ℕ → List ℕ → Type 0) (refuses : List ℕ → io.ErrorKind → Type 0) (paths : InputPaths) (path : List ℕ) : Type 0 where
+pub record IsFirstUnread (holds : List ℕ → List ℕ → Type 0) (refuses : List ℕ → io.ErrorKind → Type 0)
+    (paths : Inputs (List ℕ)) (path : List ℕ) : Type 0 where
   pub unread : IsUnread refuses path
   pub first : IsFirst holds paths path
 
 -- a run over the files of these paths fails for the first fault of the first of them that has one, for lack of memory, or for the first that cannot be read
-abbrev pub IsOfPaths : (holds : List ℕ → List ℕ → Type 0) (refuses : List ℕ → io.ErrorKind → Type 0) (paths : InputPaths) → Failure → Type 0
+abbrev pub IsOfPaths : (holds : List ℕ → List ℕ → Type 0) (refuses : List ℕ → io.ErrorKind → Type 0)
+    (paths : Inputs (List ℕ)) → Failure → Type 0
 IsOfPaths holds refuses paths (Input fault) = IsFaultOver holds paths fault
 IsOfPaths holds refuses paths Room = ⊤
 IsOfPaths holds refuses paths (File name) = IsFirstUnread holds refuses paths (string_bytes name)
@@ -168,7 +162,8 @@ IsOfRun holds refuses words failure =
     IsOfPaths holds refuses (inputs_given run_app words) failure
 
 -- an explanation over the files of these paths fails for what a run over them fails for, or since the usage list has no such row
-abbrev pub IsUnexplained : (holds : List ℕ → List ℕ → Type 0) (refuses : List ℕ → io.ErrorKind → Type 0) (paths : InputPaths) (row : ℕ) → Failure → Type 0
+abbrev pub IsUnexplained : (holds : List ℕ → List ℕ → Type 0) (refuses : List ℕ → io.ErrorKind → Type 0)
+    (paths : Inputs (List ℕ)) (row : ℕ) → Failure → Type 0
 IsUnexplained holds refuses paths row (Row beyond) = (beyond ≡ row) × HasNoRowOver holds paths row
 IsUnexplained holds refuses paths row failure = IsOfPaths holds refuses paths failure
 

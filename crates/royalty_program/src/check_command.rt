@@ -5,8 +5,9 @@ ghost use Rattle.royalty_program.specs.Answered.{AreCheckedFrom};
 ghost use Rattle.royalty_program.specs.Asked.{IsErrorOf};
 ghost use Rattle.royalty_program.specs.CheckCommand.{IsCheckCommand, check_app};
 
-use crate::inputs::{Inputs, input_command, read_inputs};
+use crate::inputs::{input_command, read_inputs};
 use clap::{Command, Error};
+use run_inputs::Inputs;
 use std::alloc::{AllocError, Global};
 
 /// What stands below the help of `check`.
@@ -27,7 +28,7 @@ Example:
   royalty_run check --tis territories.csv --cwr works.cwr --usage usage.csv";
 
 /// Reads the words of a check, the first of which is `check`.
-pub fn read_check(alloc: Global, words: &[String]) -> Result<Inputs, Error>
+pub fn read_check(alloc: Global, words: &[String]) -> Result<Inputs<String>, Error>
     ensures read { IfOk result (AreCheckedFrom (map string_bytes words.now)) }
     ensures error { IfErr result (IsErrorOf check_app (map string_bytes words.now)) }
 {

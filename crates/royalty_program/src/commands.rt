@@ -13,13 +13,13 @@ ghost use Rattle.pair_split.specs.Pair.{word_at};
 
 use crate::check_command::{check_command, read_check};
 use crate::explain_command::{ExplainWords, explain_command, read_explain};
-use crate::inputs::Inputs;
 use crate::merge_command::{MergeWords, merge_command, read_merge};
 use crate::run_command::{RunWords, read_run, run_command};
 use crate::split_command::{SplitWords, read_split, split_command};
 use clap::error::ErrorKind;
 use clap::{Command, Error};
 use pair_split::word;
+use run_inputs::Inputs;
 use std::alloc::{AllocError, Global};
 
 /// What `--version` says below the name: the version, and the checker and libraries that the
@@ -53,7 +53,7 @@ pub enum Asked {
     /// The explanation of a usage line.
     Explanation(ExplainWords),
     /// A report on the files of a run.
-    Check(Inputs),
+    Check(Inputs<String>),
     /// The statements of several runs in one text.
     Merge(MergeWords),
 }

@@ -5,9 +5,10 @@ ghost use Rattle.royalty_program.specs.Answered.{AreExplainedFrom};
 ghost use Rattle.royalty_program.specs.Asked.{IsErrorOf};
 ghost use Rattle.royalty_program.specs.ExplainCommand.{IsExplainCommand, explain_app};
 
-use crate::inputs::{Inputs, input_command, read_inputs};
+use crate::inputs::{input_command, read_inputs};
 use crate::options::number_arg;
 use clap::{Command, Error, value_parser};
+use run_inputs::Inputs;
 use std::alloc::{AllocError, Global};
 
 /// What stands below the help of `explain`.
@@ -38,7 +39,7 @@ Example:
 /// The words of an explanation: the paths of the files, and the row of the usage line.
 #[derive(Debug, Drop)]
 pub struct ExplainWords {
-    pub inputs: Inputs,
+    pub inputs: Inputs<String>,
     /// The row below its header, from 1.
     pub row: u64,
 }

@@ -5,6 +5,7 @@ ghost use Rattle.std.specs.Prelude.{◌≡◌, ◌++◌, IfSome, OnOk, codes, de
 ghost use Rattle.std.specs.Fmt.{WritesOnOk};
 ghost use Rattle.royalty_program.specs.Status.{fault_text};
 
+use csv_table::FileFault;
 use merge_statements::StatementFault;
 use pair_split::PairFault;
 use run_inputs::Fault;

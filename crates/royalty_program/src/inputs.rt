@@ -1,41 +1,34 @@
 //! The options that name the files of a run, which several commands have.
 
-ghost use Rattle.std.specs.Prelude.{◌≡◌, [], List, ℕ, IfOk};
+ghost use Rattle.std.specs.Prelude.{◌≡◌, [], List, ℕ, IfOk, string_bytes};
 ghost use Rattle.clap.specs.Words.{App, found_of, matches_of, new_app, rows_of};
+ghost use Rattle.run_inputs.specs.Inputs.{map_inputs};
 ghost use Rattle.royalty_program.specs.Asked.{inputs_given};
 ghost use Rattle.royalty_program.specs.InputCommand.{FindsInputs, HasInputArgs, with_inputs};
-ghost use Rattle.royalty_program.specs.InputPaths.{paths_in};
 
 use crate::options::{file_arg, new_command, optional_file_arg, owned};
 use clap::{ArgMatches, Command};
+use run_inputs::Inputs;
 use std::alloc::{AllocError, Global};
 
-/// The paths of the files of a run.
-#[derive(Debug, Drop)]
-pub struct Inputs {
-    /// The table of territories.
-    pub tis: String,
-    /// The table of payees, where there is one.
-    pub payees: Option<String>,
-    /// The registrations.
-    pub cwr: String,
-    /// The table of usage lines.
-    pub usage: String,
-}
-
 /// The paths that a parse found.
-pub(crate) fn read_inputs(alloc: Global, matches: &ArgMatches<'_>) -> Result<Inputs, AllocError>
+pub(crate) fn read_inputs(
+    alloc: Global,
+    matches: &ArgMatches<'_>,
+) -> Result<Inputs<String>, AllocError>
     requires { FindsInputs matches.now }
-    ensures { IfOk result (λ inputs. (app : App) (words : List (List ℕ)) → rows_of (found_of matches.now) ≡ matches_of app words → paths_in inputs ≡ inputs_given app words) }
+    ensures { IfOk result (λ inputs. (app : App) (words : List (List ℕ))
+        → rows_of (found_of matches.now) ≡ matches_of app words
+        → map_inputs string_bytes inputs ≡ inputs_given app words) }
 {
-    let tis = String::from_str(alloc, matches.get_str("tis").unwrap())?;
+    let territories = String::from_str(alloc, matches.get_str("tis").unwrap())?;
     let payees = owned(alloc, matches.get_str("payees"))?;
-    let cwr = String::from_str(alloc, matches.get_str("cwr").unwrap())?;
+    let registrations = String::from_str(alloc, matches.get_str("cwr").unwrap())?;
     let usage = String::from_str(alloc, matches.get_str("usage").unwrap())?;
     Ok(Inputs {
-        tis,
+        territories,
         payees,
-        cwr,
+        registrations,
         usage,
     })
 }

@@ -5,9 +5,10 @@ ghost use Rattle.royalty_program.specs.Asked.{IsErrorOf};
 ghost use Rattle.royalty_program.specs.Answered.{AreReadFrom};
 ghost use Rattle.royalty_program.specs.RunCommand.{IsRunCommand, run_app};
 
-use crate::inputs::{Inputs, input_command, read_inputs};
+use crate::inputs::{input_command, read_inputs};
 use crate::options::{number_arg, optional_file_arg, owned};
 use clap::{Command, Error, value_parser};
+use run_inputs::Inputs;
 use split_run::Plan;
 use std::alloc::{AllocError, Global};
 
@@ -48,7 +49,7 @@ Example:
 /// The words of a run: the paths of its files, and its plan.
 #[derive(Debug, Drop)]
 pub struct RunWords {
-    pub inputs: Inputs,
+    pub inputs: Inputs<String>,
     pub plan: Plan,
     /// The file that the statements go to, where it is not standard output.
     pub output: Option<String>,

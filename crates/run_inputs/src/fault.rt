@@ -3,6 +3,7 @@
 ghost use Rattle.std.specs.Prelude.{◌≡◌};
 ghost use Rattle.run_inputs.specs.Faults.{fault_of_cwr, fault_of_payees, fault_of_tis, fault_of_usage, number_of_fault, place_of_fault};
 
+use csv_table::FileFault;
 use cwr_share::{CwrFault, PayeeFault};
 use line_split::LineFault;
 use std::alloc::AllocError;

@@ -3,8 +3,10 @@
 #![tactic(auto)]
 
 mod fault;
+mod inputs;
 pub mod laws;
 mod reading;
 
 pub use fault::Fault;
-pub use reading::{Input, read_inputs, read_inputs_in_threads};
+pub use inputs::{Input, Inputs, Tables};
+pub use reading::{read_inputs, read_inputs_in_threads};

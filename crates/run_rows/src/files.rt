@@ -2,35 +2,31 @@
 
 use anyhow::Result;
 use row_tables::written_out;
+use run_inputs::Inputs;
 use std::alloc::Global;
 use std::fs;
 use std::rt::Files;
 
-/// The inputs of a run.
-#[derive(Drop)]
-pub struct Inputs {
-    pub tis: Vec<u8>,
-    pub cwr: Vec<u8>,
-    pub usage: Vec<u8>,
-    pub payees: Option<Vec<u8>>,
-}
-
 /// The inputs in files whose names are divided by blanks: territories, registrations, usage lines and, where there is
 /// one, a table of payees.
-pub fn inputs_in<R: Files + AllocGlobal>(rt: &R, alloc: Global, names: &str) -> Result<Inputs> {
+pub fn inputs_in<R: Files + AllocGlobal>(
+    rt: &R,
+    alloc: Global,
+    names: &str,
+) -> Result<Inputs<Vec<u8>>> {
     let mut names = names.split(' ');
-    let tis = bytes_in(rt, alloc, names.next().unwrap_or(""))?;
-    let cwr = bytes_in(rt, alloc, names.next().unwrap_or(""))?;
+    let territories = bytes_in(rt, alloc, names.next().unwrap_or(""))?;
+    let registrations = bytes_in(rt, alloc, names.next().unwrap_or(""))?;
     let usage = bytes_in(rt, alloc, names.next().unwrap_or(""))?;
     let payees = match names.next() {
         Some(name) => Some(bytes_in(rt, alloc, name)?),
         None => None,
     };
     Ok(Inputs {
-        tis,
-        cwr,
-        usage,
+        territories,
         payees,
+        registrations,
+        usage,
     })
 }
 

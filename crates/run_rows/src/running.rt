@@ -1,13 +1,13 @@
 //! Explanations, and the statements of runs.
 
-use crate::files::{Inputs, bytes_in, inputs_in};
+use crate::files::{bytes_in, inputs_in};
 use anyhow::{Context, Result};
 use explain_line::explain;
 use row_tables::text_of;
+use run_inputs::Inputs;
 use settle_run::{Fault, settle, settle_paid, settle_to};
 use split_run::Plan;
 use std::alloc::Global;
-use std::io;
 use std::rt::Files;
 use std::sync::Wait;
 use std::thread::Threads;
@@ -20,20 +20,7 @@ pub fn explained<R: Files + AllocGlobal>(
     row: &str,
 ) -> Result<String> {
     let inputs = inputs_in(rt, alloc, of)?;
-    explanation(alloc, &inputs, row.parse()?)
-}
-
-fn explanation(alloc: Global, inputs: &Inputs, row: u64) -> Result<String> {
-    let (tis, cwr, usage) = (
-        inputs.tis.as_slice(),
-        inputs.cwr.as_slice(),
-        inputs.usage.as_slice(),
-    );
-    let payees = match &inputs.payees {
-        Some(payees) => Some(payees.as_slice()),
-        None => None,
-    };
-    Ok(match explain(alloc, tis, payees, cwr, usage, row) {
+    Ok(match explain(alloc, &inputs, row.parse()?) {
         Ok(Some(text)) => String::from_str(alloc, text_of(text.as_slice()))?,
         Ok(None) => String::from_str(alloc, "no such row")?,
         Err(fault) => format!(in alloc; "{fault:?}")?,
@@ -57,7 +44,7 @@ pub fn statements<R: Files + AllocGlobal + Threads + Wait + Sync>(
 fn text_of_run<R: Threads + Wait + Sync>(
     rt: &R,
     alloc: Global,
-    inputs: Inputs,
+    inputs: Inputs<Vec<u8>>,
     plan: Plan,
 ) -> Result<String> {
     let lent = lent(rt, alloc, &inputs, plan)?;
@@ -99,12 +86,12 @@ fn plan_in(text: &str) -> Result<Plan> {
 fn lent<R: Threads + Wait + Sync>(
     rt: &R,
     alloc: Global,
-    inputs: &Inputs,
+    inputs: &Inputs<Vec<u8>>,
     plan: Plan,
 ) -> Result<String> {
     let (tis, cwr, usage) = (
-        inputs.tis.as_slice(),
-        inputs.cwr.as_slice(),
+        inputs.territories.as_slice(),
+        inputs.registrations.as_slice(),
         inputs.usage.as_slice(),
     );
     match &inputs.payees {
@@ -120,12 +107,11 @@ fn lent<R: Threads + Wait + Sync>(
 fn given<R: Threads + Wait + Sync>(
     rt: &R,
     alloc: Global,
-    inputs: Inputs,
+    inputs: Inputs<Vec<u8>>,
     plan: Plan,
 ) -> Result<String> {
     let mut printed = Vec::new(alloc);
-    let ended = print_to(rt, alloc, inputs, plan, &mut printed);
-    match ended {
+    match settle_to(rt, alloc, inputs, plan, &mut printed) {
         Ok(Ok(())) => told(alloc, Ok(printed)),
         Ok(Err(error)) => Ok(format!(in alloc; "a refused write: {error}")?),
         Err(_) if !printed.is_empty() => Ok(String::from_str(
@@ -134,22 +120,6 @@ fn given<R: Threads + Wait + Sync>(
         )?),
         Err(fault) => told(alloc, Err(fault)),
     }
-}
-
-fn print_to<R: Threads + Wait + Sync>(
-    rt: &R,
-    alloc: Global,
-    inputs: Inputs,
-    plan: Plan,
-    printed: &mut Vec<u8>,
-) -> Result<io::Result<()>, Fault> {
-    let Inputs {
-        tis,
-        cwr,
-        usage,
-        payees,
-    } = inputs;
-    settle_to(rt, alloc, tis, payees, cwr, usage, plan, printed)
 }
 
 /// The statements, or the fault's number, its place and its text.

@@ -5,5 +5,5 @@ pub mod laws;
 mod reasons;
 mod statements;
 
-pub use run_inputs::Fault;
+pub use run_inputs::{Fault, Inputs};
 pub use statements::{settle, settle_paid, settle_to};

@@ -74,9 +74,9 @@ total_from f n (line ∷ usage) =
 
 -- the statements of a book come to the amounts of its lines
 pub adds_up : (table : List (ℕ × List ℕ)) (registered : Registered) (usage : List UsageLine) (book : List (List (ℕ × ℤ))) → IsRegistered registered
-    → IsBookOf (division_by table registered) usage (length registered.parties) book → int_sum_by total_of book ≡ int_sum_by (λ line. line.amount) usage
+    → IsBookOf (division_by table registered) usage (length registered.accounts) book → int_sum_by total_of book ≡ int_sum_by (λ line. line.amount) usage
 adds_up table registered usage book is of_book =
-    let n = length registered.parties in
+    let n = length registered.accounts in
     let division = division_by table registered in
     let places : int_sum_by total_of book ≡ int_sum_below n (λ i. total_of (get_or book i [])) =
     int_sum_by-places total_of book [] ∙ ap (λ (k : ℕ). int_sum_below k (λ i. total_of (get_or book i []))) of_book.whole in

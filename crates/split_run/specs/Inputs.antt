@@ -18,4 +18,4 @@ line_count inputs = length inputs.usage.now
 
 -- how many accounts they have, the residue's included
 abbrev pub account_count : Inputs → ℕ
-account_count inputs = length inputs.registry.now.parties
+account_count inputs = length inputs.registry.now.accounts

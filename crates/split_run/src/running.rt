@@ -51,7 +51,7 @@ pub fn run<M: Mail, G: Gate, R: Threads + Wait + Sync>(
     plan: Plan,
     gate: &G,
 ) -> Result<Book, RunFault>
-    ensures book { IfOk result (IsBookOf (division_by tis.now registry.now) usage.now (length registry.now.parties)) }
+    ensures book { IfOk result (IsBookOf (division_by tis.now registry.now) usage.now (length registry.now.accounts)) }
     ensures adds_up { IfOk result (λ book. int_sum_by total_of book ≡ int_sum_by (λ line. line.amount) usage.now) }
 {
     let threads = plan.readers + plan.workers;
@@ -71,7 +71,7 @@ pub fn run_cut<M: Mail, G: Gate, R: Threads + Wait + Sync>(
     gate: &G,
     threads: u64,
 ) -> Result<Book, RunFault>
-    ensures book { IfOk result (IsBookOf (division_by tis.now registry.now) usage.now (length registry.now.parties)) }
+    ensures book { IfOk result (IsBookOf (division_by tis.now registry.now) usage.now (length registry.now.accounts)) }
     ensures adds_up { IfOk result (λ book. int_sum_by total_of book ≡ int_sum_by (λ line. line.amount) usage.now) }
     ensures cut { IfOk result (λ _. plan.readers + plan.workers ≤ threads) }
 {
@@ -94,7 +94,7 @@ pub fn run_pool<P: Pool, G: Gate, R: Threads + Wait + Sync>(
     plan: Plan,
     gate: &G,
 ) -> Result<Book, RunFault>
-    ensures book { IfOk result (IsBookOf (division_by tis.now registry.now) usage.now (length registry.now.parties)) }
+    ensures book { IfOk result (IsBookOf (division_by tis.now registry.now) usage.now (length registry.now.accounts)) }
     ensures adds_up { IfOk result (λ book. int_sum_by total_of book ≡ int_sum_by (λ line. line.amount) usage.now) }
 {
     let threads = plan.readers + plan.workers;
@@ -113,7 +113,7 @@ pub fn run_pool_cut<P: Pool, G: Gate, R: Threads + Wait + Sync>(
     gate: &G,
     threads: u64,
 ) -> Result<Book, RunFault>
-    ensures book { IfOk result (IsBookOf (division_by tis.now registry.now) usage.now (length registry.now.parties)) }
+    ensures book { IfOk result (IsBookOf (division_by tis.now registry.now) usage.now (length registry.now.accounts)) }
     ensures adds_up { IfOk result (λ book. int_sum_by total_of book ≡ int_sum_by (λ line. line.amount) usage.now) }
     ensures cut { IfOk result (λ _. plan.readers + plan.workers ≤ threads) }
 {

@@ -59,7 +59,7 @@ pub fn work<M: Mail, G: Gate, R: Wait>(
     gate: &G,
     stop: &AtomicBool,
 ) -> bool
-    requires accounts { length senders.old ≡ length registry.now.parties }
+    requires accounts { length senders.old ≡ length registry.now.accounts }
     requires fresh { AreFresh (map M.sender senders.old) }
     requires ready { AreReadyFor false (map M.sender senders.old) (length usage.now) }
     requires drawer { IsFresh (length usage.now) (drawer_of drawer.old) }
@@ -106,13 +106,15 @@ pub fn work_pool<P: Pool, G: Gate, R: Wait>(
     stop: &AtomicBool,
 ) -> bool
     requires size { FitsInMemory P.Sender.row }
-    requires accounts { (P.sender sender.old).mailboxes ≡ length registry.now.parties }
-    requires fresh { (account : ℕ) → account < length registry.now.parties → ((P.sender sender.old).sent account ≡ []) × ((P.sender sender.old).is_ended account ≡ false) }
+    requires accounts { (P.sender sender.old).mailboxes ≡ length registry.now.accounts }
+    requires fresh { (account : ℕ) → account < length registry.now.accounts
+        → ((P.sender sender.old).sent account ≡ []) × ((P.sender sender.old).is_ended account ≡ false) }
     requires left { 257 * length usage.now ≤ (P.sender sender.old).left }
     requires drawer { IsFresh (length usage.now) (drawer_of drawer.old) }
     requires claims { MOST_CLAIMS ≤ claims.old.room }
     requires portions { MOST_CLAIMS + 1 ≤ portions.old.room }
-    ensures sent { result ≡ true → HasSentEachList (length registry.now.parties) (division_by tis.now registry.now) usage.now (drawer_of drawer.new).drawn (P.sender sender.new) }
+    ensures sent { result ≡ true → HasSentEachList (length registry.now.accounts) (division_by tis.now registry.now)
+        usage.now (drawer_of drawer.new).drawn (P.sender sender.new) }
     ensures ended { result ≡ true → HasEndedEverywhere (P.sender sender.new) }
     ensures same { result ≡ true → IsSameSender (P.sender sender.old) (P.sender sender.new) }
     ensures drawn { result ≡ true → (drawer_of drawer.new).is_done ≡ true }

@@ -2,6 +2,7 @@
 
 use crate::asked::{Asked, add_in_brackets};
 use crate::registrations::{add_claims, add_parties};
+use csv_table::FileFault;
 use cwr_share::{Payees, Registry};
 use row_tables::text_of;
 use std::alloc::{AllocError, Global};

@@ -4,7 +4,7 @@ ghost use Rattle.cwr_share.specs.CwrFile.{AreSound};
 ghost use Rattle.cwr_share.specs.Lines.{lines_of};
 
 use crate::asked::{Asked, add_in_brackets, named_and_numbered};
-use csv_table::first_piece;
+use csv_table::{FileFault, first_piece};
 use cwr_share::{CwrFault, Payees, Registry, Tally, unknown_territories, unused_payees};
 use line_split::{Line, Right};
 use memchr::memmem;

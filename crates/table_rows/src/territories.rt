@@ -1,6 +1,7 @@
 //! Tables of territories, good and bad.
 
 use crate::asked::{Asked, named_and_numbered};
+use csv_table::FileFault;
 use std::alloc::{AllocError, Global};
 use tis_tree::{Code, TisFault, TisTable};
 

@@ -1,6 +1,7 @@
 //! Tables of usage lines, good and bad.
 
 use crate::asked::{Asked, named_and_numbered};
+use csv_table::FileFault;
 use line_split::{Line, LineFault, Usage};
 use row_tables::text_of;
 use std::alloc::{AllocError, Global};

@@ -1,7 +1,7 @@
 //! A run that prints its statements to an output which refuses a write.
 
 use crate::shared::plan_of;
-use settle_run::{Fault, settle, settle_to};
+use settle_run::{Fault, Inputs, settle, settle_to};
 use small_run::{NO_USES, TERRITORIES, TWO_PARTIES};
 use split_run::Plan;
 use std::alloc::Global;
@@ -19,10 +19,13 @@ fn print_to<W: Write, R: Threads + Wait + Sync>(
     plan: Plan,
     out: &mut W,
 ) -> Result<Result<io::Result<()>, Fault>, Fail> {
-    let tis = Vec::from_slice(alloc, TERRITORIES.as_bytes())?;
-    let cwr = Vec::from_slice(alloc, TWO_PARTIES.as_bytes())?;
-    let usage = Vec::from_slice(alloc, usage.as_bytes())?;
-    Ok(settle_to(rt, alloc, tis, None, cwr, usage, plan, out))
+    let inputs = Inputs {
+        territories: Vec::from_slice(alloc, TERRITORIES.as_bytes())?,
+        payees: None,
+        registrations: Vec::from_slice(alloc, TWO_PARTIES.as_bytes())?,
+        usage: Vec::from_slice(alloc, usage.as_bytes())?,
+    };
+    Ok(settle_to(rt, alloc, inputs, plan, out))
 }
 
 /// An output that takes so many bytes, which it keeps, and then refuses. It counts what is written to it.

@@ -1,5 +1,6 @@
 //! Tables of usage lines that are read in parts, side by side: what is read, and what is refused, is what one thread reads.
 
+use csv_table::FileFault;
 use line_split::{LineFault, MOST_LINES, Usage};
 use std::alloc::Global;
 use std::test::Fail;

@@ -3,6 +3,4 @@ pub mod Compiling
 pub mod Enclosing
 mod GroupWords
 pub mod OneTable
-pub mod TisReadings
-mod TisWalks
 pub mod WorkedOut

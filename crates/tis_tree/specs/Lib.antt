@@ -1,4 +1,3 @@
 pub mod Territories
-pub mod TisReading
 pub mod TisRows
 pub mod Compiled

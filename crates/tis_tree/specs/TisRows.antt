@@ -1,9 +1,11 @@
 -- The table of territories as CSV: a header, and a row for each code. Rows count from 0, the header's.
-use Rattle.std.specs.Prelude.{ℕ, ◌≡◌, ◌≤◌, ◌<◌, ◌⊎◌, ◌==◌, ◌∷◌, [], List, All, length, map, not, codes, slice_index_or, Option, Some, None, ⊤}
+use Rattle.std.specs.Prelude.{ℕ, ◌≡◌, ◌==◌, ◌∷◌, [], List, All, Option, Some, None}
+use Rattle.std.specs.Prelude.{codes, length, map, not, slice_index_or}
 use Rattle.std.specs.List.{filter}
-use Rattle.csv_table.specs.FirstFault.{AreInTurn, IsFaultOfTable}
 use Rattle.csv_table.specs.Forms.{IsCode, number_of}
 use Rattle.csv_table.specs.Pieces.{pieces_at}
+use Rattle.csv_table.specs.RowTable as tables
+use Rattle.csv_table.specs.RowTable.{TableRules}
 use Rattle.tis_tree.specs.Territories.{IsKnown}
 use Rattle.tis_tree.specs.declared.TheConstants.{MOST_ROWS}
 use Rattle.tis_tree.specs.declared.tis_fault.TisFault.{TisFault}
@@ -45,33 +47,43 @@ pub record IsTerritory (earlier : List (ℕ × List ℕ)) (row : List (List ℕ)
   pub new : ¬ IsKnown earlier (number_of (code_field row))
   pub groups : HasGroups earlier row
 
--- rows below the header that are territories, each below those before it
-abbrev pub AreRows : List (List (List ℕ)) → Type 0
-AreRows rows = AreInTurn (λ before. IsTerritory (map territory_of before)) rows
+-- What a row is refused for, by its number and the earlier rows, where there is room for it: the first thing, in this
+-- order, that is wrong with it.
+abbrev pub IsFaultOfRow : List (ℕ × List ℕ) → ℕ → List (List ℕ) → TisFault → Type 0
+IsFaultOfRow earlier number row (Csv n) = (n ≡ number) × (¬ (length row ≡ length header))
+IsFaultOfRow earlier number row (Code n) = (n ≡ number) × (length row ≡ length header) × (¬ HasCode row)
+IsFaultOfRow earlier number row (Twice n) =
+    (n ≡ number) × (length row ≡ length header) × HasCode row × IsKnown earlier (number_of (code_field row))
+IsFaultOfRow earlier number row (Group n) =
+    (n ≡ number) × (length row ≡ length header) × HasCode row × (¬ IsKnown earlier (number_of (code_field row)))
+    × (¬ HasGroups earlier row)
+IsFaultOfRow earlier number row Rows = ⊥
+IsFaultOfRow earlier number row Memory = ⊥
+
+-- what a table asks of its rows
+abbrev pub territory_rules : TableRules (ℕ × List ℕ) TisFault
+territory_rules = record {
+  header = header;
+  most = MOST_ROWS;
+  IsRow = IsTerritory;
+  item_of = territory_of;
+  Refuses = IsFaultOfRow;
+  headless = Csv 0;
+  too_many = Rows;
+  memory = Memory;
+}
 
 -- the rows are this table
-pub record IsTableOf (rows : List (List (List ℕ))) (table : List (ℕ × List ℕ)) : Type 0 where
-  pub below : List (List (List ℕ))
-  pub headed : rows ≡ header ∷ below
-  pub few : length below ≤ MOST_ROWS
-  pub sound : AreRows below
-  pub same : table ≡ map territory_of below
+abbrev pub IsTableOf : List (List (List ℕ)) → List (ℕ × List ℕ) → Type 0
+IsTableOf = tables.IsTable territory_rules
 
--- what a row is refused for, by its number and the earlier rows: the first thing, in this order, that is not as it has to be. Memory may be refused in the middle of the groups.
-abbrev pub IsFaultOfRow : List (ℕ × List ℕ) → ℕ → List (List ℕ) → TisFault → Type 0
-IsFaultOfRow earlier number row Rows = MOST_ROWS ≤ length earlier
-IsFaultOfRow earlier number row (Csv n) = (n ≡ number) × (length earlier < MOST_ROWS) × (¬ (length row ≡ length header))
-IsFaultOfRow earlier number row (Code n) = (n ≡ number) × (length earlier < MOST_ROWS) × (length row ≡ length header) × (¬ HasCode row)
-IsFaultOfRow earlier number row (Twice n) =
-    (n ≡ number) × (length earlier < MOST_ROWS) × (length row ≡ length header) × HasCode row × IsKnown earlier (number_of (code_field row))
-IsFaultOfRow earlier number row (Group n) =
-    (n ≡ number) × (length earlier < MOST_ROWS) × (length row ≡ length header) × HasCode row × (¬ IsKnown earlier (number_of (code_field row)))
-    × (¬ HasGroups earlier row)
-IsFaultOfRow earlier number row Memory = ⊤
-
--- What a table is refused for: its header, or else the first row that is no territory. Memory may run out at any row, the header's too.
+-- what they are refused for: the header, the first row that is refused, or lack of memory
 abbrev pub IsFaultOf : List (List (List ℕ)) → TisFault → Type 0
-IsFaultOf rows fault = (fault ≡ Memory) ⊎ IsFaultOfTable header (Csv 0) AreRows (λ before. IsFaultOfRow (map territory_of before)) rows fault
+IsFaultOf = tables.IsFaultOf territory_rules
+
+-- the rows that are left out, and the table of those that are read
+abbrev pub IsReadWithout : List (List (List ℕ)) → List (List (List ℕ) × TisFault) → List (ℕ × List ℕ) → Type 0
+IsReadWithout = tables.IsReadWithout territory_rules
 
 -- the fault's number
 abbrev pub number_of_fault : TisFault → ℕ

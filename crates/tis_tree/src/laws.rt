@@ -6,8 +6,7 @@ ghost use Rattle.tis_tree.specs.declared.TheConstants.{MOST_ROWS};
 ghost use Rattle.tis_tree.specs.declared.tis_fault.TisFault.{TisFault};
 ghost use Rattle.tis_tree.specs.declared.tis_fault.TisFault.TheVariants.{Memory};
 ghost use Rattle.tis_tree.specs.Territories.{AreTerritories, Encloses, IsKnown, encloses};
-ghost use Rattle.tis_tree.specs.TisReading.{IsReadWithout};
-ghost use Rattle.tis_tree.specs.TisRows.{IsFaultOf, IsTableOf};
+ghost use Rattle.tis_tree.specs.TisRows.{IsFaultOf, IsReadWithout, IsTableOf};
 
 /// A code contains itself where it has a row, and only there.
 pub fn law_a_code_contains_itself()

@@ -5,13 +5,12 @@ mod code;
 pub mod laws;
 mod places;
 mod tis_fault;
-mod tis_reader;
 mod tis_table;
 mod words;
 
 pub use code::Code;
+pub use csv_table::FileFault;
 pub use tis_fault::TisFault;
-pub use tis_reader::TisReader;
 pub use tis_table::TisTable;
 
 /// The most rows that a table has.

@@ -1,7 +1,6 @@
 //! Why bytes are no table of territories.
 
-ghost use Rattle.std.specs.Prelude.{◌≡◌};
-
+use csv_table::FileFault;
 use std::alloc::AllocError;
 use thiserror::Error;
 
@@ -28,13 +27,15 @@ pub enum TisFault {
     Memory,
 }
 
-impl TisFault {
+impl FileFault for TisFault {
     ghost use Rattle.tis_tree.specs.TisRows.{number_of_fault, place_of_fault};
 
-    /// The fault's number: 1 to 6, in the order above.
-    pub fn number(&self) -> u8
-        ensures { result ≡ number_of_fault self.now }
-    {
+    ghost number_in = { number_of_fault };
+
+    ghost place_in = { place_of_fault };
+
+    // The number is 1 to 6, in the order above.
+    fn number(&self) -> u8 {
         match self {
             TisFault::Csv(_) => 1,
             TisFault::Code(_) => 2,
@@ -45,10 +46,7 @@ impl TisFault {
         }
     }
 
-    /// The number of the row at fault, where it is one row's.
-    pub fn place(&self) -> Option<u64>
-        ensures { result ≡ place_of_fault self.now }
-    {
+    fn place(&self) -> Option<u64> {
         match *self {
             TisFault::Csv(row)
             | TisFault::Code(row)

@@ -2,16 +2,17 @@
 
 ghost use Rattle.std.specs.Prelude.{◌≡◌, ◌≤◌, ◌<◌, ◌+◌, ◌↔◌, ◌⊎◌, ◌++◌, ◌∷◌, [], ℕ, true, All, IfOk, IfErr, IfSome, IfNone, IsTrue, OnOk, Some, length, map};
 ghost use Rattle.csv_table.specs.Forms.{IsCode, number_of};
+ghost use Rattle.csv_table.specs.Table.{rows_of};
+ghost use Rattle.tis_tree.specs.declared.TheConstants.{MOST_ROWS};
 ghost use Rattle.tis_tree.specs.Compiled.{IsAbove, has_bit};
 ghost use Rattle.tis_tree.specs.Territories.{AreTerritories, Encloses, IsKnown, encloses, row_at};
-ghost use Rattle.tis_tree.specs.TisRows.{IsFaultOfRow, IsGroup, IsTerritory, place_of_fault, territory_of, words_of};
-ghost use Rattle.tis_tree.specs.declared.tis_fault.TisFault.TheVariants.{Memory};
+ghost use Rattle.tis_tree.specs.TisRows.{IsFaultOf, IsGroup, IsTableOf, words_of};
 
 use crate::places::Places;
 use crate::words::first_word;
 use crate::{Code, MOST_ROWS, TisFault};
-use csv_table::Rows;
 use csv_table::forms::{MOST_CODE, code};
+use csv_table::{RowTable, Rows, read_table};
 use std::alloc::{AllocError, Global};
 use std::marker::Model;
 
@@ -44,7 +45,76 @@ impl Model for TisTable {
     ghost invariant = { λ t. IsCompiled (map (λ row. (row.code, row.groups.items)) t.rows.items) t.places.items (map (λ set. set.words) t.enclosing.items) };
 }
 
+impl RowTable for TisTable {
+    ghost use Rattle.std.specs.Prelude.{ℕ, List};
+    ghost use Rattle.tis_tree.specs.TisRows.{territory_rules};
+
+    type Fault = TisFault;
+
+    ghost Item = { ℕ × List ℕ };
+
+    ghost Known = { Unit {0} };
+
+    ghost known = { λ _. tt };
+
+    ghost rules = { λ _. territory_rules };
+
+    ghost items = { λ table. table };
+
+    fn is_header(&self, rows: &Rows<'_>) -> bool {
+        rows.is(&["code", "groups"])
+    }
+
+    fn headless(&self) -> TisFault {
+        TisFault::Csv(0)
+    }
+
+    fn too_many(&self) -> TisFault {
+        TisFault::Rows
+    }
+
+    fn memory() -> TisFault {
+        TisFault::Memory
+    }
+
+    fn is_full(&self) -> bool {
+        self.len() >= MOST_ROWS
+    }
+
+    fn add_row(
+        &mut self,
+        alloc: Global,
+        number: u64,
+        rows: &Rows<'_>,
+    ) -> Result<Option<TisFault>, AllocError> {
+        if rows.len() != 2 {
+            return Ok(Some(TisFault::Csv(number)));
+        }
+        let Some(code) = code(rows.field(0)) else {
+            return Ok(Some(TisFault::Code(number)));
+        };
+        if self.place(code).is_some() {
+            return Ok(Some(TisFault::Twice(number)));
+        }
+        let mut set = Places::none();
+        let Some(groups) = self.read_groups(alloc, rows.field(1), &mut set)? else {
+            return Ok(Some(TisFault::Group(number)));
+        };
+        self.push(code, groups, set)?;
+        Ok(None)
+    }
+}
+
 impl TisTable {
+    /// Reads a table of territories: CSV with the header `code,groups`. The groups are codes of
+    /// earlier rows, with spaces between them.
+    pub fn read(alloc: Global, bytes: &[u8]) -> Result<TisTable, TisFault>
+        ensures table { IfOk result (IsTableOf (rows_of bytes.now)) }
+        ensures fault { IfErr result (IsFaultOf (rows_of bytes.now)) }
+    {
+        read_table(alloc, bytes, TisTable::new(alloc)?)
+    }
+
     /// Whether a code has a row.
     pub fn known(&self, code: Code) -> bool
         ensures { IsTrue result ↔ IsKnown self.now code }
@@ -73,7 +143,7 @@ impl TisTable {
     }
 
     /// A table with no rows.
-    pub(crate) fn new(alloc: Global) -> Result<TisTable, AllocError>
+    pub fn new(alloc: Global) -> Result<TisTable, AllocError>
         ensures { IfOk result (λ table. table ≡ []) }
     {
         let mut places = Vec::new(alloc);
@@ -87,63 +157,37 @@ impl TisTable {
         })
     }
 
-    /// Adds the row at hand, which has this number.
-    pub(crate) fn add_row(
-        &mut self,
-        alloc: Global,
-        number: u64,
-        rows: &Rows<'_>,
-    ) -> Result<(), TisFault>
-        requires { length self.old < MOST_ROWS }
-        ensures added { OnOk result (IsTerritory self.old rows.now.row × (self.new ≡ self.old ++ territory_of rows.now.row ∷ [])) }
-        ensures fault { IfErr result (IsFaultOfRow self.old number rows.now.row) }
-        ensures same { IfErr result (λ fault. (fault ≡ Memory) ⊎ ((self.new ≡ self.old) × (place_of_fault fault ≡ Some number))) }
-    {
-        if rows.len() != 2 {
-            return Err(TisFault::Csv(number));
-        }
-        let Some(code) = code(rows.field(0)) else {
-            return Err(TisFault::Code(number));
-        };
-        if self.place(code).is_some() {
-            return Err(TisFault::Twice(number));
-        }
-        let mut set = Places::none();
-        let groups = self.read_groups(alloc, number, rows.field(1), &mut set)?;
-        self.push(code, groups, set)?;
-        Ok(())
-    }
-
-    /// The groups that a text names, with the places of all that contain one of them added to a set.
+    /// The groups that a text names, with the places of all that contain one of them added to a set. None: a word names
+    /// no group.
     fn read_groups(
         &self,
         alloc: Global,
-        number: u64,
         text: &[u8],
         set: &mut Places,
-    ) -> Result<Vec<u16>, TisFault>
-        ensures known { IfOk result (λ _. All (IsGroup self.now) (words_of text.now)) }
-        ensures groups { IfOk result (λ groups. groups.items ≡ map number_of (words_of text.now)) }
-        ensures set { IfOk result (λ groups. (place : ℕ) → place < MOST_ROWS → (has_bit set.new.words place ≡ true) ↔ ((has_bit set.old.words place ≡ true) ⊎ IsAbove self.now groups.items place)) }
-        ensures fault { IfErr result (λ fault. (fault ≡ TisFault.Memory) ⊎ ((fault ≡ TisFault.Group number) × ¬ All (IsGroup self.now) (words_of text.now))) }
+    ) -> Result<Option<Vec<u16>>, AllocError>
+        ensures known { IfOk result (λ found. IfSome found (λ _. All (IsGroup self.now) (words_of text.now))) }
+        ensures groups { IfOk result (λ found. IfSome found (λ groups.
+            groups.items ≡ map number_of (words_of text.now))) }
+        ensures set { IfOk result (λ found. IfSome found (λ groups. (place : ℕ) → place < MOST_ROWS
+            → (has_bit set.new.words place ≡ true)
+            ↔ ((has_bit set.old.words place ≡ true) ⊎ IsAbove self.now groups.items place))) }
+        ensures none { IfOk result (λ found. IfNone found (¬ All (IsGroup self.now) (words_of text.now))) }
     {
         let mut groups = Vec::new(alloc);
         let mut rest = text;
         for _ in 0..text.len() {
             let (word, after) = first_word(rest);
             if word.is_empty() {
-                return Ok(groups);
+                return Ok(Some(groups));
             }
             let Some(place) = self.place_of(word) else {
-                return Err(TisFault::Group(number));
+                return Ok(None);
             };
             set.add_all(&self.enclosing[place]);
-            if groups.push(self.rows[place].code).is_err() {
-                return Err(TisFault::Memory);
-            }
+            groups.push(self.rows[place].code)?;
             rest = after;
         }
-        Ok(groups)
+        Ok(Some(groups))
     }
 
     /// The place of the row of the code that a word writes, where there is one.

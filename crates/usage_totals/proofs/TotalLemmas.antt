@@ -7,7 +7,7 @@ use Rattle.line_split.proofs.IntSums.{int_sum_by_push, size_plus}
 use Rattle.line_split.specs.Signs.{int_sum_by}
 use Rattle.line_split.specs.UsageLine.{UsageLine}
 use Rattle.line_split.specs.declared.TheConstants.{MOST_AMOUNT}
-use Rattle.line_split.specs.declared.usage.TheConstants.{MOST_LINES}
+use Rattle.line_split.specs.declared.TheConstants.{MOST_LINES}
 use Rattle.line_split.specs.contracts.reason.Reason.{the_type}
 use Rattle.line_split.specs.declared.reason.Reason.{Reason}
 use Rattle.line_split.specs.declared.reason.Reason.TheVariants.{Work, Land, Over, Open}

@@ -8,7 +8,7 @@ use Rattle.std.specs.Ordering.{nat_cmp, ordering_then}
 use Rattle.std.specs.declared.cmp.Ordering.{Ordering}
 use Rattle.line_split.specs.UsageLine.{UsageLine}
 use Rattle.line_split.specs.declared.TheConstants.{MOST_AMOUNT}
-use Rattle.line_split.specs.declared.usage.TheConstants.{MOST_LINES}
+use Rattle.line_split.specs.declared.TheConstants.{MOST_LINES}
 use Rattle.line_split.specs.declared.usage.Right.TheVariants.{P}
 use Rattle.usage_totals.specs.Greatest.{AreFirst, AreTotals, amounts_at, by_money}
 use Rattle.usage_totals.specs.declared.by_key.Hashed.{Hashed}

@@ -4,7 +4,7 @@ ghost use Rattle.std.specs.Prelude.{ℕ, ℤ, ◌≡◌, ◌⊎◌, ◌+◌, ◌
 ghost use Rattle.line_split.specs.UsageLine.{UsageLine, usage_line_of};
 ghost use Rattle.line_split.specs.declared.TheConstants.{MOST_AMOUNT};
 ghost use Rattle.line_split.specs.declared.reason.Reason.{Reason};
-ghost use Rattle.line_split.specs.declared.usage.TheConstants.{MOST_LINES};
+ghost use Rattle.line_split.specs.declared.TheConstants.{MOST_LINES};
 ghost use Rattle.usage_totals.specs.Greatest.{AreFirst, AreGreatest, amounts_at, by_money as in_order_of_money};
 ghost use Rattle.usage_totals.specs.Totals.{is_same as are_same};
 ghost use Rattle.usage_totals.specs.SoFar.{AreCounted, AreHashed, HasRoom, IsWithin, StandTogether, amount_at, hash_by, in_order_of_hash, line_at};

@@ -25,7 +25,8 @@ pub fn law_each_line_has_one_reason()
 /// The residue's portions of the lines that are divided, and the others whole, are what the residue's statement comes to in a run.
 pub fn law_the_rest_is_the_residues()
     ensures { (table : List (ℕ × List ℕ)) (registered : Registered) (lines : List UsageLine) (totals : Totals) (statements : List (List (ℕ × ℤ))) → AreTotalsOf table registered lines totals
-        → IsBookOf (λ line. signed_portions_of line.amount (claims_on table registered line)) lines (length registered.parties) statements → RESIDUE < length registered.parties
+        → IsBookOf (λ line. signed_portions_of line.amount (claims_on table registered line)) lines
+        (length registered.accounts) statements → RESIDUE < length registered.accounts
         → totals.residue +ℤ totals.unregistered.amount +ℤ totals.unknown.amount +ℤ totals.claimed_over.amount ≡ total_of (slice_index_or statements RESIDUE []) }
 {}
 

@@ -5,7 +5,4 @@ pub returns-clause-one : goal.returns-clause-one
 returns-clause-one c = one_text_of_all
 
 pub returns-clause-run : goal.returns-clause-run
-returns-clause-run c = λ territories_file payees_file registrations_file usage_file text. (
-  run_of_one territories_file payees_file registrations_file usage_file text,
-  one_of_run territories_file payees_file registrations_file usage_file text,
-)
+returns-clause-run c = λ inputs text. (run_of_one inputs inputs.usage text, one_of_run inputs inputs.usage text)

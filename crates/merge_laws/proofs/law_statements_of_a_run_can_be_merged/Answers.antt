@@ -5,6 +5,6 @@ use Rattle.merge_laws.proofs.Said.{said_of}
 use Rattle.merge_laws.proofs.law_statements_of_a_run_can_be_merged.Goals as goal
 
 pub returns : goal.returns
-returns c = λ territories_file payees_file registrations_file usage_file text is.
-    let says = text_said territories_file payees_file registrations_file usage_file text is.table is.registered is.lines is.read is.statements in
-    (said_of (division_by is.table is.registered) (reason_of is.table is.registered) is.read.accounts.names is.lines, says.sound, says.is)
+returns c = λ files text is.
+    let says = text_said files text is.tables is.read is.statements in
+    (said_of (division_by is.tables.territories is.tables.registry) (reason_of is.tables.territories is.tables.registry) is.read.accounts.names is.tables.usage, says.sound, says.is)

@@ -12,7 +12,7 @@ returns c =
     (fact_line path (codes "works with a registration in force") (length registered.works))
     (fact_line path (codes "registrations replaced by later ones") (c.args.registrations - length registered.works))
     (fact_line path (codes "parties in force") (length registered.payees))
-    (if_none c.args.payee_faults (fact_line path (codes "accounts, the residue's included") (length registered.parties)))
+    (if_none c.args.payee_faults (fact_line path (codes "accounts, the residue's included") (length registered.accounts)))
     (if_none c.args.registrations (remark_line path (codes "no line is an NWR or REV")))
     (rw c.works-works.ensures.works at c.in_ok-add_fact.ensures)
     (rw (c.saturating_sub.ensures, c.works-works.ensures.works) at c.in_ok-add_fact-2.ensures)

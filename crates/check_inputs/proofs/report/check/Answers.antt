@@ -1,25 +1,24 @@
-use Rattle.std.proofs.Common.{◌∙◌, length, refl, subst, sym, true}
+use Rattle.std.proofs.Common.{◌∙◌, refl, subst, sym, true}
 use Rattle.std.specs.Prelude.{Bool}
 use Rattle.std.proofs.lemmas.Result.{IfOk-weaker}
-use Rattle.check_inputs.specs.Checked.{IsReportOn, files_of, paths_of}
+use Rattle.run_inputs.specs.Inputs.{map_inputs}
+use Rattle.check_inputs.specs.Checked.{IsReportOn, bytes_of, path_of}
 use Rattle.check_inputs.specs.Found.{AreTotalsIfSound, Found, IsFoundIn}
 use Rattle.check_inputs.specs.declared.report.Checked.{Checked}
 use Rattle.check_inputs.specs.declared.report.Sheet.{Sheet}
 use Rattle.cwr_share.specs.Lines.{lines_of}
-use Rattle.check_inputs.proofs.Reporting.{facts_given, put_together, sound_of_four, sound_without}
+use Rattle.check_inputs.proofs.Reporting.{put_together, sound_of_four, sound_without}
 use Rattle.check_inputs.proofs.report.check.Goals as goal
 
 pub territories_remark-requires : goal.territories_remark-requires
 territories_remark-requires c none =
     let (of_cwr, is_cwr, so_many, third) = c.in_ok-registry.ensures in
-    sound_without c.in_ok-rows.rows (lines_of c.args.cwr.now.bytes.items) of_cwr c.in_ok-registry.registry is_cwr (sym so_many ∙ none)
+    sound_without c.in_ok-rows.rows (lines_of c.args.inputs.now.registrations.bytes.items) of_cwr c.in_ok-registry.registry is_cwr (sym so_many ∙ none)
 
 pub returns : goal.returns
 returns c =
-    let tis = c.args.tis.now in
-    let payees = c.args.payees.now in
-    let cwr = c.args.cwr.now in
-    let usage = c.args.usage.now in
+    let paths = map_inputs path_of c.args.inputs.now in
+    let files = map_inputs bytes_of c.args.inputs.now in
     let (of_tis, is_tis, so_many_rows, first) = c.in_ok-territories.ensures in
     let (of_payees, is_payees, so_many, second) = c.in_ok-rows.ensures in
     let (of_cwr, is_cwr, so_many_lines, third) = c.in_ok-registry.ensures in
@@ -40,15 +39,16 @@ returns c =
     } in
     let none : Sheet = record { faults = c.new.result; facts = c.new-2.result; is_sound = true } in
     let so_far = sixth.sound ∙ fifth.sound ∙ sound_of_four found none c.tis.new.self c.payees.new.self c.cwr.new.self c.usage.new.self refl first.sound second.sound third.sound fourth.sound in
-    let is : IsFoundIn (files_of tis payees cwr usage) found = record {
+    let is : IsFoundIn files found = record {
       territories = is_tis;
       payees = is_payees;
       registrations = is_cwr;
       usage = is_usage;
       totals = subst (λ (sound : Bool). AreTotalsIfSound sound found.table found.registered found.lines totals) so_far are_totals;
     } in
-    IfOk-weaker c.finish.result _ (λ (checked : Checked). IsReportOn (paths_of tis payees cwr usage) (files_of tis payees cwr usage) checked.text.items checked.is_sound)
-    (λ checked whole. put_together (paths_of tis payees cwr usage) (files_of tis payees cwr usage) found none c.tis.new.self c.payees.new.self c.cwr.new.self c.usage.new.self c.territories_remark.new.self c.payees_remark.new.self c.totals.new.self checked.text.items
-    checked.is_sound (c.new.ensures.items, c.new-2.ensures.items, refl) first (rw (facts_given payees (length of_payees) c.in_ok-rows.rows) at second) (rw so_many at third) fourth fifth sixth
-    (rw (c.as_str.ensures.value, c.as_str-2.ensures.value, c.as_str-3.ensures.value) at last) is whole)
+    IfOk-weaker c.finish.result _ (λ (checked : Checked). IsReportOn paths files checked.text.items checked.is_sound)
+    (λ checked whole. put_together paths files found none c.tis.new.self c.payees.new.self c.cwr.new.self c.usage.new.self
+    c.territories_remark.new.self c.payees_remark.new.self c.totals.new.self checked.text.items
+    checked.is_sound (c.new.ensures.items, c.new-2.ensures.items, refl) first second (rw so_many at third) fourth fifth sixth
+    last is whole)
     c.finish.ensures

@@ -13,8 +13,8 @@ use Rattle.explain_line.proofs.explanation.explanation.Goals as goal
 
 pub returns : goal.returns
 returns c =
-    let table = c.args.tis.now in
-    let registered = c.args.registry.now in
+    let table = c.args.tables.now.territories in
+    let registered = c.args.tables.now.registry in
     let file = lines_of c.args.cwr.now in
     let line = usage_line_of c.args.line.now in
     let first : List ℕ = text_of_row (line_row c.args.row line) in
@@ -31,7 +31,7 @@ returns c =
     ∙ (ap (λ (z : ℤ). c.write_filed.new.rows.text ++ text_of (division_rows registered z c.claims-reason.new.out.list)) handed
     ∙ (ap (λ (l : List (ℕ × ℕ)). c.write_filed.new.rows.text ++ text_of (division_rows registered line.amount l)) c.claims-reason.ensures.claims
     ∙ ap (λ (l : List ℕ). l ++ division) two)) in
-    let whole : c.write_division.new.rows.text ≡ text_of (explanation_rows table registered file c.args.row line) =
+    let whole : c.write_division.new.rows.text ≡ text_of (explanation_rows c.args.tables.now file c.args.row line) =
     three ∙ (append_assoc first registration division
     ∙ ap (λ (l : List ℕ). first ++ l) (sym (text_append (registration_rows table registered file line (reason_against table registered line)) (division_rows registered line.amount (claims_on table registered line))))) in
     IfOk-weaker c.into_text.result _ _ (λ text is. is ∙ whole) c.into_text.ensures.text

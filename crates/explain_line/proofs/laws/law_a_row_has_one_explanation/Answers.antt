@@ -7,13 +7,12 @@ use Rattle.explain_line.proofs.OneExplanation.{AreAlike, alike_of, one_line, row
 use Rattle.explain_line.proofs.laws.law_a_row_has_one_explanation.Goals as goal
 
 pub returns : goal.returns
-returns c = λ territories_file payees_file registrations_file usage_file row text other is of.
-    let file = lines_of registrations_file in
-    let alike : AreAlike is.table of.table is.registered of.registered is.lines of.lines =
-    alike_of territories_file payees_file registrations_file usage_file is.table of.table is.registered of.registered is.lines of.lines is.read of.read in
+returns c = λ files row text other is of.
+    let file = lines_of files.registrations in
+    let alike : AreAlike is.tables of.tables = alike_of files is.tables of.tables is.read of.read in
     let line : is.line ≡ of.line =
     one_line is.at.before of.at.before is.line of.line is.at.after of.at.after (sym is.at.split ∙ (alike.uses ∙ of.at.split)) (omega (arith, is.at.place, of.at.place)) in
     is.rows
-    ∙ (ap (λ (l : UsageLine). text_of (explanation_rows is.table is.registered file row l)) line
-    ∙ (ap text_of (rows_alike is.table of.table is.registered of.registered is.lines of.lines alike file row of.line)
+    ∙ (ap (λ (l : UsageLine). text_of (explanation_rows is.tables file row l)) line
+    ∙ (ap text_of (rows_alike is.tables of.tables alike file row of.line)
     ∙ sym of.rows))

@@ -34,10 +34,9 @@ posted table registered lines accounts statements place line account book row wi
     ∙ ap (λ (l : List (ℕ × ℤ)). posting_of place (portion_for account l)) (shown_are line.amount (claims_on table registered line))))))
 
 pub returns : goal.returns
-returns c = λ territories_file payees_file registrations_file usage_file table registered lines of_run registered_of_run lines_of_run statements place line account read run book row within.
-    let alike : AreAlike of_run table registered_of_run registered lines_of_run lines =
-    alike_of territories_file payees_file registrations_file usage_file of_run table registered_of_run registered lines_of_run lines run read in
-    let row_of_run : IsRow lines_of_run (place + 1) line = subst (λ (l : List UsageLine). IsRow l (place + 1) line) (sym alike.uses) row in
-    posted of_run registered_of_run lines_of_run (length registered_of_run.parties) statements place line account book row_of_run (omega (arith, within, ap length alike.parties))
+returns c = λ files tables of_run statements place line account read run book row within.
+    let alike : AreAlike of_run tables = alike_of files of_run tables run read in
+    let row_of_run : IsRow of_run.usage (place + 1) line = subst (λ (l : List UsageLine). IsRow l (place + 1) line) (sym alike.uses) row in
+    posted of_run.territories of_run.registry of_run.usage (length of_run.registry.accounts) statements place line account book row_of_run (omega (arith, within, ap length alike.accounts))
     ∙ ap (λ (claims : List (ℕ × ℕ)). posting_of place (portion_for account (portions_shown line.amount claims)))
-    ((claims_alike of_run table registered_of_run registered lines_of_run lines alike line).0 ∙ ap (λ (t : List (ℕ × List ℕ)). claims_on t registered line) alike.territories)
+    ((claims_alike of_run tables alike line).0 ∙ ap (λ (t : List (ℕ × List ℕ)). claims_on t tables.registry line) alike.territories)

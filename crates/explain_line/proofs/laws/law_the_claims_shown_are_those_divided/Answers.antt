@@ -40,9 +40,9 @@ opened table registered line file found free (Some number) is =
     (number, refl, divided table registered line (shares_from file number) (found ∙ ap (option_map (shares_from file)) is) free)
 
 pub returns-clause-claims : goal.returns-clause-claims
-returns-clause-claims c = λ territories_file payees_file registrations_file usage_file table registered lines line read free.
-    let file = lines_of registrations_file in
-    opened table registered line file (read.registrations.in_force line.work ∙ in_force_is file line.work) free (last_opening file line.work) refl
+returns-clause-claims c = λ files tables line read free.
+    let file = lines_of files.registrations in
+    opened tables.territories tables.registry line file (read.registrations.in_force line.work ∙ in_force_is file line.work) free (last_opening file line.work) refl
 
 -- there are as many numbers as share lines
 numbered : (first : ℕ) (body : List (List ℕ)) → length (share_numbers first body) ≡ count_by is_share_line body

@@ -19,12 +19,12 @@ loop-account-preserved c =
     let right = c.args.right in
     let shares = c.args.shares.now in
     let pay = payee_of registered.payees in
-    let names : List (List ℕ) = drop 1 registered.parties in
+    let names : List (List ℕ) = drop 1 registered.accounts in
     let account = c.loop-account.account in
     let k : ℕ = account - 1 in
     let first : 1 + k ≡ account = omega (arith, c.loop-account.auto.account) in
-    let within : k < length names = omega (arith, first, c.loop-account-test.true, c.accounts-account-end.ensures.accounts, length-drop 1 registered.parties) in
-    let name : get_or names k [] ≡ c.party-payee.result.now = get_or_after_one registered.parties k [] ∙ (ap (λ (n : ℕ). get_or registered.parties n []) first ∙ sym c.party-payee.ensures) in
+    let within : k < length names = omega (arith, first, c.loop-account-test.true, c.accounts-account-end.ensures.accounts, length-drop 1 registered.accounts) in
+    let name : get_or names k [] ≡ c.party-payee.result.now = get_or_after_one registered.accounts k [] ∙ (ap (λ (n : ℕ). get_or registered.accounts n []) first ∙ sym c.party-payee.ensures) in
     let claimed : claim_of table land right pay shares (get_or names k []) ≡ c.claim_of-claim.result =
     ap (claim_of table land right pay shares) name
     ∙ sym (c.claim_of-claim.ensures pay (ap (map (λ payee. payee.now)) c.as_slice.ensures.value ∙ c.in_ok-payees.ensures)) in

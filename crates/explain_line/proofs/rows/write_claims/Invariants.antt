@@ -9,4 +9,4 @@ use Rattle.explain_line.proofs.rows.write_claims.Given as goal
 abbrev pub invariant-loop-account : goal.invariant-loop-account
 invariant-loop-account l =
     l.rows.text ≡ l.initial.rows.text
-    ++ text_of (map (claim_row l.registry) (claims_among l.tis l.land l.right (payee_of l.registry.payees) l.shares (take (l.account - 1) (drop 1 l.registry.parties))))
+    ++ text_of (map (claim_row l.registry) (claims_among l.tis l.land l.right (payee_of l.registry.payees) l.shares (take (l.account - 1) (drop 1 l.registry.accounts))))

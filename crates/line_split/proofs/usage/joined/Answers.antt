@@ -1,6 +1,6 @@
 use Rattle.std.proofs.Common.{ℕ, ◌+◌, ◌≤◌, arith, length, subst}
 use Rattle.line_split.specs.UsageParts.{IsBehind}
-use Rattle.line_split.specs.declared.usage.TheConstants.{MOST_LINES}
+use Rattle.line_split.specs.declared.TheConstants.{MOST_LINES}
 use Rattle.line_split.proofs.KeptLemmas.{joined_keep, lines_append}
 use Rattle.line_split.proofs.UsageRows.{both, fault_behind, too_many}
 use Rattle.line_split.proofs.usage.joined.Goals as goal

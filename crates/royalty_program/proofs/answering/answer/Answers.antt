@@ -1,7 +1,8 @@
 use Rattle.std.proofs.Common.{◌≡◌, ◌≢◌, ◌∙◌, ℕ, List, Bool, refl, drop, inl, inr, map, codes, false, sym, true, rules}
-use Rattle.std.proofs.lemmas.Result.{on_ok_weaker}
+use Rattle.std.proofs.lemmas.Result.{err_from_is_err_and, on_ok_weaker}
 use Rattle.std.specs.Option.{option_map}
-use Rattle.std.specs.Prelude.{string_bytes}
+use Rattle.std.specs.Prelude.{String, string_bytes}
+use Rattle.std.specs.declared.alloc.Global.{Global}
 use Rattle.clap.specs.Words.{kind_of}
 use Rattle.clap.specs.declared.error.kind.ErrorKind.TheVariants as kinds
 use Rattle.pair_split.specs.Pair.{word_at}
@@ -17,9 +18,12 @@ use Rattle.royalty_program.specs.Asked.{AskForHelp, IsDivision, pairs_of}
 use Rattle.royalty_program.specs.Files.{AreStatementsOver, IsExplanationOver, IsReportOver}
 use Rattle.royalty_program.specs.MergeCommand.{merge_app}
 use Rattle.royalty_program.specs.MergeFiles.{IsMergeOver}
-use Rattle.royalty_program.specs.Status.{IsOfDivision, failure_of_fault}
-use Rattle.royalty_program.specs.InputPaths.{paths_in}
-use Rattle.royalty_program.specs.declared.inputs.Inputs.{Inputs}
+use Rattle.royalty_program.specs.Status.{IsOfCheck, IsOfDivision, IsOfNoInput, IsOfPaths, failure_of_fault}
+use Rattle.royalty_program.specs.declared.failure.Failure.{Failure}
+use Rattle.royalty_program.specs.declared.failure.Failure.TheVariants as failures
+use Rattle.std.specs.declared.io.ErrorKind.{ErrorKind}
+use Rattle.run_inputs.specs.Inputs.{map_inputs}
+use Rattle.run_inputs.specs.declared.inputs.Inputs.{Inputs}
 use Rattle.royalty_program.specs.declared.explain_command.ExplainWords.{ExplainWords}
 use Rattle.royalty_program.specs.declared.merge_command.MergeWords.{MergeWords}
 use Rattle.royalty_program.specs.declared.run_command.RunWords.{RunWords}
@@ -59,7 +63,7 @@ answers_division words text command division = record {
 
 -- those that ask for a run by its statements
 answers_run : (holds gives : List ℕ → List ℕ → Type 0) (words : List (List ℕ)) (asked : RunWords) (text : List ℕ) → word_at words 1 ≡ codes "run" → AreReadFrom (drop 1 words) asked
-    → AreStatementsOver holds (paths_in asked.inputs) text → IsAnswered holds gives words true text
+    → AreStatementsOver holds (map_inputs string_bytes asked.inputs) text → IsAnswered holds gives words true text
 answers_run holds gives words asked text command read over = record {
   division = λ division. absurd (differ (sym command ∙ division.command) refl);
   run = λ run. over_given holds (drop 1 words) asked text read over;
@@ -85,7 +89,7 @@ answers_merge holds gives words asked text command read over = record {
 
 -- and those that ask for an explanation by it
 answers_explanation : (holds gives : List ℕ → List ℕ → Type 0) (words : List (List ℕ)) (asked : ExplainWords) (text : List ℕ) → word_at words 1 ≡ codes "explain" → AreExplainedFrom (drop 1 words) asked
-    → IsExplanationOver holds (paths_in asked.inputs) asked.row text → IsAnswered holds gives words true text
+    → IsExplanationOver holds (map_inputs string_bytes asked.inputs) asked.row text → IsAnswered holds gives words true text
 answers_explanation holds gives words asked text command read over = record {
   division = λ division. absurd (differ (sym command ∙ division.command) refl);
   run = λ run. absurd (differ (sym command ∙ run.command) refl);
@@ -97,8 +101,9 @@ answers_explanation holds gives words asked text command read over = record {
 }
 
 -- and those that ask for a check by its report
-answers_check : (holds gives : List ℕ → List ℕ → Type 0) (words : List (List ℕ)) (inputs : Inputs) (sound : Bool) (text : List ℕ) → word_at words 1 ≡ codes "check" → AreCheckedFrom (drop 1 words) inputs
-    → IsReportOver holds (paths_in inputs) sound text → IsAnswered holds gives words sound text
+answers_check : (holds gives : List ℕ → List ℕ → Type 0) (words : List (List ℕ)) (inputs : Inputs (String Global)) (sound : Bool) (text : List ℕ)
+    → word_at words 1 ≡ codes "check" → AreCheckedFrom (drop 1 words) inputs
+    → IsReportOver holds (map_inputs string_bytes inputs) sound text → IsAnswered holds gives words sound text
 answers_check holds gives words inputs sound text command read over = record {
   division = λ division. absurd (differ (sym command ∙ division.command) refl);
   run = λ run. absurd (differ (sym command ∙ run.command) refl);
@@ -129,7 +134,12 @@ returns-in-Ok-Run-clause-answered g c =
     let command : word_at words 1 ≡ codes "run" = rw (c.in-Ok-Run.is, c.in-Ok-Run.field-0-is) at c.read_words.ensures.named in
     let read : AreReadFrom (drop 1 words) asked = rw (c.in-Ok-Run.is, c.in-Ok-Run.field-0-is) at (c.read_words.ensures.run command) in
     on_ok_weaker c.in_ok-settle_out-in-Ok-Run.field-0
-    (λ wrote. (wrote.0, delivered_run keeps words (paths_in asked.inputs) (option_map string_bytes asked.output) _ _ wrote.0 command read.inputs read.output c.in_ok-settle_out-in-Ok-Run.ensures.apart wrote.1, answers_run holds gives words asked wrote.0 command read wrote.2))
+    (λ wrote. (
+      wrote.0,
+      delivered_run keeps words (map_inputs string_bytes asked.inputs) (option_map string_bytes asked.output) _ _ wrote.0 command read.inputs read.output
+          c.in_ok-settle_out-in-Ok-Run.ensures.apart wrote.1,
+      answers_run holds gives words asked wrote.0 command read wrote.2,
+    ))
     c.in_ok-settle_out-in-Ok-Run.ensures.statements
 
 pub returns-in-Ok-Merge-clause-answered : goal.returns-in-Ok-Merge-clause-answered
@@ -231,6 +241,33 @@ returns-in-Ok-Check-clause-answered g c =
     let no_file = no_output (g.T.Target.keeps c.args.target.now) words (λ run. differ (sym command ∙ run) refl) (λ merge. differ (sym command ∙ merge) refl) in
     let answered : IsAnswered holds gives words checked.is_sound checked.text.items = answers_check holds gives words inputs checked.is_sound checked.text.items command read c.in_ok-checked-in-Ok-Check.ensures.report in
     on_ok_weaker c.write_all-in-Ok-Check.result (λ wrote. (checked.text.items, delivered_out (g.T.Target.keeps c.args.target.now) words _ _ checked.text.items no_file wrote, answered)) (rw c.as_slice-in-Ok-Check.ensures.value at c.write_all-in-Ok-Check.ensures.bytes)
+
+-- a check that fails for its files fails as its words have it
+of_check : (holds : List ℕ → List ℕ → Type 0) (refuses : List ℕ → ErrorKind → Type 0) (words : List (List ℕ)) (inputs : Inputs (String Global)) (failure : Failure)
+    → AreCheckedFrom words inputs → IsOfPaths holds refuses (map_inputs string_bytes inputs) failure → IsOfNoInput failure → IsOfCheck holds refuses words failure
+of_check holds refuses words inputs (failures.Input fault) read of none = (rw read at of, none)
+of_check holds refuses words inputs failures.Room read of none = (tt, none)
+of_check holds refuses words inputs (failures.File path) read of none = (rw read at of, none)
+of_check holds refuses words inputs (failures.Words error) read of none = absurd of
+of_check holds refuses words inputs failures.NotText read of none = absurd of
+of_check holds refuses words inputs failures.Output read of none = absurd of
+of_check holds refuses words inputs (failures.Pairs fault) read of none = absurd of
+of_check holds refuses words inputs (failures.Row row) read of none = absurd of
+of_check holds refuses words inputs (failures.Target path) read of none = absurd of
+of_check holds refuses words inputs (failures.Statement fault path) read of none = absurd of
+of_check holds refuses words inputs failures.Many read of none = absurd of
+of_check holds refuses words inputs (failures.Changed path) read of none = absurd of
+of_check holds refuses words inputs (failures.Replaces path) read of none = absurd of
+
+pub returns-in_err-checked-in-Ok-Check-clause-checked : goal.returns-in_err-checked-in-Ok-Check-clause-checked
+returns-in_err-checked-in-Ok-Check-clause-checked g c command =
+    let words = map string_bytes c.args.words.now in
+    let inputs = c.in-Ok-Check.inputs in
+    let failed = c.in_err-checked-in-Ok-Check in
+    let read : AreCheckedFrom (drop 1 words) inputs = rw (c.in-Ok-Check.is, c.in-Ok-Check.field-0-is) at (c.read_words.ensures.checked command) in
+    let exit = err_from_is_err_and c.from_residual-in_err-checked-in-Ok-Check.result c.from_residual-in_err-checked-in-Ok-Check.ensures.1 in
+    rw (exit.1, exit.2)
+    (of_check (g.S.Source.holds c.args.files.now) (g.S.Source.refuses c.args.files.now) (drop 1 words) inputs failed.field-0.0 read failed.ensures.files failed.ensures.no_input)
 
 pub returns-in_err-settle_out-in-Ok-Run-clause-left : goal.returns-in_err-settle_out-in-Ok-Run-clause-left
 returns-in_err-settle_out-in-Ok-Run-clause-left g c path named =

@@ -1,5 +1,5 @@
 use Rattle.std.proofs.lemmas.Result.{IfOk-weaker}
-use Rattle.line_split.specs.declared.usage.TheConstants.{MOST_LINES}
+use Rattle.line_split.specs.declared.TheConstants.{MOST_LINES}
 use Rattle.royalty_program.specs.ExplainCommand.{IsExplainCommand}
 use Rattle.royalty_program.proofs.OptionLemmas.{narrowed}
 use Rattle.royalty_program.proofs.ExplainLemmas.{adds_row}

@@ -17,7 +17,7 @@ pub returns : goal.returns
 returns c = λ app words rows.
     let m = c.args.matches.now in
     same_paths
-    (c.in_ok-tis.ensures.ok ∙ path_is app m words (codes "tis") c.get_str.result c.unwrap.result rows c.get_str.ensures c.unwrap.ensures)
+    (c.in_ok-territories.ensures.ok ∙ path_is app m words (codes "tis") c.get_str.result c.unwrap.result rows c.get_str.ensures c.unwrap.ensures)
     (c.in_ok-payees.ensures ∙ path_if_is app m words (codes "payees") c.get_str-2.result rows c.get_str-2.ensures)
-    (c.in_ok-cwr.ensures.ok ∙ path_is app m words (codes "cwr") c.get_str-3.result c.unwrap-2.result rows c.get_str-3.ensures c.unwrap-2.ensures)
+    (c.in_ok-registrations.ensures.ok ∙ path_is app m words (codes "cwr") c.get_str-3.result c.unwrap-2.result rows c.get_str-3.ensures c.unwrap-2.ensures)
     (c.in_ok-usage.ensures.ok ∙ path_is app m words (codes "usage") c.get_str-4.result c.unwrap-3.result rows c.get_str-4.ensures c.unwrap-3.ensures)

@@ -1,16 +1,10 @@
-use Rattle.std.proofs.Common.{◌≡◌, ℕ, List, subst}
 use Rattle.csv_table.specs.Table.{rows_of}
-use Rattle.line_split.proofs.OneTable as uses
-use Rattle.line_split.specs.UsageLine.{UsageLine}
-use Rattle.settle_run.specs.Settled.{AreStatementsFor}
+use Rattle.csv_table.proofs.ItemWalks.{one_table}
+use Rattle.line_split.specs.UsageTable.{usage_rules}
 use Rattle.settle_run.proofs.OneText.{one_text, read_alike}
 use Rattle.settle_run.proofs.laws.law_inputs_have_one_text.Goals as goal
 
 pub returns : goal.returns
-returns c = λ territories_file payees_file registrations_file usage_file text other is of.
-    let alike = read_alike territories_file payees_file registrations_file usage_file usage_file is.table of.table is.registered of.registered is.lines of.lines is.read of.read in
-    let lines : of.lines ≡ is.lines = uses.one_table (rows_of usage_file) of.lines is.lines of.read.uses is.read.uses in
-    let moved : AreStatementsFor is.table of.registered is.lines other =
-    subst (λ (t : List (ℕ × List ℕ)). AreStatementsFor t of.registered is.lines other) alike.tables
-    (subst (λ (l : List UsageLine). AreStatementsFor of.table of.registered l other) lines of.statements) in
-    one_text is.table is.registered of.registered is.lines text other alike.answers is.statements moved
+returns c = λ files text other is of.
+    one_text is.tables of.tables text other (read_alike files files.usage is.tables of.tables is.read of.read)
+    (one_table usage_rules (rows_of files.usage) of.tables.usage is.tables.usage of.read.uses is.read.uses) is.statements of.statements

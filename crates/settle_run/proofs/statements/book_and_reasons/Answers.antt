@@ -10,19 +10,20 @@ use Rattle.settle_run.proofs.statements.book_and_reasons.Goals as goal
 
 pub reasons_of-requires-clause-lines : goal.reasons_of-requires-clause-lines
 reasons_of-requires-clause-lines g c κs within =
-    let some : 0 < length c.in-Ok.book = omega (arith, some_accounts c.args.registry.now c.requires.sound, c.in-Ok.ensures.book.whole) in
+    let some : 0 < length c.in-Ok.book = omega (arith, some_accounts c.args.tables.now.registry c.requires.sound, c.in-Ok.ensures.book.whole) in
     rw c.lines-residue.ensures.postings
-    (book_lines_below (division_by c.args.tis.now c.args.registry.now) c.args.usage.now (length c.args.registry.now.parties) c.in-Ok.book c.in-Ok.ensures.book 0 [] some)
+    (book_lines_below (division_by c.args.tables.now.territories c.args.tables.now.registry) c.args.tables.now.usage (length c.args.tables.now.registry.accounts)
+    c.in-Ok.book c.in-Ok.ensures.book 0 [] some)
 
 pub returns-clause-lines : goal.returns-clause-lines
 returns-clause-lines g c =
-    book_lines_below (division_by c.args.tis.now c.args.registry.now) c.args.usage.now (length c.args.registry.now.parties) c.in-Ok.book c.in-Ok.ensures.book
+    book_lines_below (division_by c.args.tables.now.territories c.args.tables.now.registry) c.args.tables.now.usage (length c.args.tables.now.registry.accounts) c.in-Ok.book c.in-Ok.ensures.book
 
 pub returns-clause-statements : goal.returns-clause-statements
 returns-clause-statements g c =
-    let table = c.args.tis.now in
-    let registered = c.args.registry.now in
-    let lines = c.args.usage.now in
+    let table = c.args.tables.now.territories in
+    let registered = c.args.tables.now.registry in
+    let lines = c.args.tables.now.usage in
     let book = c.in-Ok.book in
     let reasons = c.in_ok-reasons.reasons.items in
     let owns = map (reason_of table registered) lines in
@@ -32,5 +33,5 @@ returns-clause-statements g c =
       statements = book;
       divided = c.in-Ok.ensures.book;
       adds_up = c.in-Ok.ensures.adds_up;
-      rows = ap text_of (book_rows_same book lines registered.parties reasons owns residue);
+      rows = ap text_of (book_rows_same book lines registered.accounts reasons owns residue);
     }

@@ -14,16 +14,16 @@ workers_of-requires-after_bounds g c κs within = omega (arith, c.in_ok-draw.ens
 
 pub readers_of-requires-clause-untouched : goal.readers_of-requires-clause-untouched
 readers_of-requires-clause-untouched g c κs within = λ account lt.
-    untouched_mailbox g.B.Mailboxes.is_shared c.args.workers (length c.args.inputs.registry.now.parties) c.args.nodes (length c.args.inputs.usage.now) (map (λ worker. g.B.Mailboxes.senders worker.senders.items) c.in_ok-jobs.jobs.items)
+    untouched_mailbox g.B.Mailboxes.is_shared c.args.workers (length c.args.inputs.registry.now.accounts) c.args.nodes (length c.args.inputs.usage.now) (map (λ worker. g.B.Mailboxes.senders worker.senders.items) c.in_ok-jobs.jobs.items)
     (inboxes_by g.B.Mailboxes.receiver c.in_ok-lists.receivers.items)
-    (mailboxes_as g.B.Mailboxes.is_shared c.args.workers c.args.nodes c.accounts-accounts.result (length c.args.inputs.registry.now.parties) c.len-lines.result (length c.args.inputs.usage.now) (map (λ own. g.B.Mailboxes.senders own.items) c.in_ok-lists.lists.items) (map (λ worker. g.B.Mailboxes.senders worker.senders.items) c.in_ok-jobs.jobs.items) (inboxes_by g.B.Mailboxes.receiver c.in_ok-lists.receivers.items) c.accounts-accounts.ensures.accounts c.len-lines.ensures.lines c.in_ok-jobs.ensures.senders c.in_ok-lists.ensures.mailboxes)
+    (mailboxes_as g.B.Mailboxes.is_shared c.args.workers c.args.nodes c.accounts-accounts.result (length c.args.inputs.registry.now.accounts) c.len-lines.result (length c.args.inputs.usage.now) (map (λ own. g.B.Mailboxes.senders own.items) c.in_ok-lists.lists.items) (map (λ worker. g.B.Mailboxes.senders worker.senders.items) c.in_ok-jobs.jobs.items) (inboxes_by g.B.Mailboxes.receiver c.in_ok-lists.receivers.items) c.accounts-accounts.ensures.accounts c.len-lines.ensures.lines c.in_ok-jobs.ensures.senders c.in_ok-lists.ensures.mailboxes)
     account (omega (arith, lt, c.accounts-accounts.ensures.accounts))
 
 -- the mailboxes are those of all accounts
 mailboxes_there : (g : _) (c : goal.In_ok-readers g)
-    → AreMailboxes c.args.workers (length c.args.inputs.registry.now.parties) c.args.nodes (room_of g.B.Mailboxes.is_shared (length c.args.inputs.usage.now)) (map (λ worker. g.B.Mailboxes.senders worker.senders.items) c.in_ok-jobs.jobs.items) (inboxes_by g.B.Mailboxes.receiver c.in_ok-lists.receivers.items)
+    → AreMailboxes c.args.workers (length c.args.inputs.registry.now.accounts) c.args.nodes (room_of g.B.Mailboxes.is_shared (length c.args.inputs.usage.now)) (map (λ worker. g.B.Mailboxes.senders worker.senders.items) c.in_ok-jobs.jobs.items) (inboxes_by g.B.Mailboxes.receiver c.in_ok-lists.receivers.items)
 mailboxes_there g c =
-    mailboxes_as g.B.Mailboxes.is_shared c.args.workers c.args.nodes c.accounts-accounts.result (length c.args.inputs.registry.now.parties) c.len-lines.result (length c.args.inputs.usage.now) (map (λ own. g.B.Mailboxes.senders own.items) c.in_ok-lists.lists.items) (map (λ worker. g.B.Mailboxes.senders worker.senders.items) c.in_ok-jobs.jobs.items) (inboxes_by g.B.Mailboxes.receiver c.in_ok-lists.receivers.items) c.accounts-accounts.ensures.accounts c.len-lines.ensures.lines c.in_ok-jobs.ensures.senders c.in_ok-lists.ensures.mailboxes
+    mailboxes_as g.B.Mailboxes.is_shared c.args.workers c.args.nodes c.accounts-accounts.result (length c.args.inputs.registry.now.accounts) c.len-lines.result (length c.args.inputs.usage.now) (map (λ own. g.B.Mailboxes.senders own.items) c.in_ok-lists.lists.items) (map (λ worker. g.B.Mailboxes.senders worker.senders.items) c.in_ok-jobs.jobs.items) (inboxes_by g.B.Mailboxes.receiver c.in_ok-lists.receivers.items) c.accounts-accounts.ensures.accounts c.len-lines.ensures.lines c.in_ok-jobs.ensures.senders c.in_ok-lists.ensures.mailboxes
 
 -- as many workers as asked for
 jobs_there : (g : _) (c : goal.In_ok-readers g) → length c.in_ok-jobs.jobs.items ≡ c.args.workers
@@ -45,7 +45,7 @@ returns-clause-drawers g c = drawn_by_none g c
 pub returns-clause-mailboxes : goal.returns-clause-mailboxes
 returns-clause-mailboxes g c =
     let lists = map (λ worker. g.B.Mailboxes.senders worker.senders.items) c.in_ok-jobs.jobs.items in
-    subst (λ v. AreMailboxes c.args.workers (length c.args.inputs.registry.now.parties) c.args.nodes (room_of g.B.Mailboxes.is_shared (length c.args.inputs.usage.now)) lists (inboxes_by g.B.Mailboxes.receiver v.items)) (sym c.of-opened.ensures) (mailboxes_there g c)
+    subst (λ v. AreMailboxes c.args.workers (length c.args.inputs.registry.now.accounts) c.args.nodes (room_of g.B.Mailboxes.is_shared (length c.args.inputs.usage.now)) lists (inboxes_by g.B.Mailboxes.receiver v.items)) (sym c.of-opened.ensures) (mailboxes_there g c)
 
 pub returns-clause-kept : goal.returns-clause-kept
 returns-clause-kept g c = λ account inbox got is.
@@ -55,7 +55,7 @@ pub returns-clause-ready : goal.returns-clause-ready
 returns-clause-ready g c =
     let jobs = c.in_ok-jobs.jobs.items in
     let lists = map (λ worker. g.B.Mailboxes.senders worker.senders.items) jobs in
-    let accounts = length c.args.inputs.registry.now.parties in
+    let accounts = length c.args.inputs.registry.now.accounts in
     let lines = length c.args.inputs.usage.now in
     let count = jobs_there g c in (
       count,

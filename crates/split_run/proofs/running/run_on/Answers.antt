@@ -42,7 +42,7 @@ merge_all-requires-clause-read g c κs within = λ number d lt.
 pub gather-gathered-requires : goal.gather-gathered-requires
 gather-gathered-requires g c = λ account lt.
     let workers = c.plan.inside.workers in
-    given_there g.B.Mailboxes.is_shared workers (length c.args.inputs.registry.now.parties) c.plan.inside.nodes (length c.args.inputs.usage.now) (map (λ worker. g.B.Mailboxes.senders worker.senders.items) c.in_ok-draw.jobs.items)
+    given_there g.B.Mailboxes.is_shared workers (length c.args.inputs.registry.now.accounts) c.plan.inside.nodes (length c.args.inputs.usage.now) (map (λ worker. g.B.Mailboxes.senders worker.senders.items) c.in_ok-draw.jobs.items)
     (inboxes_by g.B.Mailboxes.receiver c.in_ok-draw.opened.value.items) c.in_ok-draw.ensures.mailboxes c.plan.inside.readers (inboxes_by g.B.Mailboxes.receiver c.in_ok-inboxes.inboxes.items)
     c.in_ok-inboxes.book c.plan.invariant.readers.0 c.in_ok-inboxes.ensures (g.B.Mailboxes.belongs c.in_ok-draw.kept) c.in_ok-draw.ensures.kept account (omega (arith, lt, length-map c.in_ok-inboxes.inboxes.items (option_map g.B.Mailboxes.receiver)))
 
@@ -69,7 +69,7 @@ take_in_all-requires-clause-worked g c κs within = λ worker d lt.
     subst (λ l. AreMerged workers c.plan.inside.readers c.plan.inside.readers (inboxes_by g.B.Mailboxes.receiver c.in_ok-draw.opened.value.items) l c.in_ok-inboxes.book)
     (sym c.gather-gathered.ensures) c.in_ok-inboxes.ensures in
     IfSome_then (get_or c.in-Some.worked.items worker d) (c.in-Some.ensures.worked.1 worker d first inside) (λ those worked. record {
-      sent = given_back g.B.Mailboxes.is_shared workers (length c.args.inputs.registry.now.parties) c.plan.inside.nodes (length usage) lists (inboxes_by g.B.Mailboxes.receiver c.in_ok-draw.opened.value.items) c.in_ok-draw.ensures.mailboxes c.plan.inside.readers before
+      sent = given_back g.B.Mailboxes.is_shared workers (length c.args.inputs.registry.now.accounts) c.plan.inside.nodes (length usage) lists (inboxes_by g.B.Mailboxes.receiver c.in_ok-draw.opened.value.items) c.in_ok-draw.ensures.mailboxes c.plan.inside.readers before
           c.in_ok-inboxes.book c.plan.invariant.readers.0 merged division usage worker (drawer_of those.drawer).drawn (g.B.Mailboxes.senders those.senders.items) low
           (subst (λ l. HaveEnded g.B.Mailboxes.is_shared l (g.B.Mailboxes.senders those.senders.items) (λ account. postings_of division usage account (drawer_of those.drawer).drawn)) own worked.sent);
       same = (worked.same.0 ∙ ap (λ (v : DrawerView). v.draw) opened_as, worked.same.1 ∙ ap (λ (v : DrawerView). v.number) opened_as);
@@ -87,7 +87,7 @@ returns-clause-book g c =
     let all : length c.in-Some.worked.items ≡ workers = c.in-Some.ensures.worked.0 ∙ c.in_ok-draw.ensures.ready.0 in
     let merged =
     subst (λ l. AreMerged workers c.plan.inside.readers c.plan.inside.readers opened l c.in_ok-inboxes.book) (sym c.gather-gathered.ensures) c.in_ok-inboxes.ensures in
-    is_book division c.args.inputs.usage.now draw.drawn workers c.plan.inside.readers (length c.args.inputs.registry.now.parties) opened before after c.in_ok-inboxes.book
+    is_book division c.args.inputs.usage.now draw.drawn workers c.plan.inside.readers (length c.args.inputs.registry.now.accounts) opened before after c.in_ok-inboxes.book
     c.plan.invariant.workers.0 c.plan.invariant.readers.0 c.in_ok-draw.ensures.mailboxes.places
     (λ account below. let own = c.in_ok-draw.ensures.mailboxes.each account below in (own.0, own.1)) merged (subst (λ n. AreTakenIn division c.args.inputs.usage.now draw.drawn n before after) all c.in_ok-take_in_all.ensures.taken)
     (subst (λ n. AreDrawnOnce n draw.drawn (blocks_of (length c.args.inputs.usage.now))) all c.in_ok-take_in_all.ensures.once)

@@ -12,5 +12,5 @@ account_of-requires-clause-rising c = rw c.as_slice.ensures.value c.self.invaria
 
 pub returns-clause-none : goal.returns-clause-none
 returns-clause-none c =
-    let parties = ap (map (λ (payee : Vec ℕ Global). payee.items)) c.as_slice.ensures.value ∙ ap (λ (r : Registered). r.parties) c.self.view_is in
+    let parties = ap (map (λ (payee : Vec ℕ Global). payee.items)) c.as_slice.ensures.value ∙ ap (λ (r : Registered). r.accounts) c.self.view_is in
     where_none c.account_of.result _ _ (λ absent. inr (λ has. absent (rw parties has))) c.account_of.ensures.none

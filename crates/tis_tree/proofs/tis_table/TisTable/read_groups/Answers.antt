@@ -1,4 +1,4 @@
-use Rattle.std.proofs.Common.{◌≡◌, ◌<◌, ℕ, List, [], length, map, arith, ap, inr, refl, rules, subst, sym, true, ◌∙◌}
+use Rattle.std.proofs.Common.{◌≡◌, ◌<◌, ℕ, List, [], length, map, arith, ap, rules, subst, sym, true, ◌∙◌}
 use Rattle.std.proofs.lemmas.List.{length-map}
 use Rattle.std.specs.Result.{is_ok}
 use Rattle.tis_tree.specs.Compiled.{IsCompiled}
@@ -19,14 +19,11 @@ returns-then-is_empty-clause-groups c =
     let none = c.first_word.ensures.none (empty_if c.first_word.result.0.now (sym c.if-is_empty.ensures)) in
     (named_all c.args.self.now c.args.text.now c.loop.rest.now c.args.set.now.words c.loop.set.words c.loop.groups.items c.loop.counter c.loop.invariant none).1
 
-pub returns-in_default-clause-fault : goal.returns-in_default-clause-fault
-returns-in_default-clause-fault c =
+pub returns-in_default-clause-none : goal.returns-in_default-clause-none
+returns-in_default-clause-none c =
     let some = c.first_word.ensures.some (some_if c.first_word.result.0.now (sym c.if-is_empty.ensures)) in
-    inr (
-      refl,
-      named_fault c.args.self.now c.args.text.now c.loop.rest.now c.args.set.now.words c.loop.set.words c.loop.groups.items c.loop.counter
-          c.first_word.result.0.now c.first_word.result.1.now c.loop.invariant some c.in_default.ensures.none,
-    )
+    named_fault c.args.self.now c.args.text.now c.loop.rest.now c.args.set.now.words c.loop.set.words c.loop.groups.items c.loop.counter
+    c.first_word.result.0.now c.first_word.result.1.now c.loop.invariant some c.in_default.ensures.none
 
 pub loop-preserved : goal.loop-preserved
 loop-preserved c =

@@ -1,4 +1,0 @@
-use Rattle.check_inputs.proofs.messages.add_payee.Goals as goal
-
-pub returns-in-Fields : goal.returns-in-Fields
-returns-in-Fields c = rw c.in-Fields.is (rw (c.field.ensures, c.field-in-Fields.ensures) at c.add_both.ensures)
