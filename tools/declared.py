@@ -175,7 +175,7 @@ def imports_in(lines):
         if match:
             path = re.split(r"[.:]+", match[1])
             crate = path[1] if path[0] == "Rattle" and len(path) > 1 else path[0]
-            names = re.split(r"[, {}]+|::", match[2] or match[3])
+            names = re.split(r"[, {}]+|::", match[2] or match[3] or "")
             yield crate, {*path, *names} - {"", "Rattle"}
 
 
