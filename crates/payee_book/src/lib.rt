@@ -15,4 +15,4 @@ pub use postings::Posting;
 pub use sheets::Sheets;
 
 /// The most accounts that a book has, the residue's included.
-pub const MOST_ACCOUNTS: usize = 65_535;
+pub const MOST_STATEMENTS: usize = 65_535;

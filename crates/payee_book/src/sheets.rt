@@ -8,7 +8,7 @@ ghost use Rattle.line_split.specs.declared.TheConstants.{MOST_AMOUNT};
 ghost use Rattle.line_split.specs.UsageLine.{UsageLine};
 ghost use Rattle.payee_book.specs.Text.{payee_rows, payees_rows, rows_of_book};
 ghost use Rattle.payee_book.specs.Waves.{AreBlank, ArePayees, AreReady, AreReadyTwice, AreWhole, IsSharedOut, between, rows_of_wave, share_of, start_of, text_on};
-ghost use Rattle.payee_book.specs.declared.sheets.TheConstants.{MOST_ON_SHEET, MOST_ROWS};
+ghost use Rattle.payee_book.specs.declared.sheets.TheConstants.{MOST_ON_SHEET, ROW_BOUND};
 
 use crate::rows::{LOOKED_UP_AT_ONCE, write_postings, write_residue, write_run, write_total};
 use crate::{Book, Posting};
@@ -29,7 +29,7 @@ const MOST_ON_SHEET: u128 = 16_384;
 const PAGES_OF_SHEET: u16 = 36;
 
 /// More rows than there can be, of 65,535 statements that each fit into memory.
-const MOST_ROWS: u128 = 1 << 80;
+const ROW_BOUND: u128 = 1 << 80;
 
 /// What one thread writes rows on, before they are passed on.
 #[derive(Drop)]
@@ -190,7 +190,7 @@ impl Wave<'_> {
     /// The number of the first row of the thread with a number, or of all rows, whichever is less.
     fn start_of(self, place: usize) -> u128
         requires place { place ≤ 64 }
-        requires small { (self.from ≤ self.count) × (self.size ≤ MOST_ON_SHEET) × (self.count ≤ MOST_ROWS) }
+        requires small { (self.from ≤ self.count) × (self.size ≤ MOST_ON_SHEET) × (self.count ≤ ROW_BOUND) }
         ensures { result ≡ start_of self.entry place }
     {
         self.count.min(self.from + place as u128 * self.size)
@@ -201,7 +201,7 @@ impl Wave<'_> {
 fn payees_row_count(book: &Book) -> u128
     ensures count { (usage : List UsageLine) (parties : List (List ℕ)) → length parties ≡ length book.now → result ≡ length (payees_rows book.now usage parties) }
     ensures some { 0 < length book.now }
-    ensures bound { result ≤ MOST_ROWS }
+    ensures bound { result ≤ ROW_BOUND }
 {
     let mut count = 0;
     for account in 1..book.accounts() {
