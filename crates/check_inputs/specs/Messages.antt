@@ -53,6 +53,7 @@ payee_message row (payee.Fields n) =
     around (codes "party '") (at row 0) (codes "' and payee '") ++ around [] (at row 1) (codes "' are not both 1 to 64 printable ASCII characters that are not all spaces")
 payee_message row (payee.Twice n) = around (codes "party '") (at row 0) (codes "' has an earlier row")
 payee_message row payee.Rows = codes "there are more than 65536 rows"
+payee_message row (payee.Submitter n) = around (codes "submitter '") (at row 0) (codes "' is of no file")
 payee_message row payee.Memory = []
 
 abbrev pub usage_message : List (List ℕ) → LineFault → List ℕ

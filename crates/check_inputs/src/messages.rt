@@ -74,6 +74,9 @@ impl Worded for PayeeFault {
                 "' has an earlier row",
             ),
             PayeeFault::Rows => add(text, "there are more than 65536 rows"),
+            PayeeFault::Submitter(_) => {
+                add_around(text, "submitter '", row.field(0), "' is of no file")
+            }
             PayeeFault::Memory => Ok(()),
         }
     }

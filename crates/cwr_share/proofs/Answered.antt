@@ -2,7 +2,7 @@
 use Rattle.std.proofs.Common.{◌≡◌, ◌∙◌, ◌≤◌, ◌<◌, ◌∷◌, [], ℕ, Bool, true, false, zero, suc, List, Some, None, All, AllPairs, Contains, filter, length, map, get_or, nat_eq, nat_le, ap, sym, refl, subst, arith}
 use Rattle.std.specs.Prelude.{flat_map}
 use Rattle.std.specs.Cmp.Lexicographic.{pointwise}
-use Rattle.std.proofs.lemmas.List.Elements.{All-head, All-tail, filter_passes}
+use Rattle.std.proofs.lemmas.List.Elements.{All-filter, All-head, All-tail, filter_passes}
 use Rattle.std.proofs.lemmas.List.{length-map, get_or-map}
 use Rattle.std.proofs.lemmas.List.Kept.{AllPairs-filter}
 use Rattle.std.proofs.lemmas.Slice.Eq.{bytes_eq-Decides}
@@ -18,8 +18,10 @@ use Rattle.cwr_share.specs.Payees.{payee_of}
 use Rattle.cwr_share.specs.Registered.{Registered}
 use Rattle.cwr_share.specs.Registrations.{ShareLine}
 use Rattle.cwr_share.proofs.ClaimLemmas.{against_nothing, against_over, counts, length-lines_of_parties, map_twice, no_line, total-counts}
-use Rattle.cwr_share.proofs.CompiledLemmas.{HasOnce, once_from_pairs, same_text}
-use Rattle.cwr_share.proofs.Groups.{few_groups, grouped, in_order, of_a_party, runs_of_groups, same_lines, some_places}
+use Rattle.cwr_share.proofs.CompiledLemmas.{HasOnce, once_from_pairs}
+use Rattle.cwr_share.proofs.InForceLemmas.{same_text}
+use Rattle.cwr_share.proofs.FewPayees.{few_paid}
+use Rattle.cwr_share.proofs.Groups.{grouped, in_order, of_a_party, runs_of_groups, same_lines, some_places}
 use Rattle.cwr_share.proofs.OneRegistry.{found_inside}
 use Rattle.cwr_share.proofs.PaidClaims.{ArePaid, of_parties, rise, same_paid}
 use Rattle.cwr_share.proofs.PayeeLemmas.{payee_at}
@@ -144,6 +146,29 @@ module _ (registered : Registered) (work : List ℕ) (registration : Kept) (up :
       ∙ sym (same_lines its_lines (λ (party : ℕ). get_or (names_in registered) party []) account_of up.kept.claimants parties
       (rise pay (names_in registered) registered.accounts account_of are_paid its_lines up.kept.claimants up.kept.compiled named)))
 
+  -- the payees of its lines, of which there are few
+  abbrev few_payees : List (List ℕ)
+  few_payees = up.few_payees.0
+
+  -- an account is of one of them
+  abbrev IsFew : ℕ → Type 0
+  IsFew account = (account < length registered.accounts) × Contains few_payees (get_or registered.accounts account [])
+
+  -- and so is that of each party that has lines
+  paid_few : All (λ claimant. IsFew (account_of claimant.0)) up.kept.claimants
+  paid_few k d within =
+      let claimant = get_or up.kept.claimants k d in
+      let name = get_or (names_in registered) claimant.0 [] in
+      let own = lines_of_party name its_lines in
+      let inside : claimant.0 < length (names_in registered) = up.kept.compiled.known k d within in
+      let same : lines_at its_lines claimant.1 ≡ own = up.kept.compiled.exact k d within in
+      let long : length (lines_at its_lines claimant.1) ≡ length claimant.1 = length-map claimant.1 _ in
+      let some : 0 < length own = omega (arith, up.kept.compiled.some k d within, ap (λ (l : List ShareLine). length l) same, long) in
+      let of_party : ShareLine → Bool = λ line. pointwise nat_eq line.party name in
+      let all : All (λ line. Contains few_payees (pay line.party)) own = All-filter of_party (λ line. Contains few_payees (pay line.party)) its_lines up.few_payees.2 in
+      let its : (get_or own 0 no_line).party ≡ name = (bytes_eq-Decides (get_or own 0 no_line).party name).0 (filter_passes of_party its_lines 0 no_line some) in
+      (are_paid.known claimant.0 inside, subst (Contains few_payees) (ap pay its ∙ sym (are_paid.paid claimant.0 inside)) (all 0 no_line some))
+
   -- claims are worked out from them
   pub are_claim_lines : AreClaimLines its_lines its_groups registration.lines
   are_claim_lines =
@@ -151,19 +176,20 @@ module _ (registered : Registered) (work : List ℕ) (registration : Kept) (up :
       let compiled = up.kept.compiled in
       let parties = of_parties pay (names_in registered) registered.accounts account_of are_paid its_lines claimants compiled named in
       let rises = rise pay (names_in registered) registered.accounts account_of are_paid its_lines claimants compiled named in
-      let as_many = length_kept in
       record {
         exact = same_kept;
-        few = omega (arith, few_groups account_of claimants rises, compiled.few, as_many);
+        few = omega (
+          arith,
+          few_paid registered.accounts few_payees up.sound.rising its_groups (in_order account_of claimants rises).0
+              (of_a_party account_of IsFew claimants rises paid_few),
+          up.few_payees.1,
+        );
         rising = (in_order account_of claimants rises).0;
         accounts = of_a_party account_of (λ (account : ℕ). 0 < account) claimants rises (λ k d within. are_paid.some (get_or claimants k d).0 (compiled.known k d within));
         some = some_places account_of claimants rises compiled.some;
         runs = runs_of_groups its_lines (λ (party : ℕ). get_or (names_in registered) party []) account_of claimants parties rises
             (λ k d within. subst AreInRuns (sym (compiled.exact k d within)) (runs_of_alike _ (alike_in_party (get_or (names_in registered) (get_or claimants k d).0 []) its_lines up.rise)));
       }
-    where
-      length_kept : length registration.lines ≡ length its_lines
-      length_kept = omega (arith, ap (λ (l : List ClaimLine). length l) up.kept.lines, length-lines_of_parties up.accounts (nameless registration) up.kept.claimants, up.kept.compiled.total)
 
   -- and there are few
   pub few_kept : length registration.lines ≡ length its_lines

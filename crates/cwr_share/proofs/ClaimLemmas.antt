@@ -26,7 +26,8 @@ use Rattle.cwr_share.specs.declared.claim_line.ClaimLine.{ClaimLine}
 use Rattle.cwr_share.specs.Registered.{Registered}
 use Rattle.cwr_share.specs.Registrations.{ShareLine, find_work}
 use Rattle.cwr_share.proofs.Runs.{run_tells, runs_drop}
-use Rattle.cwr_share.proofs.CompiledLemmas.{AllPairs-head, AllPairs-tail, contains_cases, same_text}
+use Rattle.cwr_share.proofs.CompiledLemmas.{AllPairs-head, AllPairs-tail, contains_cases}
+use Rattle.cwr_share.proofs.InForceLemmas.{same_text}
 
 module _ (table : List (ℕ × List ℕ)) (land : ℕ) where
   -- a later line of the interest and party whose territory contains the land

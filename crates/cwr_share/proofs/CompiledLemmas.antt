@@ -1,11 +1,10 @@
 -- How a registration is compiled, by the accounts of its parties and the places of their share lines; and how a registry finds one.
-use Rattle.std.proofs.Common.{◌≡◌, ◌==◌, ◌∙◌, ◌++◌, ◌⊎◌, inl, inr, ◌<◌, ◌≤◌, ◌+◌, ◌∷◌, [], ℕ, zero, suc, List, All, AllPairs, Contains, HoldsAt, IsSortedBy, nat_eq, ltb, true, false, length, map, position, get_or, take, drop, ap, sym, refl, append-nil, subst, arith, zero-le, one-add, lt_trans, ⊎_elim, Bool, Vec, Global, Some, None, zip, Ordering, Less, Equal, Greater, is_lt, nat_cmp}
-use Rattle.std.specs.List.{position_or_len}
+use Rattle.std.proofs.Common.{◌≡◌, ◌==◌, ◌∙◌, ◌++◌, ◌⊎◌, inl, inr, ◌<◌, ◌≤◌, ◌+◌, ◌∷◌, [], ℕ, zero, suc, List, All, AllPairs, Contains, HoldsAt, IsSortedBy, nat_eq, ltb, true, false, length, map, position, get_or, take, drop, ap, sym, refl, append-nil, subst, arith, zero-le, lt_trans, ⊎_elim, Vec, Global, Some, Ordering, Less, Equal, Greater, is_lt, nat_cmp}
 use Rattle.std.specs.List.Sorted.{IsNonDecreasingBy, IsPartitionPoint, IsStrictlySortedBy}
 use Rattle.std.specs.Cmp.Lexicographic.{pointwise, slice_cmp}
 use Rattle.std.specs.Ordering.{ordering_index, ordering_reverse}
-use Rattle.std.proofs.lemmas.Bool.{cases_Bool, cases_lt, cases_order, eq-eqb, le-ltb, lt-ltb, ltb-false, ltb-true, ne_eqb, false_from_ne_true}
-use Rattle.std.proofs.lemmas.Cmp.{nat_list_cmp_total, nat_list_eq_equiv, tied_itself}
+use Rattle.std.proofs.lemmas.Bool.{cases_lt, cases_order, eq-eqb, le-ltb, lt-ltb, ne_eqb}
+use Rattle.std.proofs.lemmas.Cmp.{nat_list_cmp_total, tied_itself}
 use Rattle.std.proofs.lemmas.List.{get_or_default, get_or-map, get_or_append_left, get_or_push, drop-append-le, drop_all, length-drop, length-map, length-take-le, length_push, map_push, take-append-le, take_all, take_more}
 use Rattle.std.proofs.lemmas.List.Elements.{All-cons, All-head, All-nil, All-push, All-tail, Contains-push_cases, filter-append, filter_passes}
 use Rattle.std.proofs.lemmas.List.Kept.{AllPairs-cons}
@@ -13,17 +12,17 @@ use Rattle.std.proofs.lemmas.List.Sums.{sum_by-cons}
 use Rattle.std.proofs.lemmas.List.Sorted.{searchable_from_sorted}
 use Rattle.std.proofs.lemmas.Map.Keys.{Less-from_sorted}
 use Rattle.std.proofs.lemmas.Map.Lookups.{exact_bytes}
-use Rattle.std.proofs.lemmas.Option.{cond_some, none-some}
 use Rattle.std.proofs.lemmas.Slice.Eq.{bytes_eq-Decides}
-use Rattle.cwr_share.specs.Compiled.{AreKept, AreWorkNumbers, InterestsRise, IsCompiled, IsExtent, IsKept, Kept, Numbered, WorkNumber, accounts_of, kept_lines, line_by, lines_at, lines_of_party, names_of, part, places_in, registered_as, with_place}
+use Rattle.cwr_share.specs.Compiled.{AreKept, InterestsRise, IsCompiled, IsExtent, IsKept, Kept, Numbered, WorkName, accounts_of, kept_lines, line_by, lines_at, lines_of_party, names_of, part, places_in, registered_as, with_place}
 use Rattle.cwr_share.specs.Found.{LookedUp, names_in}
-use Rattle.cwr_share.specs.Registered.{IsRegistered, Registered}
-use Rattle.cwr_share.specs.Registrations.{ShareLine, find_work}
+use Rattle.cwr_share.specs.Payees.{payee_of}
+use Rattle.cwr_share.specs.Registered.{HasFewPayees, IsRegistered, Registered}
+use Rattle.cwr_share.specs.Registrations.{ShareLine}
 use Rattle.cwr_share.specs.declared.share_line.RegisteredShare.{RegisteredShare}
-use Rattle.cwr_share.specs.declared.numbers.TheConstants.{MOST_WORK_BYTES}
-use Rattle.cwr_share.specs.declared.TheConstants.{MOST_SHARES}
+use Rattle.cwr_share.specs.declared.TheConstants.{MOST_LINES}
 use Rattle.cwr_share.specs.declared.claim_line.ClaimLine.{ClaimLine}
 use Rattle.cwr_share.specs.declared.registrations.Extent.{Extent}
+use Rattle.cwr_share.proofs.InForceLemmas.{entry_at, found_at, is_work, other_text, same_text}
 
 -- what holds of the text of an item at a place
 text_at : {X : Type 0} (text : X → List ℕ) (P : List ℕ → Type 0) (xs : List X) (place : ℕ) → place < length xs → HoldsAt (λ x. P (text x)) xs place → P (get_or (map text xs) place [])
@@ -196,13 +195,6 @@ module _ (party place : ℕ) where
     | inr (inl (equal, is)) ↦ rw is (contains_first party (map (λ claimant. claimant.0) later))
     | inr (inr (greater, is)) ↦ rw is (contains_later claimant.0 party (map (λ claimant. claimant.0) (with_place party place later)) (now_there later))
   ]
-
--- texts are tested for being one
-pub same_text : (a b : List ℕ) → a ≡ b → pointwise nat_eq a b ≡ true
-same_text a b same = (bytes_eq-Decides a b).1 same
-
-pub other_text : (a b : List ℕ) → ¬ (a ≡ b) → pointwise nat_eq a b ≡ false
-other_text a b other = false_from_ne_true (pointwise nat_eq a b) (λ told. other ((bytes_eq-Decides a b).0 told))
 
 -- the lines of a party, with one line more
 lines_of_party_other : (party : List ℕ) (lines : List ShareLine) (line : ShareLine) → ¬ (line.party ≡ party) → lines_of_party party (lines ++ line ∷ []) ≡ lines_of_party party lines
@@ -408,88 +400,13 @@ module _ (lines theirs : List ClaimLine) (these : Vec RegisteredShare Global) wh
       let it : part (lines ++ theirs) extent_of_it ≡ record { shares = these.items; lines = theirs } = ap (λ (l : List ClaimLine). record { shares = these.items; lines = l }) (part_added lines theirs) in
       map_push (part (lines ++ theirs)) extents extent_of_it ∙ cc (parts_as_before extents within, it)
 
--- works beside their share lines
-abbrev pub entries : List (List ℕ) → List WorkNumber → List Kept → List (List ℕ × List ShareLine)
-entries parties works registrations = map (λ entry. (entry.0.items, kept_lines parties entry.1)) (zip works registrations)
-
-module _ (work : List ℕ) where
-  abbrev pub is_work : WorkNumber → Bool
-  is_work key = pointwise nat_eq work key.items
-
-  -- the test of a work either way round
-  turned : (key : WorkNumber) → pointwise nat_eq key.items work ≡ is_work key
-  turned key = nat_list_eq_equiv.symm key.items work
-
-  module _ (parties : List (List ℕ)) where
-    -- a work that is found stands beside its registration
-    pub found_work : (works : List WorkNumber) (registrations : List Kept) (place : ℕ) (registration : Kept) → length works ≡ length registrations
-        → position_or_len is_work works ≡ place → place < length works → registration ≡ get_or registrations place registration
-        → find_work work (entries parties works registrations) ≡ Some (kept_lines parties registration)
-    found_work [] registrations place registration paired at within is = absurd (omega arith)
-    found_work (key ∷ works) [] place registration paired at within is = absurd (omega arith)
-    found_work (key ∷ works) (first ∷ registrations) place registration paired at within is = elim (cases_Bool (is_work key)) [
-      | inl its ↦
-          let here : place ≡ 0 = sym (rw its at at) in
-          let same : registration ≡ first = subst (λ p. registration ≡ get_or (first ∷ registrations) p registration) here is in
-          rw (turned key, its) (ap (λ (r : Kept). Some (kept_lines parties r)) (sym same))
-      | inr other ↦
-          let n = position_or_len is_work works in
-          let after : place ≡ suc n = sym (rw other at at) ∙ one-add n in
-          let rest : registration ≡ get_or registrations n registration = subst (λ p. registration ≡ get_or (first ∷ registrations) p registration) after is in
-          rw (turned key, other) (found_work works registrations n registration (omega (arith, paired)) refl (omega (arith, within, after)) rest)
-    ]
-
-    -- a work that is not found has none
-    pub no_work : (works : List WorkNumber) (registrations : List Kept) → length works ≤ position_or_len is_work works → find_work work (entries parties works registrations) ≡ None
-    no_work [] registrations past = refl
-    no_work (key ∷ works) [] past = refl
-    no_work (key ∷ works) (first ∷ registrations) past = elim (cases_Bool (is_work key)) [
-      | inl its ↦ absurd (omega (arith, rw its at past))
-      | inr other ↦ rw (turned key, other) (no_work works registrations (omega (arith, rw other at past)))
-    ]
-
-    -- what a look-up by the index says
-    pub found_at : (works : List WorkNumber) (registrations : List Kept) (place : ℕ) (registration : Kept) → length works ≡ length registrations
-        → Some place ≡ position is_work works → registration ≡ get_or registrations place registration → find_work work (entries parties works registrations) ≡ Some (kept_lines parties registration)
-    found_at works registrations place registration paired index is =
-        let n = position_or_len is_work works in
-        let (inside, at) = cond_some (ltb n (length works)) n place (sym index) in
-        found_work works registrations place registration paired at (omega (arith, ltb-true n (length works) inside, at)) is
-
-    pub found_nowhere : (works : List WorkNumber) (registrations : List Kept) → None ≡ position is_work works → find_work work (entries parties works registrations) ≡ None
-    found_nowhere works registrations index =
-        let n = position_or_len is_work works in
-        no_work works registrations (elim (cases_Bool (ltb n (length works))) [
-          | inr past ↦ ltb-false n (length works) past
-          | inl inside ↦ absurd (none-some n (index ∙ rw inside refl))
-        ])
-
-    -- nor has one that is longer than the works
-    pub found_too_long : (works : List WorkNumber) (registrations : List Kept) → AreWorkNumbers works → MOST_WORK_BYTES < length work → find_work work (entries parties works registrations) ≡ None
-    found_too_long [] registrations short long = refl
-    found_too_long (key ∷ works) [] short long = refl
-    found_too_long (key ∷ works) (first ∷ registrations) short long =
-        let fits : length key.items ≤ MOST_WORK_BYTES = short 0 key (omega arith) in
-        let other = other_text work key.items (λ same. omega (arith, fits, long, ap (λ (text : List ℕ). length text) same)) in
-        rw (turned key, other) (found_too_long works registrations (All-tail (λ (work : WorkNumber). length work.items ≤ MOST_WORK_BYTES) key works short) long)
-
--- what holds of the share lines of each work holds of those of a registration
-pub entry_at : (parties : List (List ℕ)) (Holds : List ShareLine → Type 0) (works : List WorkNumber) (registrations : List Kept) (place : ℕ) (registration : Kept) → length works ≡ length registrations
-    → place < length registrations → registration ≡ get_or registrations place registration → All (λ (entry : List ℕ × List ShareLine). Holds entry.1) (entries parties works registrations) → Holds (kept_lines parties registration)
-entry_at parties Holds [] registrations place registration paired within is all = absurd (omega arith)
-entry_at parties Holds (key ∷ works) [] place registration paired within is all = absurd (omega arith)
-entry_at parties Holds (key ∷ works) (first ∷ registrations) zero registration paired within is all = subst (λ (r : Kept). Holds (kept_lines parties r)) (sym is) (all 0 (key.items, kept_lines parties first) (omega arith))
-entry_at parties Holds (key ∷ works) (first ∷ registrations) (suc place) registration paired within is all =
-    entry_at parties Holds works registrations place registration (omega (arith, paired)) (omega (arith, within)) is
-    (All-tail (λ (entry : List ℕ × List ShareLine). Holds entry.1) (key.items, kept_lines parties first) (entries parties works registrations) all)
-
 -- the parties of a registry that is kept are those by number
-pub names_as : (works : List WorkNumber) (registrations : List Kept) (parties : List Numbered) (payees : List (Vec ℕ Global)) → names_in (registered_as works registrations parties payees) ≡ names_of parties
+pub names_as : (works : List WorkName) (registrations : List Kept) (parties : List Numbered) (payees : List (Vec ℕ Global)) → names_in (registered_as works registrations parties payees) ≡ names_of parties
 names_as works registrations [] payees = refl
 names_as works registrations (party ∷ parties) payees = ap (λ (names : List (List ℕ)). party.0.items ∷ names) (names_as works registrations parties payees)
 
 -- what a look-up by the index finds
-pub looked_up : (works : List WorkNumber) (registrations : List Kept) (parties : List Numbered) (payees : List (Vec ℕ Global)) (registered : Registered) (work : List ℕ) (place : ℕ) (registration : Kept)
+pub looked_up : (works : List WorkName) (registrations : List Kept) (parties : List Numbered) (payees : List (Vec ℕ Global)) (registered : Registered) (work : List ℕ) (place : ℕ) (registration : Kept)
     → IsRegistered (registered_as works registrations parties payees) → AreKept works registrations parties payees → registered_as works registrations parties payees ≡ registered
     → Some place ≡ position (is_work work) works → place < length works → registration ≡ get_or registrations place registration → LookedUp registered work registration
 looked_up works registrations parties payees registered work place registration sound kept view index within is =
@@ -500,11 +417,13 @@ looked_up works registrations parties payees registered work place registration 
       sound = sound;
       accounts = accounts_of parties;
       are = kept.accounts;
-      works = found_at work names works registrations place registration kept.paired index is ∙ ap (λ (names : List (List ℕ)). Some (kept_lines names registration)) as_names;
+      works = found_at work (kept_lines names) works registrations place registration kept.paired index is ∙ ap (λ (names : List (List ℕ)). Some (kept_lines names registration)) as_names;
       kept = subst (λ (names : List (List ℕ)). IsKept names (accounts_of parties) registration) as_names (subst (IsKept names (accounts_of parties)) (sym is) (kept.kept place registration inside));
       rise = subst (λ (names : List (List ℕ)). InterestsRise (kept_lines names registration)) as_names (subst (λ (r : Kept). InterestsRise (kept_lines names r)) (sym is) (kept.rise place registration inside));
-      few = subst (λ (names : List (List ℕ)). length (kept_lines names registration) ≤ MOST_SHARES) as_names
-          (entry_at names (λ lines. length lines ≤ MOST_SHARES) works registrations place registration kept.paired inside is sound.few);
+      few = subst (λ (names : List (List ℕ)). length (kept_lines names registration) ≤ MOST_LINES) as_names
+          (entry_at (kept_lines names) (λ lines. length lines ≤ MOST_LINES) works registrations place registration kept.paired inside is sound.few);
+      few_payees = subst (λ (names : List (List ℕ)). HasFewPayees (payee_of (registered_as works registrations parties payees).payees) (kept_lines names registration)) as_names
+          (entry_at (kept_lines names) (HasFewPayees (payee_of (registered_as works registrations parties payees).payees)) works registrations place registration kept.paired inside is sound.few_payees);
     })
 
 -- there is a registration at a place

@@ -1,14 +1,20 @@
 -- A CWR file that is read on past the lines that are refused.
-use Rattle.std.proofs.Common.{◌≡◌, ◌+◌, ◌⊎◌, ℕ, List, Some, true, is_some, [], ◌∷◌, ◌++◌, length, append_assoc, inl, inr, ap, sym, ◌∙◌, subst, refl, arith}
+use Rattle.std.proofs.Common.{◌≡◌, ◌+◌, ◌⊎◌, ℕ, List, Some, true, is_some, [], ◌∷◌, ◌++◌, length, append_assoc, inl, inr, map, slice_index_or, ap, sym, ◌∙◌, subst, refl, arith}
 use Rattle.std.proofs.Math.Seq.{get_or-append_seam, take-append_seam}
-use Rattle.std.proofs.lemmas.List.{append-nil, length_push}
+use Rattle.std.proofs.lemmas.List.{append-nil, get_or-map, length-map, length_push}
+use Rattle.std.proofs.lemmas.List.Elements.{All-weaker}
 use Rattle.csv_table.specs.ReadOn.{ReadsOn}
 use Rattle.csv_table.specs.ReadOn.ReadsOn.{here, read, left_out, stopped}
 use Rattle.csv_table.specs.FirstFault.{IsFirstFault}
 use Rattle.cwr_share.specs.CwrFile.{AreSound, HasTooMany, IsFaultOf, IsFaultOfLine, IsFileOf, IsSound, place_of_fault}
 use Rattle.cwr_share.specs.CwrReading.{HasReadOn, HasTooManyWithout, IsReadWithout, Reads, Refuses, Stops}
 use Rattle.cwr_share.specs.Reading.{IsReadTo}
-use Rattle.cwr_share.specs.Registered.{Registered}
+use Rattle.cwr_share.specs.InForce.{HasInForce, IsOneRegistration}
+use Rattle.cwr_share.specs.Parties.{payee_by}
+use Rattle.cwr_share.specs.Payees.{payee_of}
+use Rattle.cwr_share.specs.Registered.{HasFewPayees, Registered}
+use Rattle.cwr_share.specs.RegistryOf.{HasTooManyPayees, IsPayeeAmong, IsRegistryOf}
+use Rattle.cwr_share.specs.Registrations.{ShareLine, find_work, shares_in_force}
 use Rattle.cwr_share.specs.declared.cwr_fault.CwrFault.{CwrFault}
 use Rattle.cwr_share.specs.declared.cwr_fault.CwrFault.TheVariants.{Short, Share, Mark, Land, Party, Work, Many, Accounts, Memory}
 use Rattle.cwr_share.specs.declared.cwr_reader.CwrReader.{CwrReader}
@@ -103,3 +109,39 @@ first_fault_of_many rows lines line fault more whole = by whole.faults whole.rea
         let same : one ≡ (line, fault) = cc is in
         let (first, placed) = first_left_out lines [] lines [] line fault others 1 whole.end whole.kept refl (sound_none IsSound) refl (subst (λ (e : List ℕ × CwrFault). ReadsOn Reads Refuses Stops [] 1 lines (e ∷ others) whole.kept whole.end []) same on) in
         fault_of_first rows lines fault first placed
+
+-- one registration has few payees
+pub few_of_one : (rows : List (List ℕ × List ℕ)) (shares : List ShareLine) → IsOneRegistration shares → HasFewPayees (payee_of rows) shares
+few_of_one rows shares one = (
+  map (payee_by rows) shares,
+  omega (arith, one.few, length-map shares (payee_by rows)),
+  λ k d within. (k, omega (arith, within, length-map shares (payee_by rows)), get_or-map (payee_by rows) shares k d (payee_by rows (slice_index_or shares k d)) within),
+)
+
+-- a registry of what is in force is that of the file
+pub file_of : (rows : List (List ℕ × List ℕ)) (lines : List (List ℕ)) (works : List (List ℕ × List ShareLine)) (registered : Registered) → AreSound lines
+    → ((work : List ℕ) → find_work work works ≡ shares_in_force lines work) → IsRegistryOf rows (λ work. find_work work works) registered → IsFileOf rows lines registered
+file_of rows lines works registered sound in_force of = record {
+  sound = sound;
+  registry = record { in_force = λ work. of.in_force work ∙ in_force work; paid = of.paid };
+}
+
+-- too many payees of what is in force are too many of the file
+pub too_many_of : (rows : List (List ℕ × List ℕ)) (reading : Reading) (works : List (List ℕ × List ShareLine)) (fault : CwrFault)
+    → ((lines : List (List ℕ)) → IsReadTo lines reading → HasInForce lines works)
+    → (fault ≡ Memory) ⊎ ((fault ≡ Accounts) × HasTooManyPayees rows (λ work. find_work work works))
+    → (fault ≡ Memory) ⊎ ((fault ≡ Accounts) × ((lines : List (List ℕ)) → IsReadTo lines reading → HasTooMany rows lines))
+too_many_of rows reading works fault forced (inl memory) = inl memory
+too_many_of rows reading works fault forced (inr (accounts, many)) = inr (
+  accounts,
+  λ lines read. record {
+    sound = read.0;
+    many = record {
+      payees = many.payees;
+      rising = many.rising;
+      each = All-weaker (IsPayeeAmong rows (λ work. find_work work works)) (IsPayeeAmong rows (shares_in_force lines))
+          (λ payee (work, shares, found, at). (work, shares, sym ((forced lines read).in_force work) ∙ found, at)) many.payees many.each;
+      many = many.many;
+    };
+  },
+)

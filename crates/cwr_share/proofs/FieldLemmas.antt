@@ -103,3 +103,7 @@ party_fits line = by (type_of line) refl
     by WriterShare is = rw is (omega arith)
     by Closing is = rw is (omega arith)
     by Other is = rw is (omega arith)
+
+-- so the party of a share line has not
+pub party_short : (line : List ℕ) → length (trimmed (field_of (share_fields line).party line)) ≤ MOST_PARTY_BYTES
+party_short line = omega (arith, field_fits (share_fields line).party line, party_fits line)

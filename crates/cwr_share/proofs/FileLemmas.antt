@@ -1,34 +1,32 @@
 -- How what the lines of a file are goes on by one more line.
-use Rattle.std.proofs.Common.{◌≡◌, ◌≤◌, ◌<◌, ◌+◌, ◌⊎◌, ℕ, Bool, true, false, cond, not, List, [], ◌∷◌, ◌++◌, length, take, reverse, slice_index, get_or, eqb, count_by, All, IfSome, Option, Some, None, Vec, nat_eq, ap, sym, refl, subst, ◌∙◌, append_assoc, zero-add, inl, inr, arith}
+use Rattle.std.proofs.Common.{◌≡◌, ◌≤◌, ◌<◌, ◌+◌, ◌⊎◌, ℕ, Bool, true, false, cond, not, List, [], ◌∷◌, ◌++◌, length, take, reverse, slice_index, get_or, eqb, count_by, All, IfSome, Option, Some, None, nat_eq, ap, sym, refl, subst, ◌∙◌, append_assoc, zero-add, inl, inr, arith}
 use Rattle.std.specs.Cmp.Lexicographic.{pointwise}
-use Rattle.std.specs.List.{cons_option, enumerate_from, filter_map, find, list_all, list_any, position_or_len, slice_set, take_while}
+use Rattle.std.specs.List.{cons_option, enumerate_from, filter_map, find, list_all, take_while}
 use Rattle.std.specs.Option.{option_map}
-use Rattle.std.specs.declared.alloc.Global.{Global}
-use Rattle.std.proofs.Math.Numerals.{one-add}
 use Rattle.std.proofs.Math.Seq.{take-append_seam}
-use Rattle.std.proofs.lemmas.Bool.{cases_Bool, cond-false, cond-true, false≢true, false_from_ne_true, or_parts, not_from_false, not_from_true, true≢false}
-use Rattle.std.proofs.lemmas.Cmp.{nat_list_eq_equiv}
-use Rattle.std.proofs.lemmas.List.Elements.{All-cons, All-head, All-nil, All-push, All-set, All-tail, All-weaker, filter_map-append}
+use Rattle.std.proofs.lemmas.Bool.{cases_Bool, cond-false, cond-true, false≢true, false_from_ne_true, not_from_false, not_from_true, true≢false}
+use Rattle.std.proofs.lemmas.List.Elements.{All-cons, All-head, All-nil, All-push, All-tail, All-weaker, filter_map-append}
 use Rattle.std.proofs.lemmas.List.FromFn.{get_or-enumerate_from, length-enumerate_from}
 use Rattle.std.proofs.lemmas.List.Quantifiers.{all_pairs_push}
 use Rattle.std.proofs.lemmas.List.Sums.{AllPass-from_list_all, count_by-le-length, sum_by_push, sum_by-take-le, take_while-cons}
-use Rattle.std.proofs.lemmas.List.{append-nil, get_or_append_left, get_or_push, length-append, length-set, length_push, reverse-append, same_from_push, take-append-le}
+use Rattle.std.proofs.lemmas.List.{append-nil, get_or_append_left, get_or_push, length-append, length_push, reverse-append, same_from_push, take-append-le}
 use Rattle.std.proofs.lemmas.Option.{none-some}
 use Rattle.std.proofs.lemmas.Slice.Eq.{bytes_eq-Decides}
 use Rattle.csv_table.proofs.Codes.{code_small}
 use Rattle.csv_table.specs.Forms.{number_of}
 use Rattle.line_split.proofs.Enumerated.{enumerate_from_push}
 use Rattle.line_split.specs.declared.TheConstants.{FULL_SHARE}
-use Rattle.cwr_share.specs.Compiled.{AreWorkNumbers, InterestsRise, WorkNumber}
+use Rattle.cwr_share.specs.Compiled.{InterestsRise}
 use Rattle.csv_table.proofs.InTurn.{sound_none, sound_push}
 use Rattle.cwr_share.specs.CwrFile.{AreSound, HasTooMany, IsFaultOf, IsFaultOfLine, IsFaultOfShare, IsOpening, IsShareRecord, IsSound, StandsIn}
 use Rattle.cwr_share.specs.Fields.{IsShare, field_of, share_of}
-use Rattle.cwr_share.specs.Reading.{AreShareLines, HasInForce, IsOpenWith, IsReadTo, IsTable, works_of}
+use Rattle.cwr_share.specs.InForce.{AreShareLines, HasInForce, IsOneRegistration}
+use Rattle.cwr_share.specs.Reading.{IsOpenWith, IsReadTo}
 use Rattle.cwr_share.specs.Records.{ends_registration, is_share_line, opens_interest, opens_registration, share_fields, type_of}
 use Rattle.cwr_share.specs.Registered.{IsShareLine}
 use Rattle.cwr_share.specs.declared.fields.TheConstants.{WORK}
-use Rattle.cwr_share.specs.declared.numbers.TheConstants.{MOST_WORK_BYTES}
-use Rattle.cwr_share.proofs.FieldLemmas.{field_fits}
+use Rattle.cwr_share.specs.declared.numbers.TheConstants.{MOST_PARTY_BYTES, MOST_WORK_BYTES}
+use Rattle.cwr_share.proofs.FieldLemmas.{field_fits, party_short}
 use Rattle.cwr_share.specs.Registrations.{ShareLine, find_work, registrations_of, share_line_of, share_lines_of, shares_in_force, work_of}
 use Rattle.cwr_share.specs.declared.TheConstants.{MOST_SHARES}
 use Rattle.cwr_share.specs.declared.cwr_fault.CwrFault.TheVariants.{Accounts, Memory}
@@ -540,105 +538,32 @@ share_line_sound earlier fields line interest good = record {
 }
 
 pub share_lines_none : AreShareLines []
-share_lines_none = record { few = omega arith; sound = All-nil IsShareLine; rise = λ i j d before within. absurd (omega arith) }
+share_lines_none = record { sound = All-nil IsShareLine; rise = λ i j d before within. absurd (omega arith) }
+
+one_none : IsOneRegistration []
+one_none = record { few = omega arith; parties = All-nil (λ line. length line.party ≤ MOST_PARTY_BYTES) }
 
 -- one more, of the last interest
-pub share_lines_more : (shares : List ShareLine) (share : ShareLine) → AreShareLines shares → length shares < MOST_SHARES → IsShareLine share
+pub share_lines_more : (shares : List ShareLine) (share : ShareLine) → AreShareLines shares → IsShareLine share
     → All (λ other. other.interest ≤ share.interest) shares → AreShareLines (shares ++ share ∷ [])
-share_lines_more shares share sound few good upto = record {
-  few = rw length_push (omega arith);
+share_lines_more shares share sound good upto = record {
   sound = All-push IsShareLine shares share sound.sound good;
   rise = all_pairs_push (λ (line later : ShareLine). line.interest ≤ later.interest) shares share sound.rise upto;
 }
 
--- Works with their share lines, as they are kept
-
--- works are one where their texts are
-abbrev pub is_work : WorkNumber → WorkNumber → Bool
-is_work work other = pointwise nat_eq work.items other.items
-
-same_tests : (a b c : List ℕ) → a ≡ b → pointwise nat_eq a c ≡ pointwise nat_eq b c
-same_tests a b c same = ap (λ (l : List ℕ). pointwise nat_eq l c) same
-
-other_test : (a b c : List ℕ) → pointwise nat_eq a b ≡ false → pointwise nat_eq a c ≡ true → pointwise nat_eq b c ≡ false
-other_test a b c other same =
-    false_from_ne_true (pointwise nat_eq b c)
-    (λ e. true≢false (sym ((bytes_eq-Decides a b).1 ((bytes_eq-Decides a c).0 same ∙ sym ((bytes_eq-Decides b c).0 e))) ∙ other))
-
--- a work that is not among them has no share lines
-pub find_work_new : (works : List WorkNumber) (registrations : List (Vec ShareLine Global)) (work : WorkNumber) → list_any (is_work work) works ≡ false
-    → find_work work.items (works_of works registrations) ≡ None
-find_work_new [] registrations work new = refl
-find_work_new (other ∷ works) [] work new = refl
-find_work_new (other ∷ works) (shares ∷ registrations) work new =
-    let (here, later) = or_parts (is_work work other) (list_any (is_work work) works) new in
-    ap (λ (found : Option (List ℕ × List ShareLine)). option_map (λ (entry : List ℕ × List ShareLine). entry.1) found)
-    (cond-false (pointwise nat_eq other.items work.items) (Some (other.items, shares.items))
-    (find (λ (entry : List ℕ × List ShareLine). pointwise nat_eq entry.0 work.items) (works_of works registrations)) (nat_list_eq_equiv.symm other.items work.items ∙ here))
-    ∙ find_work_new works registrations work later
-
-pub works_of_push : (works : List WorkNumber) (registrations : List (Vec ShareLine Global)) (work : WorkNumber) (shares : Vec ShareLine Global) → length works ≡ length registrations
-    → works_of (works ++ work ∷ []) (registrations ++ shares ∷ []) ≡ works_of works registrations ++ (work.items, shares.items) ∷ []
-works_of_push [] [] work shares paired = refl
-works_of_push [] (first ∷ registrations) work shares paired = absurd (omega arith)
-works_of_push (other ∷ works) [] work shares paired = absurd (omega arith)
-works_of_push (other ∷ works) (first ∷ registrations) work shares paired =
-    ap (λ (l : List (List ℕ × List ShareLine)). (other.items, first.items) ∷ l) (works_of_push works registrations work shares (omega arith))
-
--- an entry more at the end, of a new work
-pub find_work_push : {X : Type 0} (work name : List ℕ) (entries : List (List ℕ × X)) (x : X) → find_work name entries ≡ None
-    → find_work work (entries ++ (name, x) ∷ []) ≡ cond (pointwise nat_eq name work) (Some x) (find_work work entries)
-find_work_push {X} work name [] x new = by (pointwise nat_eq name work)
-  where
-    by : (b : Bool) → option_map (λ (entry : List ℕ × X). entry.1) (cond b (Some (name, x)) None) ≡ cond b (Some x) None
-    by true = refl
-    by false = refl
-find_work_push {X} work name (entry ∷ entries) x new = by (pointwise nat_eq entry.0 name) refl (pointwise nat_eq entry.0 work) refl (find_work_push work name entries x)
-  where
-    by : (b : Bool) → pointwise nat_eq entry.0 name ≡ b → (c : Bool) → pointwise nat_eq entry.0 work ≡ c
-        → (find_work name entries ≡ None → find_work work (entries ++ (name, x) ∷ []) ≡ cond (pointwise nat_eq name work) (Some x) (find_work work entries))
-        → find_work work (entry ∷ (entries ++ (name, x) ∷ [])) ≡ cond (pointwise nat_eq name work) (Some x) (find_work work (entry ∷ entries))
-    by true e c f more = absurd (none-some entry.1 (sym (rw e at new)))
-    by false e true f more = rw (f, other_test entry.0 name work e f) refl
-    by false e false f more = rw f (more (rw e at new))
-
--- the work is new
-pub find_work_added : (works : List WorkNumber) (registrations : List (Vec ShareLine Global)) (name : WorkNumber) (shares : Vec ShareLine Global) (work : List ℕ)
-    → length works ≡ length registrations → list_any (is_work name) works ≡ false
-    → find_work work (works_of (works ++ name ∷ []) (registrations ++ shares ∷ [])) ≡ cond (pointwise nat_eq name.items work) (Some shares.items) (find_work work (works_of works registrations))
-find_work_added works registrations name shares work paired new =
-    ap (λ (entries : List (List ℕ × List ShareLine)). find_work work entries) (works_of_push works registrations name shares paired)
-    ∙ find_work_push work name.items (works_of works registrations) shares.items (find_work_new works registrations name new)
-
--- the work is among them, and has other share lines now
-pub find_work_replaced : (works : List WorkNumber) (registrations : List (Vec ShareLine Global)) (name : WorkNumber) (shares : Vec ShareLine Global) (work : List ℕ)
-    → length works ≡ length registrations → list_any (is_work name) works ≡ true
-    → find_work work (works_of works (slice_set registrations (position_or_len (is_work name) works) shares))
-    ≡ cond (pointwise nat_eq name.items work) (Some shares.items) (find_work work (works_of works registrations))
-find_work_replaced [] registrations name shares work paired known = absurd (false≢true known)
-find_work_replaced (first ∷ works) [] name shares work paired known = absurd (omega arith)
-find_work_replaced (first ∷ works) (old ∷ registrations) name shares work paired known =
-    by (is_work name first) refl (pointwise nat_eq first.items work) refl (find_work_replaced works registrations name shares work (omega arith))
-  where
-    by : (b : Bool) → is_work name first ≡ b → (c : Bool) → pointwise nat_eq first.items work ≡ c
-        → (list_any (is_work name) works ≡ true → find_work work (works_of works (slice_set registrations (position_or_len (is_work name) works) shares))
-        ≡ cond (pointwise nat_eq name.items work) (Some shares.items) (find_work work (works_of works registrations)))
-        → find_work work (works_of (first ∷ works) (slice_set (old ∷ registrations) (position_or_len (is_work name) (first ∷ works)) shares))
-        ≡ cond (pointwise nat_eq name.items work) (Some shares.items) (find_work work (works_of (first ∷ works) (old ∷ registrations)))
-    by true e true f more = rw (e, same_tests name.items first.items work ((bytes_eq-Decides name.items first.items).0 e), f) refl
-    by true e false f more = rw (e, same_tests name.items first.items work ((bytes_eq-Decides name.items first.items).0 e), f) refl
-    by false e true f more =
-        let apart : pointwise nat_eq name.items work ≡ false = other_test first.items name.items work (nat_list_eq_equiv.symm first.items name.items ∙ e) f in
-        rw (e, one-add (position_or_len (is_work name) works), f, apart) refl
-    by false e false f more = rw (e, one-add (position_or_len (is_work name) works), f) (more (rw e at known))
+one_more : (shares : List ShareLine) (share : ShareLine) → IsOneRegistration shares → length shares < MOST_SHARES → length share.party ≤ MOST_PARTY_BYTES → IsOneRegistration (shares ++ share ∷ [])
+one_more shares share one few short = record {
+  few = rw length_push (omega arith);
+  parties = All-push (λ line. length line.party ≤ MOST_PARTY_BYTES) shares share one.parties short;
+}
 
 -- What was read
 
 -- what IsReadTo says by the registration that is open
 abbrev pub Stands : List (List ℕ) → Reading → Option Open → Type 0
-Stands lines reading None = HasInForce lines reading × Outside lines
+Stands lines reading None = HasInForce lines reading.in_force × Outside lines
 Stands lines reading (Some registration) = (earlier : List (List ℕ)) × (opening : List ℕ) × (body : List (List ℕ))
-    × (lines ≡ earlier ++ opening ∷ body) × HasInForce earlier reading × IsOpenWith body opening registration
+    × (lines ≡ earlier ++ opening ∷ body) × HasInForce earlier reading.in_force × IsOpenWith body opening registration
 
 pub read_at : (lines : List (List ℕ)) (reading : Reading) (open' : Option Open) → reading.open ≡ open' → IsReadTo lines reading → Stands lines reading open'
 read_at lines reading open' is read = subst (λ (o : Option Open). Stands lines reading o) is read.1
@@ -646,60 +571,35 @@ read_at lines reading open' is read = subst (λ (o : Option Open). Stands lines 
 pub read_as : (lines : List (List ℕ)) (reading : Reading) (open' : Option Open) → reading.open ≡ open' → AreSound lines → Stands lines reading open' → IsReadTo lines reading
 read_as lines reading open' is sound stands = (sound, subst (λ (o : Option Open). Stands lines reading o) (sym is) stands)
 
--- a reading keeps the same works and share lines as another
-pub record IsAlike (old new : Reading) : Type 0 where
-  pub works : new.works.keys ≡ old.works.keys
-  pub registrations : new.registrations.items ≡ old.registrations.items
+-- a reading has the same in force as another
+pub in_force_alike : (lines : List (List ℕ)) (old new : Reading) → new.in_force ≡ old.in_force → HasInForce lines old.in_force → HasInForce lines new.in_force
+in_force_alike lines old new same forced = subst (HasInForce lines) (sym same) forced
 
-pub in_force_alike : (lines : List (List ℕ)) (old new : Reading) → IsAlike old new → HasInForce lines old → HasInForce lines new
-in_force_alike lines old new same forced = record {
-  table = record {
-    paired = ap length same.works ∙ (forced.table.paired ∙ sym (ap length same.registrations));
-    short = subst AreWorkNumbers (sym same.works) forced.table.short;
-    lists = subst (λ (l : List (Vec ShareLine Global)). All (λ lines. AreShareLines lines.items) l) (sym same.registrations) forced.table.lists;
-  };
-  in_force = λ work. ap (λ (works : List WorkNumber). find_work work (works_of works new.registrations.items)) same.works
-      ∙ (ap (λ (l : List (Vec ShareLine Global)). find_work work (works_of old.works.keys l)) same.registrations ∙ forced.in_force work);
-}
-
-pub read_table : (lines : List (List ℕ)) (reading : Reading) → IsReadTo lines reading → IsTable reading
-read_table lines reading read = by reading.open read.1
-  where
-    by : (o : Option Open) → Stands lines reading o → IsTable reading
-    by None stands = stands.0.table
-    by (Some registration) stands = stands.4.table
+-- what is in force after some lines is in force after others, where these leave the same
+forced_same : (lines others : List (List ℕ)) (works : List (List ℕ × List ShareLine)) → ((work : List ℕ) → shares_in_force lines work ≡ shares_in_force others work) → HasInForce lines works → HasInForce others works
+forced_same lines others works same forced = record { in_force = λ work. forced.in_force work ∙ same work; each = forced.each }
 
 -- before the first line nothing is in force
-pub read_start : (reading : Reading) → reading.open ≡ None → reading.works.keys ≡ [] → reading.registrations.items ≡ [] → IsReadTo [] reading
+pub read_start : (reading : Reading) → reading.open ≡ None → reading.in_force ≡ [] → IsReadTo [] reading
 unfolding registrations_of
-read_start reading none works registrations = read_as [] reading None none (sound_none IsSound) (forced, outside_none)
+read_start reading none works = read_as [] reading None none (sound_none IsSound) (subst (HasInForce []) (sym works) nothing, outside_none)
   where
-    forced : HasInForce [] reading
-    forced = record {
-      table = record {
-        paired = ap length works ∙ sym (ap length registrations);
-        short = subst AreWorkNumbers (sym works) (All-nil (λ (work : WorkNumber). length work.items ≤ MOST_WORK_BYTES));
-        lists = subst (λ (l : List (Vec ShareLine Global)). All (λ lines. AreShareLines lines.items) l) (sym registrations) (All-nil (λ (lines : Vec ShareLine Global). AreShareLines lines.items));
-      };
-      in_force = λ work. ap (λ (keys : List WorkNumber). find_work work (works_of keys reading.registrations.items)) works;
-    }
+    nothing : HasInForce [] []
+    nothing = record { in_force = λ work. refl; each = λ work shares found. absurd (none-some shares found) }
 
 -- a line outside a registration that begins none
-pub read_outside : (before : List (List ℕ)) (line : List ℕ) (old new : Reading) → old.open ≡ None → new.open ≡ None → IsAlike old new → opens_registration line ≡ false
+pub read_outside : (before : List (List ℕ)) (line : List ℕ) (old new : Reading) → old.open ≡ None → new.open ≡ None → new.in_force ≡ old.in_force → opens_registration line ≡ false
     → IsReadTo before old → IsReadTo (before ++ line ∷ []) new
 read_outside before line old new was is same shut read =
     let (forced, outside) = read_at before old None was read in
-    let kept = in_force_alike before old new same forced in
     read_as (before ++ line ∷ []) new None is (sound_push IsSound before line read.0 (sound_outside before line shut outside)) (
-      record {
-        table = kept.table;
-        in_force = λ work. kept.in_force work ∙ sym (in_force_same before (before ++ line ∷ []) work (registrations_outside before line shut outside));
-      },
+      forced_same before (before ++ line ∷ []) new.in_force (λ work. sym (in_force_same before (before ++ line ∷ []) work (registrations_outside before line shut outside)))
+          (in_force_alike before old new same forced),
       outside_on before line shut outside,
     )
 
 -- a line of the open registration
-pub read_inside : (before : List (List ℕ)) (line : List ℕ) (old new : Reading) (registration next : Open) → old.open ≡ Some registration → new.open ≡ Some next → IsAlike old new
+pub read_inside : (before : List (List ℕ)) (line : List ℕ) (old new : Reading) (registration next : Open) → old.open ≡ Some registration → new.open ≡ Some next → new.in_force ≡ old.in_force
     → ((opening : List ℕ) (body : List (List ℕ)) → StandsIn before body → IsOpenWith body opening registration → IsSound before line × IsOpenWith (body ++ line ∷ []) opening next)
     → IsReadTo before old → IsReadTo (before ++ line ∷ []) new
 read_inside before line old new registration next was is same goes read =
@@ -716,9 +616,9 @@ read_inside before line old new registration next was is same goes read =
     )
 
 -- the first line of a registration, below lines whose registrations have ended
-pub read_opening : (before : List (List ℕ)) (line : List ℕ) (ended new : Reading) (registration : Open) → new.open ≡ Some registration → IsAlike ended new
+pub read_opening : (before : List (List ℕ)) (line : List ℕ) (ended new : Reading) (registration : Open) → new.open ≡ Some registration → new.in_force ≡ ended.in_force
     → opens_registration line ≡ true → IsSound before line → registration.work.items ≡ work_of line → registration.shares.items ≡ [] → registration.interest ≡ 0
-    → AreSound before → HasInForce before ended → IsReadTo (before ++ line ∷ []) new
+    → AreSound before → HasInForce before ended.in_force → IsReadTo (before ++ line ∷ []) new
 read_opening before line ended new registration is same opens good work shares interest sound forced =
     read_as (before ++ line ∷ []) new (Some registration) is (sound_push IsSound before line sound good)
     (before, line, [], refl, in_force_alike before ended new same forced, with)
@@ -730,18 +630,16 @@ read_opening before line ended new registration is same opens good work shares i
       stays = All-nil (λ other. ends_registration other ≡ false);
       shares = shares;
       sound = subst (λ (l : List ShareLine). AreShareLines l) (sym shares) share_lines_none;
+      one = subst IsOneRegistration (sym shares) one_none;
       interest = interest;
     }
 
 -- a line that ends it, below lines whose registrations have ended
 pub read_end : (before : List (List ℕ)) (line : List ℕ) (new : Reading) → new.open ≡ None → opens_registration line ≡ false → ends_registration line ≡ true → is_share_line line ≡ false
-    → AreSound before → HasInForce before new → IsReadTo (before ++ line ∷ []) new
+    → AreSound before → HasInForce before new.in_force → IsReadTo (before ++ line ∷ []) new
 read_end before line new is shut ends other sound forced =
     read_as (before ++ line ∷ []) new None is (sound_push IsSound before line sound (sound_other before line shut other)) (
-      record {
-        table = forced.table;
-        in_force = λ work. forced.in_force work ∙ sym (in_force_same before (before ++ line ∷ []) work (registrations_end before line shut ends));
-      },
+      forced_same before (before ++ line ∷ []) new.in_force (λ work. sym (in_force_same before (before ++ line ∷ []) work (registrations_end before line shut ends))) forced,
       outside_end before line shut ends,
     )
 
@@ -758,6 +656,7 @@ open_other opening body line registration stays other none with = record {
   stays = All-push (λ other. ends_registration other ≡ false) body line with.stays stays;
   shares = with.shares ∙ sym (share_lines_no body line other);
   sound = with.sound;
+  one = with.one;
   interest = with.interest ∙ sym (count_by_no opens_interest body line none);
 }
 
@@ -771,6 +670,7 @@ open_interest opening body line registration next stays other opens work shares 
   stays = All-push (λ other. ends_registration other ≡ false) body line with.stays stays;
   shares = shares ∙ (with.shares ∙ sym (share_lines_no body line other));
   sound = subst (λ (l : List ShareLine). AreShareLines l) (sym shares) with.sound;
+  one = subst IsOneRegistration (sym shares) with.one;
   interest = interest ∙ (ap (λ (n : ℕ). n + 1) with.interest ∙ sym (count_by_yes opens_interest body line opens));
 }
 
@@ -789,9 +689,10 @@ open_share opening body line registration next is work shares interest good with
       shares = shares
           ∙ (ap (λ (l : List ShareLine). l ++ share ∷ []) with.shares
           ∙ (ap (λ (n : ℕ). share_lines_of body ++ share_line_of n (share_fields line) line ∷ []) with.interest ∙ sym (share_lines_yes body line is)));
-      sound = subst (λ (l : List ShareLine). AreShareLines l) (sym shares) (share_lines_more registration.shares.items share with.sound good.few
+      sound = subst (λ (l : List ShareLine). AreShareLines l) (sym shares) (share_lines_more registration.shares.items share with.sound
           (share_line_sound (length registration.shares.items) (share_fields line) line registration.interest good)
           (rw (with.shares, with.interest) (interests_upto body)));
+      one = subst IsOneRegistration (sym shares) (one_more registration.shares.items share with.one good.few (party_short line));
       interest = interest ∙ (with.interest ∙ sym (count_by_no opens_interest body line none));
     }
 
@@ -809,71 +710,38 @@ pub read_skipped : (before : List (List ℕ)) (line : List ℕ) (reading : Readi
 read_skipped before line reading type = by reading.open refl
   where
     by : (o : Option Open) → reading.open ≡ o → IsReadTo before reading → IsReadTo (before ++ line ∷ []) reading
-    by None is = read_outside before line reading reading is is record { works = refl; registrations = refl } type.opens
+    by None is = read_outside before line reading reading is is refl type.opens
     by (Some registration) is =
-        read_inside before line reading reading registration registration is is record { works = refl; registrations = refl }
+        read_inside before line reading reading registration registration is is refl
         (λ opening body open' with. (sound_other before line type.opens type.share, open_other opening body line registration type.ends type.share type.interest with))
 
 -- a registration that ends is in force in place of an earlier one of its work
-ended_by : (lines : List (List ℕ)) (old new : Reading) (registration : Open) → IsTable new → Stands lines old (Some registration)
-    → ((work : List ℕ) → find_work work (works_of new.works.keys new.registrations.items)
-    ≡ cond (pointwise nat_eq registration.work.items work) (Some registration.shares.items) (find_work work (works_of old.works.keys old.registrations.items)))
-    → HasInForce lines new
-ended_by lines old new registration table (earlier, opening, body, split, forced, with) found = record { table = table; in_force = in_force }
+pub ended_by : (lines : List (List ℕ)) (old : Reading) (works : List (List ℕ × List ShareLine)) (registration : Open) → Stands lines old (Some registration)
+    → ((work : List ℕ) → find_work work works ≡ cond (pointwise nat_eq registration.work.items work) (Some registration.shares.items) (find_work work old.in_force))
+    → HasInForce lines works
+ended_by lines old works registration (earlier, opening, body, split, forced, with) found = record { in_force = in_force; each = each }
   where
-    in_force : (work : List ℕ) → find_work work (works_of new.works.keys new.registrations.items) ≡ shares_in_force lines work
+    in_force : (work : List ℕ) → find_work work works ≡ shares_in_force lines work
     in_force work =
         found work
-        ∙ (ap (λ (name : List ℕ). cond (pointwise nat_eq name work) (Some registration.shares.items) (find_work work (works_of old.works.keys old.registrations.items))) with.work
-        ∙ (ap (λ (shares : List ShareLine). cond (pointwise nat_eq (work_of opening) work) (Some shares) (find_work work (works_of old.works.keys old.registrations.items))) with.shares
+        ∙ (ap (λ (name : List ℕ). cond (pointwise nat_eq name work) (Some registration.shares.items) (find_work work old.in_force)) with.work
+        ∙ (ap (λ (shares : List ShareLine). cond (pointwise nat_eq (work_of opening) work) (Some shares) (find_work work old.in_force)) with.shares
         ∙ (ap (λ (before : Option (List ShareLine)). cond (pointwise nat_eq (work_of opening) work) (Some (share_lines_of body)) before) (forced.in_force work)
         ∙ (sym (in_force_open earlier opening body work with.opens with.stays) ∙ ap (λ (l : List (List ℕ)). shares_in_force l work) (sym split)))))
 
--- its work is new
-pub ended_new : (lines : List (List ℕ)) (old new : Reading) (registration : Open) → old.open ≡ Some registration → list_any (is_work registration.work) old.works.keys ≡ false
-    → new.works.keys ≡ old.works.keys ++ registration.work ∷ [] → new.registrations.items ≡ old.registrations.items ++ registration.shares ∷ []
-    → IsReadTo lines old → HasInForce lines new
-ended_new lines old new registration was fresh works registrations read =
-    ended_by lines old new registration table stands
-    (λ work. ap (λ (keys : List WorkNumber). find_work work (works_of keys new.registrations.items)) works
-    ∙ (ap (λ (l : List (Vec ShareLine Global)). find_work work (works_of (old.works.keys ++ registration.work ∷ []) l)) registrations
-    ∙ find_work_added old.works.keys old.registrations.items registration.work registration.shares work stands.4.table.paired fresh))
-  where
-    stands : Stands lines old (Some registration)
-    stands = read_at lines old (Some registration) was read
+    each : (work : List ℕ) (shares : List ShareLine) → find_work work works ≡ Some shares → IsOneRegistration shares
+    each work shares is = by (pointwise nat_eq registration.work.items work) (sym (found work) ∙ is)
+      where
+        by : (its : Bool) → cond its (Some registration.shares.items) (find_work work old.in_force) ≡ Some shares → IsOneRegistration shares
+        by true this = let same : registration.shares.items ≡ shares = cc this in subst IsOneRegistration same with.one
+        by false before = forced.each work shares before
 
-    table : IsTable new
-    table = record {
-      paired = rw (works, registrations, length_push old.works.keys registration.work, length_push old.registrations.items registration.shares, stands.4.table.paired) refl;
-      short = subst AreWorkNumbers (sym works)
-          (All-push (λ (work : WorkNumber). length work.items ≤ MOST_WORK_BYTES) old.works.keys registration.work stands.4.table.short (rw stands.5.work (omega (arith, field_fits WORK stands.1))));
-      lists = subst (λ (l : List (Vec ShareLine Global)). All (λ lines. AreShareLines lines.items) l) (sym registrations)
-          (All-push (λ (lines : Vec ShareLine Global). AreShareLines lines.items) old.registrations.items registration.shares stands.4.table.lists stands.5.sound);
-    }
-
--- its work is known
-pub ended_known : (lines : List (List ℕ)) (old new : Reading) (registration : Open) → old.open ≡ Some registration → list_any (is_work registration.work) old.works.keys ≡ true
-    → new.works.keys ≡ old.works.keys → new.registrations.items ≡ slice_set old.registrations.items (position_or_len (is_work registration.work) old.works.keys) registration.shares
-    → IsReadTo lines old → HasInForce lines new
-ended_known lines old new registration was known works registrations read =
-    ended_by lines old new registration table stands
-    (λ work. ap (λ (keys : List WorkNumber). find_work work (works_of keys new.registrations.items)) works
-    ∙ (ap (λ (l : List (Vec ShareLine Global)). find_work work (works_of old.works.keys l)) registrations
-    ∙ find_work_replaced old.works.keys old.registrations.items registration.work registration.shares work stands.4.table.paired known))
-  where
-    stands : Stands lines old (Some registration)
-    stands = read_at lines old (Some registration) was read
-
-    place : ℕ
-    place = position_or_len (is_work registration.work) old.works.keys
-
-    table : IsTable new
-    table = record {
-      paired = ap length works ∙ (stands.4.table.paired ∙ (sym (length-set old.registrations.items place registration.shares) ∙ sym (ap length registrations)));
-      short = subst AreWorkNumbers (sym works) stands.4.table.short;
-      lists = subst (λ (l : List (Vec ShareLine Global)). All (λ lines. AreShareLines lines.items) l) (sym registrations)
-          (All-set (λ (lines : Vec ShareLine Global). AreShareLines lines.items) old.registrations.items place registration.shares stands.5.sound stands.4.table.lists);
-    }
+-- the registration that ends is one of sound share lines, and its work has no long number
+pub open_kept : (lines : List (List ℕ)) (reading : Reading) (registration : Open) → reading.open ≡ Some registration → IsReadTo lines reading
+    → (length registration.work.items ≤ MOST_WORK_BYTES) × AreShareLines registration.shares.items
+open_kept lines reading registration was read =
+    let (earlier, opening, body, split, forced, with) = read_at lines reading (Some registration) was read in
+    (rw with.work (omega (arith, field_fits WORK opening)), with.sound)
 
 -- fewer interests were opened than lines were read
 pub interest_small : (lines : List (List ℕ)) (reading : Reading) → IsReadTo lines reading → IfSome reading.open (λ registration. registration.interest < length lines)

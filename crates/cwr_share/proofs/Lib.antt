@@ -1,5 +1,6 @@
 pub mod Answered
 pub mod ClaimLemmas
+pub mod InForceLemmas
 pub mod CompiledLemmas
 pub mod CwrReadings
 pub mod FieldLemmas
@@ -14,6 +15,9 @@ pub mod OrderLemmas
 pub mod PaidClaims
 pub mod PartyLemmas
 pub mod PartyShares
+pub mod FewPayees
+pub mod JoinedLemmas
+pub mod JoinedClaims
 pub mod PartyWorks
 pub mod PassedOverLemmas
 pub mod PayeeLemmas

@@ -1,5 +1,5 @@
 -- A file and a table of payees have one registry: its works find the same share lines, and it has the same payees. And a file of registrations is refused for nothing but memory.
-use Rattle.std.proofs.Common.{◌≡◌, ◌∙◌, ◌∷◌, ◌++◌, ◌<◌, ◌≤◌, ◌+◌, ◌↔◌, ℕ, Bool, true, false, List, [], All, Contains, Some, count_by, length, map, slice_index_or, ap, ◌⊎◌, sym, subst, refl, inl, inr, arith, nat_eq}
+use Rattle.std.proofs.Common.{◌≡◌, ◌∙◌, ◌∷◌, ◌++◌, ◌<◌, ◌≤◌, ◌+◌, ◌↔◌, ℕ, Bool, true, false, List, [], All, Contains, Option, Some, count_by, length, map, slice_index_or, ap, ◌⊎◌, sym, subst, refl, inl, inr, arith, nat_eq}
 use Rattle.std.specs.Cmp.{IsTotalOrder}
 use Rattle.std.specs.Cmp.Lexicographic.{nat_list_cmp_total, pointwise, slice_cmp}
 use Rattle.std.specs.Ordering.{nat_cmp}
@@ -15,12 +15,13 @@ use Rattle.std.proofs.lemmas.Map.Views.{All-after_first}
 use Rattle.std.proofs.lemmas.Slice.Eq.{bytes_eq-Decides}
 use Rattle.csv_table.specs.FirstFault.{IsFirstFault}
 use Rattle.csv_table.proofs.InTurn.{sound_at}
-use Rattle.cwr_share.specs.CwrFile.{AreSound, IsFaultOf, IsFaultOfLine, IsFaultOfOpening, IsFaultOfShare, IsFileOf, IsOpening, IsPartyInForce, IsPayeeInForce, IsShareRecord, IsSound}
+use Rattle.cwr_share.specs.CwrFile.{AreSound, IsFaultOf, IsFaultOfLine, IsFaultOfOpening, IsFaultOfShare, IsFileOf, IsOpening, IsPartyInForce, IsShareRecord, IsSound}
 use Rattle.cwr_share.specs.Parties.{party_of, payee_by}
 use Rattle.cwr_share.specs.Payees.{HasRow, IsPayeeIn, payee_of}
 use Rattle.cwr_share.specs.Records.{is_share_line, share_fields}
 use Rattle.cwr_share.specs.Registered.{IsRegistered, Registered}
-use Rattle.cwr_share.specs.Registrations.{ShareLine, find_work}
+use Rattle.cwr_share.specs.RegistryOf.{HasTooManyPayees, IsPartyAmong, IsPayeeAmong, IsRegistryOf}
+use Rattle.cwr_share.specs.Registrations.{ShareLine, find_work, shares_in_force}
 use Rattle.cwr_share.specs.declared.cwr_fault.CwrFault.{CwrFault}
 use Rattle.cwr_share.specs.declared.cwr_fault.CwrFault.TheVariants.{Short, Share, Mark, Land, Party, Work, Many, Accounts, Memory}
 use Rattle.cwr_share.specs.declared.fields.ShareFields.{ShareFields}
@@ -28,9 +29,13 @@ use Rattle.cwr_share.proofs.PartyLemmas.{contains_cases, contains_later}
 use Rattle.cwr_share.proofs.PartyWorks.{contains_back, contains_through, find_once}
 use Rattle.cwr_share.proofs.PayeeLemmas.{payee_at, payee_of_itself, payee_of_others}
 
+-- what finds the share lines of a work
+abbrev pub Finds : Type 0
+Finds = List ℕ → Option (List ShareLine)
+
 module _ {K : Type 0} {order : K → K → Ordering} (total : IsTotalOrder order) where
   -- nothing comes before itself
-  not_before_itself : (x y : K) → order x y ≡ Less → ¬ (x ≡ y)
+  pub not_before_itself : (x y : K) → order x y ≡ Less → ¬ (x ≡ y)
   not_before_itself x y less same =
       let itself : order y y ≡ Less = subst (λ z. order z y ≡ Less) same less in
       let level = tied_itself total y in
@@ -106,32 +111,32 @@ found_inside ((name, list) ∷ works) work lines found = on (pointwise nat_eq na
         (0, omega arith, cc)
     on false is later = contains_later (name, list) works (work, lines) (later (rw is at found))
 
--- the works of two registries of a file find the same
-pub one_works : (rows : List (List ℕ × List ℕ)) (lines : List (List ℕ)) (registered other : Registered) → IsFileOf rows lines registered → IsFileOf rows lines other
+-- two registries of one list of works find the same
+pub one_works : (rows : List (List ℕ × List ℕ)) (shares_of : Finds) (registered other : Registered) → IsRegistryOf rows shares_of registered → IsRegistryOf rows shares_of other
     → (work : List ℕ) → find_work work registered.works ≡ find_work work other.works
-one_works rows lines registered other of other_of work = of.in_force work ∙ sym (other_of.in_force work)
+one_works rows shares_of registered other of other_of work = of.in_force work ∙ sym (other_of.in_force work)
 
 -- the parties of a registry are those in force, and it has the payees of these
-module _ (rows : List (List ℕ × List ℕ)) (lines : List (List ℕ)) (registered : Registered) (of : IsFileOf rows lines registered) (is : IsRegistered registered) where
-  in_force_of_row : (party : List ℕ) → HasRow registered.payees party → IsPartyInForce lines party
+module _ (rows : List (List ℕ × List ℕ)) (shares_of : Finds) (registered : Registered) (of : IsRegistryOf rows shares_of registered) (is : IsRegistered registered) where
+  in_force_of_row : (party : List ℕ) → HasRow registered.payees party → IsPartyAmong shares_of party
   in_force_of_row party has =
       let (work, shares, here, at) = (is.in_force party).0 has in
       (work, shares, sym (of.in_force work) ∙ find_once registered.works work shares is.once here, at)
 
-  row_in_force : (party : List ℕ) → IsPartyInForce lines party → HasRow registered.payees party
+  row_in_force : (party : List ℕ) → IsPartyAmong shares_of party → HasRow registered.payees party
   row_in_force party (work, shares, found, at) = (is.in_force party).1 (work, shares, found_inside registered.works work shares (of.in_force work ∙ found), at)
 
   -- each row is paid by the table
   paid_by : All (λ row. row.1 ≡ payee_of rows row.0) registered.payees
   paid_by = of.paid
 
-  name_in_force : (payee : List ℕ) → Contains is.names payee → IsPayeeInForce rows lines payee
+  name_in_force : (payee : List ℕ) → Contains is.names payee → IsPayeeAmong rows shares_of payee
   name_in_force payee inside =
       let (party, has, same) = contains_back (λ (row : List ℕ × List ℕ). row.0) (λ row. row.1) (payee_of rows) registered.payees paid_by payee ((is.exact payee).0 inside) in
       let (work, shares, found, at) = in_force_of_row party has in
       (work, shares, found, subst (Contains (map (payee_by rows) shares)) same (contains_through party_of (payee_by rows) (payee_of rows) shares (λ place d within. refl) party at))
 
-  in_force_name : (payee : List ℕ) → IsPayeeInForce rows lines payee → Contains is.names payee
+  in_force_name : (payee : List ℕ) → IsPayeeAmong rows shares_of payee → Contains is.names payee
   in_force_name payee (work, shares, found, at) =
       let (party, has, same) = contains_back party_of (payee_by rows) (payee_of rows) shares (λ place d within. refl) payee at in
       let row = row_in_force party (work, shares, found, has) in
@@ -149,30 +154,30 @@ module _ (rows : List (List ℕ × List ℕ)) (lines : List (List ℕ)) (registe
       ∙ (payee_at payees is.one_payee place ([], []) inside
       ∙ (of.paid place ([], []) inside ∙ ap (payee_of rows) whose))
 
--- the payees of a registry of a file are payees of any other
-same_names : (rows : List (List ℕ × List ℕ)) (lines : List (List ℕ)) (registered other : Registered) → IsFileOf rows lines registered → IsFileOf rows lines other
+-- the payees of a registry are payees of any other
+same_names : (rows : List (List ℕ × List ℕ)) (shares_of : Finds) (registered other : Registered) → IsRegistryOf rows shares_of registered → IsRegistryOf rows shares_of other
     → (is : IsRegistered registered) (other_is : IsRegistered other) → All (Contains other_is.names) is.names
-same_names rows lines registered other of other_of is other_is k d within =
+same_names rows shares_of registered other of other_of is other_is k d within =
     let name = slice_index_or is.names k d in
-    in_force_name rows lines other other_of other_is name (name_in_force rows lines registered of is name (Contains-get_or is.names k d within))
+    in_force_name rows shares_of other other_of other_is name (name_in_force rows shares_of registered of is name (Contains-get_or is.names k d within))
 
--- two registries of a file have the same accounts
-pub one_parties : (rows : List (List ℕ × List ℕ)) (lines : List (List ℕ)) (registered other : Registered) → IsFileOf rows lines registered → IsFileOf rows lines other
+-- two registries of one list of works have the same accounts
+pub one_parties : (rows : List (List ℕ × List ℕ)) (shares_of : Finds) (registered other : Registered) → IsRegistryOf rows shares_of registered → IsRegistryOf rows shares_of other
     → IsRegistered registered → IsRegistered other → registered.accounts ≡ other.accounts
-one_parties rows lines registered other of other_of is other_is =
+one_parties rows shares_of registered other of other_of is other_is =
     let same = one-in_order nat_list_cmp_total is.names other_is.names (names_rise registered is) (names_rise other other_is)
-    (same_names rows lines registered other of other_of is other_is) (same_names rows lines other registered other_of of other_is is) in
+    (same_names rows shares_of registered other of other_of is other_is) (same_names rows shares_of other registered other_of of other_is is) in
     is.accounts ∙ ap (λ (names : List (List ℕ)). [] ∷ names) same ∙ sym other_is.accounts
 
 -- and each party has the same payee in them
-pub one_payees : (rows : List (List ℕ × List ℕ)) (lines : List (List ℕ)) (registered other : Registered) → IsFileOf rows lines registered → IsFileOf rows lines other
+pub one_payees : (rows : List (List ℕ × List ℕ)) (shares_of : Finds) (registered other : Registered) → IsRegistryOf rows shares_of registered → IsRegistryOf rows shares_of other
     → IsRegistered registered → IsRegistered other → (party : List ℕ) → payee_of registered.payees party ≡ payee_of other.payees party
-one_payees rows lines registered other of other_of is other_is party = elim (has_row registered.payees party) [
+one_payees rows shares_of registered other of other_of is other_is party = elim (has_row registered.payees party) [
   | inl has ↦
-      let there = row_in_force rows lines other other_of other_is party (in_force_of_row rows lines registered of is party has) in
-      paid_in_force rows lines registered of is party has ∙ sym (paid_in_force rows lines other other_of other_is party there)
+      let there = row_in_force rows shares_of other other_of other_is party (in_force_of_row rows shares_of registered of is party has) in
+      paid_in_force rows shares_of registered of is party has ∙ sym (paid_in_force rows shares_of other other_of other_is party there)
   | inr none ↦
-      let nor : ¬ HasRow other.payees party = λ has. none (row_in_force rows lines registered of is party (in_force_of_row rows lines other other_of other_is party has)) in
+      let nor : ¬ HasRow other.payees party = λ has. none (row_in_force rows shares_of registered of is party (in_force_of_row rows shares_of other other_of other_is party has)) in
       payee_of_itself registered.payees party none ∙ sym (payee_of_itself other.payees party nor)
 ]
   where
@@ -193,15 +198,17 @@ module _ (rows others : List (List ℕ × List ℕ)) (lines : List (List ℕ)) (
   alike_file : (registered : Registered) → IsRegistered registered → IsFileOf rows lines registered → IsFileOf others lines registered
   alike_file registered is of = record {
     sound = of.sound;
-    in_force = of.in_force;
-    paid = λ place d within.
-        let party = (slice_index_or registered.payees place d).0 in
-        let has : HasRow registered.payees party =
-        (place, omega (arith, within, length-map registered.payees (λ (row : List ℕ × List ℕ). row.0)), get_or-map (λ (row : List ℕ × List ℕ). row.0) registered.payees place d party within) in
-        of.paid place d within ∙ alike party (in_force_of_row rows lines registered of is party has);
+    registry = record {
+      in_force = of.registry.in_force;
+      paid = λ place d within.
+          let party = (slice_index_or registered.payees place d).0 in
+          let has : HasRow registered.payees party =
+          (place, omega (arith, within, length-map registered.payees (λ (row : List ℕ × List ℕ). row.0)), get_or-map (λ (row : List ℕ × List ℕ). row.0) registered.payees place d party within) in
+          of.registry.paid place d within ∙ alike party (in_force_of_row rows (shares_in_force lines) registered of.registry is party has);
+    };
   }
 
-  alike_payee : (payee : List ℕ) → IsPayeeInForce rows lines payee → IsPayeeInForce others lines payee
+  alike_payee : (payee : List ℕ) → IsPayeeAmong rows (shares_in_force lines) payee → IsPayeeAmong others (shares_in_force lines) payee
   alike_payee payee (work, shares, found, at) =
       let (party, has, same) = contains_back party_of (payee_by rows) (payee_of rows) shares (λ place d within. refl) payee at in
       let its = sym (alike party (work, shares, found, has)) ∙ same in
@@ -211,10 +218,12 @@ module _ (rows others : List (List ℕ × List ℕ)) (lines : List (List ℕ)) (
   alike_fault Memory is = tt
   alike_fault Accounts is = record {
     sound = is.sound;
-    payees = is.payees;
-    rising = is.rising;
-    each = All-weaker (IsPayeeInForce rows lines) (IsPayeeInForce others lines) alike_payee is.payees is.each;
-    many = is.many;
+    many = record {
+      payees = is.many.payees;
+      rising = is.many.rising;
+      each = All-weaker (IsPayeeAmong rows (shares_in_force lines)) (IsPayeeAmong others (shares_in_force lines)) alike_payee is.many.payees is.many.each;
+      many = is.many.many;
+    };
   }
   alike_fault (Short n) is = is
   alike_fault (Share n) is = is
@@ -278,18 +287,22 @@ lines_stand lines fault sound first =
     line_stands first.before first.row (length first.before + 1) fault
     (sound_at IsSound lines first.before first.row first.after first.split sound) first.refused
 
+-- a registry has no more payees than it may have
+pub not_too_many : (rows : List (List ℕ × List ℕ)) (shares_of : Finds) (registered : Registered) → IsRegistryOf rows shares_of registered → IsRegistered registered → ¬ HasTooManyPayees rows shares_of
+not_too_many rows shares_of registered of is too =
+    omega (
+      arith,
+      is.few_names,
+      too.many,
+      length-among nat_list_cmp_total too.payees is.names too.rising (names_rise registered is)
+          (All-weaker (IsPayeeAmong rows shares_of) (Contains is.names) (in_force_name rows shares_of registered of is) too.payees too.each),
+    )
+
 -- a file that is its registrations is refused for nothing but lack of memory
 pub no_fault : (rows : List (List ℕ × List ℕ)) (lines : List (List ℕ)) (registered : Registered) (fault : CwrFault) → IsFileOf rows lines registered → IsRegistered registered
     → IsFaultOf rows lines fault → fault ≡ Memory
 no_fault rows lines registered Memory of is refused = refl
-no_fault rows lines registered Accounts of is refused =
-    absurd (omega (
-      arith,
-      is.few_names,
-      refused.many,
-      length-among nat_list_cmp_total refused.payees is.names refused.rising (names_rise registered is)
-          (All-weaker (IsPayeeInForce rows lines) (Contains is.names) (in_force_name rows lines registered of is) refused.payees refused.each),
-    ))
+no_fault rows lines registered Accounts of is refused = absurd (not_too_many rows (shares_in_force lines) registered of.registry is refused.many)
 no_fault rows lines registered (Short n) of is refused = absurd (lines_stand lines (Short n) of.sound refused)
 no_fault rows lines registered (Share n) of is refused = absurd (lines_stand lines (Share n) of.sound refused)
 no_fault rows lines registered (Mark n) of is refused = absurd (lines_stand lines (Mark n) of.sound refused)

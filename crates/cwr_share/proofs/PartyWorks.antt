@@ -10,14 +10,14 @@ use Rattle.std.proofs.lemmas.Slice.Eq.{bytes_eq-Decides}
 use Rattle.std.proofs.lemmas.Slice.Zip.{get_or-zip, length-zip}
 use Rattle.std.proofs.lemmas.List.Elements.{All-map, All-tail, All-weaker}
 use Rattle.std.proofs.lemmas.List.{get_or-map, get_or_default, length-map, map_push}
-use Rattle.cwr_share.specs.Compiled.{AreAccounts, AreKept, AreShort, AreWorkNumbers, InterestsRise, IsKept, Kept, Numbered, WorkNumber, accounts_of, kept_lines, names_of, registered_as}
-use Rattle.cwr_share.specs.CwrFile.{AreSound, HasTooMany, IsPayeeInForce}
-use Rattle.cwr_share.specs.Parties.{AreAccountsOf, HasMany, HasManyFound, IsAccountOf, IsAmong, IsPayeeFound, party_of, payee_by}
+use Rattle.cwr_share.specs.Compiled.{AreAccounts, AreKept, AreShort, AreWorkNames, InterestsRise, IsKept, Kept, Numbered, WorkName, accounts_of, kept_lines, names_of, registered_as}
+use Rattle.cwr_share.specs.Parties.{AreAccountsOf, HasMany, IsAccountOf, IsAmong, party_of, payee_by}
 use Rattle.cwr_share.specs.Payees.{HasRow, IsPayeeIn, payee_of}
-use Rattle.cwr_share.specs.Reading.{AreShareLines, works_of}
-use Rattle.cwr_share.specs.Registered.{IsPartyOf, IsRegistered, IsShareLine}
-use Rattle.cwr_share.specs.Registrations.{ShareLine, find_work, shares_in_force}
-use Rattle.cwr_share.specs.declared.TheConstants.{MOST_SHARES}
+use Rattle.cwr_share.specs.InForce.{AreShareLines, works_of}
+use Rattle.cwr_share.specs.Registered.{HasFewPayees, IsPartyOf, IsRegistered, IsShareLine}
+use Rattle.cwr_share.specs.RegistryOf.{HasTooManyPayees, IsPayeeAmong}
+use Rattle.cwr_share.specs.Registrations.{ShareLine, find_work}
+use Rattle.cwr_share.specs.declared.TheConstants.{MOST_LINES}
 use Rattle.cwr_share.specs.declared.cwr_fault.CwrFault.{CwrFault}
 use Rattle.cwr_share.specs.declared.cwr_fault.CwrFault.TheVariants.{Accounts, Memory}
 use Rattle.cwr_share.proofs.ClaimLemmas.{map_twice}
@@ -137,41 +137,62 @@ find_once (first ∷ works) work lines once (suc k, within, is) =
 abbrev items_of : {X : Type 0} → List (Vec X Global) → List (List X)
 items_of vectors = map (λ vector. vector.items) vectors
 
-abbrev numbers_of : List WorkNumber → List (List ℕ)
+abbrev numbers_of : List WorkName → List (List ℕ)
 numbers_of works = map (λ work. work.items) works
 
 -- a registry's works, where each registration has the share lines of its work
-pub registered_works : (works : List WorkNumber) (lists : List (Vec ShareLine Global)) (registrations : List Kept) (parties : List Numbered) (payees : List (Vec ℕ Global))
+pub registered_works : (works : List WorkName) (lists : List (Vec ShareLine Global)) (registrations : List Kept) (parties : List Numbered) (payees : List (Vec ℕ Global))
     → map (kept_lines (names_of parties)) registrations ≡ items_of lists → (registered_as works registrations parties payees).works ≡ works_of works lists
 registered_works works lists registrations parties payees same =
-    map-zip (λ (work : WorkNumber). work.items) (kept_lines (names_of parties)) works registrations
+    map-zip (λ (work : WorkName). work.items) (kept_lines (names_of parties)) works registrations
     ∙ ap (zip (numbers_of works)) same
-    ∙ sym (map-zip (λ (work : WorkNumber). work.items) (λ (lines : Vec ShareLine Global). lines.items) works lists)
+    ∙ sym (map-zip (λ (work : WorkName). work.items) (λ (lines : Vec ShareLine Global). lines.items) works lists)
 
-module _ (works : List WorkNumber) (lists : List (Vec ShareLine Global)) (paired : length works ≡ length lists)
-    (once : IsDistinct (λ (work other : WorkNumber). pointwise nat_eq work.items other.items) works) where
+module _ (works : List WorkName) (lists : List (Vec ShareLine Global)) (paired : length works ≡ length lists)
+    (once : IsDistinct (λ (work other : WorkName). pointwise nat_eq work.items other.items) works) where
   zipped : works_of works lists ≡ zip (numbers_of works) (items_of lists)
-  zipped = map-zip (λ (work : WorkNumber). work.items) (λ (lines : Vec ShareLine Global). lines.items) works lists
+  zipped = map-zip (λ (work : WorkName). work.items) (λ (lines : Vec ShareLine Global). lines.items) works lists
 
   beside_items : length (numbers_of works) ≡ length (items_of lists)
-  beside_items = length-map works (λ (work : WorkNumber). work.items) ∙ paired ∙ sym (length-map lists (λ (lines : Vec ShareLine Global). lines.items))
+  beside_items = length-map works (λ (work : WorkName). work.items) ∙ paired ∙ sym (length-map lists (λ (lines : Vec ShareLine Global). lines.items))
 
   once_works : AllPairs (λ entry later. ¬ (entry.0 ≡ later.0)) (works_of works lists)
-  once_works = subst (AllPairs (λ entry later. ¬ (entry.0 ≡ later.0))) (sym zipped) (zip_once (numbers_of works) (items_of lists) beside_items (once_texts (λ (work : WorkNumber). work.items) works once))
+  once_works = subst (AllPairs (λ entry later. ¬ (entry.0 ≡ later.0))) (sym zipped) (zip_once (numbers_of works) (items_of lists) beside_items (once_texts (λ (work : WorkName). work.items) works once))
 
   each_work : (P : List ShareLine → Type 0) → All (λ lines. P lines.items) lists → All (λ entry. P entry.1) (works_of works lists)
   each_work P each = subst (All (λ entry. P entry.1)) (sym zipped) (zip_each (numbers_of works) (items_of lists) beside_items P (All-map P (λ (lines : Vec ShareLine Global). lines.items) lists each))
+
+  -- what holds of whatever a work finds holds of each list
+  each_list : (P : List ShareLine → Type 0) → ((work : List ℕ) (shares : List ShareLine) → find_work work (works_of works lists) ≡ Some shares → P shares)
+      → (lines : List ShareLine) → Contains (items_of lists) lines → P lines
+  each_list P holds lines inside =
+      let (name, here) = zip_work (numbers_of works) (items_of lists) beside_items lines inside in
+      holds name lines (find_once (works_of works lists) name lines once_works (subst (λ (entries : List (List ℕ × List ShareLine)). Contains entries (name, lines)) (sym zipped) here))
+
+  pub list_at : (P : List ShareLine → Type 0) → ((work : List ℕ) (shares : List ShareLine) → find_work work (works_of works lists) ≡ Some shares → P shares)
+      → (k : ℕ) (lines : Vec ShareLine Global) → k < length lists → slice_index_or lists k lines ≡ lines → P lines.items
+  list_at P holds k lines inside is =
+      each_list P holds lines.items (
+        k,
+        omega (arith, inside, length-map lists (λ (lines : Vec ShareLine Global). lines.items)),
+        get_or-map (λ (lines : Vec ShareLine Global). lines.items) lists k lines lines.items inside ∙ ap (λ (lines : Vec ShareLine Global). lines.items) is,
+      )
 
   among_works : (text_by : ShareLine → List ℕ) (text : List ℕ) → IsAmong text_by (items_of lists) text ↔ IsOfWorks text_by (works_of works lists) text
   among_works text_by text =
       subst (λ (works : List (List ℕ × List ShareLine)). IsAmong text_by (items_of lists) text ↔ IsOfWorks text_by works text) (sym zipped) (among_zip (numbers_of works) (items_of lists) beside_items text_by text)
 
   -- what many payees of the lists are for the works
-  pub many_found : (rows : List (List ℕ × List ℕ)) → HasMany rows (items_of lists) → HasManyFound rows (works_of works lists)
+  pub many_found : (rows : List (List ℕ × List ℕ)) → HasMany rows (items_of lists) → HasTooManyPayees rows (λ work. find_work work (works_of works lists))
   many_found rows (payees, rising, each, many) =
-      (payees, rising, All-weaker (IsAmong (payee_by rows) (items_of lists)) (IsPayeeFound rows (works_of works lists)) (λ payee among. found payee ((among_works (payee_by rows) payee).0 among)) payees each, many)
+      record {
+        payees = payees;
+        rising = rising;
+        each = All-weaker (IsAmong (payee_by rows) (items_of lists)) (IsPayeeAmong rows (λ work. find_work work (works_of works lists))) (λ payee among. found payee ((among_works (payee_by rows) payee).0 among)) payees each;
+        many = many;
+      }
     where
-      found : (payee : List ℕ) → IsOfWorks (payee_by rows) (works_of works lists) payee → IsPayeeFound rows (works_of works lists) payee
+      found : (payee : List ℕ) → IsOfWorks (payee_by rows) (works_of works lists) payee → IsPayeeAmong rows (λ work. find_work work (works_of works lists)) payee
       found payee (work, lines, inside, at) = (work, lines, find_once (works_of works lists) work lines once_works inside, at)
 
   module _ (rows : List (List ℕ × List ℕ)) (registrations : List Kept) (parties : List Numbered) (payees : List (Vec ℕ Global))
@@ -226,15 +247,45 @@ module _ (works : List WorkNumber) (lists : List (Vec ShareLine Global)) (paired
             let (lines, inside, at) = (accounts.each.exact party).0 (subst (λ (names : List (List ℕ)). Contains names party) (sym (map_twice as_party (λ (party : List ℕ × ℕ). party.0) parties)) number) in
             (lines, inside, subst (Contains (map (payee_by rows) lines)) same (contains_through party_of (payee_by rows) (payee_of rows) lines (λ place d within. refl) party at))
 
+    -- what holds of whatever a work finds holds of each work
+    each_found : (P : List ShareLine → Type 0) → ((work : List ℕ) (shares : List ShareLine) → find_work work (works_of works lists) ≡ Some shares → P shares)
+        → All (λ entry. P entry.1) (works_of works lists)
+    each_found P holds k d within =
+        let entry = slice_index_or (works_of works lists) k d in
+        holds entry.0 entry.1
+        (find_once (works_of works lists) entry.0 entry.1 once_works (k, within, get_or_default (works_of works lists) k entry d within))
+
+    -- the parties of the works are paid by the rows as by the table
+    paid_alike : (entry : List ℕ × List ShareLine) → Contains (works_of works lists) entry → HasFewPayees (payee_of rows) entry.1 → HasFewPayees (payee_of (map as_row parties)) entry.1
+    paid_alike entry inside (few, many, all) = (
+      few,
+      many,
+      λ k d within.
+          let line = slice_index_or entry.1 k d in
+          let has = (has_row line.party).1 (entry.0, entry.1, inside, (k, omega (arith, within, length-map entry.1 (λ (line : ShareLine). line.party)), get_or-map (λ (line : ShareLine). line.party) entry.1 k d line.party within)) in
+          subst (Contains few) (sym (paid_by_row line.party has)) (all k d within),
+    )
+      where
+        paid_by_row : (party : List ℕ) → HasRow (map as_row parties) party → payee_of (map as_row parties) party ≡ payee_of rows party
+        paid_by_row party (place, inside, at) =
+            let payees = map as_row parties in
+            let within : place < length payees = omega (arith, inside, length-map payees (λ (row : List ℕ × List ℕ). row.0)) in
+            let whose : (slice_index_or payees place ([], [])).0 ≡ party = sym (get_or-map (λ (row : List ℕ × List ℕ). row.0) payees place ([], []) party within) ∙ at in
+            ap (payee_of payees) (sym whose) ∙ (payee_at payees one_row place ([], []) within ∙ (paid_rows place ([], []) within ∙ ap (payee_of rows) whose))
+
     -- what is read is a registry's
     pub registered : All (λ lines. AreShareLines lines.items) lists → map (kept_lines (names_of parties)) registrations ≡ items_of lists
+        → ((work : List ℕ) (shares : List ShareLine) → find_work work (works_of works lists) ≡ Some shares → length shares ≤ MOST_LINES)
+        → ((work : List ℕ) (shares : List ShareLine) → find_work work (works_of works lists) ≡ Some shares → HasFewPayees (payee_of rows) shares)
         → IsRegistered (registered_as works registrations parties payees)
-    registered sound same =
+    registered sound same few few_payees =
         subst (λ (registered : List (List ℕ × List ShareLine)). IsRegistered (record { works = registered; payees = map as_row parties; accounts = items_of payees }))
         (sym (registered_works works lists registrations parties payees same))
         (record {
           once = once_works;
-          few = each_work (λ lines. length lines ≤ MOST_SHARES) (λ k d within. (sound k d within).few);
+          few = each_found (λ lines. length lines ≤ MOST_LINES) few;
+          few_payees = λ k d within. paid_alike (slice_index_or (works_of works lists) k d) (k, within, get_or_default (works_of works lists) k (slice_index_or (works_of works lists) k d) d within)
+              (each_found (HasFewPayees (payee_of rows)) few_payees k d within);
           shares = each_work (All IsShareLine) (λ k d within. (sound k d within).sound);
           one_payee = one_row;
           in_force = has_row;
@@ -255,8 +306,8 @@ module _ (works : List WorkNumber) (lists : List (Vec ShareLine Global)) (paired
     }
 
 -- and it is kept for its claims
-pub kept_for_claims : (works : List WorkNumber) (lists : List (Vec ShareLine Global)) (registrations : List Kept) (parties : List Numbered) (payees : List (Vec ℕ Global)) → length works ≡ length lists
-    → AreWorkNumbers works → AreShort (names_of parties) → All (λ lines. AreShareLines lines.items) lists → map (kept_lines (names_of parties)) registrations ≡ items_of lists
+pub kept_for_claims : (works : List WorkName) (lists : List (Vec ShareLine Global)) (registrations : List Kept) (parties : List Numbered) (payees : List (Vec ℕ Global)) → length works ≡ length lists
+    → AreWorkNames works → AreShort (names_of parties) → All (λ lines. AreShareLines lines.items) lists → map (kept_lines (names_of parties)) registrations ≡ items_of lists
     → AreAccounts (registered_as works registrations parties payees) (accounts_of parties) → All (IsKept (names_of parties) (accounts_of parties)) registrations
     → AreKept works registrations parties payees
 kept_for_claims works lists registrations parties payees paired short names sound same accounts kept = record {
@@ -306,25 +357,15 @@ pub once_in : (rows : List (List ℕ × List ℕ)) (lists : List (List ShareLine
 once_in rows lists parties payees accounts = pairs_of_maps as_party (λ (party : Numbered). party.0.items) (λ party later. ¬ (party.0 ≡ later.0)) (λ name later. ¬ (name ≡ later)) (λ party later apart. apart) parties accounts.once
 
 -- what the lists are refused for, the works are refused for
-pub many_works : (rows : List (List ℕ × List ℕ)) (works : List WorkNumber) (lists : List (Vec ShareLine Global)) (fault : CwrFault) → length works ≡ length lists
-    → IsDistinct (λ (work other : WorkNumber). pointwise nat_eq work.items other.items) works
-    → (fault ≡ Memory) ⊎ ((fault ≡ Accounts) × HasMany rows (items_of lists)) → (fault ≡ Memory) ⊎ ((fault ≡ Accounts) × HasManyFound rows (works_of works lists))
+pub many_works : (rows : List (List ℕ × List ℕ)) (works : List WorkName) (lists : List (Vec ShareLine Global)) (fault : CwrFault) → length works ≡ length lists
+    → IsDistinct (λ (work other : WorkName). pointwise nat_eq work.items other.items) works
+    → (fault ≡ Memory) ⊎ ((fault ≡ Accounts) × HasMany rows (items_of lists))
+    → (fault ≡ Memory) ⊎ ((fault ≡ Accounts) × HasTooManyPayees rows (λ work. find_work work (works_of works lists)))
 many_works rows works lists fault paired once (inl memory) = inl memory
 many_works rows works lists fault paired once (inr (accounts, many)) = inr (accounts, many_found works lists paired once rows many)
 
--- where the works are those in force, too many of their payees are too many in force
-pub many_in_force : (rows : List (List ℕ × List ℕ)) (lines : List (List ℕ)) (works : List (List ℕ × List ShareLine)) → AreSound lines → ((work : List ℕ) → find_work work works ≡ shares_in_force lines work)
-    → HasManyFound rows works → HasTooMany rows lines
-many_in_force rows lines works sound in_force (payees, rising, each, many) = record {
-  sound = sound;
-  payees = payees;
-  rising = rising;
-  each = All-weaker (IsPayeeFound rows works) (IsPayeeInForce rows lines) (λ payee found. (found.0, found.1, sym (in_force found.0) ∙ found.2, found.3)) payees each;
-  many = many;
-}
-
 -- the payee of a party that has an account
-module _ (works : List WorkNumber) (registrations : List Kept) (parties : List Numbered) (payees : List (Vec ℕ Global)) (sound : IsRegistered (registered_as works registrations parties payees)) where
+module _ (works : List WorkName) (registrations : List Kept) (parties : List Numbered) (payees : List (Vec ℕ Global)) (sound : IsRegistered (registered_as works registrations parties payees)) where
   abbrev rows : List (List ℕ × List ℕ)
   rows = (registered_as works registrations parties payees).payees
 

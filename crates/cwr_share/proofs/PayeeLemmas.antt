@@ -1,5 +1,5 @@
 -- How a party's payee is found.
-use Rattle.std.proofs.Common.{◌≡◌, ◌<◌, AllPairs, zero, suc, get_or, Bool, true, false, is_some, ℕ, List, Option, Some}
+use Rattle.std.proofs.Common.{◌≡◌, ◌<◌, ◌↔◌, AllPairs, zero, suc, get_or, Bool, true, false, is_some, ℕ, List, Option, Some}
 use Rattle.std.proofs.Common.{None, [], ◌∷◌, ◌++◌, length, map, nat_eq, ap, sym, refl, subst, ◌∙◌, inl, inr, arith}
 use Rattle.std.specs.List.{find}
 use Rattle.std.specs.Option.{option_map, option_map_or}
@@ -46,7 +46,7 @@ paid_itself payees party found = on (find (λ row. pointwise nat_eq row.0 party)
 
 -- a row with names in both of its columns
 abbrev are_names : List ℕ × List ℕ → Type 0
-are_names row = IsName row.0 × IsName row.1
+are_names row = (0 < length row.0) × IsName row.1
 
 -- a payee that is found has a name
 pub paid_named : (payees : List (List ℕ × List ℕ)) (party payee : List ℕ)
@@ -86,7 +86,7 @@ no_row_if_none (row ∷ payees) party found there =
     ]
 
 -- a table that takes a payee for a party, which may have a row, keeps names in both of its columns
-pub names_inserted : (payees : List (List ℕ × List ℕ)) (party payee : List ℕ) → IsName party → IsName payee → AreNames payees
+pub names_inserted : (payees : List (List ℕ × List ℕ)) (party payee : List ℕ) → 0 < length party → IsName payee → AreNames payees
     → AreNames (insert_entry (pointwise nat_eq) payees party payee)
 names_inserted [] party payee named paid names = All-cons are_names (party, payee) [] (named, paid) names
 names_inserted (row ∷ payees) party payee named paid names =
@@ -102,6 +102,25 @@ names_inserted (row ∷ payees) party payee named paid names =
 pub none_if_not : {X : Type 0} (found : Option X) → false ≡ is_some found → found ≡ None
 none_if_not None is = refl
 none_if_not (Some x) is = absurd (false≢true is)
+
+-- a party without a row finds nothing
+pub none_if_no_row : (payees : List (List ℕ × List ℕ)) (party : List ℕ) → ¬ HasRow payees party → lookup (λ other. pointwise nat_eq party other) payees ≡ None
+none_if_no_row payees party none =
+    elim (cases_Bool (is_some (lookup (λ other. pointwise nat_eq party other) payees))) [
+      | inl found ↦ absurd (none (row_if_some payees party found))
+      | inr nothing ↦ none_if_not (lookup (λ other. pointwise nat_eq party other) payees) (sym nothing)
+    ]
+
+-- a table tells whether a party has a row
+pub has_row_told : (payees others : List (List ℕ × List ℕ)) (party : List ℕ) (told : Bool) → payees ≡ others → told ≡ is_some (lookup (λ other. pointwise nat_eq party other) payees)
+    → (told ≡ true) ↔ HasRow others party
+has_row_told payees others party told same is = subst (λ (rows : List (List ℕ × List ℕ)). (told ≡ true) ↔ HasRow rows party) same (
+  λ there. row_if_some payees party (sym is ∙ there),
+  λ has. elim (cases_Bool told) [
+    | inl there ↦ there
+    | inr not_there ↦ absurd (no_row_if_none payees party (sym is ∙ not_there) has)
+  ],
+)
 
 module _ (party : List ℕ) where
   -- a test that a row is the party's

@@ -3,6 +3,7 @@ use Rattle.std.specs.Prelude.{ℕ, ⊤, ◌≡◌, ◌≤◌, ◌<◌, ◌+◌, 
 use Rattle.std.specs.Prelude.{drop, filter, flat_map, length, map, nat_eq, nat_lt, reverse, slice_index_or, sum_by, take, zip}
 use Rattle.std.specs.List.{list_any}
 use Rattle.std.specs.Cmp.Lexicographic.{pointwise}
+use Rattle.line_split.specs.declared.TheConstants.{MOST_CLAIMS}
 use Rattle.line_split.specs.declared.usage.Right.{Right}
 use Rattle.line_split.specs.declared.usage.Right.TheVariants.{P, M, S}
 use Rattle.cwr_share.specs.ClaimsOn.{deciding, is_alike, share_for}
@@ -14,16 +15,16 @@ use Rattle.cwr_share.specs.declared.registrations.Extent.{Extent}
 use Rattle.cwr_share.specs.declared.share_line.RegisteredShare.{RegisteredShare}
 use Rattle.cwr_share.specs.Registered.{Registered}
 use Rattle.std.specs.declared.alloc.Global.{Global}
-use Rattle.cwr_share.specs.declared.numbers.TheConstants.{MOST_PARTY_BYTES, MOST_WORK_BYTES}
+use Rattle.cwr_share.specs.declared.numbers.TheConstants.{MOST_PARTY_NAME_BYTES, MOST_WORK_NAME_BYTES}
 use Rattle.arrayvec.specs.ArrayVec.{ArrayVec}
 
--- the work number that a registration is found by
-abbrev pub WorkNumber : Type 0
-WorkNumber = ArrayVec ℕ
+-- the name that a work is found by
+abbrev pub WorkName : Type 0
+WorkName = ArrayVec ℕ
 
--- they are no longer than the field of a work number
-abbrev pub AreWorkNumbers : List WorkNumber → Type 0
-AreWorkNumbers works = All (λ work. length work.items ≤ MOST_WORK_BYTES) works
+-- they are no longer than a usage line may name a work
+abbrev pub AreWorkNames : List WorkName → Type 0
+AreWorkNames works = All (λ work. length work.items ≤ MOST_WORK_NAME_BYTES) works
 
 -- a kept share line, where these are the parties by number
 abbrev pub line_by : List (List ℕ) → RegisteredShare → ShareLine
@@ -167,7 +168,7 @@ share_under S line = line.shares.synchronisation
 -- such lines of some claimants, in order of account; among a claimant's share lines those of one interest and party stand together
 pub record AreClaimLines (named : List ShareLine) (claimants : List (ℕ × List ℕ)) (lines : List ClaimLine) : Type 0 where
   pub exact : lines ≡ lines_of_claimants named claimants
-  pub few : length claimants ≤ length lines
+  pub few : length claimants ≤ MOST_CLAIMS
   pub rising : AllPairs (λ claimant later. claimant.0 < later.0) claimants
   pub accounts : All (λ claimant. 0 < claimant.0) claimants
   pub some : All (λ claimant. 0 < length claimant.1) claimants
@@ -186,7 +187,7 @@ abbrev pub accounts_of : List Numbered → List ℕ
 accounts_of parties = map (λ party. party.1) parties
 
 -- what a registry keeps: each work with its share lines, the parties with their accounts, and the payees of these
-abbrev pub registered_as : List WorkNumber → List Kept → List Numbered → List (Vec ℕ Global) → Registered
+abbrev pub registered_as : List WorkName → List Kept → List Numbered → List (Vec ℕ Global) → Registered
 registered_as works registrations parties payees = record {
   works = map (λ entry. (entry.0.items, kept_lines (names_of parties) entry.1)) (zip works registrations);
   payees = map (λ party. (party.0.items, slice_index_or (map (λ payee. payee.items) payees) party.1 [])) parties;
@@ -206,14 +207,14 @@ pub record AreAccounts (registered : Registered) (accounts : List ℕ) : Type 0 
   pub some : All (λ account. (0 < account) × (account < length registered.accounts)) accounts
   pub ordered : AllPairs (λ account later. account ≤ later) accounts
 
--- names no longer than the field of a party number
+-- names no longer than the name of a party in a run
 abbrev pub AreShort : List (List ℕ) → Type 0
-AreShort names = All (λ name. length name ≤ MOST_PARTY_BYTES) names
+AreShort names = All (λ name. length name ≤ MOST_PARTY_NAME_BYTES) names
 
 -- a registry keeps each of its works for its claims
-pub record AreKept (works : List WorkNumber) (registrations : List Kept) (parties : List Numbered) (payees : List (Vec ℕ Global)) : Type 0 where
+pub record AreKept (works : List WorkName) (registrations : List Kept) (parties : List Numbered) (payees : List (Vec ℕ Global)) : Type 0 where
   pub paired : length works ≡ length registrations
-  pub short : AreWorkNumbers works
+  pub short : AreWorkNames works
   pub names : AreShort (names_of parties)
   pub accounts : AreAccounts (registered_as works registrations parties payees) (accounts_of parties)
   pub kept : All (IsKept (names_of parties) (accounts_of parties)) registrations

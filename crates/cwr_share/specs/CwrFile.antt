@@ -1,15 +1,12 @@
 -- A CWR file: when its lines are registrations, and what it is refused for.
-use Rattle.std.specs.Prelude.{ℕ, ◌≡◌, ◌≤◌, ◌<◌, ◌⊎◌, ◌∷◌, ◌++◌, true, false, List, All, Contains, count_by, length, map, Option, Some, None, ⊤}
-use Rattle.std.specs.List.Sorted.{IsStrictlySortedBy}
-use Rattle.std.specs.Cmp.Lexicographic.{slice_cmp}
-use Rattle.std.specs.Ordering.{nat_cmp}
+use Rattle.std.specs.Prelude.{ℕ, ◌≡◌, ◌≤◌, ◌<◌, ◌⊎◌, ◌∷◌, ◌++◌, true, false, List, All, count_by, length, Option, Some, None, ⊤}
 use Rattle.csv_table.specs.FirstFault.{AreInTurn, IsFirstFault}
 use Rattle.cwr_share.specs.Fields.{HasLand, HasMark, HasParty, HasShares, IsFilled, field_of}
 use Rattle.cwr_share.specs.Records.{ends_registration, is_share_line, opens_registration, share_fields}
-use Rattle.cwr_share.specs.Payees.{payee_of}
-use Rattle.cwr_share.specs.Registrations.{ShareLine, find_work, shares_in_force}
+use Rattle.cwr_share.specs.Registrations.{shares_in_force}
+use Rattle.cwr_share.specs.RegistryOf.{HasTooManyPayees, IsPartyAmong, IsRegistryOf}
 use Rattle.cwr_share.specs.Registered.{Registered}
-use Rattle.cwr_share.specs.declared.TheConstants.{MOST_ACCOUNTS, MOST_SHARES}
+use Rattle.cwr_share.specs.declared.TheConstants.{MOST_SHARES}
 use Rattle.cwr_share.specs.declared.fields.TheConstants.{WORK}
 use Rattle.cwr_share.specs.declared.fields.ShareFields.{ShareFields}
 use Rattle.cwr_share.specs.declared.cwr_fault.CwrFault.{CwrFault}
@@ -81,21 +78,12 @@ IsFaultOfLine before number line fault =
 
 -- the party of a share line of a registration in force
 abbrev pub IsPartyInForce : List (List ℕ) → List ℕ → Type 0
-IsPartyInForce lines party = (work : List ℕ) × (shares : List ShareLine) × (shares_in_force lines work ≡ Some shares)
-    × Contains (map (λ share. share.party) shares) party
+IsPartyInForce lines = IsPartyAmong (shares_in_force lines)
 
--- the payee of such a party, where these are the rows of a table of payees
-abbrev pub IsPayeeInForce : List (List ℕ × List ℕ) → List (List ℕ) → List ℕ → Type 0
-IsPayeeInForce rows lines payee = (work : List ℕ) × (shares : List ShareLine) × (shares_in_force lines work ≡ Some shares)
-    × Contains (map (λ share. payee_of rows share.party) shares) payee
-
--- all lines are sound, but the parties in force have too many payees, each counted once
+-- all lines are sound, but the parties in force have too many payees
 pub record HasTooMany (rows : List (List ℕ × List ℕ)) (lines : List (List ℕ)) : Type 0 where
   pub sound : AreSound lines
-  pub payees : List (List ℕ)
-  pub rising : IsStrictlySortedBy (slice_cmp nat_cmp) payees
-  pub each : All (IsPayeeInForce rows lines) payees
-  pub many : MOST_ACCOUNTS < length payees
+  pub many : HasTooManyPayees rows (shares_in_force lines)
 
 -- What a file is refused for, with a table of payees: the first line that is not sound, where lines count from 1, or else too many payees. Memory may run out at any time.
 abbrev pub IsFaultOf : List (List ℕ × List ℕ) → List (List ℕ) → CwrFault → Type 0
@@ -106,8 +94,7 @@ IsFaultOf rows lines fault = IsFirstFault AreSound IsFaultOfLine lines fault
 -- a file of sound lines, what its registrations in force are, and who is paid what their parties claim by the rows of a table of payees
 pub record IsFileOf (rows : List (List ℕ × List ℕ)) (lines : List (List ℕ)) (registered : Registered) : Type 0 where
   pub sound : AreSound lines
-  pub in_force : (work : List ℕ) → find_work work registered.works ≡ shares_in_force lines work
-  pub paid : All (λ row. row.1 ≡ payee_of rows row.0) registered.payees
+  pub registry : IsRegistryOf rows (shares_in_force lines) registered
 
 -- the fault's number
 abbrev pub number_of_fault : CwrFault → ℕ

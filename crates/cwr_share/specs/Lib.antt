@@ -4,6 +4,9 @@ pub mod Filed
 pub mod Records
 pub mod Registrations
 pub mod Registered
+pub mod RegistryOf
+pub mod InForce
+pub mod Joined
 pub mod ClaimsOn
 pub mod CwrFile
 pub mod Compiled

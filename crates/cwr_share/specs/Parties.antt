@@ -1,5 +1,5 @@
 -- The parties of lists of share lines and their payees, as they are gathered.
-use Rattle.std.specs.Prelude.{ℕ, ◌≡◌, ◌≤◌, ◌<◌, ◌∷◌, ◌↔◌, ◌⊎◌, List, All, AllPairs, Contains, [], length, map, slice_index_or, Some, Vec}
+use Rattle.std.specs.Prelude.{ℕ, ◌≡◌, ◌≤◌, ◌<◌, ◌∷◌, ◌↔◌, ◌⊎◌, List, All, AllPairs, Contains, [], length, map, slice_index_or, Vec}
 use Rattle.std.specs.BTreeSet.{BTreeSet}
 use Rattle.std.specs.List.Sorted.{IsNonDecreasingBy, IsStrictlySortedBy}
 use Rattle.std.specs.Cmp.Lexicographic.{slice_cmp}
@@ -7,7 +7,7 @@ use Rattle.std.specs.Ordering.{nat_cmp}
 use Rattle.std.specs.declared.alloc.Global.{Global}
 use Rattle.arrayvec.specs.ArrayVec.{ArrayVec}
 use Rattle.cwr_share.specs.Payees.{payee_of}
-use Rattle.cwr_share.specs.Registrations.{ShareLine, find_work}
+use Rattle.cwr_share.specs.Registrations.{ShareLine}
 use Rattle.cwr_share.specs.declared.TheConstants.{MOST_ACCOUNTS}
 
 -- the texts in a set
@@ -66,11 +66,3 @@ pub record AreAccountsOf (rows : List (List ℕ × List ℕ)) (lists : List (Lis
 -- the lists have more than 16,383 payees
 abbrev pub HasMany : List (List ℕ × List ℕ) → List (List ShareLine) → Type 0
 HasMany rows lists = (payees : List (List ℕ)) × IsStrictlySortedBy (slice_cmp nat_cmp) payees × All (IsAmong (payee_by rows) lists) payees × (MOST_ACCOUNTS < length payees)
-
--- the payee of a party of a work, by what the work finds
-abbrev pub IsPayeeFound : List (List ℕ × List ℕ) → List (List ℕ × List ShareLine) → List ℕ → Type 0
-IsPayeeFound rows works payee = (work : List ℕ) × (lines : List ShareLine) × (find_work work works ≡ Some lines) × Contains (map (payee_by rows) lines) payee
-
--- the works have more than 16,383 payees
-abbrev pub HasManyFound : List (List ℕ × List ℕ) → List (List ℕ × List ShareLine) → Type 0
-HasManyFound rows works = (payees : List (List ℕ)) × IsStrictlySortedBy (slice_cmp nat_cmp) payees × All (IsPayeeFound rows works) payees × (MOST_ACCOUNTS < length payees)

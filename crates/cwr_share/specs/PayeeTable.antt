@@ -7,7 +7,7 @@ use Rattle.cwr_share.specs.Fields.{trimmed}
 use Rattle.cwr_share.specs.Payees.{HasRow}
 use Rattle.cwr_share.specs.declared.payees.TheConstants.{MOST_NAME_BYTES, MOST_PAYEES}
 use Rattle.cwr_share.specs.declared.payee_fault.PayeeFault.{PayeeFault}
-use Rattle.cwr_share.specs.declared.payee_fault.PayeeFault.TheVariants.{Csv, Fields, Twice, Rows, Memory}
+use Rattle.cwr_share.specs.declared.payee_fault.PayeeFault.TheVariants.{Csv, Fields, Twice, Rows, Submitter, Memory}
 
 abbrev pub header : List (List ℕ)
 header = codes "party" ∷ codes "payee" ∷ []
@@ -41,6 +41,7 @@ IsFaultOfRow earlier number row (Fields n) = (n ≡ number) × (length row ≡ l
 IsFaultOfRow earlier number row (Twice n) =
     (n ≡ number) × (length row ≡ length header) × HasNames row × HasRow earlier (party_field row)
 IsFaultOfRow earlier number row Rows = ⊥
+IsFaultOfRow earlier number row (Submitter n) = ⊥
 IsFaultOfRow earlier number row Memory = ⊥
 
 -- what a table asks of its rows
@@ -74,7 +75,8 @@ number_of_fault (Csv row) = 1
 number_of_fault (Fields row) = 2
 number_of_fault (Twice row) = 3
 number_of_fault Rows = 4
-number_of_fault Memory = 5
+number_of_fault (Submitter row) = 5
+number_of_fault Memory = 6
 
 -- the row's number, where the fault is one row's
 abbrev pub place_of_fault : PayeeFault → Option ℕ
@@ -82,4 +84,5 @@ place_of_fault (Csv row) = Some row
 place_of_fault (Fields row) = Some row
 place_of_fault (Twice row) = Some row
 place_of_fault Rows = None
+place_of_fault (Submitter row) = Some row
 place_of_fault Memory = None

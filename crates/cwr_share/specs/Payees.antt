@@ -21,6 +21,6 @@ IsPayeeIn payees payee = Contains (map (λ row. row.1) payees) payee
 abbrev pub IsName : List ℕ → Type 0
 IsName text = (0 < length text) × (length text ≤ MOST_NAME_BYTES)
 
--- a table has names in both of its columns
+-- a table has names in both of its columns; that of a party may be long
 abbrev pub AreNames : List (List ℕ × List ℕ) → Type 0
-AreNames payees = All (λ row. IsName row.0 × IsName row.1) payees
+AreNames payees = All (λ row. (0 < length row.0) × IsName row.1) payees

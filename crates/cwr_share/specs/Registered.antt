@@ -4,10 +4,10 @@ use Rattle.std.specs.List.{AllPairs}
 use Rattle.std.specs.List.Sorted.{IsStrictlySortedBy}
 use Rattle.std.specs.Cmp.Lexicographic.{slice_cmp}
 use Rattle.std.specs.Ordering.{nat_cmp}
-use Rattle.line_split.specs.declared.TheConstants.{FULL_SHARE}
+use Rattle.line_split.specs.declared.TheConstants.{FULL_SHARE, MOST_CLAIMS}
 use Rattle.csv_table.specs.declared.forms.TheConstants.{MOST_CODE}
-use Rattle.cwr_share.specs.declared.TheConstants.{MOST_ACCOUNTS, MOST_SHARES}
-use Rattle.cwr_share.specs.Payees.{HasRow, IsPayeeIn}
+use Rattle.cwr_share.specs.declared.TheConstants.{MOST_ACCOUNTS, MOST_LINES}
+use Rattle.cwr_share.specs.Payees.{HasRow, IsPayeeIn, payee_of}
 use Rattle.cwr_share.specs.Registrations.{ShareLine}
 
 pub record Registered : Type 0 where
@@ -26,6 +26,11 @@ pub record IsShareLine (line : ShareLine) : Type 0 where
   pub synchronisation : line.synchronisation ≤ FULL_SHARE
   pub territory : (0 < line.territory) × (line.territory ≤ MOST_CODE)
 
+-- What some share lines claim is paid to 256 payees at most.
+abbrev pub HasFewPayees : (pay : List ℕ → List ℕ) → List ShareLine → Type 0
+HasFewPayees pay lines =
+    (payees : List (List ℕ)) × (length payees ≤ MOST_CLAIMS) × All (λ line. Contains payees (pay line.party)) lines
+
 -- the party of a share line of one of the works
 abbrev pub IsPartyOf : List (List ℕ × List ShareLine) → List ℕ → Type 0
 IsPartyOf works party = (work : List ℕ) × (lines : List ShareLine) × Contains works (work, lines) × Contains (map (λ line. line.party) lines) party
@@ -33,7 +38,8 @@ IsPartyOf works party = (work : List ℕ) × (lines : List ShareLine) × Contain
 -- what every registry keeps to
 pub record IsRegistered (registered : Registered) : Type 0 where
   pub once : AllPairs (λ entry later. ¬ (entry.0 ≡ later.0)) registered.works
-  pub few : All (λ entry. length entry.1 ≤ MOST_SHARES) registered.works
+  pub few : All (λ entry. length entry.1 ≤ MOST_LINES) registered.works
+  pub few_payees : All (λ entry. HasFewPayees (payee_of registered.payees) entry.1) registered.works
   pub shares : All (λ entry. All IsShareLine entry.1) registered.works
   -- each party of the works has one payee
   pub one_payee : AllPairs (λ row later. ¬ (row.0 ≡ later.0)) registered.payees

@@ -5,11 +5,11 @@
 
 ghost use Rattle.std.specs.Prelude.{◌≡◌, ◌≤◌, ◌<◌, ◌++◌, ◌==◌, ℕ, List, All, [], filter, if◌then◌else◌, length, not, nat_le, sum_by, ◌*◌};
 ghost use Rattle.line_split.specs.Claims.{total_of};
-ghost use Rattle.line_split.specs.declared.TheConstants.{MOST_CLAIMED};
+ghost use Rattle.line_split.specs.declared.TheConstants.{MOST_CLAIMED, MOST_CLAIMS};
 ghost use Rattle.cwr_share.specs.ClaimsOn.{deciding, share_for};
 ghost use Rattle.cwr_share.specs.Compiled.{AreClaimLines, AreInRuns, claim_line, claim_lines, claims_of_claimants, line_by, share_under};
 ghost use Rattle.cwr_share.specs.Registrations.{ShareLine};
-ghost use Rattle.cwr_share.specs.declared.TheConstants.{MOST_SHARES};
+ghost use Rattle.cwr_share.specs.declared.TheConstants.{MOST_LINES};
 
 use crate::share_line::{CollectionShares, RegisteredShare};
 use line_split::{Account, Claims, MOST_CLAIMED, Right};
@@ -73,8 +73,8 @@ pub(crate) fn claims(
     out: &mut Claims,
 ) -> bool
     requires lines { (named : List ShareLine) × (claimants : List (ℕ × List ℕ)) × AreClaimLines named claimants lines.now }
-    requires few { length lines.now ≤ MOST_SHARES }
-    requires room { length lines.now ≤ out.old.room }
+    requires few { length lines.now ≤ MOST_LINES }
+    requires room { MOST_CLAIMS ≤ out.old.room }
     ensures within { (named : List ShareLine) (claimants : List (ℕ × List ℕ)) → AreClaimLines named claimants lines.now
         → result ≡ nat_le (total_of (claims_of_claimants tis.now land right named claimants)) MOST_CLAIMED }
     ensures claims { (named : List ShareLine) (claimants : List (ℕ × List ℕ)) → AreClaimLines named claimants lines.now
@@ -87,12 +87,12 @@ pub(crate) fn claims(
     while at < lines.len() {
         let (claim, count) = first_claim(&lines[at..], tis, land, right);
         total += claim;
-        if total > MOST_CLAIMED {
+        if total > u64::from(MOST_CLAIMED) {
             out.clear();
             return false;
         }
         if claim > 0 {
-            out.push(lines[at].account, claim);
+            out.push(lines[at].account, claim as u32);
         }
         at += count;
     }
@@ -101,10 +101,10 @@ pub(crate) fn claims(
 
 /// The claim of the account whose lines come first, and how many these are. In each interest the first
 /// line whose territory contains the land decides.
-fn first_claim(lines: &[ClaimLine], tis: &TisTable, land: Code, right: Right) -> (u32, usize)
+fn first_claim(lines: &[ClaimLine], tis: &TisTable, land: Code, right: Right) -> (u64, usize)
     requires some { 0 < length lines.now }
-    requires few { length lines.now ≤ MOST_SHARES }
-    ensures small { result.0 ≤ MOST_SHARES * u16.MAX }
+    requires few { length lines.now ≤ MOST_LINES }
+    ensures small { result.0 ≤ MOST_LINES * u16.MAX }
     ensures some { 0 < result.1 }
     ensures within { result.1 ≤ length lines.now }
     ensures claim { (account : ℕ) (first : List ShareLine) (others : List ClaimLine) → lines.now ≡ claim_lines account first ++ others → 0 < length first
@@ -121,7 +121,7 @@ fn first_claim(lines: &[ClaimLine], tis: &TisTable, land: Code, right: Right) ->
         decided = !line.begins && decided;
         if !decided && tis.contains(line.territory, land) {
             decided = true;
-            claim += u32::from(line.share_for(right));
+            claim += u64::from(line.share_for(right));
         }
     }
     (claim, lines.len())

@@ -1,8 +1,10 @@
 //! A CWR file as it is read, line by line.
 
-ghost use Rattle.std.specs.Prelude.{◌≡◌, ◌⊎◌, ◌∷◌, [], ℕ, List, IfErr, IfNone, IfOk, IfSome};
-ghost use Rattle.cwr_share.specs.CwrFile.{HasTooMany, IsFaultOf, IsFileOf};
+ghost use Rattle.std.specs.Prelude.{◌≡◌, ◌⊎◌, ◌∷◌, [], ℕ, List, IfErr, IfNone, IfOk, IfSome, OnOk};
+ghost use Rattle.cwr_share.specs.CwrFile.{AreSound, HasTooMany, IsFaultOf, IsFaultOfLine, IsFileOf};
+ghost use Rattle.csv_table.specs.FirstFault.{IsFirstFault};
 ghost use Rattle.cwr_share.specs.CwrReading.{HasReadOn, Stands};
+ghost use Rattle.cwr_share.specs.InForce.{HasInForce};
 ghost use Rattle.cwr_share.specs.Lines.{lines_of};
 ghost use Rattle.cwr_share.specs.Reading.{IsReadTo};
 ghost use Rattle.cwr_share.specs.Registered.{IsRegistered};
@@ -10,7 +12,7 @@ ghost use Rattle.cwr_share.specs.declared.cwr_fault.CwrFault.TheVariants.{Accoun
 
 use crate::lines::Lines;
 use crate::reading::Reading;
-use crate::{CwrFault, Payees, Registry};
+use crate::{CwrFault, InForce, Payees, Registry};
 use csv_table::FileFault;
 use std::alloc::{AllocError, Global};
 
@@ -68,14 +70,39 @@ impl<'a> CwrReader<'a> {
         self.line
     }
 
-    /// The registrations in force of the lines that were read, where what a party claims is paid to its payee.
+    /// The registrations in force of the lines that were read.
+    pub fn in_force(self) -> Result<InForce, AllocError>
+        requires { Stands self }
+        ensures { IfOk result (λ in_force. (lines : List (List ℕ)) → IsReadTo lines self.entry.reading → HasInForce lines in_force) }
+    {
+        self.reading.finish()
+    }
+
+    /// The registry of the lines that were read, where what a party claims is paid to its payee.
     pub fn finish(self, alloc: Global, payees: &Payees) -> Result<Registry, CwrFault>
         requires { Stands self }
         ensures registrations { IfOk result (λ registry. (lines : List (List ℕ)) → IsReadTo lines self.entry.reading → IsFileOf payees.now lines registry) }
         ensures sound { IfOk result IsRegistered }
         ensures fault { IfErr result (λ fault. (fault ≡ Memory) ⊎ ((fault ≡ Accounts) × ((lines : List (List ℕ)) → IsReadTo lines self.entry.reading → HasTooMany payees.now lines))) }
     {
-        self.reading.finish(alloc, payees)
+        self.in_force()?.registry(alloc, payees)
+    }
+}
+
+impl InForce {
+    /// Reads the registrations in force of a CWR 2.2 file with line ends of either kind, LF or CR LF: of several
+    /// registrations (NWR, REV) of a work the last one.
+    pub fn read(alloc: Global, bytes: &[u8]) -> Result<InForce, CwrFault>
+        ensures sound { OnOk result (AreSound (lines_of bytes.now)) }
+        ensures registrations { IfOk result (HasInForce (lines_of bytes.now)) }
+        ensures fault { IfErr result (λ fault. (fault ≡ Memory)
+            ⊎ IsFirstFault AreSound IsFaultOfLine (lines_of bytes.now) fault) }
+    {
+        let mut reader = CwrReader::of(alloc, bytes);
+        match reader.next_fault(alloc)? {
+            Some(fault) => Err(fault),
+            None => Ok(reader.in_force()?),
+        }
     }
 }
 

@@ -12,6 +12,7 @@ mod cwr_fault;
 mod cwr_reader;
 pub mod fields;
 mod filed;
+mod in_force;
 pub mod laws;
 mod lines;
 mod name;
@@ -31,15 +32,21 @@ pub use csv_table::FileFault;
 pub use cwr_fault::CwrFault;
 pub use cwr_reader::CwrReader;
 pub use filed::{FiledRegistration, count_registrations, filed_registration};
+pub use in_force::InForce;
+pub use name::{Name, Sought};
+pub use numbers::{MOST_PARTY_BYTES, MOST_SUBMITTER_BYTES, MOST_WORK_BYTES, MOST_WORK_NAME_BYTES};
 pub use passed_over::{MOST_NAMED, Tally, unknown_territories, unused_payees};
 pub use payee_fault::PayeeFault;
 pub use payees::{MOST_NAME_BYTES, MOST_PAYEES, Payees};
 pub use record_type::{RecordType, share_fields_of};
 pub use registry::{Registry, Work};
-pub use share_line::ShareRecord;
+pub use share_line::{ShareRecord, trimmed};
 
 /// The most share lines that one registration has.
 pub const MOST_SHARES: usize = 256;
+
+/// The most share lines that one work has: of 1,048,576 registrations.
+pub const MOST_LINES: usize = 1_048_576 * MOST_SHARES;
 
 /// The most accounts that the payees of all registrations in force have.
 pub const MOST_ACCOUNTS: usize = 16_383;

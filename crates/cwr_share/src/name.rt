@@ -1,4 +1,4 @@
-//! The names in a table of payees, and how one is found among them.
+//! Names in tables, and how one is found among them.
 
 ghost use Rattle.std.specs.Prelude.{ℕ, ◌≡◌, ◌∷◌, [], IfOk, List, nat_eq};
 ghost use Rattle.std.proofs.Common.{ap};
@@ -11,9 +11,9 @@ use std::alloc::{AllocError, Global};
 use std::hash::{Hash, Hasher};
 use std::marker::Model;
 
-/// The name of a party or of a payee. Up to 16 bytes lie in the value itself, and few names have more.
+/// A name in a table, as of a party or of a payee. Up to 16 bytes lie in the value itself, and few names have more.
 #[derive(Drop)]
-pub(crate) struct Name {
+pub struct Name {
     text: SmallVec<u8, 16>,
 }
 
@@ -27,7 +27,7 @@ impl Model for Name {
 
 impl Name {
     /// The name with this text.
-    pub(crate) fn of(alloc: Global, text: &[u8]) -> Result<Name, AllocError>
+    pub fn of(alloc: Global, text: &[u8]) -> Result<Name, AllocError>
         ensures { IfOk result (λ name. name ≡ text.now) }
     {
         Ok(Name {
@@ -36,7 +36,7 @@ impl Name {
     }
 
     /// Its text.
-    pub(crate) fn as_slice(&self) -> &[u8]
+    pub fn as_slice(&self) -> &[u8]
         ensures { result.now ≡ self.now }
     {
         self.text.as_slice()
@@ -70,7 +70,7 @@ impl Hash for Name {
 
 /// A text that a name is looked up by.
 #[derive(Clone, Copy, PartialEq, Eq)]
-pub(crate) struct Sought<'a>(pub(crate) &'a [u8]);
+pub struct Sought<'a>(pub &'a [u8]);
 
 impl Hash for Sought<'_> {
     ghost hash_input = { λ sought. sought.0.now ∷ [] };

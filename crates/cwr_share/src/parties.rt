@@ -12,7 +12,7 @@ ghost use Rattle.cwr_share.specs.Registered.{IsShareLine};
 ghost use Rattle.cwr_share.specs.declared.TheConstants.{MOST_ACCOUNTS};
 ghost use Rattle.cwr_share.specs.declared.cwr_fault.CwrFault.TheVariants.{Accounts, Memory};
 
-use crate::numbers::{PartyNumber, in_place};
+use crate::numbers::{PartyName, in_place};
 use crate::share_line::ShareRecord;
 use crate::{CwrFault, MOST_ACCOUNTS, Payees};
 use indexmap::{IndexMap, IndexSet};
@@ -26,7 +26,7 @@ pub(crate) struct Parties {
     /// The payee of each account, in byte order; the residue's has none.
     pub(crate) payees: Vec<Vec<u8>>,
     /// The account of each party. Those of one account stand side by side, in order of account.
-    pub(crate) accounts: IndexMap<PartyNumber, Account>,
+    pub(crate) accounts: IndexMap<PartyName, Account>,
 }
 
 /// The parties of these share lines.
@@ -60,7 +60,7 @@ fn add_parties(
     alloc: Global,
     payees: &Payees,
     shares: &[ShareRecord],
-    seen: &mut IndexSet<PartyNumber>,
+    seen: &mut IndexSet<PartyName>,
     found: &mut BTreeSet<Vec<u8>>,
 ) -> Result<(), CwrFault>
     requires seen { AreFound payees.now (texts_of found.old) seen.old.keys }
@@ -105,9 +105,9 @@ fn by_account(alloc: Global, found: BTreeSet<Vec<u8>>) -> Result<Vec<Vec<u8>>, A
 fn in_order_of_account(
     alloc: Global,
     payees: &Payees,
-    seen: &[PartyNumber],
+    seen: &[PartyName],
     by_account: &[Vec<u8>],
-) -> Result<IndexMap<PartyNumber, Account>, AllocError>
+) -> Result<IndexMap<PartyName, Account>, AllocError>
     requires rising { IsStrictlySortedBy (slice_cmp nat_cmp) (map (λ payee. payee.items) by_account.now) }
     requires few { length by_account.now ≤ MOST_ACCOUNTS + 1 }
     requires residue { slice_index_or (map (λ payee. payee.items) by_account.now) 0 [] ≡ [] }

@@ -1,11 +1,11 @@
 //! The table of payees: who is paid what a party claims.
 
-ghost use Rattle.std.specs.Prelude.{ℕ, List, ◌≡◌, ◌<◌, [], IfErr, IfNone, IfOk, IfSome, length, slice_index_or};
+ghost use Rattle.std.specs.Prelude.{ℕ, List, ◌≡◌, ◌<◌, ◌↔◌, ◌∷◌, ◌++◌, [], OnOk, IsTrue, IfErr, IfNone, IfOk, IfSome, length, slice_index_or};
 ghost use Rattle.csv_table.specs.Forms.{IsPrintable};
 ghost use Rattle.csv_table.specs.Table.{rows_of};
 ghost use Rattle.cwr_share.specs.Fields.{trimmed as trimmed_text};
 ghost use Rattle.cwr_share.specs.PayeeTable.{IsFaultOf, IsTableOf};
-ghost use Rattle.cwr_share.specs.Payees.{AreNames, payee_of};
+ghost use Rattle.cwr_share.specs.Payees.{AreNames, HasRow, IsName, payee_of};
 ghost use Rattle.cwr_share.specs.declared.payees.TheConstants.{MOST_NAME_BYTES};
 
 use crate::PayeeFault;
@@ -92,11 +92,10 @@ impl RowTable for Payees {
         let Some(payee) = name(rows.field(1)) else {
             return Ok(Some(PayeeFault::Fields(number)));
         };
-        if self.rows.get(Sought(party)).is_some() {
+        if self.has_row(party) {
             return Ok(Some(PayeeFault::Twice(number)));
         }
-        let (party, payee) = (Name::of(alloc, party)?, Name::of(alloc, payee)?);
-        self.rows.insert(party, payee)?;
+        self.add(alloc, party, payee)?;
         Ok(None)
     }
 }
@@ -129,6 +128,25 @@ impl Payees {
             Some(payee) => payee.as_slice(),
             None => party,
         }
+    }
+
+    /// Whether a party has a row.
+    pub fn has_row(&self, party: &[u8]) -> bool
+        ensures { IsTrue result ↔ HasRow self.now party.now }
+    {
+        self.rows.contains_key(Sought(party))
+    }
+
+    /// Adds a row for a party that has none.
+    pub fn add(&mut self, alloc: Global, party: &[u8], payee: &[u8]) -> Result<(), AllocError>
+        requires party { 0 < length party.now }
+        requires payee { IsName payee.now }
+        requires new { ¬ HasRow self.old party.now }
+        ensures { OnOk result (self.new ≡ self.old ++ (party.now, payee.now) ∷ []) }
+    {
+        let (party, payee) = (Name::of(alloc, party)?, Name::of(alloc, payee)?);
+        self.rows.insert(party, payee)?;
+        Ok(())
     }
 
     /// How many rows there are.

@@ -3,10 +3,10 @@
 ghost use Rattle.std.specs.Prelude.{ℕ, ◌≡◌, ◌≤◌, ◌<◌, ◌++◌, List, All, AllPairs, Contains, [], OnOk, length, map};
 ghost use Rattle.std.specs.List.{HoldsAt};
 ghost use Rattle.cwr_share.specs.Compiled.{IsInOrder, IsKept, accounts_of, kept_lines, line_by, lines_of_parties, names_of, whole, with_place};
-ghost use Rattle.cwr_share.specs.declared.TheConstants.{MOST_SHARES};
+ghost use Rattle.cwr_share.specs.declared.TheConstants.{MOST_LINES};
 
 use crate::claim_line::ClaimLine;
-use crate::numbers::PartyNumber;
+use crate::numbers::PartyName;
 use crate::share_line::{RegisteredShare, ShareRecord};
 use indexmap::IndexMap;
 use line_split::Account;
@@ -27,7 +27,7 @@ pub(crate) struct CompiledRegistration {
 #[derive(Clone, Copy)]
 pub(crate) struct Placed {
     pub(crate) party: usize,
-    pub(crate) place: u16,
+    pub(crate) place: u32,
 }
 
 impl CompiledRegistration {
@@ -47,9 +47,9 @@ impl CompiledRegistration {
     pub(crate) fn compile(
         &mut self,
         shares: &[ShareRecord],
-        accounts: &IndexMap<PartyNumber, Account>,
+        accounts: &IndexMap<PartyName, Account>,
     ) -> Result<(), AllocError>
-        requires few { length shares.now ≤ MOST_SHARES }
+        requires few { length shares.now ≤ MOST_LINES }
         requires once { AllPairs (λ name later. ¬ (name ≡ later)) (names_of accounts.now.entries) }
         requires known { All (λ share. Contains (names_of accounts.now.entries) share.party) shares.now }
         ensures shares { OnOk result (kept_lines (names_of accounts.now.entries) (whole self.new) ≡ shares.now) }
@@ -63,7 +63,7 @@ impl CompiledRegistration {
             let share = &shares[place];
             if let Some(party) = accounts.get_index_of(&share.party) {
                 self.shares.push(share.kept(party))?;
-                add_place(&mut self.order, party, place as u16)?;
+                add_place(&mut self.order, party, place as u32)?;
             }
         }
         add_lines(
@@ -77,7 +77,7 @@ impl CompiledRegistration {
 }
 
 /// Adds the place of one share line more before the others of its party.
-fn add_place(order: &mut Vec<Placed>, party: usize, place: u16) -> Result<(), AllocError>
+fn add_place(order: &mut Vec<Placed>, party: usize, place: u32) -> Result<(), AllocError>
     requires { (claimants : List (ℕ × List ℕ)) × IsInOrder claimants order.old.items }
     ensures { OnOk result ((claimants : List (ℕ × List ℕ)) → IsInOrder claimants order.old.items → IsInOrder (with_place party place claimants) order.new.items) }
 {
@@ -90,7 +90,7 @@ fn add_place(order: &mut Vec<Placed>, party: usize, place: u16) -> Result<(), Al
 
 /// Adds the share lines in this order, each under the account of its party.
 fn add_lines(
-    accounts: &IndexMap<PartyNumber, Account>,
+    accounts: &IndexMap<PartyName, Account>,
     shares: &[RegisteredShare],
     order: &[Placed],
     lines: &mut Vec<ClaimLine>,

@@ -2,7 +2,7 @@
 
 ghost use Rattle.std.specs.Prelude.{◌≡◌, ◌≤◌, ◌<◌, ◌++◌, ◌∷◌, [], IfOk, length, slice_index_or};
 ghost use Rattle.cwr_share.specs.Compiled.{Kept, whole};
-ghost use Rattle.cwr_share.specs.declared.TheConstants.{MOST_SHARES};
+ghost use Rattle.cwr_share.specs.declared.TheConstants.{MOST_LINES};
 
 use crate::claim_line::ClaimLine;
 use crate::registration::CompiledRegistration;
@@ -22,7 +22,7 @@ pub(crate) struct Registrations {
 #[derive(Drop)]
 pub(crate) struct Extent {
     pub(crate) first: usize,
-    pub(crate) count: u16,
+    pub(crate) count: u32,
     /// The share lines as they came. They take no memory: only contracts speak of them, since the claim
     /// lines have lost the order of the file and what an exclusion would pay.
     pub(crate) shares: Snapshot<Vec<RegisteredShare>>,
@@ -62,7 +62,7 @@ impl Registrations {
         self,
         registration: &CompiledRegistration,
     ) -> Result<Registrations, AllocError>
-        requires few { length registration.now.lines.items ≤ MOST_SHARES }
+        requires few { length registration.now.lines.items ≤ MOST_LINES }
         ensures { IfOk result (λ registrations. registrations ≡ self ++ whole registration.now ∷ []) }
     {
         let Registrations {
@@ -71,7 +71,7 @@ impl Registrations {
         } = self;
         let extent = Extent {
             first: lines.len(),
-            count: registration.lines.len() as u16,
+            count: registration.lines.len() as u32,
             shares: Snapshot::of(&registration.shares),
         };
         lines.extend_from_slice(registration.lines.as_slice())?;

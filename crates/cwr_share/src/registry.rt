@@ -10,7 +10,7 @@ ghost use Rattle.cwr_share.specs.Payees.{HasRow, payee_of};
 ghost use Rattle.cwr_share.specs.Registered.{IsRegistered};
 
 use crate::claim_line::{ClaimLine, claims};
-use crate::numbers::{PartyNumber, WorkNumber, in_place_if_short};
+use crate::numbers::{PartyName, WorkName, in_place_if_short};
 use crate::parties::{Parties, account_of};
 use crate::registrations::Registrations;
 use indexmap::IndexSet;
@@ -22,7 +22,7 @@ use tis_tree::{Code, MOST_ROWS, TisTable};
 /// The registrations in force of a file, and the accounts of their parties' payees.
 #[derive(Drop)]
 pub struct Registry {
-    works: IndexSet<WorkNumber>,
+    works: IndexSet<WorkName>,
     /// The registration of each work.
     registrations: Registrations,
     parties: Parties,
@@ -44,7 +44,7 @@ impl Model for Registry {
 impl Registry {
     /// The registry of these parts.
     pub(crate) fn of(
-        works: IndexSet<WorkNumber>,
+        works: IndexSet<WorkName>,
         registrations: Registrations,
         parties: Parties,
     ) -> Registry
@@ -101,7 +101,7 @@ impl Registry {
         ensures none { IfNone result (¬ HasRow self.now.payees party.now) }
     {
         let accounts = &self.parties.accounts;
-        let number: PartyNumber = in_place_if_short(party)?;
+        let number: PartyName = in_place_if_short(party)?;
         let account = accounts.get(&number)?;
         Some(self.parties.payees[*account as usize].as_slice())
     }
@@ -146,7 +146,7 @@ impl Registry {
         ensures { IsLookUp self.now number.now result }
     {
         let works = &self.works;
-        let number: WorkNumber = in_place_if_short(number)?;
+        let number: WorkName = in_place_if_short(number)?;
         let place = works.get_index_of(&number)?;
         Some(Work {
             lines: self.registrations.lines_of(place),

@@ -1,6 +1,6 @@
 //! Share lines: who collects which share of a work, in which territory.
 
-ghost use Rattle.std.specs.Prelude.{◌≡◌, ◌↔◌, ◌<◌, ◌+◌, ◌==◌, [], ℕ, List, IfOk, IfErr, IfSome, IfNone, IsTrue, Some, not, reverse, slice_index, slice_index_or};
+ghost use Rattle.std.specs.Prelude.{◌≡◌, ◌↔◌, ◌<◌, ◌≤◌, ◌+◌, ◌==◌, [], ℕ, List, IfOk, IfErr, IfSome, IfNone, IsTrue, Some, length, not, reverse, slice_index, slice_index_or};
 ghost use Rattle.csv_table.specs.Forms.{IsCode, number_of};
 ghost use Rattle.cwr_share.specs.CwrFile.{IsFaultOfShare, IsShareRecord, place_of_fault};
 ghost use Rattle.cwr_share.specs.Fields.{HasShares, IsFilled, IsMark, IsShare, field_of, share_of, trimmed as trimmed_text, without_spaces_before as from_first_byte};
@@ -8,10 +8,11 @@ ghost use Rattle.cwr_share.specs.Registrations.{share_line_of};
 ghost use Rattle.cwr_share.specs.ClaimsOn.{is_alike, share_for};
 ghost use Rattle.cwr_share.specs.Filed.{recorded_share};
 ghost use Rattle.cwr_share.specs.Compiled.{line_by};
-ghost use Rattle.cwr_share.specs.declared.numbers.TheConstants.{MOST_PARTY_BYTES};
+ghost use Rattle.cwr_share.specs.Joined.{of_submitter};
+ghost use Rattle.cwr_share.specs.declared.numbers.TheConstants.{MOST_PARTY_BYTES, MOST_SUBMITTER_BYTES};
 
 use crate::fields::ShareFields;
-use crate::numbers::{PartyNumber, in_place};
+use crate::numbers::{PartyName, in_place, qualified};
 use crate::{CwrFault, MOST_SHARES};
 use csv_table::forms::{code, number_up_to};
 use line_split::{FULL_SHARE, Right};
@@ -25,7 +26,7 @@ pub struct ShareRecord {
     /// How many interests were opened before it in its registration.
     pub(crate) interest: usize,
     /// The interested party number.
-    pub(crate) party: PartyNumber,
+    pub(crate) party: PartyName,
     pub(crate) shares: CollectionShares,
     /// Whether the territory is included or excluded.
     pub(crate) includes: bool,
@@ -165,6 +166,23 @@ impl ShareRecord {
         self.interest == other.interest && self.party() == other.party()
     }
 
+    /// The same share line behind those of other registrations, which have so many interests. None: there are more
+    /// interests than memory could hold.
+    pub(crate) fn behind(&self, submitter: &[u8], first: usize) -> Option<ShareRecord>
+        requires submitter { length submitter.now ≤ MOST_SUBMITTER_BYTES }
+        requires party { length self.now.party ≤ MOST_PARTY_BYTES }
+        ensures { IfSome result (λ share. share ≡ of_submitter submitter.now first self.now) }
+    {
+        let interest = first.checked_add(self.interest)?;
+        Some(ShareRecord {
+            interest,
+            party: qualified(submitter, self.party()),
+            shares: self.shares,
+            includes: self.includes,
+            territory: self.territory,
+        })
+    }
+
     /// What is kept of it, where its party has this number.
     pub(crate) fn kept(&self, party: usize) -> RegisteredShare
         ensures line { (parties : List (List ℕ)) → slice_index_or parties party [] ≡ self.now.party → line_by parties result ≡ self.now }
@@ -237,7 +255,7 @@ pub(crate) fn territory(field: &[u8]) -> Option<Code>
 }
 
 /// A text without the spaces at both ends.
-pub(crate) fn trimmed(text: &[u8]) -> &[u8]
+pub fn trimmed(text: &[u8]) -> &[u8]
     ensures { result.now ≡ trimmed_text text.now }
 {
     without_spaces_after(without_spaces_before(text))

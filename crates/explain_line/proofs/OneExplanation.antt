@@ -13,7 +13,7 @@ use Rattle.cwr_share.specs.Filed.{last_opening, numbers_from, recorded_share, sh
 use Rattle.cwr_share.specs.Lines.{lines_of}
 use Rattle.cwr_share.specs.Payees.{payee_of}
 use Rattle.cwr_share.specs.Registered.{Registered}
-use Rattle.cwr_share.specs.Registrations.{ShareLine, find_work}
+use Rattle.cwr_share.specs.Registrations.{ShareLine, find_work, shares_in_force}
 use Rattle.csv_table.proofs.ItemWalks.{one_table}
 use Rattle.line_split.specs.UsageTable.{usage_rules}
 use Rattle.line_split.specs.Claims.{participants_of}
@@ -44,9 +44,9 @@ alike_of files tables others is of =
     record {
       territories = one_table territory_rules (rows_of files.territories) tables.territories others.territories is.territories of.territories;
       uses = one_table usage_rules (rows_of files.usage) tables.usage others.usage is.uses of.uses;
-      works = one_works is.rows file tables.registry others.registry is.registrations same;
-      accounts = one_parties is.rows file tables.registry others.registry is.registrations same is.accounts of.accounts;
-      payees = one_payees is.rows file tables.registry others.registry is.registrations same is.accounts of.accounts;
+      works = one_works is.rows (shares_in_force file) tables.registry others.registry is.registrations.registry same.registry;
+      accounts = one_parties is.rows (shares_in_force file) tables.registry others.registry is.registrations.registry same.registry is.accounts of.accounts;
+      payees = one_payees is.rows (shares_in_force file) tables.registry others.registry is.registrations.registry same.registry is.accounts of.accounts;
     }
 
 -- so they have the same claims on a line, and the same reason against them

@@ -182,8 +182,8 @@ pub payees_named : (payees_file : Option (List ℕ)) (rows : List (List ℕ × L
     → ArePayees payees_file rows → IsFileOf rows lines registered → (is : IsRegistered registered) → All IsName is.names
 payees_named payees_file rows lines registered paid of is k d within =
     let name = slice_index_or is.names k d in
-    let (party, has, same) = contains_back (λ (row : List ℕ × List ℕ). row.0) (λ row. row.1) (payee_of rows) registered.payees of.paid name ((is.exact name).0 (Contains-get_or is.names k d within)) in
+    let (party, has, same) = contains_back (λ (row : List ℕ × List ℕ). row.0) (λ row. row.1) (payee_of rows) registered.payees of.registry.paid name ((is.exact name).0 (Contains-get_or is.names k d within)) in
     let (work, shares, here, at) = (is.in_force party).0 has in
-    let in_force = sym (of.in_force work) ∙ find_once registered.works work shares is.once here in
+    let in_force = sym (of.registry.in_force work) ∙ find_once registered.works work shares is.once here in
     let named = All-contains IsName (map (λ line. line.party) shares) party (All-map IsName (λ (line : ShareLine). line.party) shares (in_force_named lines work shares of.sound in_force)) at in
     subst IsName same (payee_named rows party (rows_named payees_file rows paid) named)

@@ -52,12 +52,12 @@ next_here table land right named claimants lines of at total out (n, here, gathe
       claim = claim_here named claimants lines of at n here inside table land right;
     }
 
-pub returns-then-total-gt-MOST_CLAIMED-clause-within : goal.returns-then-total-gt-MOST_CLAIMED-clause-within
-returns-then-total-gt-MOST_CLAIMED-clause-within c = λ named claimants of.
+pub returns-then-total-from-clause-within : goal.returns-then-total-from-clause-within
+returns-then-total-from-clause-within c = λ named claimants of.
     let all = claims_of_claimants c.args.tis.now c.args.land c.args.right named claimants in
     let next = next_here c.args.tis.now c.args.land c.args.right named claimants c.args.lines.now of c.loop-at.at c.loop-at.total c.loop-at.out.list (c.loop-at.invariant.gathered named claimants of) c.loop-at-test.true in
     let (at, later) = next.claim c.first_claim-claim.result.0 c.first_claim-claim.result.1 (rw (take_rest c.args.lines.now c.loop-at.at) at c.first_claim-claim.ensures.claim) in
-    sym (gathered_over all c.loop-at.out.list c.loop-at.total next.n (next.claimant.0, c.first_claim-claim.result.0) next.gathered next.left at c.if-total-gt-MOST_CLAIMED.true)
+    sym (gathered_over all c.loop-at.out.list c.loop-at.total next.n (next.claimant.0, c.first_claim-claim.result.0) next.gathered next.left at (rw c.from.ensures at c.if-total-from.true))
 
 pub push-requires-clause-account : goal.push-requires-clause-account
 push-requires-clause-account c =
@@ -82,7 +82,7 @@ push-requires-clause-room c =
 pub loop-at-preserved : goal.loop-at-preserved
 loop-at-preserved c =
     let claim = c.first_claim-claim.result.0 in
-    let small = c.if-total-gt-MOST_CLAIMED.false in
+    let small = rw c.from.ensures at c.if-total-from.false in
     let within : c.loop-at.at + c.first_claim-claim.result.1 ≤ length c.args.lines.now = omega arith in
     elim c.if-claim-gt0.branch [
       | then-claim-gt0 w ↦ rw (w.out-is, w.push.ensures) (record {

@@ -8,7 +8,7 @@ use Rattle.arrayvec.specs.ArrayVec.{ArrayVec}
 use Rattle.cwr_share.specs.Compiled.{Numbered}
 use Rattle.cwr_share.specs.Parties.{IsAccountOf}
 use Rattle.cwr_share.specs.Payees.{payee_of}
-use Rattle.cwr_share.specs.declared.numbers.TheConstants.{MOST_PARTY_BYTES}
+use Rattle.cwr_share.specs.declared.numbers.TheConstants.{MOST_PARTY_NAME_BYTES}
 use Rattle.cwr_share.proofs.ClaimLemmas.{map_twice}
 use Rattle.cwr_share.proofs.PartyLemmas.{each_with, names_all, names_next, none_added}
 use Rattle.cwr_share.proofs.PartyWorks.{once_texts}
@@ -53,7 +53,7 @@ loop-party-preserved c =
           rw (w.accounts-is, w.in_ok-insert.ensures.entries) (record {
             names = names_next w.in_place.result w.in-Some.account seen n number c.loop-party.accounts.entries c.loop-party-test.true c.party-item.is same c.loop-party.invariant.names;
             paid = each_with w.in_place.result w.in-Some.account (λ text account. IsAccountOf payees (payee_of rows text) account) c.loop-party.accounts.entries c.loop-party.invariant.paid its;
-            short = each_with w.in_place.result w.in-Some.account (λ text account. length text ≤ MOST_PARTY_BYTES) c.loop-party.accounts.entries c.loop-party.invariant.short
+            short = each_with w.in_place.result w.in-Some.account (λ text account. length text ≤ MOST_PARTY_NAME_BYTES) c.loop-party.accounts.entries c.loop-party.invariant.short
                 (omega (arith, c.as_slice-number.ensures.fits, ap (λ (text : List ℕ). length text) w.in_place.ensures));
           })
       | in_default w ↦
@@ -82,5 +82,5 @@ returns-clause-ordered c =
 
 pub returns-clause-short : goal.returns-clause-short
 returns-clause-short c =
-    let sorted = All-permutation (λ (party : Numbered). length party.0.items ≤ MOST_PARTY_BYTES) c.loop-party.accounts.entries c.sort_unstable_by_key.new.self.entries c.sort_unstable_by_key.ensures.reordered.0 c.loop-party.invariant.short in
-    All-map (λ (name : List ℕ). length name ≤ MOST_PARTY_BYTES) (λ (party : Numbered). party.0.items) c.sort_unstable_by_key.new.self.entries sorted
+    let sorted = All-permutation (λ (party : Numbered). length party.0.items ≤ MOST_PARTY_NAME_BYTES) c.loop-party.accounts.entries c.sort_unstable_by_key.new.self.entries c.sort_unstable_by_key.ensures.reordered.0 c.loop-party.invariant.short in
+    All-map (λ (name : List ℕ). length name ≤ MOST_PARTY_NAME_BYTES) (λ (party : Numbered). party.0.items) c.sort_unstable_by_key.new.self.entries sorted

@@ -42,7 +42,7 @@ opened table registered line file found free (Some number) is =
 pub returns-clause-claims : goal.returns-clause-claims
 returns-clause-claims c = λ files tables line read free.
     let file = lines_of files.registrations in
-    opened tables.territories tables.registry line file (read.registrations.in_force line.work ∙ in_force_is file line.work) free (last_opening file line.work) refl
+    opened tables.territories tables.registry line file (read.registrations.registry.in_force line.work ∙ in_force_is file line.work) free (last_opening file line.work) refl
 
 -- there are as many numbers as share lines
 numbered : (first : ℕ) (body : List (List ℕ)) → length (share_numbers first body) ≡ count_by is_share_line body

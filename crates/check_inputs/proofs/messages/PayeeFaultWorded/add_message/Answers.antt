@@ -2,3 +2,6 @@ use Rattle.check_inputs.proofs.messages.PayeeFaultWorded.add_message.Goals as go
 
 pub returns-in-Fields : goal.returns-in-Fields
 returns-in-Fields c = rw c.in-Fields.is (rw (c.field.ensures, c.field-in-Fields.ensures) at c.add_both.ensures)
+
+pub returns-in-Submitter : goal.returns-in-Submitter
+returns-in-Submitter c = rw c.in-Submitter.is (rw c.field-in-Submitter.ensures at c.add_around-in-Submitter.ensures)

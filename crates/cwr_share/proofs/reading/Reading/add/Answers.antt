@@ -1,18 +1,18 @@
 use Rattle.std.proofs.Common.{arith, sym}
 use Rattle.std.proofs.lemmas.Option.{IfSome_then}
 use Rattle.cwr_share.specs.declared.record_type.RecordType.TheVariants.{Closing, Other}
-use Rattle.cwr_share.proofs.FileLemmas.{interest_small, of_type, read_end, read_skipped, read_table}
+use Rattle.cwr_share.proofs.FileLemmas.{interest_small, of_type, read_end, read_skipped}
 use Rattle.cwr_share.proofs.reading.Reading.add.Goals as goal
 
-pub begin-requires-clause-table : goal.begin-requires-clause-table
-begin-requires-clause-table c = read_table c.requires.0 c.args.self.now c.requires.1
+pub begin-requires-clause-before : goal.begin-requires-clause-before
+begin-requires-clause-before c = (c.requires.0, c.requires.1)
 
 pub begin_interest-requires : goal.begin_interest-requires
 begin_interest-requires c =
     IfSome_then c.args.self.now.open (interest_small c.requires.0 c.args.self.now c.requires.1) (λ registration small. omega (arith, small, c.requires.2, c.ranges.number.fits))
 
 pub end-requires : goal.end-requires
-end-requires c = read_table c.requires.0 c.args.self.now c.requires.1
+end-requires c = (c.requires.0, c.requires.1)
 
 pub returns-in-Interest-clause-read : goal.returns-in-Interest-clause-read
 returns-in-Interest-clause-read c = λ before. c.begin_interest.ensures before c.args.line.now (sym c.in-Interest.ensures)

@@ -27,7 +27,7 @@ pub returns-in_default-clause-read : goal.returns-in_default-clause-read
 returns-in_default-clause-read c = λ before.
     let old = c.args.self.now in
     let none = sym c.in_default.ensures.value in
-    read_outside before c.args.line.now old old none none record { works = refl; registrations = refl } (share_stays c.args.line.now c.requires.0).0
+    read_outside before c.args.line.now old old none none refl (share_stays c.args.line.now c.requires.0).0
 
 pub returns-in_err-share-clause-fault : goal.returns-in_err-share-clause-fault
 returns-in_err-share-clause-fault c =
@@ -42,7 +42,7 @@ returns-clause-read c = λ before.
     let old = c.args.self.now in
     let was = c.in-Some.open.now in
     let next : Open = record { work = was.work; shares = c.push.new.self; interest = was.interest } in
-    let new : Reading = record { works = old.works; registrations = old.registrations; «open» = Some next } in
+    let new : Reading = record { in_force = old.in_force; «open» = Some next } in
     let (good, same) = c.in_ok-share.ensures.share in
     let count : c.len.result ≡ length was.shares.items = c.len.ensures ∙ was.shares.ok.0 in
     let sound : IsShareRecord (length was.shares.items) (share_fields line) line =
@@ -50,7 +50,7 @@ returns-clause-read c = λ before.
     let shares : next.shares.items ≡ was.shares.items ++ share_line_of was.interest (share_fields line) line ∷ [] =
     c.in_ok-push.ensures.items
     ∙ ap (λ (share : ShareLine). was.shares.items ++ share ∷ []) (same ∙ ap (λ (f : ShareFields). share_line_of was.interest f line) c.requires.1) in
-    read_inside before line old new was next (sym c.in-Some.ensures.value) refl record { works = refl; registrations = refl }
+    read_inside before line old new was next (sym c.in-Some.ensures.value) refl refl
     (λ opening body open' with. (
       sound_share before line opening body was c.requires.0 sound open' with,
       open_share opening body line was next c.requires.0 refl shares refl sound with,

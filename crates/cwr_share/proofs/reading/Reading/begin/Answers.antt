@@ -14,11 +14,11 @@ returns-clause-read c = λ before read.
     let line = c.args.line.now in
     let ended = c.end.new.self in
     let registration : Open = record { work = c.in_place.result; shares = c.new.result; interest = 0 } in
-    let new : Reading = record { works = ended.works; registrations = ended.registrations; «open» = Some registration } in
+    let new : Reading = record { in_force = ended.in_force; «open» = Some registration } in
     let opens = (of_type Registration line c.requires.opens).opens in
     let good : IsOpening line = record { long = c.if-line.false; work = subst IsFilled c.of-work.ensures (c.if-not-is_filled.ensures.0 refl) } in
     let work = c.in_place.ensures ∙ (c.trimmed.ensures ∙ ap trimmed c.of-work.ensures) in
-    read_opening before line ended new registration refl record { works = refl; registrations = refl } opens (sound_opening before line opens good) work c.new.ensures.items refl
+    read_opening before line ended new registration refl refl opens (sound_opening before line opens good) work c.new.ensures.items refl
     read.0 (c.in_ok-end.ensures.1 before read)
 
 pub in_place-requires : goal.in_place-requires

@@ -10,7 +10,7 @@ returns-in-Some c = λ before line is.
     let was = c.in-Some.open in
     let next : Open = record { work = was.work; shares = was.shares; interest = was.interest + 1 } in
     let type = of_type Interest line is in
-    read_inside before line old record { works = old.works; registrations = old.registrations; «open» = Some next } was next c.in-Some.is refl record { works = refl; registrations = refl }
+    read_inside before line old record { in_force = old.in_force; «open» = Some next } was next c.in-Some.is refl refl
     (λ opening body open' with. (
       sound_other before line type.opens type.share,
       open_interest opening body line was next type.ends type.share type.interest refl refl refl with,
@@ -18,4 +18,4 @@ returns-in-Some c = λ before line is.
 
 pub returns-in_default : goal.returns-in_default
 returns-in_default c = λ before line is.
-    read_outside before line c.args.self.now c.args.self.now c.in_default.is c.in_default.is record { works = refl; registrations = refl } (of_type Interest line is).opens
+    read_outside before line c.args.self.now c.args.self.now c.in_default.is c.in_default.is refl (of_type Interest line is).opens

@@ -1,20 +1,21 @@
 use Rattle.std.proofs.Common.{◌∙◌, ap, arith, subst, sym}
-use Rattle.cwr_share.specs.Compiled.{Kept, names_of}
+use Rattle.cwr_share.specs.Compiled.{Kept, kept_lines, names_of}
 use Rattle.cwr_share.specs.Found.{LookedUp}
 use Rattle.cwr_share.specs.Registered.{Registered}
-use Rattle.cwr_share.proofs.CompiledLemmas.{found_nowhere, found_too_long, looked_up, registration_at}
+use Rattle.cwr_share.proofs.CompiledLemmas.{looked_up, registration_at}
+use Rattle.cwr_share.proofs.InForceLemmas.{found_nowhere, found_too_long}
 use Rattle.cwr_share.proofs.registry.Registry.find.Goals as goal
 
 pub returns-in_err-number : goal.returns-in_err-number
 returns-in_err-number c =
     rw (c.from_residual.ensures, ap (λ (r : Registered). r.works) (sym c.self.view_is))
-    (found_too_long c.args.number.now (names_of c.self.inside.parties.accounts.entries) c.self.inside.works.keys c.self.inside.registrations
+    (found_too_long c.args.number.now (kept_lines (names_of c.self.inside.parties.accounts.entries)) c.self.inside.works.keys c.self.inside.registrations
     c.self.invariant.1.short c.in_err-number.ensures.none)
 
 pub returns-in_err-place : goal.returns-in_err-place
 returns-in_err-place c =
     rw (c.from_residual-in_err-place.ensures, ap (λ (r : Registered). r.works) (sym c.self.view_is), sym c.in_ok-number.ensures.some)
-    (found_nowhere c.in_ok-number.number.items (names_of c.self.inside.parties.accounts.entries) c.self.inside.works.keys c.self.inside.registrations c.in_err-place.ensures.index)
+    (found_nowhere c.in_ok-number.number.items (kept_lines (names_of c.self.inside.parties.accounts.entries)) c.self.inside.works.keys c.self.inside.registrations c.in_err-place.ensures.index)
 
 pub returns : goal.returns
 returns c =

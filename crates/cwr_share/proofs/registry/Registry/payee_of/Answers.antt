@@ -1,10 +1,10 @@
 use Rattle.std.proofs.Common.{◌≡◌, ◌∙◌, ◌<◌, ◌≤◌, IfNone, List, None, Option, ap, arith, false, is_some, length, map, slice_index_or, subst, sym, Contains, Global, Vec, [], ℕ}
 use Rattle.std.proofs.lemmas.List.{get_or-map}
 use Rattle.std.proofs.lemmas.List.Elements.{All-contains}
-use Rattle.cwr_share.specs.Compiled.{Kept, Numbered, WorkNumber, names_of, registered_as}
+use Rattle.cwr_share.specs.Compiled.{Kept, Numbered, WorkName, names_of, registered_as}
 use Rattle.cwr_share.specs.Payees.{HasRow, payee_of}
 use Rattle.cwr_share.specs.Registered.{Registered}
-use Rattle.cwr_share.specs.declared.numbers.TheConstants.{MOST_PARTY_BYTES}
+use Rattle.cwr_share.specs.declared.numbers.TheConstants.{MOST_PARTY_NAME_BYTES}
 use Rattle.cwr_share.proofs.PartyLemmas.{is_named, name_missing}
 use Rattle.std.specs.Map.{lookup}
 use Rattle.cwr_share.proofs.CompiledLemmas.{names_as}
@@ -16,7 +16,7 @@ nothing : {X : Type 0} (answer : Option X) (says : Type 0) → answer ≡ None �
 nothing answer says none holds = subst (λ a. IfNone a says) (sym none) holds
 
 -- a registry has a row for no party but those that are kept
-row_is_kept : (works : List WorkNumber) (registrations : List Kept) (parties : List Numbered) (payees : List (Vec ℕ Global)) (registered : Registered)
+row_is_kept : (works : List WorkName) (registrations : List Kept) (parties : List Numbered) (payees : List (Vec ℕ Global)) (registered : Registered)
     → registered_as works registrations parties payees ≡ registered → (text : List ℕ) → HasRow registered.payees text → Contains (names_of parties) text
 row_is_kept works registrations parties payees registered view text has =
     subst (λ (names : List (List ℕ)). Contains names text) (names_as works registrations parties payees) (subst (λ (r : Registered). HasRow r.payees text) (sym view) has)
@@ -28,7 +28,7 @@ returns-in_err-number-clause-none c =
     nothing c.from_residual.result (¬ HasRow c.args.self.now.payees text) c.from_residual.ensures
     (λ has.
     let kept = row_is_kept registry.works.keys registry.registrations registry.parties.accounts.entries registry.parties.payees.items c.args.self.now c.self.view_is text has in
-    let short : length text ≤ MOST_PARTY_BYTES = All-contains (λ (name : List ℕ). length name ≤ MOST_PARTY_BYTES) (names_of registry.parties.accounts.entries) text c.self.invariant.1.names kept in
+    let short : length text ≤ MOST_PARTY_NAME_BYTES = All-contains (λ (name : List ℕ). length name ≤ MOST_PARTY_NAME_BYTES) (names_of registry.parties.accounts.entries) text c.self.invariant.1.names kept in
     absurd (omega (arith, short, c.in_err-number.ensures.none)))
 
 pub returns-in_err-account-clause-none : goal.returns-in_err-account-clause-none

@@ -1,6 +1,6 @@
 use Rattle.std.proofs.Common.{◌≡◌, All, map, take}
 use Rattle.cwr_share.specs.Compiled.{IsKept, accounts_of, kept_lines, names_of}
-use Rattle.cwr_share.proofs.reading.registry_of.Given as goal
+use Rattle.cwr_share.proofs.in_force.InForce.registry.Given as goal
 
 abbrev pub invariant-loop-shares : goal.invariant-loop-shares
 invariant-loop-shares l = record {
