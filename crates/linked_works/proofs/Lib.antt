@@ -1,0 +1,2 @@
+pub mod LinkedLemmas
+pub mod LinkRows

@@ -1,0 +1,111 @@
+-- The rows of a table of works.
+use Rattle.std.proofs.Common.{◌≡◌, ◌∙◌, ◌<◌, ◌≤◌, ◌∷◌, ◌++◌, [], ℕ, true, false, List, All, Contains, ap, arith, get_or, inl, inr, length, map, nat_eq, refl, subst, sym}
+use Rattle.std.specs.Cmp.Lexicographic.{pointwise}
+use Rattle.std.specs.List.{list_any}
+use Rattle.std.proofs.lemmas.Bool.{cases_Bool, false_from_ne_true, false≢true}
+use Rattle.std.proofs.lemmas.List.{get_or_default, get_or-map, length-map, map_push}
+use Rattle.std.proofs.lemmas.List.Elements.{All-contains, All-map, All-push, All-tail}
+use Rattle.std.proofs.lemmas.Slice.Eq.{bytes_eq-Decides}
+use Rattle.cwr_share.specs.Joined.{qualified}
+use Rattle.cwr_share.specs.declared.numbers.TheConstants.{MOST_WORK_NAME_BYTES}
+use Rattle.cwr_share.proofs.PartyLemmas.{contains_cases, contains_later}
+use Rattle.linked_works.specs.Linked as linked
+use Rattle.linked_works.specs.Rows.{AreLinks, key_of, links_by}
+use Rattle.linked_works.specs.Submitters.{IsNameByte, IsSubmitter}
+use Rattle.linked_works.specs.WorksTable.{IsLinked}
+use Rattle.linked_works.specs.declared.linking.Link.{Link}
+
+-- a key that is not among others is not found among them
+pub fresh_key : (keys : List (List ℕ)) (key : List ℕ) → ¬ Contains keys key → list_any (pointwise nat_eq key) keys ≡ false
+fresh_key [] key new = refl
+fresh_key (first ∷ keys) key new =
+    rw (false_from_ne_true (pointwise nat_eq key first) (λ same. new (0, omega arith, sym ((bytes_eq-Decides key first).0 same))))
+    (fresh_key keys key (λ later. new (contains_later first keys key later)))
+
+-- one more link
+pub links_added : (names : List (List ℕ)) (links : List Link) (keys : List (List ℕ)) (link : Link) (key : List ℕ) → AreLinks names links keys → link.submitter < length names
+    → length link.work ≤ MOST_WORK_NAME_BYTES → key ≡ qualified (get_or names link.submitter []) link.number → AreLinks names (links ++ link ∷ []) (keys ++ key ∷ [])
+links_added names links keys link key are known work is = record {
+  submitters = are.submitters;
+  once = are.once;
+  known = All-push (λ (link : Link). link.submitter < length names) links link are.known known;
+  works = All-push (λ (link : Link). length link.work ≤ MOST_WORK_NAME_BYTES) links link are.works work;
+  keys_of =
+      ap (λ (keys : List (List ℕ)). keys ++ key ∷ []) are.keys_of
+      ∙ (ap (λ (text : List ℕ). map key_of (links_by names links) ++ text ∷ []) is
+      ∙ sym (ap (map key_of) (map_push (λ (link : Link). record { work = link.work; submitter = get_or names link.submitter []; number = link.number }) links link) ∙ map_push key_of (links_by names links) (record { work = link.work; submitter = get_or names link.submitter []; number = link.number })));
+}
+
+-- a text that is found among keys is one of them
+pub found_key : (keys : List (List ℕ)) (key : List ℕ) → list_any (pointwise nat_eq key) keys ≡ true → Contains keys key
+found_key [] key found = absurd (false≢true found)
+found_key (first ∷ keys) key found = elim (cases_Bool (pointwise nat_eq key first)) [
+  | inl its ↦ (0, omega arith, sym ((bytes_eq-Decides key first).0 its))
+  | inr other ↦ contains_later first keys key (found_key keys key (rw other at found))
+]
+
+-- and one that is not found is none of them
+pub missing_key : (keys : List (List ℕ)) (key : List ℕ) → list_any (pointwise nat_eq key) keys ≡ false → ¬ Contains keys key
+missing_key [] key found has = absurd (omega (arith, has.1))
+missing_key (first ∷ keys) key found has = elim (cases_Bool (pointwise nat_eq key first)) [
+  | inl its ↦ absurd (false≢true (sym (rw its at found)))
+  | inr other ↦ elim (contains_cases first keys key has) [
+    | inl same ↦ absurd (false≢true (sym other ∙ (bytes_eq-Decides key first).1 (sym same)))
+    | inr later ↦ missing_key keys key (rw other at found) later
+  ]
+]
+
+-- no byte of a submitter's name is a colon
+no_colon : (name : List ℕ) → IsSubmitter name → All (λ byte. ¬ (byte ≡ 58)) name
+no_colon name is k d within same = by (is.bytes k d within)
+  where
+    by : IsNameByte (get_or name k d) → ⊥
+    by (inl letter) = omega (arith, letter.0, letter.1, same)
+    by (inr (inl letter)) = omega (arith, letter.0, letter.1, same)
+    by (inr (inr (inl digit))) = omega (arith, digit.0, digit.1, same)
+    by (inr (inr (inr (inl line)))) = omega (arith, line, same)
+    by (inr (inr (inr (inr dash)))) = omega (arith, dash, same)
+
+-- so the text of a registration has one submitter and one number
+one_registration : (name other number text : List ℕ) → All (λ byte. ¬ (byte ≡ 58)) name → All (λ byte. ¬ (byte ≡ 58)) other → qualified name number ≡ qualified other text
+    → (name ≡ other) × (number ≡ text)
+one_registration [] [] number text plain plain_other same = (refl, cc same)
+one_registration [] (byte ∷ other) number text plain plain_other same = let first : byte ≡ 58 = cc same in absurd (plain_other 0 58 (omega arith) first)
+one_registration (byte ∷ name) [] number text plain plain_other same = let first : byte ≡ 58 = cc same in absurd (plain 0 58 (omega arith) first)
+one_registration (byte ∷ name) (first ∷ other) number text plain plain_other same =
+    let rest : qualified name number ≡ qualified other text = cc same in
+    let (names, numbers) = one_registration name other number text (All-tail (λ byte. ¬ (byte ≡ 58)) byte name plain) (All-tail (λ byte. ¬ (byte ≡ 58)) first other plain_other) rest in
+    let head : byte ≡ first = cc same in
+    (cc (head, names), numbers)
+
+-- a key among those of links is that of a link
+module _ (names : List (List ℕ)) (links : List Link) (keys : List (List ℕ)) (are : AreLinks names links keys) (name number : List ℕ) (named : Contains names name) where
+  plain : All (λ byte. ¬ (byte ≡ 58)) name
+  plain = no_colon name (All-contains IsSubmitter names name are.submitters named)
+
+  abbrev rows : List linked.Link
+  rows = links_by names links
+
+  -- each link is of a submitter
+  of_submitters : All (λ link. IsSubmitter link.submitter) rows
+  of_submitters =
+      All-map (λ link. IsSubmitter link.submitter) (λ (link : Link). record { work = link.work; submitter = get_or names link.submitter []; number = link.number }) links
+      (λ k d within. are.submitters (get_or links k d).submitter [] (are.known k d within))
+
+  pub linked_key : Contains keys (qualified name number) → IsLinked rows name number
+  linked_key has =
+      let (k, within, at) = subst (λ (keys : List (List ℕ)). Contains keys (qualified name number)) are.keys_of has in
+      let inside : k < length rows = omega (arith, within, length-map rows key_of) in
+      let d : linked.Link = record { work = []; submitter = name; number = number } in
+      let link = get_or rows k d in
+      let key : key_of link ≡ qualified name number = sym (get_or-map key_of rows k d (qualified name number) inside) ∙ at in
+      let (names_same, numbers_same) = one_registration link.submitter name link.number number (no_colon link.submitter (of_submitters k d inside)) plain key in
+      (k, link, inside, get_or_default rows k link d inside, (names_same, numbers_same))
+
+  pub key_of_linked : IsLinked rows name number → Contains keys (qualified name number)
+  key_of_linked (k, link, within, at, (submitter, its)) =
+      subst (λ (keys : List (List ℕ)). Contains keys (qualified name number)) (sym are.keys_of) (
+        k,
+        omega (arith, within, length-map rows key_of),
+        get_or-map key_of rows k link (qualified name number) within ∙ (ap key_of at ∙ ap (λ (text : List ℕ). qualified text link.number) submitter ∙ ap (qualified name) its),
+      )

@@ -1,0 +1,4 @@
+pub mod Submitters
+pub mod Linked
+pub mod WorksTable
+pub mod Rows
