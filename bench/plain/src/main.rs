@@ -1,9 +1,11 @@
 //! `royalty_run run`, `explain` and `check` once more, as one would write them by hand in Rust, with no proofs. The words and the
 //! text that comes out are the same. And `merge`, with the paths of statement texts behind it, merges them, as
-//! `merge_statements` does. `--mode` says how the book is filled: one (where there is no such word), threads, channels, batches,
-//! linked, pool, rings or parked. With `--times` it says how long each phase took. With `--whole` the usage list may have any
-//! number of lines, and 4,294,967,295 bytes.
+//! `merge_statements` does. A run with `--works` is over the files of several submitters, for which `works` and `parties` print
+//! tables to begin with; `explain` and `check` do not take them. `--mode` says how the book is filled: one (where there is no
+//! such word), threads, channels, batches, linked, pool, rings or parked. With `--times` it says how long each phase took. With
+//! `--whole` the usage list may have any number of lines, and 4,294,967,295 bytes.
 
+mod arguments;
 mod book;
 mod check;
 mod cwr;
@@ -15,10 +17,14 @@ mod pool;
 mod rows;
 mod signals;
 mod split;
+mod submitters;
+mod tables;
 mod text;
 mod tis;
 mod usage;
+mod works;
 
+use arguments::Options;
 use book::{Job, Mode, Plan};
 use std::fs::File;
 use std::io::Write;
@@ -26,6 +32,7 @@ use std::os::fd::AsFd;
 use std::process::ExitCode;
 use std::sync::atomic::AtomicU8;
 use std::time::{Duration, Instant};
+use submitters::Submitters;
 
 const ACCOUNTS: usize = 16_384;
 
@@ -42,13 +49,31 @@ const LARGEST_LIST: Most = Most { bytes: LARGEST_FILE, lines: 1_000_000 };
 /// The list of a month: places in it are kept in 32 bits.
 const WHOLE_LIST: Most = Most { bytes: u32::MAX as u64, lines: u64::MAX };
 
-/// The values of the six options that have to be there, the path of the payees, whether times are told, the mode, and the limits
-/// of the list.
-type Words = (Vec<String>, Option<String>, bool, Mode, Most);
+/// Where the registrations of a run come from.
+enum Registrations {
+    /// The path of one file.
+    File(String),
+    /// The path of a table of works, and the submitters whose files it links.
+    Linked(String, Submitters),
+}
 
+/// What the words of a run say.
+struct Words {
+    tis: String,
+    payees: Option<String>,
+    registrations: Registrations,
+    usage: String,
+    /// Workers, readers and nodes.
+    plan: [String; 3],
+    times: bool,
+    mode: Mode,
+    most: Most,
+}
+
+/// The words of a run over one file.
 fn words() -> Option<Words> {
     let names = ["--tis", "--cwr", "--usage", "--workers", "--readers", "--nodes", "--payees"];
-    let mut values: Vec<Option<String>> = vec![None; names.len()];
+    let mut values: [Option<String>; 7] = Default::default();
     let (mut times, mut mode, mut most) = (false, Mode::One, LARGEST_LIST);
     let mut args = std::env::args().skip(1);
     if args.next()? != "run" {
@@ -69,8 +94,34 @@ fn words() -> Option<Words> {
         }
         values[names.iter().position(|n| *n == name)?] = Some(args.next()?);
     }
-    let payees = values.pop()?;
-    Some((values.into_iter().collect::<Option<_>>()?, payees, times, mode, most))
+    let [tis, cwr, usage, workers, readers, nodes, payees] = values;
+    Some(Words {
+        tis: tis?,
+        payees,
+        registrations: Registrations::File(cwr?),
+        usage: usage?,
+        plan: [workers?, readers?, nodes?],
+        times,
+        mode,
+        most,
+    })
+}
+
+/// The words of a run over the files of several submitters.
+fn words_of_several() -> Option<Words> {
+    let names = ["tis", "payees", "works", "cwr", "usage", "workers", "readers", "nodes", "mode"];
+    let options = Options::of(std::env::args().skip(2), &names, &["times", "whole"])?;
+    let mode = options.at_most_one("mode")?;
+    Some(Words {
+        tis: options.one("tis")?,
+        payees: options.at_most_one("payees")?,
+        registrations: Registrations::Linked(options.one("works")?, options.submitters()?),
+        usage: options.one("usage")?,
+        plan: [options.one("workers")?, options.one("readers")?, options.one("nodes")?],
+        times: options.has("times"),
+        mode: mode.map_or(Some(Mode::One), |mode| Mode::of(&mode))?,
+        most: if options.has("whole") { WHOLE_LIST } else { LARGEST_LIST },
+    })
 }
 
 /// `explain`: the values of the options that have to be there, the path of the payees, and the row.
@@ -108,16 +159,19 @@ struct Files {
 
 impl Files {
     /// Reads them in this order.
-    fn load(words: &[String], payees: &Option<String>, largest_list: u64) -> Result<Files, ExitCode> {
-        let read_up_to = |f: &String, most| read(f, most).map_err(|_| fail(4, format!("cannot read {f}")));
-        let read = |f: &String| read_up_to(f, LARGEST_FILE);
+    fn load([tis, cwr, usage]: [&String; 3], payees: &Option<String>, largest_list: u64) -> Result<Files, ExitCode> {
         Ok(Files {
-            tis: read(&words[0])?,
-            payees: payees.as_ref().map(read).transpose()?,
-            cwr: read(&words[1])?,
-            usage: read_up_to(&words[2], largest_list)?,
+            tis: load(tis, LARGEST_FILE)?,
+            payees: payees.as_ref().map(|path| load(path, LARGEST_FILE)).transpose()?,
+            cwr: load(cwr, LARGEST_FILE)?,
+            usage: load(usage, largest_list)?,
         })
     }
+}
+
+/// The bytes of a file that has at most so many, or why there is no answer.
+fn load(path: &str, most: u64) -> Result<Vec<u8>, ExitCode> {
+    read(path, most).map_err(|_| fail(4, format!("cannot read {path}")))
 }
 
 /// What was read of a file, or why it is refused.
@@ -138,7 +192,7 @@ fn explain_main() -> Result<ExitCode, ExitCode> {
     let Some((words, payees, row)) = explain_words() else {
         return Err(fail(2, "explain --tis F [--payees F] --cwr F --usage F --row N".into()));
     };
-    let mut files = Files::load(&words, &payees, LARGEST_FILE)?;
+    let mut files = Files::load([&words[0], &words[1], &words[2]], &payees, LARGEST_FILE)?;
     let mut table = files.tis.clone();
     let tis = sound("tis", tis::Tis::read(&mut files.tis))?;
     let payees = payees_of(files.payees)?;
@@ -157,7 +211,7 @@ fn check_main() -> Result<ExitCode, ExitCode> {
     let Some((words, payees)) = check_words() else {
         return Err(fail(2, "check --tis F [--payees F] --cwr F --usage F".into()));
     };
-    let files = Files::load(&words, &payees, LARGEST_FILE)?;
+    let files = Files::load([&words[0], &words[1], &words[2]], &payees, LARGEST_FILE)?;
     let table = payees.as_deref().zip(files.payees.as_deref());
     let (text, sound) =
         check::check((&words[0], &files.tis), table, (&words[1], &files.cwr), (&words[2], &files.usage));
@@ -204,27 +258,97 @@ fn read(path: &str, most: u64) -> std::io::Result<Vec<u8>> {
     std::fs::read(path)
 }
 
+/// Prints a table of works or of payees to begin with.
+fn table_main(make: fn(&Submitters) -> Result<Vec<u8>, ExitCode>) -> Result<ExitCode, ExitCode> {
+    let options = Options::of(std::env::args().skip(2), &["cwr"], &[]);
+    let Some(submitters) = options.and_then(|options| options.submitters()) else {
+        return Err(fail(2, "works or parties, and --cwr NAME=F for each of 1 to 256 files".into()));
+    };
+    let table = make(&submitters)?;
+    let mut out = std::io::stdout();
+    match out.write_all(&table).and_then(|()| out.flush()) {
+        Ok(()) => Ok(ExitCode::SUCCESS),
+        Err(_) => Err(fail(4, "cannot write".into())),
+    }
+}
+
 fn main() -> ExitCode {
     let done = match std::env::args().nth(1).as_deref() {
+        Some("explain" | "check") if arguments::name_works() => {
+            Err(fail(2, "explain and check have no --works here".into()))
+        }
         Some("explain") => explain_main(),
         Some("check") => check_main(),
         Some("merge") => merge_main(),
+        Some("works") => table_main(tables::works),
+        Some("parties") => table_main(tables::parties),
         _ => run_main(),
     };
     done.unwrap_or_else(|failed| failed)
 }
 
+/// What a run is over.
+type Inputs = (tis::Tis, cwr::Registry, usage::Usage);
+
+/// The inputs of a run over one file. `lap` is told what ends.
+fn read_one(words: &Words, cwr: &String, lap: &mut impl FnMut(&'static str)) -> Result<Inputs, ExitCode> {
+    let mut files = Files::load([&words.tis, cwr, &words.usage], &words.payees, words.most.bytes)?;
+    lap("load files");
+    let tis = sound("tis", tis::Tis::read(&mut files.tis))?;
+    drop(files.tis);
+    lap("read tis");
+    let payees = payees_of(files.payees)?;
+    let registry = sound("cwr", cwr::Registry::read(&files.cwr, &tis, &payees, ACCOUNTS))?;
+    drop(files.cwr);
+    lap("read cwr");
+    let usage = sound("usage", usage::Usage::read(files.usage, words.most.lines))?;
+    lap("read usage");
+    Ok((tis, registry, usage))
+}
+
+/// The inputs of a run over the files of several submitters. The tables and the usage list are read whole first. CWR files are
+/// read and parsed one by one, once the tables have been.
+fn read_several(
+    words: &Words,
+    works: &str,
+    submitters: &Submitters,
+    lap: &mut impl FnMut(&'static str),
+) -> Result<Inputs, ExitCode> {
+    let mut tis = load(&words.tis, LARGEST_FILE)?;
+    let payees = words.payees.as_ref().map(|path| load(path, LARGEST_FILE)).transpose()?;
+    let mut works = load(works, LARGEST_FILE)?;
+    let usage = load(&words.usage, words.most.bytes)?;
+    lap("load files");
+    let tis = sound("tis", tis::Tis::read(&mut tis))?;
+    let payees = match payees {
+        Some(mut bytes) => sound("payee", payees::read_of(&mut bytes, submitters))?,
+        None => submitters.iter().map(|_| payees::Payees::new()).collect(),
+    };
+    let works = sound("works", works::Works::read(&mut works, submitters))?;
+    lap("tables");
+    let registry = submitters::registry(submitters, &tis, &payees, &works)?;
+    lap("read cwr");
+    let usage = sound("usage", usage::Usage::read(usage, words.most.lines))?;
+    lap("read usage");
+    Ok((tis, registry, usage))
+}
+
 /// Prints the statements of a run.
 fn run_main() -> Result<ExitCode, ExitCode> {
-    let Some((words, payees, times, mode, most)) = words() else {
-        let usage = "run --tis F [--payees F] --cwr F --usage F --workers n --readers n --nodes n [--mode m] [--times] [--whole]";
+    let are_several = arguments::name_works();
+    let Some(words) = (if are_several { words_of_several() } else { words() }) else {
+        let usage = if are_several {
+            "run --tis F --works F [--payees F] --cwr NAME=F.. --usage F --workers n --readers n --nodes n [--mode m] [--times] [--whole]"
+        } else {
+            "run --tis F [--payees F] --cwr F --usage F --workers n --readers n --nodes n [--mode m] [--times] [--whole]"
+        };
         return Err(fail(2, usage.into()));
     };
     let number = |i: usize, most: usize| {
-        words[i].parse().ok().filter(|n: &usize| (1..=most).contains(n))
+        words.plan[i].parse().ok().filter(|n: &usize| (1..=most).contains(n))
     };
     let (Some(workers), Some(readers), Some(nodes)) =
-        (number(3, 8), number(4, 8), number(5, 64))
+        (number(0, 8), number(1, 8), number(2, 64))
     else {
         return Err(fail(2, "workers and readers are 1 to 8, nodes 1 to 64".into()));
     };
@@ -237,21 +361,14 @@ fn run_main() -> Result<ExitCode, ExitCode> {
         last = now;
     };
 
-    let mut files = Files::load(&words, &payees, most.bytes)?;
-    lap("load files");
-    let tis = sound("tis", tis::Tis::read(&mut files.tis))?;
-    drop(files.tis);
-    lap("read tis");
-    let payees = payees_of(files.payees)?;
-    let registry = sound("cwr", cwr::Registry::read(&files.cwr, &tis, &payees, ACCOUNTS))?;
-    drop(files.cwr);
-    lap("read cwr");
-    let usage = sound("usage", usage::Usage::read(files.usage, most.lines))?;
-    lap("read usage");
+    let (tis, registry, usage) = match &words.registrations {
+        Registrations::File(cwr) => read_one(&words, cwr, &mut lap)?,
+        Registrations::Linked(works, submitters) => read_several(&words, works, submitters, &mut lap)?,
+    };
     let reasons: Vec<_> = usage.lines.iter().map(|_| AtomicU8::new(0)).collect();
     let input = split::Input { tis: &tis, registry: &registry, usage: &usage };
     let job = Job { input: &input, reasons: &reasons };
-    let book = job.fill(mode, &Plan { workers, readers, nodes });
+    let book = job.fill(words.mode, &Plan { workers, readers, nodes });
     lap("run");
     let written = std::io::stdout()
         .as_fd()
@@ -261,7 +378,7 @@ fn run_main() -> Result<ExitCode, ExitCode> {
         return Err(fail(4, "cannot write".into()));
     };
     lap("text");
-    if times {
+    if words.times {
         let text = phases.last_mut().unwrap();
         text.1 -= write;
         phases.push(("write", write));

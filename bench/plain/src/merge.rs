@@ -1,6 +1,6 @@
 //! Statement texts merged into one, as one would write it by hand: each is read whole and told apart by payee.
 
-use crate::rows::Fault;
+use crate::rows::{Fault, quoted};
 use std::collections::BTreeMap;
 use std::io::Write;
 
@@ -186,20 +186,4 @@ fn fields(line: &[u8]) -> Option<[Vec<u8>; 4]> {
         return None;
     }
     all.try_into().ok()
-}
-
-/// A field as it is written.
-fn quoted(field: &[u8]) -> Vec<u8> {
-    if !field.iter().any(|byte| b",\"\r\n".contains(byte)) {
-        return field.to_vec();
-    }
-    let mut written = vec![b'"'];
-    for &byte in field {
-        if byte == b'"' {
-            written.push(b'"');
-        }
-        written.push(byte);
-    }
-    written.push(b'"');
-    written
 }

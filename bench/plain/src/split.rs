@@ -3,6 +3,7 @@
 use crate::cwr::{Registry, Share, UNKNOWN};
 use crate::tis::{NONE, Tis};
 use crate::usage::Usage;
+use std::collections::HashMap;
 use std::sync::atomic::{AtomicU8, Ordering::Relaxed};
 
 pub const WORK: u8 = 0;
@@ -40,11 +41,73 @@ struct Entry {
 pub struct Scratch {
     list: Vec<Entry>,
     order: Vec<u32>,
+    kept: HashMap<(u32, u16, u8), Kept>,
 }
+
+/// The claims on a work in a territory for a right: each account's, and what they come to.
+struct Kept {
+    claims: Box<[(u16, u32)]>,
+    sum: u32,
+}
+
+/// A work of more share lines than this, which is one of several registrations, has its claims kept.
+const FEW: usize = 256;
+
+/// What claims come to at most if any of them counts, in hundredths of a per cent.
+const MOST_CLAIMED: u32 = 10_006;
 
 impl Scratch {
     pub fn new() -> Self {
-        Scratch { list: Vec::with_capacity(257), order: Vec::with_capacity(257) }
+        Scratch {
+            list: Vec::with_capacity(257),
+            order: Vec::with_capacity(257),
+            kept: HashMap::new(),
+        }
+    }
+
+    /// Lists the claims of a work's share lines in a territory, given by the rows that contain it,
+    /// for a right, by rising account. Answers what they come to, or the first of their sums that is
+    /// more than the most.
+    #[inline(always)]
+    fn claims(&mut self, shares: &[Share], above: &[u64], right: u8) -> u32 {
+        let mut sum = 0;
+        let mut decided = false;
+        for e in shares {
+            if e.first {
+                decided = false;
+            }
+            if !decided && above[e.tis as usize / 64] >> (e.tis % 64) & 1 == 1 {
+                decided = true;
+                let claim = e.share[right as usize] as u32;
+                if claim != 0 {
+                    sum += claim;
+                    if sum > MOST_CLAIMED {
+                        return sum;
+                    }
+                    match self.list.last_mut() {
+                        Some(l) if l.account == e.account => l.claim += claim,
+                        _ => self.list.push(Entry { account: e.account, claim, ..Entry::default() }),
+                    }
+                }
+            }
+        }
+        sum
+    }
+
+    /// The same of a work of many share lines, where a line has the territory's row: they are gone
+    /// over once, however many usage lines there are.
+    #[cold]
+    fn many_claims(&mut self, work: u32, shares: &[Share], tis: &Tis, row: u16, right: u8) -> u32 {
+        if let Some(kept) = self.kept.get(&(work, row, right)) {
+            let entry = |&(account, claim)| Entry { account, claim, ..Entry::default() };
+            self.list.extend(kept.claims.iter().map(entry));
+            return kept.sum;
+        }
+        let sum = self.claims(shares, tis.above(row), right);
+        let counted = if sum > MOST_CLAIMED { &[] } else { &self.list[..] };
+        let claims = counted.iter().map(|e| (e.account, e.claim)).collect();
+        self.kept.insert((work, row, right), Kept { claims, sum });
+        sum
     }
 
     /// The method of largest remainder over the size of an amount: each entry has its quota rounded
@@ -116,7 +179,7 @@ impl Input<'_> {
         let end = self.usage.lines.len().min(start + BLOCK);
         let mut works = [UNKNOWN; BLOCK];
         for (w, line) in works.iter_mut().zip(&self.usage.lines[start..end]) {
-            *w = self.registry.work(self.usage.work_key(line));
+            *w = self.registry.works.of(self.usage, line);
         }
         let mut shares: [&[Share]; BLOCK] = [&[]; BLOCK];
         for (s, &w) in shares.iter_mut().zip(&works) {
@@ -126,8 +189,8 @@ impl Input<'_> {
             }
         }
         for i in start..end {
-            let shares = (works[i - start] != UNKNOWN).then_some(shares[i - start]);
-            let reason = self.line(i, shares, s, |a, amount| put(a, i as u32, amount));
+            let work = works[i - start];
+            let reason = self.line(i, work, shares[i - start], s, |a, amount| put(a, i as u32, amount));
             reasons[i].store(reason, Relaxed);
         }
     }
@@ -137,41 +200,25 @@ impl Input<'_> {
     fn line(
         &self,
         i: usize,
-        shares: Option<&[Share]>,
+        work: u32,
+        shares: &[Share],
         s: &mut Scratch,
         mut put: impl FnMut(u16, i64),
     ) -> u8 {
         let line = &self.usage.lines[i];
         s.list.clear();
         let mut sum = 0;
-        let reason = match shares {
-            None => WORK,
-            Some(shares) => match self.tis.row(line.territory) {
+        let reason = match work {
+            UNKNOWN => WORK,
+            _ => match self.tis.row(line.territory) {
                 NONE => LAND,
                 row => {
-                    let above = self.tis.above(row);
-                    let mut decided = false;
-                    for e in shares {
-                        if e.first {
-                            decided = false;
-                        }
-                        if !decided && above[e.tis as usize / 64] >> (e.tis % 64) & 1 == 1 {
-                            decided = true;
-                            let claim = e.share[line.right as usize] as u32;
-                            if claim != 0 {
-                                sum += claim;
-                                match s.list.last_mut() {
-                                    Some(l) if l.account == e.account => l.claim += claim,
-                                    _ => s.list.push(Entry {
-                                        account: e.account,
-                                        claim,
-                                        ..Entry::default()
-                                    }),
-                                }
-                            }
-                        }
-                    }
-                    if sum > 10_006 { OVER } else { OPEN }
+                    sum = if shares.len() <= FEW {
+                        s.claims(shares, self.tis.above(row), line.right)
+                    } else {
+                        s.many_claims(work, shares, self.tis, row, line.right)
+                    };
+                    if sum > MOST_CLAIMED { OVER } else { OPEN }
                 }
             },
         };

@@ -1,5 +1,6 @@
 //! The usage list. Texts stay where they are in the file's own buffer.
 
+use crate::cwr::SHORT;
 use crate::rows::{Fault, Field, MOST, Rows, code};
 
 #[derive(Clone, Copy)]
@@ -119,10 +120,10 @@ impl Usage {
     }
 
     /// The work as `cwr::key` makes it, 0 (no work's key) where it is longer
-    /// than any registered one.
+    /// than any work number.
     #[inline]
     pub fn work_key(&self, l: &Line) -> u128 {
-        if l.work_len > 14 {
+        if l.work_len as usize > SHORT {
             return 0;
         }
         let word = self.buf[l.work_at as usize..].first_chunk().unwrap();
