@@ -2,7 +2,7 @@
 in Markdown.
 
     python3 -m bench.bench --program PATH [--lines 1000000] [--works 20000] [--parties 400 16000]
-        [--seed 1] [--repeats 5] [--nodes 64] [--modes] [--phases] [--lanes PATH]
+        [--seed 1] [--repeats 5] [--nodes 64] [--modes] [--phases] [--lanes PATH] [--submitters]
 
 The program runs with each number of workers and of readers, and beside it the plain program's pool
 of linked nodes with the same plan, whose threads tell each other and wait as those of the program
@@ -16,12 +16,17 @@ With --lanes PATH, a build of the program in which a run goes over `LaneMail`, o
 compared: linked nodes, lanes, and the plain program's linked queues, with 1, 2 and 4 workers, 1 and
 2 readers, and 1, 8 and 64 nodes.
 
+With --submitters only runs over one file, and over the same works cut into the files of eight
+submitters, are compared: how long they take, and how long with a usage list without lines, where
+nearly all of the time is that of reading the registrations. The tables link each registration to
+the work of its number and pay each party to the account of its name, so that the statements are the
+same bytes.
+
 The data are made once. Every repeat runs each row once, so that noise hits all alike. Statements go
 to a file, and have to be the same bytes. A time is the best wall time of the repeats, processor
 seconds are those of all threads in that run, the kernel's included, and MB is the greatest peak
 memory; how many times as long one program took as another is worked out from the wall times.
 """
-import argparse
 import os
 import statistics
 import subprocess
@@ -32,13 +37,19 @@ import time
 from tools import plain
 from tools.crates import ROOT
 from tools.large_inputs import FILES
+from tools.made_up import files_in
+from tools.made_up_submitters import cut
 from tools.measuring import commit, digest_of, load, machine, run_measured
-from tools.running import program_at
+from tools.running import parser_of_program, program_at, words_of, written
+from tools.submitters import table, written_options
 
 PLANS = [(workers, readers) for workers in (1, 2, 4, 8) for readers in (1, 2, 4)] + [(8, 8)]
 
 # The plain program's mode that does as the program does, with which each plan is compared.
 MODE = "parked"
+
+# Into whose files the works of one file are cut.
+SUBMITTERS = [f"S{n}" for n in range(8)]
 
 
 class Row:
@@ -117,6 +128,66 @@ def compare_mailboxes(a, parties, plain_program):
         return 1
     print("the statements are the same bytes")
     return 0
+
+
+def words_of_submitters(folder):
+    """The words of runs over data in a folder, by how many files have the registrations and whether
+    there are usage lines."""
+    tis, cwr, usage = files_in(folder)
+    submitted = cut(tis, cwr, usage, SUBMITTERS)
+    words = {}
+    for has_lines in (True, False):
+        listed = usage if has_lines else table("usage", [])
+        room = os.path.join(folder, "whole" if has_lines else "empty")
+        paths = written(room, dict(zip(("tis", "cwr", "usage"), (tis, cwr, listed))))
+        one = words_of("", "run", zip(("tis", "cwr", "usage"), paths))[1:]
+        submitted.tables["usage"] = listed
+        options = written_options(os.path.join(room, "submitters"), submitted)
+        words[1, has_lines] = one
+        words[len(SUBMITTERS), has_lines] = words_of("", "run", options)[1:]
+    return words
+
+
+def compare_submitters(a, parties, plain_program):
+    """Compares runs over one file and over those of several submitters, in a table."""
+    programs = {"program": [a.program], "plain": [plain_program, "--mode", MODE]}
+    plans = (1, 1), (4, 2)
+    before = load()
+    with tempfile.TemporaryDirectory() as folder:
+        make_data(a, parties, folder)
+        listed = words_of_submitters(folder)
+        rows = {(name, plan, *key): Row(f"{name} {plan} {key}", [
+            command[0], *with_plan(words, *plan, a.nodes), *command[1:]])
+            for name, command in programs.items() for plan in plans
+            for key, words in listed.items()}
+        for _ in range(a.repeats):
+            for row in rows.values():
+                row.run(folder)
+    print(f"{time.strftime('%Y-%m-%d')}, commit {commit()}, {machine()}, "
+          f"load {before:.1f} to {load():.1f}.")
+    print(f"{a.lines:,} usage lines of {a.works:,} works, {parties:,} parties, best of "
+          f"{a.repeats}; seconds with one file and with {len(SUBMITTERS)}.\n")
+    heads = [f"{name}{more}" for name in programs for more in (" 1 file", " 8 files", " MB")]
+    print(row_of(["workers x readers", *heads]))
+    print("|" + "---|" * (len(heads) + 1))
+    for plan in plans:
+        for has_lines in (True, False):
+            pairs = [(rows[name, plan, 1, has_lines], rows[name, plan, len(SUBMITTERS), has_lines])
+                     for name in programs]
+            title = "{} x {}".format(*plan) + ("" if has_lines else ", to read")
+            print(row_of([title, *(cell for pair in pairs for cell in cells_of_two(*pair))]))
+    digests = {(row.digest, key[-1]) for key, row in rows.items()}
+    print("\nThe statements are the same bytes." if len(digests) == 2 else
+          "\nthe statements differ")
+    return 0 if len(digests) == 2 else 1
+
+
+def cells_of_two(one, several):
+    """What a table says of runs over one file and over several: both times, how many times as long
+    the second one took, and the peak memory of both."""
+    times_as_long = several.wall / one.wall
+    return [f"{one.wall:.3f}", f"{several.wall:.3f} ({times_as_long:.2f} times)",
+            f"{one.memory:.0f}, {several.memory:.0f}"]
 
 
 class Measured:
@@ -244,9 +315,7 @@ def print_modes(measured):
 
 def options():
     """The options as they were given."""
-    parser = argparse.ArgumentParser(prog="bench.bench", description=__doc__,
-                                     formatter_class=argparse.RawDescriptionHelpFormatter)
-    parser.add_argument("--program", required=True, type=program_at)
+    parser = parser_of_program("bench.bench", __doc__)
     parser.add_argument("--lines", type=int, default=1_000_000)
     parser.add_argument("--works", type=int, default=20_000)
     parser.add_argument("--parties", type=int, nargs="+", default=[400, 16_000])
@@ -257,6 +326,8 @@ def options():
                         help="the plain program's other modes, and without hints")
     parser.add_argument("--phases", action="store_true", help="those of the plain program")
     parser.add_argument("--lanes", type=program_at, help="a build of the program over lanes")
+    parser.add_argument("--submitters", action="store_true",
+                        help="one file, and the same works cut into eight")
     return parser.parse_args()
 
 
@@ -266,6 +337,8 @@ def main():
     no_hints = plain.build("target/no_hints", "--no-default-features") if a.modes else None
     if a.lanes:
         return max(compare_mailboxes(a, parties, plain_program) for parties in a.parties)
+    if a.submitters:
+        return max(compare_submitters(a, parties, plain_program) for parties in a.parties)
     before = load()
     measured = []
     for parties in a.parties:

@@ -23,7 +23,7 @@ import time
 from bench.bench import make_data, postings_in, row_of, with_plan
 from tools import plain
 from tools.measuring import commit, digest_of, load, machine, run_measured
-from tools.running import program_at
+from tools.running import parser_of_program
 
 # The plans, each with how many times the plain program's time it may take there.
 PLANS = {(1, 1): 3, (2, 1): 3, (4, 2): 3, (8, 8): 8}
@@ -145,9 +145,7 @@ def measure_short(a, plain_program):
 
 def options():
     """The options as they were given."""
-    parser = argparse.ArgumentParser(prog="bench.busy", description=__doc__,
-                                     formatter_class=argparse.RawDescriptionHelpFormatter)
-    parser.add_argument("--program", required=True, type=program_at)
+    parser = parser_of_program("bench.busy", __doc__)
     parser.add_argument("--lines", type=int, default=1_000_000)
     parser.add_argument("--works", type=int, default=20_000)
     parser.add_argument("--parties", type=int, default=400)

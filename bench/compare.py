@@ -2,6 +2,7 @@
 answer.
 
     python3 -m bench.compare --program PATH [--cases 2000] [--explained 3] [--checked 1] [--seed 1]
+    python3 -m bench.compare --program PATH --submitters [--cases 2000] [--seed 1]
 
 Half of the inputs are small. The others are realistic, with up to 2,000 parties and 6,000 usage
 lines, so that some of them are read in parts. Half have a table of payees.
@@ -12,18 +13,23 @@ be a row of the statements. And it compares the reports of `check`: half of them
 were spoilt further, a quarter over usage lists with many lines of unknown works and territories.
 What a run is refused for has to be the first fault of the report, and where a run gives statements
 the report has no fault.
+
+With --submitters each case has the files of one to five submitters, and a third of the cases have a
+table, a file or the names of submitters damaged. Compared are a run, the tables that `works` and
+`parties` print, and a run over these tables, which may not be refused for them. Where both programs
+refuse the words (status 2), their messages may differ.
 """
-import argparse
 import os
 import random
 import sys
 import tempfile
 
-from tools import plain
-from tools.comparing import contradicts, csv_rows, first_difference, missing
+from tools import made_up_submitters, plain
+from tools.comparing import alike, contradicts, csv_rows, first_difference, missing, refuses_tables
 from tools.made_up import case
-from tools.running import NAMES, program_at, run, run_options, words_of, written
+from tools.running import NAMES, parser_of_program, run, run_options, words_of, written
 from tools.spoilt import all_spoilt, strange
+from tools.submitters import over_tables, written_options
 
 
 def data_rows(path):
@@ -42,7 +48,7 @@ class Comparison:
         self.programs = program, plain_program
         self.seed = seed
         self.statuses = {}
-        self.rows = self.explained = self.checked = self.faulty = self.differing = 0
+        self.rows = self.explained = self.checked = self.faulty = self.begun = self.differing = 0
 
     def both(self, command, options):
         """The outcomes of a command, ours and the plain program's."""
@@ -108,29 +114,66 @@ class Comparison:
                 paths = written(os.path.join(folder, "strange"), strange(rng, files))
             self.compare_report(number, place, paths, plan)
 
+    def compare_submitted(self, number, folder, command, options):
+        """Compares a command over the files of submitters; what our program answers."""
+        ours, theirs = self.both(command, options)
+        if not alike(ours, theirs):
+            words = " ".join(words_of("", command, options))
+            self.tell(number, f" differs,{words.replace(folder, '')}: "
+                              f"{first_difference(ours, theirs)}")
+        return ours
+
+    def compare_submitters(self, number, folder):
+        """Compares all answers on one case with the files of several submitters."""
+        rng = random.Random(self.seed * 1_000_003 + number)
+        submitted = made_up_submitters.case(rng, os.path.join(folder, "made"))
+        plan = rng.randint(1, 8), rng.randint(1, 8), rng.randint(1, 64)
+        options = written_options(folder, submitted, plan)
+        if rng.random() < 0.05:
+            options = made_up_submitters.with_wrong_words(rng, options)
+        ours = self.compare_submitted(number, folder, "run", options)
+        self.statuses[ours[0]] = self.statuses.get(ours[0], 0) + 1
+        self.rows += ours[1].count(b"\n")
+        files = [option for option in options if option[0] == "cwr"]
+        tables = [self.compare_submitted(number, folder, command, files)
+                  for command in ("works", "parties")]
+        if any(status for status, _, _ in tables):
+            return
+        works, payees = (printed for _, printed, _ in tables)
+        ours = self.compare_submitted(number, folder, "run",
+                                      over_tables(folder, options, works, payees))
+        self.begun += 1
+        if refuses_tables(ours):
+            self.tell(number, f": tables to begin with are refused: {ours[2]!r}")
+
     def summary(self, cases):
         """What was compared, and how much of it differs."""
         counts = sorted(self.statuses.items())
         by_status = ", ".join(f"{count} with status {status}" for status, count in counts)
-        return (f"{cases} cases ({by_status}; {self.rows} rows, {self.explained} lines explained, "
+        begun = f"{self.begun} runs over tables to begin with, " if self.begun else ""
+        return (f"{cases} cases ({by_status}; {self.rows} rows, {begun}"
+                f"{self.explained} lines explained, "
                 f"{self.checked} reports compared, {self.faulty} of them told of a fault): "
                 f"{self.differing} differ")
 
 
 def main():
-    parser = argparse.ArgumentParser(prog="bench.compare", description=__doc__,
-                                     formatter_class=argparse.RawDescriptionHelpFormatter)
-    parser.add_argument("--program", required=True, type=program_at)
+    parser = parser_of_program("bench.compare", __doc__)
     parser.add_argument("--cases", type=int, default=2000)
     parser.add_argument("--explained", type=int, default=3,
                         help="usage lines explained in each case")
     parser.add_argument("--checked", type=int, default=1, help="reports on each case")
     parser.add_argument("--seed", type=int, default=1)
+    parser.add_argument("--submitters", action="store_true",
+                        help="cases with the files of several submitters")
     a = parser.parse_args()
     comparison = Comparison(a.program, plain.build(), a.seed)
     with tempfile.TemporaryDirectory() as folder:
         for number in range(a.cases):
-            comparison.compare_case(number, folder, a.explained, a.checked)
+            if a.submitters:
+                comparison.compare_submitters(number, folder)
+            else:
+                comparison.compare_case(number, folder, a.explained, a.checked)
     print(comparison.summary(a.cases))
     return 1 if comparison.differing else 0
 

@@ -1,30 +1,35 @@
 """Runs the program and the plain Rust one on damaged files, and compares what they answer.
 
     python3 -m bench.fuzz --program PATH [--cases 100000] [--seed 1] [--jobs 2] [--seconds 60]
-        [--keep FOLDER]
-    python3 -m bench.fuzz --program PATH --only N [--seed 1] [--keep FOLDER]
+        [--submitters] [--keep FOLDER]
+    python3 -m bench.fuzz --program PATH --only N [--seed 1] [--submitters] [--keep FOLDER]
 
 A case starts from the example files, from small made-up inputs, or from small ones of a realistic
 shape; half of the cases have a table of payees. One to three files of each are damaged, one to six
 times each: cut off, or with bytes, fields or lines left out, doubled, swapped, changed, or put in
 from elsewhere or from another file.
 
+With --submitters each case has the files of one to five submitters, which are damaged in the same
+way. Beside a run, the tables that `works` and `parties` print are compared, and of words that are
+refused (status 2) the status alone.
+
 The same seed and number give the same case, so a case that differs can be run again alone: its
 files are left in a folder of their own below FOLDER, and the two commands are printed. A run that
 takes longer than --seconds counts as one that differs.
 """
-import argparse
 import multiprocessing
 import os
 import random
 import sys
 import tempfile
 
-from tools import plain, small_inputs
+from tools import made_up_submitters, plain, small_inputs
+from tools.comparing import alike
 from tools.damage import in_bytes, in_fields, in_lines
 from tools.large_inputs import generate
 from tools.made_up import example, files_in, parties_of
-from tools.running import NAMES, program_at, run, run_options, words_of, written
+from tools.running import NAMES, parser_of_program, run, run_options, words_of, written
+from tools.submitters import written_options
 
 
 def payees_of(rng, registrations):
@@ -68,45 +73,67 @@ def case(seed, number, folder):
     return files, (rng.randint(1, 8), rng.randint(1, 8), rng.choice([1, 2, 3, 8, 64]))
 
 
+def commands(a, number, room, folder):
+    """The commands of a case with their options. Its files are written to a folder."""
+    if a.submitters:
+        rng = random.Random(a.seed * 1_000_003 + number)
+        submitted = made_up_submitters.fuzzed(rng, room)
+        plan = rng.randint(1, 8), rng.randint(1, 8), rng.choice([1, 2, 3, 8, 64])
+        options = written_options(folder, submitted, plan)
+        files = [option for option in options if option[0] == "cwr"]
+        return [("run", options), ("works", files), ("parties", files)]
+    files, plan = case(a.seed, number, room)
+    paths = written(folder, dict(zip(NAMES, files)))
+    return [("run", run_options(paths, plan))]
+
+
+def end_of(outcome):
+    """How a run ended, in words."""
+    status, _, message = outcome
+    if not status:
+        return "statements"
+    if status == 2:
+        return "words refused"
+    return message.decode("ascii", "replace").split(" at ")[0].strip()
+
+
 def run_part(part):
     """Runs each jobs-th case, and answers how they ended and those that differ."""
     a, program, plain_program, first = part
     ends, differing = {}, []
     with tempfile.TemporaryDirectory() as folder:
         for number in range(first, a.cases, a.jobs):
-            files, plan = case(a.seed, number, folder)
-            paths = written(folder, dict(zip(NAMES, files)))
-            options = run_options(paths, plan)
-            ours, theirs = (run(words_of(it, "run", options), a.seconds)
-                            for it in (program, plain_program))
-            end = "statements"
-            if ours[0]:
-                end = ours[2].decode("ascii", "replace").split(" at ")[0].strip()
-            ends[end] = ends.get(end, 0) + 1
-            if ours != theirs:
-                differing.append((number, ours, theirs))
+            for command, options in commands(a, number, folder, folder):
+                ours, theirs = (run(words_of(it, command, options), a.seconds)
+                                for it in (program, plain_program))
+                if command == "run":
+                    end = end_of(ours)
+                    ends[end] = ends.get(end, 0) + 1
+                if not alike(ours, theirs):
+                    differing.append((number, command, ours, theirs))
     return ends, differing
 
 
 def keep(a, programs, number):
     """Leaves the files of a case, and says how to run it again."""
-    folder = os.path.join(os.path.abspath(a.keep), f"case_{a.seed}_{number}")
+    name = f"submitters_{a.seed}_{number}" if a.submitters else f"case_{a.seed}_{number}"
+    folder = os.path.join(os.path.abspath(a.keep), name)
     with tempfile.TemporaryDirectory() as room:
-        files, plan = case(a.seed, number, room)
-    paths = written(folder, dict(zip(NAMES, files)))
-    for program in programs:
-        print("  " + " ".join(words_of(program, "run", run_options(paths, plan))))
+        asked = commands(a, number, room, folder)
+    for command, options in asked:
+        for program in programs:
+            print("  " + " ".join(words_of(program, command, options)))
 
 
 def main():
-    parser = argparse.ArgumentParser(prog="bench.fuzz", description=__doc__,
-                                     formatter_class=argparse.RawDescriptionHelpFormatter)
-    parser.add_argument("--program", required=True, type=program_at)
+    parser = parser_of_program("bench.fuzz", __doc__)
     parser.add_argument("--cases", type=int, default=100_000)
     parser.add_argument("--seed", type=int, default=1)
     parser.add_argument("--jobs", type=int, default=2)
     parser.add_argument("--seconds", type=int, default=60)
     parser.add_argument("--only", type=int)
+    parser.add_argument("--submitters", action="store_true",
+                        help="cases with the files of several submitters")
     parser.add_argument("--keep", default=os.path.join(tempfile.gettempdir(), "royalty_fuzz"))
     a = parser.parse_args()
     programs = a.program, plain.build()
@@ -122,8 +149,8 @@ def main():
         differing += part_differing
     for end, count in sorted(ends.items(), key=lambda e: -e[1]):
         print(f"{count:8} {end}")
-    for number, ours, theirs in sorted(differing)[:20]:
-        print(f"case {number} of seed {a.seed} differs: {ours[0]} {ours[2]!r} and "
+    for number, command, ours, theirs in sorted(differing)[:20]:
+        print(f"case {number} of seed {a.seed} differs, {command}: {ours[0]} {ours[2]!r} and "
               f"{theirs[0]} {theirs[2]!r}; its files and commands:")
         keep(a, programs, number)
     print(f"{a.cases} cases of seed {a.seed}: {len(differing)} differ")

@@ -8,7 +8,6 @@ of this is done as often as --times says. Both programs run in turn, so that noi
 Shown is the best wall time of a posting in nanoseconds, with the start of the threads and what
 opens a pool in it.
 """
-import argparse
 import os
 import subprocess
 import sys
@@ -16,7 +15,7 @@ import time
 
 from tools import plain
 from tools.measuring import load
-from tools.running import program_at
+from tools.running import parser_of_program
 
 POSTS = 1_000_000
 
@@ -46,9 +45,7 @@ def nanoseconds(name, program, words, times):
 
 
 def main():
-    parser = argparse.ArgumentParser(prog="bench.mail", description=__doc__,
-                                     formatter_class=argparse.RawDescriptionHelpFormatter)
-    parser.add_argument("--program", required=True, type=program_at)
+    parser = parser_of_program("bench.mail", __doc__)
     parser.add_argument("--times", type=int, default=5)
     parser.add_argument("--repeats", type=int, default=5)
     a = parser.parse_args()

@@ -7,7 +7,6 @@ program's text of the whole list. A third of all cases is also merged with one o
 the plain program and the program have to say the same, and where the merge is refused nothing may
 be printed.
 """
-import argparse
 import os
 import random
 import sys
@@ -16,7 +15,7 @@ import tempfile
 from tools import plain
 from tools.damage import damaged
 from tools.made_up import realistic, small
-from tools.running import NAMES, program_at, run, run_options, words_of, written
+from tools.running import NAMES, parser_of_program, run, run_options, words_of, written
 
 
 def parts_of(rng, usage):
@@ -101,8 +100,7 @@ def come_to(rng, program, plain_program, folder, texts, whole):
 
 
 def main():
-    parser = argparse.ArgumentParser(prog="bench.merges", description=__doc__)
-    parser.add_argument("--program", required=True, type=program_at)
+    parser = parser_of_program("bench.merges", __doc__)
     parser.add_argument("--cases", type=int, default=300)
     parser.add_argument("--seed", type=int, default=1)
     a = parser.parse_args()

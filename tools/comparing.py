@@ -8,6 +8,9 @@ import re
 
 from tools.running import NAMES
 
+# The limits that tables to begin with may pass.
+LIMITS = re.compile(rb"payee fault 4\n|works fault (?:[68]|7 at row \d+)\n")
+
 REFUSED = re.compile(rb"(tis|payee|cwr|usage) fault (\d+)(?: at (row|line) (\d+))?\n")
 
 
@@ -39,6 +42,21 @@ def contradicts(report, paths, refusal):
     begins = first.startswith(path.encode() + b": " + subject)
     ends = first.endswith(b" (fault " + number + b")")
     return status != 1 or message != b"" or not (begins and ends)
+
+
+def alike(ours, theirs):
+    """Whether two outcomes are the same. Of refused words only the status is, and that nothing was
+    printed: each program has a text of its own for them."""
+    if ours[0] == theirs[0] == 2:
+        return ours[1] == theirs[1] == b""
+    return ours == theirs
+
+
+def refuses_tables(outcome):
+    """Whether a run over tables to begin with is refused for these, and not for a limit."""
+    status, _, message = outcome
+    is_of_table = message.startswith((b"payee ", b"works ", b"cwr "))
+    return status == 1 and is_of_table and not LIMITS.fullmatch(message)
 
 
 def first_difference(ours, theirs):

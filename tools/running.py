@@ -15,6 +15,14 @@ def program_at(path):
     return whole
 
 
+def parser_of_program(name, text):
+    """A parser of the words of a script that tries a program, which is given by its path."""
+    parser = argparse.ArgumentParser(prog=name, description=text,
+                                     formatter_class=argparse.RawDescriptionHelpFormatter)
+    parser.add_argument("--program", required=True, type=program_at)
+    return parser
+
+
 def run_options(paths, plan):
     """The options of a run: its files, and its workers, readers and nodes."""
     return [*zip(NAMES, paths), *zip(("workers", "readers", "nodes"), plan)]

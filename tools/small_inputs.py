@@ -69,8 +69,11 @@ def payees(rng, parties=PARTIES):
     return "\n".join(rows) + rng.choice(["\n", ""])
 
 
-def usage(rng):
-    """A list of up to 12 usage lines, some of them reversals of the line before."""
+def usage(rng, works=(*WORKS, "W9")):
+    """A list of up to 12 usage lines, some of them reversals of the line before.
+
+    The names of the works are put in as they stand in the list.
+    """
     rows = ["usage,work,territory,right,amount"]
     for n in range(rng.randint(0, 12)):
         name = rng.choice([f"u{n}", '"a ""b"", c"', "x y", "u" * 64])
@@ -80,6 +83,6 @@ def usage(rng):
             before, amount = rows[-1].rsplit(",", 1)
             rows.append(f"{before},{amount[1:] if amount.startswith('-') else '-' + amount}")
             continue
-        rows.append(f"{name},{rng.choice(WORKS + ['W9'])},{rng.choice(CODES + [1])},"
+        rows.append(f"{name},{rng.choice(works)},{rng.choice(CODES + [1])},"
                     f"{rng.choice('PMS')},{sign}{amount}")
     return "\n".join(rows) + rng.choice(["\n", ""])

@@ -1,7 +1,10 @@
 """Spoils files in the ways that `check` has words for: wrong fields, doubled rows, wrong headers.
 
-The files of a case are given by the names of their options.
+The files of a case are given by the names of their options. A table of payees by submitter, which
+has the same option as one of one file, is called SUBMITTED.
 """
+SUBMITTED = "payees by submitter"
+
 # What a field is changed to in any column.
 ODD = [b"", b" ", b"x" * 70, b"caf\xc3\xa9", b"\xc3", b"a\tb", b"\x00", b"\x7f", b"'", b"\\x41",
        b'"x"']
@@ -13,10 +16,15 @@ WRONG = {
     "usage": [(-5, []), (-4, []), (-3, [b"0", b"DE", b"00276"]), (-2, [b"p", b"PM"]),
               (-1, [b"12x4", b"+1", b"1.00", b"1000000000001", b"-1000000000001", b"-"])],
     "payees": [(-2, [b"A", b" A "]), (-1, [])],
+    "works": [(-4, [b"W1", b" W1", b"w" * 65]), (-3, [b"A", b" A", b"a", b"B", b"NOBODY"]),
+              (-2, [b"W1", b" W1 ", b"1" * 14, b"1" * 15]), (-1, [])],
+    SUBMITTED: [(-4, [b"A", b"A ", b"b", b"B", b"NOBODY"]), (-3, [b"A", b" A "]),
+                (-2, [b"A:A", b"w" * 65]), (-1, [])],
 }
 
 HEADERS = {"tis": b"code,groups", "usage": b"usage,work,territory,right,amount",
-           "payees": b"party,payee"}
+           "payees": b"party,payee", "works": b"work,submitter,number,title",
+           SUBMITTED: b"submitter,party,payee,name"}
 
 # Works that no registration has.
 UNKNOWN = [b"X%d" % n for n in range(40)]
