@@ -22,7 +22,7 @@ PROGRAM = unproved.PROGRAM
 REFUSED_CALLS = "refusal_runs"
 REPLAY = "queue_replay"
 
-# The most seconds that a driver takes.
+# The most seconds that a driver takes, or a test function.
 MOST_SECONDS = 600
 
 # How many inputs are compared with the plain program's answers.
@@ -36,11 +36,13 @@ class Failed(Exception):
 class Step:
     """A step: its name, what it does, the steps before it, and the crates that it concerns.
 
-    A step that concerns no crate is left out where crates are named.
+    A step that concerns no crate is left out where crates are named. One that is alone runs beside
+    no other: its threads hand over to each other thousands of times, and beside builds each of
+    these would wait for a slice of the builds' time.
     """
 
-    def __init__(self, name, act, after=(), of=()):
-        self.name, self.act, self.after, self.of = name, act, after, of
+    def __init__(self, name, act, after=(), of=(), alone=False):
+        self.name, self.act, self.after, self.of, self.alone = name, act, after, of, alone
 
 
 def ran(words, **how):
@@ -116,7 +118,7 @@ def run_spoilt_schedule(name):
 def run_tests(name):
     """Runs a crate's test functions, by the kit's runner."""
     runner = os.path.join(unproved.kit(), "bin", "rattle-test")
-    ran([runner, "--seconds", "180", unproved.build(name, tests=True)])
+    ran([runner, "--seconds", str(MOST_SECONDS), unproved.build(name, tests=True)])
 
 
 def python(*words):
@@ -135,11 +137,20 @@ def compared(module):
     return lambda: ran([*words, unproved.build(PROGRAM)])
 
 
+def steps_of_tests(name):
+    """The steps of a crate's test functions: their build, and then they by themselves."""
+    build = f"build of the tests of {name}"
+    return [
+        Step(build, lambda: unproved.build(name, tests=True), of=(name,)),
+        Step(f"tests of {name}", lambda: run_tests(name), (build,), (name,), alone=True),
+    ]
+
+
 def steps_of(listed):
     """All steps, the longest first."""
     tested = [it for it in listed if has_tests(it)]
     drivers = [it for it in listed if is_program(it)]
-    steps = [Step(f"tests of {it}", lambda it=it: run_tests(it), of=(it,)) for it in tested]
+    steps = [step for it in tested for step in steps_of_tests(it)]
     steps += [Step(f"build of {it}", lambda it=it: unproved.build(it), of=(it,)) for it in drivers]
     steps += [Step(it, lambda it=it: run_driver(it), (f"build of {it}",), (it,)) for it in drivers]
     built = (f"build of {PROGRAM}",)
@@ -184,8 +195,17 @@ def timed(step):
     return time.time() - began, why
 
 
+def may_begin(step, passed, under_way, waiting, jobs):
+    """Whether a step may begin now: a step that is alone begins when nothing else can or does."""
+    if not set(step.after) <= passed:
+        return False
+    if step.alone:
+        return not under_way and all(it.alone for it in waiting)
+    return len(under_way) < jobs
+
+
 def run(steps, jobs, say=print):
-    """Runs steps, so many at once, each when those before it have passed.
+    """Runs steps, so many at once, each when those before it have passed, and last those alone.
 
     The answer is the names of those that failed, or were left since one before them failed.
     """
@@ -196,8 +216,8 @@ def run(steps, jobs, say=print):
                 waiting.remove(step)
                 failed.add(step.name)
                 say(f"NOT RUN         {step.name}")
-            for step in [it for it in waiting if set(it.after) <= passed]:
-                if len(under_way) < jobs:
+            for step in list(waiting):
+                if may_begin(step, passed, under_way, waiting, jobs):
                     waiting.remove(step)
                     under_way[pool.submit(timed, step)] = step
             for future in wait(under_way, return_when=FIRST_COMPLETED).done:

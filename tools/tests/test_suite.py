@@ -72,6 +72,29 @@ class Run(unittest.TestCase):
         self.ended([Step(str(n), act) for n in range(6)], jobs=2)
         self.assertLessEqual(max(most), 2)
 
+    def test_a_step_that_is_alone_runs_beside_no_other(self):
+        now, most = set(), {}
+
+        def acts(name):
+            def act():
+                now.add(name)
+                time.sleep(0.02)
+                most[name] = len(now)
+                now.remove(name)
+
+            return act
+
+        steps = [Step("first alone", acts("first alone"), alone=True)]
+        steps += [Step(name, acts(name)) for name in "abcd"]
+        steps += [Step("last alone", acts("last alone"), ("a",), alone=True)]
+        self.assertEqual(self.ended(steps, jobs=4)[0], set())
+        self.assertEqual((most["first alone"], most["last alone"]), (1, 1))
+        self.assertGreater(max(most.values()), 1)
+
+    def test_a_step_that_is_alone_does_not_run_after_a_failure(self):
+        steps = [Step("build", failing), Step("tests", lambda: None, ("build",), alone=True)]
+        self.assertEqual(self.ended(steps)[0], {"build", "tests"})
+
 
 class Spoilt(unittest.TestCase):
     """Tables with a wrong answer."""
