@@ -1,2 +1,5 @@
+pub mod FewLemmas
+pub mod FirstLemmas
 pub mod LinkedLemmas
 pub mod LinkRows
+pub mod NameLemmas

@@ -1,5 +1,5 @@
 -- The rows of a table of works.
-use Rattle.std.proofs.Common.{◌≡◌, ◌∙◌, ◌<◌, ◌≤◌, ◌∷◌, ◌++◌, [], ℕ, true, false, List, All, Contains, ap, arith, get_or, inl, inr, length, map, nat_eq, refl, subst, sym}
+use Rattle.std.proofs.Common.{◌≡◌, ◌∙◌, ◌<◌, ◌≤◌, ◌∷◌, ◌++◌, [], ℕ, true, false, List, All, Contains, ap, arith, get_or, inl, inr, length, length-append, map, nat_eq, refl, subst, sym}
 use Rattle.std.specs.Cmp.Lexicographic.{pointwise}
 use Rattle.std.specs.List.{list_any}
 use Rattle.std.proofs.lemmas.Bool.{cases_Bool, false_from_ne_true, false≢true}
@@ -12,7 +12,10 @@ use Rattle.cwr_share.proofs.PartyLemmas.{contains_cases, contains_later}
 use Rattle.linked_works.specs.Linked as linked
 use Rattle.linked_works.specs.Rows.{AreLinks, key_of, links_by}
 use Rattle.linked_works.specs.Submitters.{IsNameByte, IsSubmitter}
-use Rattle.linked_works.specs.WorksTable.{IsLinked}
+use Rattle.linked_works.specs.WorksTable.{IsFaultOfRow, IsLinked, IsWorksRow}
+use Rattle.linked_works.specs.declared.works_fault.WorksFault.{WorksFault}
+use Rattle.linked_works.specs.declared.works_fault.WorksFault.TheVariants.{Csv, Work, Submitter, Number, Twice, Rows, Many, Accounts, Memory}
+use Rattle.linked_works.specs.declared.TheConstants.{MOST_LINKS}
 use Rattle.linked_works.specs.declared.linking.Link.{Link}
 
 -- a key that is not among others is not found among them
@@ -23,11 +26,12 @@ fresh_key (first ∷ keys) key new =
     (fresh_key keys key (λ later. new (contains_later first keys key later)))
 
 -- one more link
-pub links_added : (names : List (List ℕ)) (links : List Link) (keys : List (List ℕ)) (link : Link) (key : List ℕ) → AreLinks names links keys → link.submitter < length names
+pub links_added : (names : List (List ℕ)) (links : List Link) (keys : List (List ℕ)) (link : Link) (key : List ℕ) → AreLinks names links keys → length links < MOST_LINKS → link.submitter < length names
     → length link.work ≤ MOST_WORK_NAME_BYTES → key ≡ qualified (get_or names link.submitter []) link.number → AreLinks names (links ++ link ∷ []) (keys ++ key ∷ [])
-links_added names links keys link key are known work is = record {
+links_added names links keys link key are room known work is = record {
   submitters = are.submitters;
   once = are.once;
+  few = omega (arith, room, length-append links (link ∷ []));
   known = All-push (λ (link : Link). link.submitter < length names) links link are.known known;
   works = All-push (λ (link : Link). length link.work ≤ MOST_WORK_NAME_BYTES) links link are.works work;
   keys_of =
@@ -77,6 +81,22 @@ one_registration (byte ∷ name) (first ∷ other) number text plain plain_other
     let (names, numbers) = one_registration name other number text (All-tail (λ byte. ¬ (byte ≡ 58)) byte name plain) (All-tail (λ byte. ¬ (byte ≡ 58)) first other plain_other) rest in
     let head : byte ≡ first = cc same in
     (cc (head, names), numbers)
+
+-- what stands behind the names of submitters is of one of them, and is one text
+pub of_one_submitter : (name other number text : List ℕ) → IsSubmitter name → IsSubmitter other → qualified name number ≡ qualified other text → (name ≡ other) × (number ≡ text)
+of_one_submitter name other number text is also = one_registration name other number text (no_colon name is) (no_colon other also)
+
+-- no row that is a link is refused
+pub not_refused : (names : List (List ℕ)) (earlier : List linked.Link) (number : ℕ) (row : List (List ℕ)) (fault : WorksFault) → IsWorksRow names earlier row → ¬ IsFaultOfRow names earlier number row fault
+not_refused names earlier number row (Csv n) good refused = refused.1 good.whole
+not_refused names earlier number row (Work n) good refused = refused.2 good.work
+not_refused names earlier number row (Submitter n) good refused = refused.3 good.submitter
+not_refused names earlier number row (Number n) good refused = refused.4 good.number
+not_refused names earlier number row (Twice n) good refused = good.new refused.5
+not_refused names earlier number row Rows good refused = refused
+not_refused names earlier number row (Many n) good refused = refused
+not_refused names earlier number row Accounts good refused = refused
+not_refused names earlier number row Memory good refused = refused
 
 -- a key among those of links is that of a link
 module _ (names : List (List ℕ)) (links : List Link) (keys : List (List ℕ)) (are : AreLinks names links keys) (name number : List ℕ) (named : Contains names name) where

@@ -1,4 +1,6 @@
 pub mod Submitters
 pub mod Linked
 pub mod WorksTable
+pub mod SubmitterPayees
+pub mod ManyPayees
 pub mod Rows

@@ -8,6 +8,7 @@ use Rattle.cwr_share.specs.declared.numbers.TheConstants.{MOST_WORK_NAME_BYTES}
 use Rattle.linked_works.specs.Linked as linked
 use Rattle.linked_works.specs.Submitters.{IsSubmitter}
 use Rattle.linked_works.specs.declared.linking.Link.{Link}
+use Rattle.linked_works.specs.declared.TheConstants.{MOST_LINKS}
 
 -- the texts of names
 abbrev pub names_by : List (Vec ℕ Global) → List (List ℕ)
@@ -28,15 +29,21 @@ pub record Table : Type 0 where
   pub names : List (List ℕ)
   pub links : List linked.Link
 
+-- a table of their payees: the names of the submitters, and the payee of each party that has a row
+pub record PayeesBy : Type 0 where
+  pub names : List (List ℕ)
+  pub rows : List (List ℕ × List ℕ)
+
 -- the text that a registration is known by
 abbrev pub key_of : linked.Link → List ℕ
 key_of link = qualified link.submitter link.number
 
--- Links, of which each is of one of the submitters and has a name that is no longer than that of a usage line's work; and the
--- keys of their registrations.
+-- Links, no more than a table has, of which each is of one of the submitters and has a name that is no longer than that of a
+-- usage line's work; and the keys of their registrations.
 pub record AreLinks (names : List (List ℕ)) (links : List Link) (keys : List (List ℕ)) : Type 0 where
   pub submitters : All IsSubmitter names
   pub once : AllPairs (λ name later. ¬ (name ≡ later)) names
+  pub few : length links ≤ MOST_LINKS
   pub known : All (λ link. link.submitter < length names) links
   pub works : All (λ link. length link.work ≤ MOST_WORK_NAME_BYTES) links
   pub keys_of : keys ≡ map key_of (links_by names links)

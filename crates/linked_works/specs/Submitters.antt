@@ -1,5 +1,5 @@
 -- The names of submitters.
-use Rattle.std.specs.Prelude.{ℕ, ◌≡◌, ◌≢◌, ◌≤◌, ◌<◌, ◌⊎◌, List, All, length, slice_index}
+use Rattle.std.specs.Prelude.{ℕ, ◌≡◌, ◌≢◌, ◌≤◌, ◌<◌, ◌⊎◌, List, All, AllPairs, length, slice_index}
 use Rattle.cwr_share.specs.declared.numbers.TheConstants.{MOST_SUBMITTER_BYTES}
 
 -- a letter, a digit, `_` or `-`
@@ -13,3 +13,8 @@ pub record IsSubmitter (name : List ℕ) : Type 0 where
   pub short : length name ≤ MOST_SUBMITTER_BYTES
   pub bytes : All IsNameByte name
   pub first : slice_index name 0 ≢ 45
+
+-- names of submitters that all differ
+pub record AreSubmitters (names : List (List ℕ)) : Type 0 where
+  pub each : All IsSubmitter names
+  pub once : AllPairs (λ name later. ¬ (name ≡ later)) names

@@ -1,13 +1,19 @@
 //! Works that several submitters have registered: which registrations are of which work, and what they come to together.
 #![tactic(auto)]
 
+pub mod laws;
 mod linking;
+mod many_payees;
+mod payee_rows;
 mod submitters;
 mod works;
 mod works_fault;
 
 pub use csv_table::FileFault;
-pub use linking::{Link, link_all};
-pub use submitters::is_submitter;
-pub use works::{MOST_LINKS, Works};
+pub use payee_rows::{MOST_SUBMITTER_PAYEES, read_payees};
+pub use submitters::{Submitters, is_submitter};
+pub use works::Works;
 pub use works_fault::WorksFault;
+
+/// The most rows that a table of works has below its header.
+pub const MOST_LINKS: usize = 1_048_576;

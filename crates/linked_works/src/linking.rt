@@ -4,27 +4,28 @@ ghost use Rattle.std.specs.Prelude.{◌≡◌, ◌≤◌, ◌<◌, ◌*◌, ℕ,
 ghost use Rattle.cwr_share.specs.InForce.{IsOneRegistration};
 ghost use Rattle.cwr_share.specs.Registrations.{ShareLine, find_work};
 ghost use Rattle.cwr_share.specs.declared.TheConstants.{MOST_SHARES};
-ghost use Rattle.cwr_share.specs.declared.numbers.TheConstants.{MOST_SUBMITTER_BYTES, MOST_WORK_NAME_BYTES};
+ghost use Rattle.cwr_share.specs.declared.numbers.TheConstants.{MOST_WORK_NAME_BYTES};
 ghost use Rattle.linked_works.specs.Linked.{finds_among, shares_linked};
 ghost use Rattle.linked_works.specs.Rows.{links_by, names_by, with_registration};
+ghost use Rattle.linked_works.specs.Submitters.{IsSubmitter};
 
 use cwr_share::{InForce, Name};
 use std::alloc::{AllocError, Global};
 
 /// A registration of a work: the place of its submitter, and its number.
 #[derive(Drop)]
-pub struct Link {
+pub(crate) struct Link {
     /// The name of the work, as usage lines have it.
-    pub work: Name,
+    pub(crate) work: Name,
     /// The place of the submitter among the names.
-    pub submitter: usize,
+    pub(crate) submitter: usize,
     /// The submitter work number.
-    pub number: Name,
+    pub(crate) number: Name,
 }
 
 /// The works that links name, each with its registrations in force, one behind the other in the order of the links, by what
 /// the submitters of these names have in force.
-pub fn link_all(
+pub(crate) fn link_all(
     alloc: Global,
     names: &[Vec<u8>],
     files: &[InForce],
@@ -33,7 +34,7 @@ pub fn link_all(
     requires files { length files.now ≡ length names.now }
     requires known { All (λ link. link.submitter < length names.now) links.now }
     requires works { All (λ link. length link.work ≤ MOST_WORK_NAME_BYTES) links.now }
-    requires names { All (λ name. length name.items ≤ MOST_SUBMITTER_BYTES) names.now }
+    requires submitters { All IsSubmitter (names_by names.now) }
     requires once { AllPairs (λ name later. ¬ (name ≡ later)) (names_by names.now) }
     requires registrations { All (λ works. (number : List ℕ) (shares : List ShareLine)
         → find_work number works ≡ Some shares → IsOneRegistration shares) files.now }
@@ -59,7 +60,7 @@ fn add_link(
     link: &Link,
 ) -> Result<(), AllocError>
     requires work { length link.now.work ≤ MOST_WORK_NAME_BYTES }
-    requires name { length name.now ≤ MOST_SUBMITTER_BYTES }
+    requires name { IsSubmitter name.now }
     requires registrations { (number : List ℕ) (shares : List ShareLine) → find_work number file.now ≡ Some shares
         → IsOneRegistration shares }
     ensures works { OnOk result ((work : List ℕ) → find_work work joined.new

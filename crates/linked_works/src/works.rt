@@ -1,29 +1,35 @@
 //! The table of works: which registrations are of which work.
 
-ghost use Rattle.std.specs.Prelude.{◌≡◌, ◌≤◌, ◌<◌, ◌∷◌, ◌++◌, ℕ, List, [], AllPairs, All, Contains, IfErr, IfNone, IfOk, IfSome, OnOk, length, map, slice_index_or};
+ghost use Rattle.std.specs.Prelude.{◌≡◌, ◌≤◌, ◌<◌, ◌∷◌, ◌++◌, ℕ, List, [], AllPairs, All, Contains, IfErr, IfOk, OnOk, Some, length, map, slice_index_or, zip};
 ghost use Rattle.csv_table.specs.Table.{rows_of};
-ghost use Rattle.cwr_share.specs.Joined.{qualified};
+ghost use Rattle.cwr_share.specs.InForce.{IsOneRegistration};
+ghost use Rattle.cwr_share.specs.Joined.{qualified as qualified_text};
+ghost use Rattle.cwr_share.specs.Payees.{payee_of};
+ghost use Rattle.cwr_share.specs.Registered.{IsRegistered};
+ghost use Rattle.cwr_share.specs.RegistryOf.{IsRegistryOf};
+ghost use Rattle.cwr_share.specs.Registrations.{ShareLine, find_work};
+ghost use Rattle.cwr_share.specs.declared.TheConstants.{MOST_LINES};
 ghost use Rattle.cwr_share.specs.declared.numbers.TheConstants.{MOST_SUBMITTER_BYTES, MOST_WORK_BYTES, MOST_WORK_NAME_BYTES};
+ghost use Rattle.linked_works.specs.Linked.{finds_among, shares_linked};
+ghost use Rattle.linked_works.specs.ManyPayees.{IsFaultOfLinks};
 ghost use Rattle.linked_works.specs.Rows.{key_of, names_by};
+ghost use Rattle.linked_works.specs.declared.TheConstants.{MOST_LINKS};
 ghost use Rattle.linked_works.specs.Submitters.{IsSubmitter};
 ghost use Rattle.linked_works.specs.WorksTable.{IsFaultOf, IsTableOf};
 
-use crate::{Link, WorksFault};
-use arrayvec::ArrayVec;
+use crate::linking::{Link, link_all};
+use crate::many_payees::{first_many, have_few_payees};
+use crate::submitters::{place_of, qualified};
+use crate::{MOST_LINKS, Submitters, WorksFault};
 use csv_table::forms::is_printable;
 use csv_table::{RowTable, Rows, read_table};
 use cwr_share::{
-    MOST_SUBMITTER_BYTES, MOST_WORK_BYTES, MOST_WORK_NAME_BYTES, Name, Sought, trimmed,
+    CwrFault, InForce, MOST_WORK_BYTES, MOST_WORK_NAME_BYTES, Name, Payees, Registry, Sought,
+    trimmed,
 };
 use indexmap::IndexSet;
 use std::alloc::{AllocError, Global};
 use std::marker::Model;
-
-/// The most rows that a table of works has below its header.
-pub const MOST_LINKS: usize = 1_048_576;
-
-/// The most bytes of a submitter, a colon and a submitter work number.
-const MOST_KEY_BYTES: usize = MOST_SUBMITTER_BYTES + 1 + MOST_WORK_BYTES;
 
 /// A table of works, over the names of the submitters.
 #[derive(Drop)]
@@ -118,19 +124,21 @@ impl<'a> RowTable for Works<'a> {
 }
 
 impl<'a> Works<'a> {
-    /// Reads a table of works: CSV with the header `work,submitter,number,title`. Each submitter is one of these names.
-    pub fn read(alloc: Global, names: &'a [Vec<u8>], bytes: &[u8]) -> Result<Works<'a>, WorksFault>
-        requires submitters { All IsSubmitter (names_by names.now) }
-        requires once { AllPairs (λ name later. ¬ (name ≡ later)) (names_by names.now) }
-        ensures works { IfOk result (λ works. IsTableOf (names_by names.entry.now) (rows_of bytes.now) works.links) }
-        ensures names { IfOk result (λ works. works.names ≡ names_by names.entry.now) }
-        ensures fault { IfErr result (IsFaultOf (names_by names.entry.now) (rows_of bytes.now)) }
+    /// Reads a table of works: CSV with the header `work,submitter,number,title`. Each submitter is one of these.
+    pub fn read(
+        alloc: Global,
+        submitters: &'a Submitters,
+        bytes: &[u8],
+    ) -> Result<Works<'a>, WorksFault>
+        ensures works { IfOk result (λ works. IsTableOf submitters.entry.now (rows_of bytes.now) works.links) }
+        ensures names { IfOk result (λ works. works.names ≡ submitters.entry.now) }
+        ensures fault { IfErr result (IsFaultOf submitters.entry.now (rows_of bytes.now)) }
     {
         read_table(
             alloc,
             bytes,
             Works {
-                names,
+                names: submitters.as_slice(),
                 links: Vec::new(alloc),
                 seen: IndexSet::new(alloc),
             },
@@ -139,9 +147,10 @@ impl<'a> Works<'a> {
 
     /// Adds a link, whose registration has this key and no link.
     fn add(&mut self, link: Link, key: Name) -> Result<(), AllocError>
+        requires room { length self.old.links < MOST_LINKS }
         requires known { link.submitter < length self.old.names }
         requires work { length link.work ≤ MOST_WORK_NAME_BYTES }
-        requires key { key ≡ qualified (slice_index_or self.old.names link.submitter []) link.number }
+        requires key { key ≡ qualified_text (slice_index_or self.old.names link.submitter []) link.number }
         requires new { ¬ Contains (map key_of self.old.links) key }
         ensures names { self.new.names ≡ self.old.names }
         ensures links { OnOk result (self.new.links ≡ self.old.links ++ (record { work = link.work; submitter = slice_index_or self.old.names link.submitter []; number = link.number }) ∷ []) }
@@ -156,6 +165,57 @@ impl<'a> Works<'a> {
         }
     }
 
+    /// The works that the rows name, each with its registrations in force, one behind the other in the order of the rows,
+    /// by what the submitters have in force. A work without one is not among them.
+    pub fn link(&self, alloc: Global, files: &[InForce]) -> Result<InForce, AllocError>
+        requires files { length files.now ≡ length self.now.names }
+        requires registrations { All (λ works. (number : List ℕ) (shares : List ShareLine)
+            → find_work number works ≡ Some shares → IsOneRegistration shares) files.now }
+        ensures works { IfOk result (λ joined. (work : List ℕ) → find_work work joined
+            ≡ shares_linked (finds_among (zip self.now.names files.now)) self.now.links work) }
+        ensures lines { IfOk result (λ joined. (work : List ℕ) (shares : List ShareLine) → find_work work joined ≡ Some shares
+            → length shares ≤ MOST_LINES) }
+    {
+        link_all(alloc, self.names, files, self.links.as_slice())
+    }
+
+    /// The registry of these works, where what a party claims is paid to its payee. The parties of a submitter stand in
+    /// the table of payees behind its name and a colon.
+    pub fn registry(
+        &self,
+        alloc: Global,
+        files: &[InForce],
+        payees: &Payees,
+    ) -> Result<Registry, WorksFault>
+        requires files { length files.now ≡ length self.now.names }
+        requires registrations { All (λ works. (number : List ℕ) (shares : List ShareLine)
+            → find_work number works ≡ Some shares → IsOneRegistration shares) files.now }
+        ensures registry { IfOk result (IsRegistryOf payees.now
+            (shares_linked (finds_among (zip self.now.names files.now)) self.now.links)) }
+        ensures sound { IfOk result IsRegistered }
+        ensures fault { IfErr result (IsFaultOfLinks payees.now (finds_among (zip self.now.names files.now)) self.now.links) }
+    {
+        let joined = self.link(alloc, files)?;
+        let links = self.links.as_slice();
+        if !have_few_payees(alloc, &joined, links, payees)? {
+            drop(joined);
+            let place = first_many(alloc, self.names, files, links, payees)?;
+            return Err(WorksFault::Many(place as u64 + 1));
+        }
+        match joined.registry(alloc, payees) {
+            Ok(registry) => Ok(registry),
+            Err(CwrFault::Accounts) => Err(WorksFault::Accounts),
+            Err(_) => Err(WorksFault::Memory),
+        }
+    }
+
+    /// How many submitters there are, each with or without a row.
+    pub fn submitters(&self) -> usize
+        ensures { result ≡ length self.now.names }
+    {
+        self.names.len()
+    }
+
     /// How many rows there are.
     pub fn len(&self) -> usize
         ensures { result ≡ length self.now.links }
@@ -164,27 +224,11 @@ impl<'a> Works<'a> {
     }
 }
 
-/// The place of a name.
-fn place_of(names: &[Vec<u8>], name: &[u8]) -> Option<usize>
-    ensures some { IfSome result (λ place. (place < length names.now) × (slice_index_or (names_by names.now) place [] ≡ name.now)) }
-    ensures none { IfNone result ((place : ℕ) → place < length names.now → ¬ (slice_index_or (names_by names.now) place [] ≡ name.now)) }
-{
-    for place in 0..names.len() {
-        if names[place].as_slice() == name {
-            return Some(place);
-        }
-    }
-    None
-}
-
 /// The text that a registration is known by.
 fn key_text(alloc: Global, submitter: &[u8], number: &[u8]) -> Result<Name, AllocError>
     requires submitter { length submitter.now ≤ MOST_SUBMITTER_BYTES }
     requires number { length number.now ≤ MOST_WORK_BYTES }
-    ensures { IfOk result (λ key. key ≡ qualified submitter.now number.now) }
+    ensures { IfOk result (λ key. key ≡ qualified_text submitter.now number.now) }
 {
-    let mut key: ArrayVec<u8, MOST_KEY_BYTES> = ArrayVec::try_from(submitter).unwrap();
-    key.push(b':');
-    key.try_extend_from_slice(number).unwrap();
-    Name::of(alloc, key.as_slice())
+    Name::of(alloc, qualified(submitter, number).as_slice())
 }

@@ -1,4 +1,4 @@
-use Rattle.std.proofs.Common.{◌≡◌, ◌∙◌, ◌<◌, ◌+◌, ◌∷◌, ◌++◌, [], ℕ, List, Option, Vec, Global, ap, arith, get_or, length, sym, take, zip}
+use Rattle.std.proofs.Common.{◌≡◌, ◌∙◌, ◌<◌, ◌+◌, ◌∷◌, ◌++◌, [], ℕ, List, Option, Vec, Global, ap, arith, get_or, length, subst, sym, take, zip}
 use Rattle.std.specs.Prelude.{option_and_then}
 use Rattle.std.proofs.lemmas.List.{get_or-map, length-map, map_push, take_more}
 use Rattle.cwr_share.specs.Registrations.{ShareLine, find_work}
@@ -6,9 +6,18 @@ use Rattle.cwr_share.specs.declared.TheConstants.{MOST_SHARES}
 use Rattle.linked_works.specs.Linked as linked
 use Rattle.linked_works.specs.Linked.{Finds, finds_among, shares_linked}
 use Rattle.linked_works.specs.Rows.{links_by, names_by, with_registration}
+use Rattle.linked_works.specs.Submitters.{IsSubmitter}
 use Rattle.linked_works.specs.declared.linking.Link.{Link}
 use Rattle.linked_works.proofs.LinkedLemmas.{few_with, find_named, linked_push}
 use Rattle.linked_works.proofs.linking.link_all.Goals as goal
+
+pub add_link-requires-clause-name : goal.add_link-requires-clause-name
+add_link-requires-clause-name c =
+    let place = c.link-item.result.submitter in
+    let in_links : place < length c.args.names.now = rw (sym c.link-item.is) at (c.requires.known c.loop-link.link-index c.link-item.result c.loop-link-test.true) in
+    let same : c.as_slice-name.result.now ≡ get_or (names_by c.args.names.now) place [] =
+    c.as_slice-name.ensures.value ∙ (ap (λ (name : Vec ℕ Global). name.items) c.index-names-link.is ∙ sym (get_or-map (λ (name : Vec ℕ Global). name.items) c.args.names.now place c.index-names-link.result [] in_links)) in
+    subst IsSubmitter (sym same) (c.requires.submitters place [] (omega (arith, in_links, length-map c.args.names.now (λ (name : Vec ℕ Global). name.items))))
 
 pub loop-link-preserved : goal.loop-link-preserved
 loop-link-preserved c =

@@ -3,7 +3,7 @@ use Rattle.std.proofs.lemmas.Bool.{false≢true}
 use Rattle.std.proofs.lemmas.List.{get_or-map}
 use Rattle.std.proofs.lemmas.Slice.Eq.{bytes_eq-Decides}
 use Rattle.linked_works.specs.Rows.{names_by}
-use Rattle.linked_works.proofs.works.place_of.Goals as goal
+use Rattle.linked_works.proofs.submitters.place_of.Goals as goal
 
 -- the text of the name at a place
 name_at : (names : List (Vec ℕ Global)) (place : ℕ) (name : Vec ℕ Global) (text : List ℕ) → place < length names → name ≡ get_or names place name → text ≡ name.items
