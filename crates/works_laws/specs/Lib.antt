@@ -1,0 +1,3 @@
+pub mod ByNumbers
+pub mod OneList
+pub mod Reordered
