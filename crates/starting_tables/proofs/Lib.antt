@@ -1,0 +1,6 @@
+pub mod InForceLemmas
+pub mod LawLemmas
+pub mod NameLemmas
+pub mod OrderLemmas
+pub mod PartyLemmas
+pub mod WorksLemmas

@@ -1,0 +1,5 @@
+pub mod InForce
+pub mod Numbers
+pub mod Works
+pub mod Parties
+pub mod Records
