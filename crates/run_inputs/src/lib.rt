@@ -9,4 +9,4 @@ mod reading;
 
 pub use fault::Fault;
 pub use inputs::{Input, Inputs, Tables};
-pub use reading::{read_inputs, read_inputs_in_threads};
+pub use reading::{read_inputs, read_inputs_in_threads, read_territories, read_usage};

@@ -41,7 +41,7 @@ pub fn read_inputs<I: Input + Drop>(alloc: Global, inputs: Inputs<I>) -> Result<
     ensures read { IfOk result (IsReading (map_inputs I.bytes inputs)) }
     ensures fault { IfErr result (IsFaultOf (map_inputs I.bytes inputs)) }
 {
-    let territories = territories_of(alloc, inputs.territories)?;
+    let territories = read_territories(alloc, inputs.territories)?;
     let payees = payees_of(alloc, inputs.payees)?;
     let registry = registrations_of(alloc, inputs.registrations, &payees)?;
     drop(payees);
@@ -64,17 +64,16 @@ pub fn read_inputs_in_threads<R: Threads + Sync, I: Input + Drop>(
     ensures read { IfOk result (IsReading (map_inputs I.bytes inputs)) }
     ensures fault { IfErr result (IsFaultOf (map_inputs I.bytes inputs)) }
 {
-    let territories = territories_of(alloc, inputs.territories)?;
+    let territories = read_territories(alloc, inputs.territories)?;
     let paid = payees_of(alloc, inputs.payees)?;
     let file = inputs.registrations;
     let lines = inputs.usage.bytes();
-    let halvings = halvings_for(threads, lines);
     let (usage, registry) = join(
         rt,
         || -> Result<Usage, LineFault>
             ensures lines { IfOk result (usage_table.IsTableOf (rows_of lines.entry.now)) }
             ensures fault { IfErr result (usage_table.IsFaultOf (rows_of lines.entry.now)) }
-        { Usage::read_in_parts(rt, alloc, lines, halvings) },
+        { read_usage(rt, alloc, lines, threads) },
         || -> Result<Registry, CwrFault>
             ensures registrations { IfOk result (AreRegistrations paid (lines_of (I.bytes file))) }
             ensures fault { IfErr result (cwr_file.IsFaultOf paid (lines_of (I.bytes file))) }
@@ -87,8 +86,21 @@ pub fn read_inputs_in_threads<R: Threads + Sync, I: Input + Drop>(
     })
 }
 
-/// The territories of an input, which is freed when it is read.
-fn territories_of<I: Input + Drop>(alloc: Global, file: I) -> Result<TisTable, TisFault>
+/// Reads a table of usage lines by so many threads, up to eight. A thread that the system refuses costs time alone.
+pub fn read_usage<R: Threads + Sync>(
+    rt: &R,
+    alloc: Global,
+    bytes: &[u8],
+    threads: u64,
+) -> Result<Usage, LineFault>
+    ensures lines { IfOk result (usage_table.IsTableOf (rows_of bytes.now)) }
+    ensures fault { IfErr result (usage_table.IsFaultOf (rows_of bytes.now)) }
+{
+    Usage::read_in_parts(rt, alloc, bytes, halvings_for(threads, bytes))
+}
+
+/// Reads a table of territories, which is freed when it is read if it was given away.
+pub fn read_territories<I: Input + Drop>(alloc: Global, file: I) -> Result<TisTable, TisFault>
     ensures territories { IfOk result (tis_rows.IsTableOf (rows_of (I.bytes file))) }
     ensures fault { IfErr result (tis_rows.IsFaultOf (rows_of (I.bytes file))) }
 {
