@@ -1,0 +1,3 @@
+pub mod FileLemmas
+pub mod OutcomeLemmas
+pub mod Refusals
