@@ -1,6 +1,6 @@
 use Rattle.std.proofs.lemmas.Result.{on_ok_weaker}
 use Rattle.settle_run.specs.Divided.{text_in}
-use Rattle.settle_run.proofs.statements.settle_to.Goals as goal
+use Rattle.settle_run.proofs.statements.settle_tables_to.Goals as goal
 
 pub returns-clause-statements : goal.returns-clause-statements
 returns-clause-statements g c =
