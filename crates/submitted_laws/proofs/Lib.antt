@@ -1,0 +1,4 @@
+pub mod Alike
+pub mod OneFile
+pub mod OneReading
+pub mod Order

@@ -1,0 +1,2 @@
+pub mod SubmittedStatements
+pub mod Alike
