@@ -8,6 +8,8 @@ mod files;
 mod merging;
 mod reading;
 mod running;
+mod several;
+mod starting;
 
 use anyhow::{Result, bail};
 use row_tables::{Rows, Tally};
@@ -92,6 +94,10 @@ fn answer<R: Files + AllocGlobal + Threads + Wait + Sync>(
     question: &str,
 ) -> Result<String> {
     match ask {
+        "several" => several::statements(rt, alloc, of, question),
+        "works" => starting::works(rt, alloc, of, question),
+        "parties" => starting::parties(rt, alloc, of, question),
+        "names" => several::names(alloc, question),
         "explained" => running::explained(rt, alloc, of, question),
         "statements" => running::statements(rt, alloc, of, question),
         "plan" => running::plan(alloc, question),

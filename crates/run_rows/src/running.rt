@@ -74,7 +74,7 @@ pub fn plan(alloc: Global, text: &str) -> Result<String> {
 }
 
 /// The plan in a text like `3 1 64`, whatever stands behind it.
-fn plan_in(text: &str) -> Result<Plan> {
+pub fn plan_in(text: &str) -> Result<Plan> {
     let mut numbers = text.split(' ');
     let workers = numbers.next().unwrap_or("").parse()?;
     let readers = numbers.next().unwrap_or("").parse()?;
