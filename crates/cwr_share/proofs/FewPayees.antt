@@ -43,7 +43,7 @@ module _ (texts payees : List (List ℕ)) (apart : AllPairs (λ text later. ¬ (
       let not_after : ¬ (j < i) = λ after. apart j i [] after first (sym at) in
       omega (arith, not_before, not_after)
 
-  few_texts : length texts ≤ length payees
+  pub few_texts : length texts ≤ length payees
   few_texts = pigeonhole (length texts) (length payees) place into once
 
 -- the payees of accounts that rise are different, so the accounts are no more than these

@@ -26,7 +26,7 @@ pub record IsShareLine (line : ShareLine) : Type 0 where
   pub synchronisation : line.synchronisation ≤ FULL_SHARE
   pub territory : (0 < line.territory) × (line.territory ≤ MOST_CODE)
 
--- What some share lines claim is paid to 256 payees at most.
+-- The parties of some share lines are paid to 256 payees at most, whatever they claim.
 abbrev pub HasFewPayees : (pay : List ℕ → List ℕ) → List ShareLine → Type 0
 HasFewPayees pay lines =
     (payees : List (List ℕ)) × (length payees ≤ MOST_CLAIMS) × All (λ line. Contains payees (pay line.party)) lines

@@ -12,7 +12,7 @@ ghost use Rattle.cwr_share.specs.declared.TheConstants.{MOST_SHARES};
 use crate::RecordType;
 use crate::fields::{SPT, SWT, ShareFields, WORK};
 use crate::lines::Lines;
-use crate::record_type::record_type;
+use crate::record_type::record_type_of;
 use crate::share_line::{ShareRecord, trimmed};
 use std::alloc::{AllocError, Global};
 
@@ -50,7 +50,7 @@ pub fn count_registrations(bytes: &[u8]) -> u64
     let mut lines = Lines::of(bytes);
     let mut count = 0;
     while let Some(line) = lines.next() {
-        if record_type(line) == RecordType::Registration {
+        if record_type_of(line) == RecordType::Registration {
             count += 1;
         }
     }
@@ -80,7 +80,7 @@ fn last_opening<'a>(bytes: &'a [u8], work: &[u8]) -> Option<(u64, &'a [u8])>
 fn is_opening_of(line: &[u8], work: &[u8]) -> bool
     ensures { result ≡ opens_work work.now line.now }
 {
-    record_type(line) == RecordType::Registration && trimmed(WORK.of(line)) == work
+    record_type_of(line) == RecordType::Registration && trimmed(WORK.of(line)) == work
 }
 
 /// The registration that begins in the line with this number and goes on in the text after it.
@@ -134,7 +134,7 @@ impl Filing {
         ensures on { IfOk result (λ on. on ≡ true → GoesOnBy line.now self.old self.new) }
         ensures end { IfOk result (λ on. on ≡ false → (ends_registration line.now ≡ true) × (self.new.filed ≡ self.old.filed)) }
     {
-        match record_type(line) {
+        match record_type_of(line) {
             RecordType::Registration | RecordType::Closing => return Ok(false),
             RecordType::Interest => self.interest += 1,
             RecordType::PublisherShare => self.add_share(line, &SPT)?,

@@ -33,12 +33,13 @@ pub use cwr_fault::CwrFault;
 pub use cwr_reader::CwrReader;
 pub use filed::{FiledRegistration, count_registrations, filed_registration};
 pub use in_force::InForce;
+pub use lines::Lines;
 pub use name::{Name, Sought};
 pub use numbers::{MOST_PARTY_BYTES, MOST_SUBMITTER_BYTES, MOST_WORK_BYTES, MOST_WORK_NAME_BYTES};
 pub use passed_over::{MOST_NAMED, Tally, unknown_territories, unused_payees};
 pub use payee_fault::PayeeFault;
 pub use payees::{MOST_NAME_BYTES, MOST_PAYEES, Payees};
-pub use record_type::{RecordType, share_fields_of};
+pub use record_type::{RecordType, record_type_of, share_fields_of};
 pub use registry::{Registry, Work};
 pub use share_line::{ShareRecord, trimmed};
 

@@ -1,4 +1,4 @@
-//! The lines of a file, one after another.
+//! The lines of a CWR file, one after another.
 
 ghost use Rattle.std.specs.Prelude.{◌≡◌, ◌∷◌, [], IfSome, IfNone};
 ghost use Rattle.cwr_share.specs.Lines.{without_return, lines_of};
@@ -6,9 +6,9 @@ ghost use Rattle.cwr_share.specs.Lines.{without_return, lines_of};
 use csv_table::first_piece;
 use std::marker::Model;
 
-/// The lines of a text that are to come, without their ends: LF or CR LF.
+/// The lines of a text that are to come, without their ends: LF or CR LF. A last line need not have an end.
 #[derive(Drop)]
-pub(crate) struct Lines<'a> {
+pub struct Lines<'a> {
     rest: &'a [u8],
 }
 
@@ -23,21 +23,21 @@ impl<'a> Model for Lines<'a> {
 
 impl<'a> Lines<'a> {
     /// The lines of a text, before the first.
-    pub(crate) fn of(text: &'a [u8]) -> Lines<'a>
+    pub fn of(text: &'a [u8]) -> Lines<'a>
         ensures { result ≡ lines_of text.now }
     {
         Lines { rest: text }
     }
 
     /// The text of the lines that are to come.
-    pub(crate) fn rest(&self) -> &'a [u8]
+    pub fn rest(&self) -> &'a [u8]
         ensures { lines_of result.now ≡ self.now }
     {
         self.rest
     }
 
     /// The next line, where there is one.
-    pub(crate) fn next(&mut self) -> Option<&'a [u8]>
+    pub fn next(&mut self) -> Option<&'a [u8]>
         ensures some { IfSome result (λ line. self.old ≡ line.now ∷ self.new) }
         ensures none { IfNone result ((self.old ≡ []) × (self.new ≡ [])) }
     {

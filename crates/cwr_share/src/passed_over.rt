@@ -10,7 +10,7 @@ ghost use Rattle.cwr_share.specs.Records.{ends_registration, is_share_line, open
 
 use crate::fields::{SPT, SWT};
 use crate::lines::Lines;
-use crate::record_type::record_type;
+use crate::record_type::record_type_of;
 use crate::share_line::territory;
 use crate::{Payees, RecordType, Registry};
 use arrayvec::ArrayVec;
@@ -113,7 +113,7 @@ impl Scan {
 fn is_open_behind(is_open: bool, line: &[u8]) -> bool
     ensures { result ≡ (if ends_registration line.now then opens_registration line.now else is_open) }
 {
-    match record_type(line) {
+    match record_type_of(line) {
         RecordType::Registration => true,
         RecordType::Closing => false,
         _ => is_open,
@@ -125,7 +125,7 @@ fn is_of_unknown_territory(line: &[u8], table: &TisTable) -> bool
     requires { is_share_line line.now ≡ true → HasLand (share_fields line.now) line.now }
     ensures { result ≡ is_unknown_share table.now line.now }
 {
-    let fields = match record_type(line) {
+    let fields = match record_type_of(line) {
         RecordType::PublisherShare => SPT,
         RecordType::WriterShare => SWT,
         _ => return false,

@@ -23,7 +23,7 @@ pub const MOST_PAYEES: usize = 65_536;
 /// The most bytes of a party and of a payee in a table of payees.
 pub const MOST_NAME_BYTES: usize = 64;
 
-/// A table of payees, at most 65,536 rows. A party without a row is its own payee.
+/// Who is paid what parties claim, by the rows of a table. A party without a row is its own payee.
 #[derive(Drop)]
 pub struct Payees {
     /// The payee of each party that has a row.

@@ -10,7 +10,7 @@ ghost use Rattle.cwr_share.specs.declared.record_type.RecordType.TheVariants as 
 
 use crate::fields::{SPT, SWT, ShareFields, WORK};
 use crate::numbers::{WorkName, in_place};
-use crate::record_type::record_type;
+use crate::record_type::record_type_of;
 use crate::share_line::{ShareRecord, is_filled, trimmed};
 use crate::{CwrFault, InForce, RecordType};
 use std::alloc::{AllocError, Global};
@@ -49,7 +49,7 @@ impl Reading {
         ensures fault { IfErr result (λ fault. (fault ≡ Memory) ⊎ ((before : List (List ℕ)) → IsReadTo before self.old → IsFaultOfLine before number line.now fault)) }
         ensures same { IfErr result (λ fault. (fault ≡ Memory) ⊎ ((self.new ≡ self.old) × (place_of_fault fault ≡ Some number))) }
     {
-        match record_type(line) {
+        match record_type_of(line) {
             RecordType::Registration => self.begin(alloc, number, line),
             RecordType::Interest => {
                 self.begin_interest();

@@ -24,8 +24,8 @@ pub enum RecordType {
     Other,
 }
 
-/// The type of the record that a line is.
-pub(crate) fn record_type(line: &[u8]) -> RecordType
+/// The type of the record that a line is, by its first three bytes (CWR 2.2, record prefix).
+pub fn record_type_of(line: &[u8]) -> RecordType
     ensures { result ≡ type_of line.now }
 {
     if line.len() < TYPE.last {
@@ -54,7 +54,7 @@ pub(crate) fn record_type(line: &[u8]) -> RecordType
 pub fn share_fields_of(line: &[u8]) -> ShareFields
     ensures { result ≡ share_fields line.now }
 {
-    match record_type(line) {
+    match record_type_of(line) {
         RecordType::WriterShare => SWT,
         _ => SPT,
     }

@@ -8,12 +8,11 @@ use Rattle.std.proofs.lemmas.List.{get_or_default, get_or-map, length-map, map-a
 use Rattle.std.proofs.lemmas.List.Elements.{All-contains, All-contains_itself, All-push, Contains-append_left, Contains-get_or, Contains-push}
 use Rattle.std.proofs.lemmas.List.Quantifiers.{all_pairs_push}
 use Rattle.std.proofs.lemmas.Slice.Eq.{bytes_eq-Decides}
-use Rattle.indexmap.proofs.IndexTableLemmas.Probe.{pigeonhole}
 use Rattle.indexmap.specs.IndexSet.{insert_key}
 use Rattle.line_split.specs.declared.TheConstants.{MOST_CLAIMS}
 use Rattle.cwr_share.specs.Registered.{HasFewPayees}
 use Rattle.cwr_share.specs.Registrations.{ShareLine, find_work}
-use Rattle.cwr_share.proofs.PartyLemmas.{contains_cases}
+use Rattle.cwr_share.proofs.FewPayees.{few_texts}
 use Rattle.linked_works.specs.ManyPayees.{HasManyPayees}
 use Rattle.linked_works.proofs.LinkRows.{found_key, missing_key}
 
@@ -116,39 +115,6 @@ module _ (pay : List ℕ → List ℕ) where
       still_in text has =
           subst (λ (texts : List (List ℕ)). Contains texts text) (sym (map-append payee_by (take k lines) (drop k lines)) ∙ ap (map payee_by) (take-append-drop k lines))
           (Contains-append_left (map payee_by (take k lines)) (map payee_by (drop k lines)) text has)
-
--- where a text stands first in a list that has it
-placed : (payees : List (List ℕ)) (text : List ℕ) → Contains payees text
-    → (position_or_len (pointwise nat_eq text) payees < length payees) × (get_or payees (position_or_len (pointwise nat_eq text) payees) [] ≡ text)
-placed [] text has = absurd (omega (arith, has.1))
-placed (payee ∷ payees) text has = elim (cases_Bool (pointwise nat_eq text payee)) [
-  | inl its ↦ rw its (omega arith, sym ((bytes_eq-Decides text payee).0 its))
-  | inr other ↦ elim (contains_cases payee payees text has) [
-    | inl same ↦ absurd (false≢true (sym other ∙ (bytes_eq-Decides text payee).1 (sym same)))
-    | inr later ↦
-        let (within, at) = placed payees text later in
-        rw (other, one-add (position_or_len (pointwise nat_eq text) payees)) (omega (arith, within), at)
-  ]
-]
-
--- texts that differ, all of which a list has, are no more than it has
-module _ (texts payees : List (List ℕ)) (apart : AllPairs (λ text later. ¬ (text ≡ later)) texts) (has : All (Contains payees) texts) where
-  abbrev place : ℕ → ℕ
-  place k = position_or_len (pointwise nat_eq (get_or texts k [])) payees
-
-  into : (i : ℕ) → i < length texts → place i < length payees
-  into i within = (placed payees (get_or texts i []) (has i [] within)).0
-
-  once : (i j : ℕ) → i < length texts → j < length texts → place i ≡ place j → i ≡ j
-  once i j first second same =
-      let at : get_or texts i [] ≡ get_or texts j [] =
-      sym (placed payees (get_or texts i []) (has i [] first)).1 ∙ (ap (λ n. get_or payees n []) same ∙ (placed payees (get_or texts j []) (has j [] second)).1) in
-      let not_before : ¬ (i < j) = λ before. apart i j [] before second at in
-      let not_after : ¬ (j < i) = λ after. apart j i [] after first (sym at) in
-      omega (arith, not_before, not_after)
-
-  few_texts : length texts ≤ length payees
-  few_texts = pigeonhole (length texts) (length payees) place into once
 
 -- so share lines do not have both few payees and many
 pub not_few_and_many : (pay : List ℕ → List ℕ) (lines : List ShareLine) → HasFewPayees pay lines → ¬ HasManyPayees pay lines

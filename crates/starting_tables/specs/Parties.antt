@@ -7,7 +7,8 @@ use Rattle.std.specs.Option.{option_map_or}
 use Rattle.std.specs.Ordering.{nat_cmp}
 use Rattle.cwr_share.specs.Fields.{field_of, trimmed}
 use Rattle.cwr_share.specs.Joined.{qualified}
-use Rattle.cwr_share.specs.Records.{is_one_of, is_share_line, opens_interest, share_fields}
+use Rattle.cwr_share.specs.declared.fields.TheConstants.{TYPE}
+use Rattle.cwr_share.specs.Records.{is_share_line, opens_interest, share_fields}
 use Rattle.starting_tables.specs.InForce.{bodies_of, registrations_in_force}
 use Rattle.starting_tables.specs.Numbers.{is_number}
 use Rattle.starting_tables.specs.declared.fields.TheConstants.{SPU_IPI, SPU_NAME, SPU_NUMBER}
@@ -23,7 +24,7 @@ parties_of lines = fold (insert_key (slice_cmp nat_cmp)) [] (map share_party (fi
 
 -- of an SPU or SWR record: it is a publisher's
 abbrev pub is_publisher : List ℕ → Bool
-is_publisher line = is_one_of (codes "SPU" ∷ []) line
+is_publisher line = pointwise nat_eq (field_of TYPE line) (codes "SPU")
 
 -- the number of its party, and what it has for an IPI name number
 abbrev pub record_number : List ℕ → List ℕ

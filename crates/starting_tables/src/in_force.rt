@@ -6,10 +6,8 @@ ghost use Rattle.starting_tables.specs.InForce.{number_of, registrations_filed, 
 ghost use Rattle.starting_tables.specs.Works.{iswc_of, title_of};
 
 use crate::fields::{ISWC, TITLE};
-use crate::lines::Lines;
-use crate::record_type::record_type;
 use cwr_share::fields::WORK;
-use cwr_share::{Name, RecordType, trimmed};
+use cwr_share::{Lines, Name, RecordType, record_type_of, trimmed};
 use indexmap::IndexSet;
 use std::alloc::{AllocError, Global};
 use std::marker::Model;
@@ -95,7 +93,7 @@ fn all_registrations(alloc: Global, file: &[u8]) -> Result<Vec<FiledLines<'_>>, 
     let mut filed = Vec::new(alloc);
     let mut lines = Lines::of(file);
     while let Some(line) = lines.next() {
-        if record_type(line) == RecordType::Registration {
+        if record_type_of(line) == RecordType::Registration {
             filed.push(FiledLines {
                 opening: line,
                 after: lines.rest(),

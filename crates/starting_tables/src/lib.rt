@@ -8,11 +8,9 @@
 pub mod fields;
 mod in_force;
 pub mod laws;
-mod lines;
 mod numbers;
 mod parties;
 mod party_records;
-mod record_type;
 mod works;
 
 pub use parties::{add_parties, parties_header};

@@ -4,7 +4,7 @@ ghost use Rattle.std.specs.Prelude.{◌≡◌, ◌++◌, ◌&&◌, ◌∷◌, []
 ghost use Rattle.std.specs.Cmp.Lexicographic.{pointwise};
 ghost use Rattle.cwr_share.specs.Records.{is_share_line, opens_interest};
 ghost use Rattle.starting_tables.specs.InForce.{bodies_of};
-ghost use Rattle.starting_tables.specs.Parties.{has_ipi as has_ipi_in, has_name as has_name_in, name_of as name_by};
+ghost use Rattle.starting_tables.specs.Parties.{has_ipi as has_ipi_in, has_name as has_name_in, is_publisher as is_publisher_record, name_of as name_by};
 ghost use Rattle.starting_tables.specs.Parties.{payee_of as payee_by, record_ipi as ipi_in, record_name as name_in};
 ghost use Rattle.starting_tables.specs.Parties.{record_number as number_in, share_party as party_in};
 ghost use Rattle.starting_tables.specs.Parties.{whole_name as whole_name_of};
@@ -14,10 +14,9 @@ use crate::fields::{
     SPU_IPI, SPU_NAME, SPU_NUMBER, SWR_FIRST_NAME, SWR_IPI, SWR_LAST_NAME, SWR_NUMBER,
 };
 use crate::in_force::FiledLines;
-use crate::lines::Lines;
 use crate::numbers::{is_number, qualified};
-use crate::record_type::{is_publisher, record_type};
-use cwr_share::{Name, RecordType, Sought, share_fields_of, trimmed};
+use cwr_share::fields::TYPE;
+use cwr_share::{Lines, Name, RecordType, Sought, record_type_of, share_fields_of, trimmed};
 use indexmap::IndexMap;
 use std::alloc::{AllocError, Global};
 use std::collections::BTreeSet;
@@ -63,7 +62,7 @@ impl<'a> PartyRecords<'a> {
     {
         let mut lines = Lines::of(registration.after);
         while let Some(line) = lines.next() {
-            match record_type(line) {
+            match record_type_of(line) {
                 RecordType::Registration | RecordType::Closing => break,
                 RecordType::Interest => self.add_record(alloc, line)?,
                 RecordType::PublisherShare | RecordType::WriterShare => {
@@ -138,6 +137,13 @@ fn note<'a>(
         records.insert(Name::of(alloc, record_number(line))?, line)?;
     }
     Ok(())
+}
+
+/// Whether a line is an SPU, a publisher's record.
+fn is_publisher(line: &[u8]) -> bool
+    ensures { result ≡ is_publisher_record line.now }
+{
+    TYPE.of(line) == b"SPU".as_slice()
 }
 
 /// The party of a share line.

@@ -46,9 +46,9 @@ pub returns-clause-on : goal.returns-clause-on
 returns-clause-on c = λ _.
     let line = c.args.line.now in
     let old = c.args.self.now in
-    let self = c.match-record_type.self in
+    let self = c.match-record_type_of.self in
     let next : Filing = record { filed = self.filed; interest = self.interest; number = self.number + 1 } in
-    let on : GoesOnBy line old next = elim c.match-record_type.branch [
+    let on : GoesOnBy line old next = elim c.match-record_type_of.branch [
       | in-Interest w ↦
           let type = of_type Interest line (sym w.in-Interest.ensures) in
           let filed : next.filed ≡ old.filed = ap (λ (f : Filing). f.filed) w.self-is in (
@@ -74,7 +74,7 @@ returns-clause-on c = λ _.
     ] in on
 
 pub returns-clause-shares : goal.returns-clause-shares
-returns-clause-shares c = elim c.match-record_type.branch [
+returns-clause-shares c = elim c.match-record_type_of.branch [
   | in-Interest w ↦ rw w.self-is c.requires.shares
   | in-PublisherShare+in_ok-add_share-in-PublisherShare w ↦ rw w.self-is w.in_ok-add_share-in-PublisherShare.ensures.few
   | in-WriterShare+in_ok-add_share-in-WriterShare w ↦ rw w.self-is w.in_ok-add_share-in-WriterShare.ensures.few

@@ -9,7 +9,7 @@ use Rattle.starting_tables.proofs.party_records.PartyRecords.add_registration.Go
 pub loop-line-preserved-in-Continue-1 : goal.loop-line-preserved-in-Continue-1
 loop-line-preserved-in-Continue-1 c =
     read_record c.of-lines.result c.next.new.self c.in-Some.line.now c.args.self.now c.loop-line.self c.add_record.new.self
-    (rw c.in-Some.ensures.some at c.loop-line.invariant) (sym c.record_type.ensures ∙ c.in-Interest.is) c.in_ok-add_record-in-Interest.ensures
+    (rw c.in-Some.ensures.some at c.loop-line.invariant) (sym c.record_type_of.ensures ∙ c.in-Interest.is) c.in_ok-add_record-in-Interest.ensures
 
 pub loop-line-preserved-in-Continue-branch-2 : goal.loop-line-preserved-in-Continue-branch-2
 loop-line-preserved-in-Continue-branch-2 c =
@@ -20,7 +20,7 @@ loop-line-preserved-in-Continue-branch-2 c =
 pub loop-line-preserved : goal.loop-line-preserved
 loop-line-preserved c =
     read_other c.of-lines.result c.next.new.self c.in-Some.line.now c.args.self.now c.loop-line.self
-    (rw c.in-Some.ensures.some at c.loop-line.invariant) (sym c.record_type.ensures ∙ c.in-Other.is)
+    (rw c.in-Some.ensures.some at c.loop-line.invariant) (sym c.record_type_of.ensures ∙ c.in-Other.is)
 
 pub returns-in-Registration : goal.returns-in-Registration
 returns-in-Registration c =
