@@ -9,7 +9,7 @@ help:
 	@echo 'make prove    the proof: prove every crate from nothing, refuse wrong bodies, and run the programs as they were proved; make prove ANEW=1 takes nothing that an earlier run here proved'
 	@echo 'make edits    refuse the wrong bodies that the gate leaves out, of every crate or of one: make edits CRATE=mail_box; an hour for all'
 	@echo 'make compare  run the program and a plain Rust one on made-up inputs, good and bad, and compare'
-	@echo 'make fuzz     the same on 100000 damaged inputs; some ten minutes on four cores'
+	@echo 'make fuzz     the same on 200000 damaged inputs, half of them of several submitters; some twenty minutes on four cores'
 	@echo 'make sizes    run both at each limit and one beyond it, print times and peak memory; a minute, 2 GB of memory'
 	@echo 'make refuse   run the program with each allocation, thread, read, write and file refused in turn, kill it as it writes a file, and refuse each call as make test does; two minutes once both are built'
 	@echo 'make bench    run both on a million usage lines, print the table and the aims of bench/README.md; the same beside busy loops; and a mailbox alone and pools'
@@ -73,10 +73,13 @@ edits:
 
 compare:
 	python3 -m bench.compare --program $(PROGRAM) --cases 2000
+	python3 -m bench.compare --program $(PROGRAM) --cases 2000 --submitters
+	python3 -m bench.properties --program $(PROGRAM)
 	python3 -m bench.merges --program $(PROGRAM) --cases 2000
 
 fuzz:
 	python3 -m bench.fuzz --program $(PROGRAM) --cases 100000 --jobs 4
+	python3 -m bench.fuzz --program $(PROGRAM) --cases 100000 --jobs 4 --submitters
 
 sizes:
 	python3 -m bench.sizes --program $(PROGRAM)

@@ -16,8 +16,9 @@ the report has no fault.
 
 With --submitters each case has the files of one to five submitters, and a third of the cases have a
 table, a file or the names of submitters damaged. Compared are a run, the tables that `works` and
-`parties` print, and a run over these tables, which may not be refused for them. Where both programs
-refuse the words (status 2), their messages may differ.
+`parties` print, and a run over these tables, which may not be refused for them. In some cases all
+values stand behind a `=`. Where both programs refuse the words (status 2), their messages may
+differ.
 """
 import os
 import random
@@ -50,9 +51,9 @@ class Comparison:
         self.statuses = {}
         self.rows = self.explained = self.checked = self.faulty = self.begun = self.differing = 0
 
-    def both(self, command, options):
+    def both(self, command, options, are_joined=False):
         """The outcomes of a command, ours and the plain program's."""
-        return [run(words_of(program, command, options)) for program in self.programs]
+        return [run(words_of(program, command, options, are_joined)) for program in self.programs]
 
     def tell(self, number, text):
         """Prints a difference in a case, and counts it."""
@@ -114,11 +115,11 @@ class Comparison:
                 paths = written(os.path.join(folder, "strange"), strange(rng, files))
             self.compare_report(number, place, paths, plan)
 
-    def compare_submitted(self, number, folder, command, options):
+    def compare_submitted(self, number, folder, command, options, are_joined):
         """Compares a command over the files of submitters; what our program answers."""
-        ours, theirs = self.both(command, options)
+        ours, theirs = self.both(command, options, are_joined)
         if not alike(ours, theirs):
-            words = " ".join(words_of("", command, options))
+            words = " ".join(words_of("", command, options, are_joined))
             self.tell(number, f" differs,{words.replace(folder, '')}: "
                               f"{first_difference(ours, theirs)}")
         return ours
@@ -131,17 +132,18 @@ class Comparison:
         options = written_options(folder, submitted, plan)
         if rng.random() < 0.05:
             options = made_up_submitters.with_wrong_words(rng, options)
-        ours = self.compare_submitted(number, folder, "run", options)
+        are_joined = rng.random() < 0.2
+        ours = self.compare_submitted(number, folder, "run", options, are_joined)
         self.statuses[ours[0]] = self.statuses.get(ours[0], 0) + 1
         self.rows += ours[1].count(b"\n")
         files = [option for option in options if option[0] == "cwr"]
-        tables = [self.compare_submitted(number, folder, command, files)
+        tables = [self.compare_submitted(number, folder, command, files, are_joined)
                   for command in ("works", "parties")]
         if any(status for status, _, _ in tables):
             return
         works, payees = (printed for _, printed, _ in tables)
-        ours = self.compare_submitted(number, folder, "run",
-                                      over_tables(folder, options, works, payees))
+        options = over_tables(folder, options, works, payees)
+        ours = self.compare_submitted(number, folder, "run", options, are_joined)
         self.begun += 1
         if refuses_tables(ours):
             self.tell(number, f": tables to begin with are refused: {ours[2]!r}")

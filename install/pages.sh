@@ -10,10 +10,12 @@ folder=$2
 mkdir -p "$folder"
 name=royalty_run
 
-# The values and arguments that are paths, as the help calls them.
+# The values and arguments that are paths, as the help calls them, and a value that is a name and a path.
 paths=(F STATEMENTS)
+named=NAME=F
 
-# The help of each command, and under the key `all` that of the whole program.
+# The help of each command, and under the key `all` that of the whole program. A command that takes `--works` has another help with it,
+# under a key with ` --works` behind the name.
 declare -A help
 help[all]=$("$program" --help)
 
@@ -40,7 +42,10 @@ items() {
 }
 
 mapfile -t commands < <(items all Commands | cut -d "$mark" -f 1 | grep -vx help)
-for command in "${commands[@]}"; do help[$command]=$("$program" "$command" --help); done
+for command in "${commands[@]}"; do
+    help[$command]=$("$program" "$command" --help)
+    ! grep -q '^ *--works <' <<< "${help[$command]}" || help["$command --works"]=$("$program" "$command" --works F --help)
+done
 
 # about COMMAND: the first line of its help
 about() { head -n 1 <<< "${help[$1]}"; }
@@ -52,6 +57,8 @@ usage() { sed -n 's/^Usage: //p' <<< "${help[$1]}"; }
 rest() { sed '1,/^Options:$/d' <<< "${help[$1]}" | sed '1,/^$/d'; }
 
 is_path() { [[ " ${paths[*]} " == *" $1 "* ]]; }
+
+has_works() { [[ -n ${help["$1 --works"]:-} ]]; }
 
 # each_option COMMAND CALL: calls it for each option, with its letter, its long name, its value and what it is for. A letter and a
 # value are empty where there is none.
@@ -86,24 +93,35 @@ man_arguments() {
 # man_text: lines that are laid out by hand
 man_text() { printf '.PP\n.nf\n'; roff; printf '.fi\n'; }
 
+# man_command COMMAND TITLE: a section on its use, its arguments and its options
+man_command() {
+    printf '.SH %s\n' "$2"
+    usage "$1" | roff | sed 's/.*/.B &/'
+    printf '.PP\n'
+    about "$1" | roff
+    man_arguments "$1"
+    each_option "$1" man_option
+}
+
 man_page() {
     local command
     printf '.TH ROYALTY_RUN 1 "" "%s"\n' "$("$program" --version | head -n 1)"
     printf '.SH NAME\n%s \\- %s\n' "$name" "$(about all | sed 's/./\l&/' | roff)"
     printf '.SH SYNOPSIS\n.nf\n'
-    for command in "${commands[@]}"; do usage "$command" | roff; done
+    for command in "${commands[@]}"; do
+        usage "$command" | roff
+        ! has_works "$command" || usage "$command --works" | roff
+    done
     printf '.fi\n.SH DESCRIPTION\n'
     rest all | sed '/^Exit status:$/,$d' | man_text
     printf '.SH OPTIONS\n'
     each_option all man_option
     for command in "${commands[@]}"; do
-        printf '.SH %s\n' "${command^^}"
-        usage "$command" | roff | sed 's/.*/.B &/'
-        printf '.PP\n'
-        about "$command" | roff
-        man_arguments "$command"
-        each_option "$command" man_option
+        man_command "$command" "${command^^}"
         rest "$command" | man_text
+        has_works "$command" || continue
+        man_command "$command --works" "${command^^} OVER SEVERAL FILES"
+        [ "$(rest "$command")" = "$(rest "$command --works")" ] || rest "$command --works" | man_text
     done
     printf '.SH EXIT STATUS\n'
     rest all | sed '1,/^Exit status:$/d' | roff | sed -E 's/^ *([0-9]+) +(.*)/.TP\n.B \1\n\2/'
@@ -111,14 +129,19 @@ man_page() {
 
 # --- completions
 
-# The words of all options that are gathered, of those whose value is a path, and of those whose value is another.
+# The words of all options that are gathered, of those whose value is a path, and of those whose value is another. With a `=` behind
+# it a word is an option whose value has begun with a name.
 gather() {
     local word
     for word in ${1:+"-$1"} "--$2"; do
         options+=("$word")
         if [ -n "$3" ]; then if is_path "$3"; then files+=("$word"); else values+=("$word"); fi; fi
     done
+    gather_named "$@"
 }
+
+# gather_named: the same of an option whose value is a name and a path, and of no other
+gather_named() { [ "$3" != "$named" ] || files+=("--$2="); }
 
 # takes_files COMMAND: whether its arguments are paths
 takes_files() {
@@ -136,9 +159,14 @@ bash_completion() {
 # Completion of royalty_run for bash.
 _royalty_run() {
     local word=${COMP_WORDS[COMP_CWORD]} before=${COMP_WORDS[COMP_CWORD - 1]} options=
-    # bash takes `--tis=F` for three words
-    if [[ $word == '=' ]]; then word=
-    elif [[ $before == '=' ]] && ((COMP_CWORD > 2)); then before=${COMP_WORDS[COMP_CWORD - 2]}
+    # bash takes `--tis=F` for three words, and `--cwr NAME=F` for four: before is then `--cwr=`
+    local at=$COMP_CWORD
+    if [[ $word == '=' ]]; then word= at=$((COMP_CWORD - 1))
+    elif [[ $before == '=' ]] && ((COMP_CWORD > 2)); then at=$((COMP_CWORD - 2)) before=${COMP_WORDS[COMP_CWORD - 2]}
+    fi
+    if ((at < COMP_CWORD && at > 2)) && [[ $before != -* ]]; then
+        before=${COMP_WORDS[at - 1]}=
+        [[ $before != '==' ]] || before=${COMP_WORDS[at - 2]}=
     fi
     COMPREPLY=()
 TEXT
@@ -150,6 +178,7 @@ TEXT
     for command in "${commands[@]}"; do
         options=() files=() values=()
         each_option "$command" gather
+        ! has_works "$command" || each_option "$command --works" gather_named
         printf '    %s)\n        options="%s"\n        case $before in\n' "$command" "${options[*]}"
         [ ${#files[@]} = 0 ] || printf '        %s) mapfile -t COMPREPLY < <(compgen -f -- "$word"); return ;;\n' "$(one_of "${files[@]}")"
         [ ${#values[@]} = 0 ] || printf '        %s) return ;;\n' "$(one_of "${values[@]}")"
@@ -171,10 +200,25 @@ quoted() { printf "'%s'" "${1//\'/\'\\\'\'}"; }
 # zsh_text TEXT: as it stands within brackets of a word of _arguments
 zsh_text() { sed -e 's/[][\\]/\\&/g' <<< "$1"; }
 
+# is_named COMMAND OPTION: whether its value is a name and a path, in this help of a command or in that with `--works`
+is_named() {
+    local words value told
+    while IFS=$mark read -r words value told; do
+        [ "$words $value" != "--$2 $named" ] || return 0
+    done < <(items "$1" Options; ! has_works "$1" || items "$1 --works" Options)
+    return 1
+}
+
+# The command is `command`. An option whose value is a name and a path may stand several times.
 zsh_option() {
-    local word
+    local word often= action=
+    ! is_path "$3" || action=_files
+    if is_named "$command" "$2"; then
+        often='*'
+        if is_path "$3"; then action='{compset -P 1 "*="; _files}'; else action='{compset -P 1 "*=" && _files}'; fi
+    fi
     for word in ${1:+"-$1"} "--$2${3:+=}"; do
-        printf ' \\\n            %s' "$(quoted "$word[$(zsh_text "$4")]${3:+:$3:$(! is_path "$3" || printf _files)}")"
+        printf ' \\\n            %s' "$(quoted "$often$word[$(zsh_text "$4")]${3:+:$3:$action}")"
     done
 }
 
@@ -189,6 +233,7 @@ local -a commands
 commands=(
 TEXT
     for command in "${commands[@]}"; do printf '    %s\n' "$(quoted "$command:$(about "$command")")"; done
+    command=all
     printf ')\n_arguments -C'
     each_option all zsh_option
     cat << 'TEXT'
@@ -210,7 +255,7 @@ TEXT
 
 fish_option() {
     local value=
-    [ -z "$3" ] || { is_path "$3" && value=' -r -F' || value=' -x'; }
+    [ -z "$3" ] || { { is_path "$3" || [ "$3" = "$named" ]; } && value=' -r -F' || value=' -x'; }
     printf 'complete -c %s -n %s%s -l %s%s -d %s\n' "$name" "$(quoted "$condition")" "${1:+ -s $1}" "$2" "$value" "$(quoted "$4")"
 }
 

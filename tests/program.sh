@@ -209,6 +209,52 @@ check 'merged statements to an output that is full' 4 '' 'royalty_run: cannot wr
 printf 'T,,0,0\nR,,600000000000000000,0\n' | tee parts/many1 >parts/many2
 check 'too many usage lines' 1 '' 'royalty_run: the statements are of more than 1000000000000000000 usage lines\n' "$program" merge parts/many1 parts/many2
 
+# Runs over the files of several submitters, and the tables to begin with.
+several=$examples/three_submitters
+mkdir several
+cp "$several"/*.cwr "$several"/*.csv several
+rm several/statements.csv several/*.printed.csv
+cd several
+tables=(--tis territories.csv --works works.csv --payees payees.csv --usage usage.csv)
+cwr=(--cwr MOON=moon.cwr --cwr HARBOR=harbor.cwr --cwr NORTH=north.cwr)
+statements=$(sed 's/\\/\\\\/g' "$several/statements.csv")
+check 'a run over three files' 0 "$statements\n" '' "$program" run "${tables[@]}" "${cwr[@]}" "${plan[@]}"
+cp moon.cwr moon=light.cwr
+check 'files in another order, a name with =, and another plan' 0 "$statements\n" '' \
+    "$program" run --cwr NORTH=north.cwr --workers=8 --cwr=MOON=moon=light.cwr --readers 8 "${tables[@]}" --cwr HARBOR=./harbor.cwr --nodes 1
+check 'a run over three files into a file' 0 '' '' "$program" run "${tables[@]}" "${cwr[@]}" "${plan[@]}" --output MOON=moon.cwr
+holds 'a run over three files into a file' MOON=moon.cwr "$several/statements.csv"
+check 'a table of works' 0 "$(cat "$several/works.printed.csv")\n" '' "$program" works "${cwr[@]}"
+check 'a table of payees' 0 "$(cat "$several/payees.printed.csv")\n" '' "$program" parties "${cwr[@]}"
+check 'a run over tables as they were printed' 0 '*' '' \
+    "$program" run --tis territories.csv --works "$several/works.printed.csv" --payees "$several/payees.printed.csv" --usage usage.csv "${cwr[@]}" "${plan[@]}"
+check 'a table of works to an output that is full' 4 '' 'royalty_run: cannot write\n' bash -c '"$0" "$@" >/dev/full' "$program" works "${cwr[@]}"
+head -n 2 works.csv | sed 's/MOON/LUNA/' >luna.csv
+check 'a work of nobody' 1 '' 'royalty_run: works fault 3 at row 1\n' "$program" run "${tables[@]/works.csv/luna.csv}" "${cwr[@]}" "${plan[@]}"
+sed '/^SPT/s/I2136/J2136/' north.cwr >wrong.cwr
+line=$(grep -n -m 1 '^SPT.*J2136' wrong.cwr | cut -d : -f 1)
+wrong=(--cwr MOON=moon.cwr --cwr NORTH=./wrong.cwr --cwr HARBOR=absent)
+fault="royalty_run: cwr fault 3 at line $line of ./wrong.cwr\n"
+check 'a run over a file with a fault' 1 '' "$fault" "$program" run "${tables[@]}" "${wrong[@]}" "${plan[@]}"
+for command in works parties; do
+    check "$command over a file with a fault" 1 '' "$fault" "$program" "$command" "${wrong[@]}"
+done
+check 'a file of a submitter that is not there' 4 '' 'royalty_run: cannot read absent\n' "$program" parties --cwr HARBOR=absent --cwr NORTH=./wrong.cwr
+check 'a table that is not there, and one with a fault' 4 '' 'royalty_run: cannot read absent\n' \
+    "$program" run --tis usage.csv --works works.csv --usage absent "${cwr[@]}" "${plan[@]}"
+check 'two files of one submitter' 2 '' '*' "$program" run "${tables[@]}" "${cwr[@]}" --cwr MOON=soft.cwr "${plan[@]}"
+check 'a file without a submitter' 2 '' '*' "$program" works --cwr moon.cwr
+check 'a table to begin with into a file' 2 '' '*' "$program" works "${cwr[@]}" --output kept.csv
+ln works.csv hard.csv
+ln -s north.cwr soft.cwr
+for path in ./works.csv hard.csv soft.cwr moon.cwr; do
+    check "statements in place of the input $path" 2 '' "royalty_run: $path is an input, which the output would replace\n" "$program" run "${tables[@]}" "${cwr[@]}" "${plan[@]}" --output "$path"
+done
+holds 'statements in place of a table of works' works.csv "$several/works.csv"
+holds 'statements in place of registrations' north.cwr "$several/north.cwr"
+[ ! -e kept.csv ] || { echo 'program.sh: a table to begin with is in a file'; failed=$((failed + 1)); }
+cd ..
+
 # Each command that the page of rules shows prints what stands below it there. They are run in turn.
 mkdir bin shown
 ln -s "$program" bin/royalty_run

@@ -278,11 +278,12 @@ def with_wrong_words(rng, options):
     """The options of a run over several files, with one that is missing, doubled or wrong, or with
     a path at which there is nothing."""
     options = list(options)
+    accident = rng.randrange(4)
     # Without a table of works the words are those of a run over one file.
-    place = rng.choice([place for place, (name, _) in enumerate(options) if name != "works"])
+    place = rng.choice([place for place, (name, _) in enumerate(options)
+                        if accident or name != "works"])
     name, value = options[place]
     is_path = name not in ("workers", "readers", "nodes")
-    accident = rng.randrange(4)
     if accident == 0:
         del options[place]
     elif accident == 1:

@@ -28,11 +28,12 @@ def run_options(paths, plan):
     return [*zip(NAMES, paths), *zip(("workers", "readers", "nodes"), plan)]
 
 
-def words_of(program, command, options):
-    """A command line as a list: the program, its command, and options with their values."""
+def words_of(program, command, options, are_joined=False):
+    """A command line as a list: the program, its command, and options with their values, which
+    stand behind a `=` where they are joined."""
     words = [program, command]
     for name, value in options:
-        words += [f"--{name}", str(value)]
+        words += [f"--{name}={value}"] if are_joined else [f"--{name}", str(value)]
     return words
 
 

@@ -131,9 +131,9 @@ def script(path, of, *words):
     return lambda: ran([path, unproved.build(of), *words])
 
 
-def compared(module):
+def compared(module, *more):
     """A step's comparison with the plain program."""
-    words = [sys.executable, "-m", module, "--cases", CASES, "--program"]
+    words = [sys.executable, "-m", module, "--cases", CASES, *more, "--program"]
     return lambda: ran([*words, unproved.build(PROGRAM)])
 
 
@@ -161,6 +161,7 @@ def steps_of(listed):
     steps.append(Step("a wrong schedule", replay, (f"build of {REPLAY}",), (REPLAY,)))
     of_program = {
         "compared inputs": compared("bench.compare"),
+        "compared inputs of submitters": compared("bench.compare", "--submitters"),
         "compared mergers": compared("bench.merges"),
         "refusals of the program": script("tests/refuse.sh", PROGRAM, "quick"),
         "the program's script": script("tests/program.sh", PROGRAM),

@@ -7,14 +7,20 @@
 use crate::outputs::Output;
 use anyhow::Result;
 use row_tables::text_of;
-use royalty_program::program;
+use royalty_program::{Source, Target, Texts, program};
 use std::alloc::{AllocError, Global};
-use std::rt::Files;
 use std::sync::Wait;
 use std::thread::Threads;
 
 /// What divides a line from the text that its answer is compared with.
 pub const ARROW: &str = " -> ";
+
+/// The files of the system, once to read from and once to write to.
+#[derive(Drop)]
+pub struct Disks<S> {
+    pub files: S,
+    pub target: S,
+}
 
 /// How much of an output is shown.
 #[derive(Clone, Copy)]
@@ -31,26 +37,28 @@ const ALL: Shown = Shown {
 };
 
 /// The answer to the arguments of a line, between which a sign stands.
-pub fn whole<R: Files + Threads + Wait + Sync>(
+pub fn whole<R: Threads + Wait + Sync, S: Source + Texts + Target + Sync>(
     rt: &R,
     alloc: Global,
+    disks: &mut Disks<S>,
     line: &str,
     between: char,
 ) -> Result<String> {
     let mut out = Output::open(alloc);
     let mut err = Output::open(alloc);
-    let status = status_of(rt, alloc, line, between, &mut out, &mut err)?;
+    let status = status_of(rt, alloc, disks, line, between, &mut out, &mut err)?;
     Ok(told(alloc, status, out.kept(), err.kept(), ALL)?)
 }
 
 /// Whether the answer to a line is the text that follows it; if not, the answer.
-pub fn written<R: Files + Threads + Wait + Sync>(
+pub fn written<R: Threads + Wait + Sync, S: Source + Texts + Target + Sync>(
     rt: &R,
     alloc: Global,
+    disks: &mut Disks<S>,
     question: &str,
 ) -> Result<String> {
     let (line, text) = question.split_once(ARROW).unwrap_or((question, ""));
-    let answer = whole(rt, alloc, line, ' ')?;
+    let answer = whole(rt, alloc, disks, line, ' ')?;
     if answer.as_str() == text {
         return Ok(String::from_str(alloc, "as written")?);
     }
@@ -58,9 +66,10 @@ pub fn written<R: Files + Threads + Wait + Sync>(
 }
 
 /// How the answer to a line begins, by the two numbers of a heading.
-pub fn beginning<R: Files + Threads + Wait + Sync>(
+pub fn beginning<R: Threads + Wait + Sync, S: Source + Texts + Target + Sync>(
     rt: &R,
     alloc: Global,
+    disks: &mut Disks<S>,
     of: &str,
     line: &str,
 ) -> Result<String> {
@@ -68,22 +77,23 @@ pub fn beginning<R: Files + Threads + Wait + Sync>(
     let first = first.parse::<usize>()?;
     let mut out = Output::open(alloc);
     let mut err = Output::open(alloc);
-    let status = status_of(rt, alloc, line, ' ', &mut out, &mut err)?;
+    let status = status_of(rt, alloc, disks, line, ' ', &mut out, &mut err)?;
     let shown = Shown { whole, first };
     Ok(told(alloc, status, out.kept(), err.kept(), shown)?)
 }
 
 /// The status, and which of the outputs has the text that stands in brackets after the line of a question.
-pub fn teller<R: Files + Threads + Wait + Sync>(
+pub fn teller<R: Threads + Wait + Sync, S: Source + Texts + Target + Sync>(
     rt: &R,
     alloc: Global,
+    disks: &mut Disks<S>,
     question: &str,
 ) -> Result<String> {
     let (line, text) = question.split_once(" [").unwrap_or((question, ""));
     let text = text.strip_suffix(']').unwrap_or("no brackets");
     let mut out = Output::open(alloc);
     let mut err = Output::open(alloc);
-    let status = status_of(rt, alloc, line, ' ', &mut out, &mut err)?;
+    let status = status_of(rt, alloc, disks, line, ' ', &mut out, &mut err)?;
     let out_tells = has(alloc, out.kept(), text)?;
     let err_tells = has(alloc, err.kept(), text)?;
     let teller = match (out_tells, err_tells) {
@@ -97,44 +107,48 @@ pub fn teller<R: Files + Threads + Wait + Sync>(
 
 /// What comes through two outputs that hold their bytes back until they are flushed. The first cannot be flushed where
 /// it is stopped.
-pub fn through<R: Files + Threads + Wait + Sync>(
+pub fn through<R: Threads + Wait + Sync, S: Source + Texts + Target + Sync>(
     rt: &R,
     alloc: Global,
+    disks: &mut Disks<S>,
     line: &str,
     is_stopped: bool,
 ) -> Result<String> {
     let mut out = Output::with(alloc, usize::MAX, is_stopped);
     let mut err = Output::open(alloc);
-    let status = status_of(rt, alloc, line, ' ', &mut out, &mut err)?;
+    let status = status_of(rt, alloc, disks, line, ' ', &mut out, &mut err)?;
     Ok(told(alloc, status, out.through(), err.through(), ALL)?)
 }
 
 /// What two outputs take that refuse one write, each after a number of bytes. A question has the two numbers before its
 /// line.
-pub fn through_narrow<R: Files + Threads + Wait + Sync>(
+pub fn through_narrow<R: Threads + Wait + Sync, S: Source + Texts + Target + Sync>(
     rt: &R,
     alloc: Global,
+    disks: &mut Disks<S>,
     question: &str,
 ) -> Result<String> {
     let (out_room, rest) = number_first(question)?;
     let (err_room, line) = number_first(rest)?;
     let mut out = Output::with(alloc, out_room, false);
     let mut err = Output::with(alloc, err_room, false);
-    let status = status_of(rt, alloc, line, ' ', &mut out, &mut err)?;
+    let status = status_of(rt, alloc, disks, line, ' ', &mut out, &mut err)?;
     Ok(told(alloc, status, out.kept(), err.kept(), ALL)?)
 }
 
 /// The status that the program answers to the arguments of a line, between which a sign stands.
-pub fn status_of<R: Files + Threads + Wait + Sync>(
+pub fn status_of<R: Threads + Wait + Sync, S: Source + Texts + Target + Sync>(
     rt: &R,
     alloc: Global,
+    disks: &mut Disks<S>,
     line: &str,
     between: char,
     out: &mut Output,
     err: &mut Output,
 ) -> Result<u8> {
     let arguments = arguments_in(alloc, line, between)?;
-    Ok(program(rt, alloc, arguments.as_slice(), out, err))
+    let words = arguments.as_slice();
+    Ok(program(rt, alloc, &disks.files, &mut disks.target, words, out, err))
 }
 
 fn arguments_in(alloc: Global, line: &str, between: char) -> Result<Vec<String>, AllocError> {

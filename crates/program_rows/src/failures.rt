@@ -4,6 +4,7 @@ use crate::asks::on_one_line;
 use anyhow::{Result, bail};
 use cwr_share::{CwrFault, PayeeFault};
 use line_split::LineFault;
+use linked_works::WorksFault;
 use pair_split::PairFault;
 use royalty_program::{Failure, words_of};
 use run_inputs::Fault;
@@ -30,9 +31,22 @@ fn failure_named(alloc: Global, name: &str) -> Result<Failure> {
         "too many rows of payees" => Ok(Failure::from(Fault::Payee(PayeeFault::Rows))),
         "the party of row 7" => Ok(Failure::from(Fault::Payee(PayeeFault::Twice(7)))),
         "too many lines" => Ok(Failure::from(Fault::Usage(LineFault::Lines))),
+        "a payee of nobody" => Ok(Failure::from(Fault::Payee(PayeeFault::Submitter(7)))),
+        "the work of row 7" => Ok(Failure::Works(WorksFault::Work(7))),
+        "too many rows of works" => Ok(Failure::Works(WorksFault::Rows)),
+        "too many payees of a work" => Ok(Failure::Works(WorksFault::Many(1_048_576))),
+        "too many payees of all works" => Ok(Failure::Works(WorksFault::Accounts)),
+        "the party of line 7 of north.cwr" => failure_of_file(alloc, CwrFault::Party(7)),
+        "too many share lines of north.cwr" => failure_of_file(alloc, CwrFault::Many(1_000_000)),
         "memory of a run" => Ok(Failure::from(Fault::Room)),
         _ => bail!("no failure has this name"),
     }
+}
+
+/// The failure of a submitter's file that has a fault.
+fn failure_of_file(alloc: Global, fault: CwrFault) -> Result<Failure> {
+    let path = String::from_str(alloc, "in/north.cwr")?;
+    Ok(Failure::Registrations { fault, path })
 }
 
 /// Why there are no words, by the kind of the error.

@@ -1,8 +1,9 @@
 //! A run whose statements are of many pages.
 
-use crate::asks::{ARROW, status_of};
+use crate::asks::{ARROW, Disks, status_of};
 use crate::outputs::Output;
 use anyhow::Result;
+use royalty_program::{Source, Target, Texts};
 use std::alloc::Global;
 use std::rt::{Env, Files};
 use std::sync::Wait;
@@ -11,24 +12,24 @@ use std::{env, fs};
 
 /// How a run prints the statements of usage lines, which are kept in a file as long as the run lasts. A question has
 /// the usage lines, and the statements.
-pub fn long_run<R: Env + Files + AllocGlobal + Threads + Wait + Sync>(
-    rt: &R,
-    alloc: Global,
-    question: &str,
-) -> Result<String> {
+pub fn long_run<
+    R: Env + Files + AllocGlobal + Threads + Wait + Sync,
+    S: Source + Texts + Target + Sync,
+>(rt: &R, alloc: Global, disks: &mut Disks<S>, question: &str) -> Result<String> {
     let (uses, statements) = question.split_once(ARROW).unwrap_or((question, ""));
     let folder = env::temp_dir(rt)?;
     let path = format!(in alloc; "{}/royalty_run-long-usage.csv", folder.display())?;
     fs::write(rt, path.as_str(), uses)?;
-    let answer = printed_over(rt, alloc, path.as_str(), statements);
+    let answer = printed_over(rt, alloc, disks, path.as_str(), statements);
     fs::remove_file(rt, path.as_str())?;
     answer
 }
 
 /// How a run prints the statements of the usage lines in a file.
-fn printed_over<R: Files + Threads + Wait + Sync>(
+fn printed_over<R: Threads + Wait + Sync, S: Source + Texts + Target + Sync>(
     rt: &R,
     alloc: Global,
+    disks: &mut Disks<S>,
     path: &str,
     statements: &str,
 ) -> Result<String> {
@@ -37,7 +38,7 @@ fn printed_over<R: Files + Threads + Wait + Sync>(
     )?;
     let mut out = Output::open(alloc);
     let mut err = Output::open(alloc);
-    let status = status_of(rt, alloc, line.as_str(), ' ', &mut out, &mut err)?;
+    let status = status_of(rt, alloc, disks, line.as_str(), ' ', &mut out, &mut err)?;
     printed(alloc, status, &out, statements)
 }
 

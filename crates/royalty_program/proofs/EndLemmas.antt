@@ -6,7 +6,7 @@ use Rattle.std.specs.Result.{IfErr, IfOk, IsOk, OnErr, OnOk}
 use Rattle.royalty_program.specs.Status.{IsOfCheck, status_of}
 use Rattle.std.specs.declared.io.ErrorKind.{ErrorKind}
 use Rattle.royalty_program.specs.declared.failure.Failure.{Failure}
-use Rattle.royalty_program.specs.declared.failure.Failure.TheVariants.{Words, NotText, Pairs, Input, Row, Room, File, Output, Target, Statement, Many, Changed, Replaces}
+use Rattle.royalty_program.specs.declared.failure.Failure.TheVariants.{Words, NotText, Pairs, Input, Works, Registrations, Row, Room, File, Output, Target, Statement, Many, Changed, Replaces}
 
 -- a failure has no status of an answer
 pub fails_with : (failure : Failure) → status_of failure ≢ 0
@@ -14,6 +14,8 @@ fails_with (Words error) is = cc is
 fails_with NotText is = cc is
 fails_with (Pairs fault) is = cc is
 fails_with (Input fault) is = cc is
+fails_with (Works fault) is = cc is
+fails_with (Registrations fault path) is = cc is
 fails_with (Row row) is = cc is
 fails_with Room is = cc is
 fails_with (File path) is = cc is
@@ -30,6 +32,8 @@ check_fails_with holds refuses words (Words error) is = λ same. cc same
 check_fails_with holds refuses words NotText is = λ same. cc same
 check_fails_with holds refuses words (Pairs fault) is = λ same. cc same
 check_fails_with holds refuses words (Input fault) is = λ same. is.1
+check_fails_with holds refuses words (Works fault) is = λ same. is.0
+check_fails_with holds refuses words (Registrations fault path) is = λ same. is.0
 check_fails_with holds refuses words (Row row) is = λ same. cc same
 check_fails_with holds refuses words Room is = λ same. cc same
 check_fails_with holds refuses words (File path) is = λ same. cc same

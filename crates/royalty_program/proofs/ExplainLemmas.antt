@@ -10,8 +10,9 @@ use Rattle.royalty_program.specs.Args.{IsRequiredArg, number_rule}
 use Rattle.royalty_program.specs.Asked.{number_given}
 use Rattle.royalty_program.specs.ExplainCommand.{IsExplainCommand, explain_app}
 use Rattle.royalty_program.specs.InputCommand.{HasInputArgs, with_inputs}
+use Rattle.royalty_program.specs.PlanWords.{FindsNumber}
 use Rattle.royalty_program.proofs.InputLemmas.{adds_more, input_names, input_options}
-use Rattle.royalty_program.proofs.OptionLemmas.{HasOptions, IsNumberOf, IsUpTo, as_optional, number_is, number_read}
+use Rattle.royalty_program.proofs.OptionLemmas.{HasOptions, IsNumberOf, IsUpTo, as_optional, finds_number, number_is, number_read}
 use Rattle.royalty_program.proofs.SplitLemmas.{required_same}
 
 -- a command with the options of the files and this one is the command of an explanation
@@ -37,9 +38,12 @@ explain_names = input_names (codes "row" ∷ [])
 pub explain_options : (c : Command) → IsExplainCommand c → HasOptions c explain_names explain_app
 explain_options c s = input_options c (s.row ∷ []) (codes "row" ∷ []) explain_app s.inputs (rw s.needs_row.id refl) refl
 
+pub finds_row : (c : Command) (m : ArgMatches) → IsExplainCommand c → IsParsedFrom c m → FindsNumber m (codes "row") MOST_LINES
+finds_row c m s p = finds_number c explain_names explain_app m (codes "row") MOST_LINES s.row 4 (explain_options c s) p s.needs_row (rw s.inputs.has.list refl) (omega arith) s.few_rows
+
 pub row_read : (c : Command) (m : ArgMatches) (r : Option ℕ) → IsExplainCommand c → IsParsedFrom c m → IsNumberOf m (codes "row") r → IsUpTo MOST_LINES r
-row_read c m r s p = number_read c explain_names explain_app m (codes "row") MOST_LINES s.row 4 r (explain_options c s) p s.needs_row (rw s.inputs.has.list refl) (omega arith) s.few_rows
+row_read c m r s p = number_read m (codes "row") MOST_LINES r (finds_row c m s p)
 
 pub row_is : (c : Command) (m : ArgMatches) (words : List Text) (r : Option ℕ) (n : ℕ) → IsExplainCommand c → IsParsedFrom c m
     → rows_of (found_of m) ≡ matches_of explain_app words → IsNumberOf m (codes "row") r → r ≡ Some n → n ≡ number_given explain_app (codes "row") words
-row_is c m words r n s p are = number_is c explain_names explain_app m words (codes "row") MOST_LINES s.row 4 r n (explain_options c s) p are s.needs_row (rw s.inputs.has.list refl) (omega arith) s.few_rows
+row_is c m words r n s p are = number_is explain_app m words (codes "row") MOST_LINES r n are (finds_row c m s p)

@@ -5,7 +5,11 @@ pub mod SplitLemmas
 pub mod Walked
 pub mod OptionLemmas
 pub mod InputLemmas
+pub mod EitherLemmas
+pub mod NamedLemmas
 pub mod RunLemmas
+pub mod SubmittedLemmas
+pub mod StartingLemmas
 pub mod CheckLemmas
 pub mod ExplainLemmas
 pub mod MergeLemmas
@@ -14,5 +18,6 @@ pub mod CommandNames
 pub mod EndLemmas
 pub mod OverLemmas
 pub mod FileLemmas
+pub mod SubmittedFileLemmas
 pub mod MergeFileLemmas
 pub mod OutputLemmas

@@ -1,21 +1,21 @@
 -- What a parse of the words of a merge gives.
-use Rattle.std.proofs.Common.{◌≡◌, ◌∙◌, ◌<◌, List, [], ◌∷◌, length, Option, Some, None, Result, Ok, Err, true, refl, sym, subst, ap, inl, inr, arith, codes, is_some}
+use Rattle.std.proofs.Common.{◌≡◌, ◌∙◌, ◌<◌, List, [], ◌∷◌, length, Option, Some, None, Result, Ok, Err, true, refl, subst, ap, inl, inr, arith, codes, is_some}
 use Rattle.std.specs.Option.{IsSome, option_map, unwrap_or}
 use Rattle.std.specs.Prelude.{find, option_and_then, slice_get}
 use Rattle.std.specs.Result.{IfErr, IsErrAnd}
 use Rattle.std.specs.Str.{bytes_eq}
 use Rattle.std.proofs.lemmas.Bool.{false≢true}
-use Rattle.clap.specs.Words.{AddsArg, App, IsParsedFrom, Row, Text, all_of, app_of, fault_of, first_of, first_value, found_of, is_simple, is_simple_and_free, kind_of, matched_of, matches_of, new_app, raw_values, rows_of, rule_of}
+use Rattle.clap.specs.Words.{AddsArg, App, IsParsedFrom, Row, Text, app_of, fault_of, first_of, first_value, found_of, is_simple, is_simple_and_free, kind_of, matched_of, matches_of, new_app, raw_values, rows_of, rule_of}
 use Rattle.clap.specs.declared.builder.arg.Arg.{Arg}
 use Rattle.clap.specs.declared.builder.command.Command.{Command}
 use Rattle.clap.specs.declared.error.Error.{Error}
 use Rattle.clap.specs.declared.error.kind.ErrorKind.TheVariants as kinds
 use Rattle.clap.specs.declared.parser.matches.ArgMatches.{ArgMatches}
-use Rattle.clap.proofs.WalkLemmas.{first_value-rows, raw_values-rows}
+use Rattle.clap.proofs.WalkLemmas.{first_value-rows}
 use Rattle.royalty_program.specs.Asked.{AreAccepted, IsErrorOf, IsMergeError, paths_given}
 use Rattle.royalty_program.specs.MergeCommand.{AreWrongPaths, IsMergeCommand, IsPathError, merge_app, statements_rule}
 use Rattle.royalty_program.specs.Args.{HasArgs, IsOptionalArg, IsRequiredArg, optional_rule}
-use Rattle.royalty_program.proofs.OptionLemmas.{HasOptions, as_optional, has_more, has_value, optional_same, options_of}
+use Rattle.royalty_program.proofs.OptionLemmas.{HasOptions, as_optional, has_more, has_value, optional_same, options_of, values_are}
 use Rattle.royalty_program.proofs.SplitLemmas.{required_same, some_of_map}
 
 -- a new command with the two arguments is the command of a merge
@@ -60,11 +60,7 @@ statements_there f c m r s p same = some_of_map f raw_values r _ same (led_to _ 
 -- and it shows the paths that are given
 pub statements_are : {X : Type 0} (f : X → List Text) (m : ArgMatches) (words : List Text) (r : Option X) (v : X) → rows_of (found_of m) ≡ matches_of merge_app words
     → option_map f r ≡ option_map raw_values (matched_of (found_of m) (codes "statements")) → r ≡ Some v → f v ≡ paths_given merge_app (codes "statements") words
-unfolding paths_given
-statements_are f m words r v are same is =
-    let at : all_of (codes "statements") (matches_of merge_app words) ≡ Some (f v) =
-    ap (all_of (codes "statements")) (sym are) ∙ sym (raw_values-rows (found_of m) (codes "statements")) ∙ sym same ∙ ap (option_map f) is in
-    sym (ap (λ (o : Option (List Text)). unwrap_or o []) at)
+statements_are f m words r v are same is = values_are f merge_app m words (codes "statements") r v are same is
 
 some_text : (values : List Text) → is_some (slice_get values 0) ≡ true → 0 < length values
 some_text [] given = absurd (false≢true given)

@@ -9,7 +9,7 @@ use Rattle.std.proofs.lemmas.Bool.{false≢true}
 use Rattle.std.proofs.lemmas.Slice.Eq.{bytes_eq-Decides}
 use Rattle.std.proofs.lemmas.List.{get_or-map, length-map}
 use Rattle.std.proofs.lemmas.List.Elements.{All-nil}
-use Rattle.clap.specs.Words.{AddsArg, App, HasKind, HasMatchesOf, IsAmong, IsParsedFrom, IsPlain, IsPlainArg, IsUnsignedIn, Kinds, NarrowsTo, Rule, SameRules, Text, app_of, args_of, fault_of, first_of, first_value, found_of, groups_of, is_simple, is_simple_and_free, kind_of, matches_of, one_of, one_text, rows_of, rule_of, with_rule}
+use Rattle.clap.specs.Words.{AddsArg, App, HasKind, HasMatchesOf, IsAmong, IsParsedFrom, IsPlain, IsPlainArg, Kinds, NarrowsTo, Rule, SameRules, Text, all_of, app_of, args_of, fault_of, first_of, first_value, found_of, groups_of, is_simple, is_simple_and_free, kind_of, matched_of, matches_of, one_of, one_text, raw_values, rows_of, rule_of, with_rule}
 use Rattle.clap.specs.Built.{IsAuto}
 use Rattle.clap.specs.declared.builder.arg.Arg.{Arg}
 use Rattle.clap.specs.declared.builder.command.Command.{Command}
@@ -20,11 +20,12 @@ use Rattle.clap.specs.declared.error.Error.{Error}
 use Rattle.clap.specs.declared.error.kind.ErrorKind.{ErrorKind}
 use Rattle.clap.specs.declared.error.kind.ErrorKind.TheVariants as kinds
 use Rattle.clap.specs.declared.parser.matches.ArgMatches.{ArgMatches}
-use Rattle.clap.proofs.CallerLemmas.{added_plain, required_has_value}
+use Rattle.clap.proofs.CallerLemmas.{added_plain, present_has_entry, required_has_value, required_present}
 use Rattle.clap.proofs.BuiltLemmas.{plain_same}
 use Rattle.clap.proofs.CallerReads.{required_reads}
-use Rattle.clap.proofs.WalkLemmas.{first_value-rows, one_text-rows}
-use Rattle.royalty_program.specs.Asked.{AreAccepted, AskForHelp, IsErrorOf, number_given, number_in, path_given, path_if_given}
+use Rattle.clap.proofs.WalkLemmas.{first_value-rows, one_text-rows, raw_values-rows}
+use Rattle.royalty_program.specs.Asked.{AreAccepted, AskForHelp, IsErrorOf, number_given, number_in, path_given, path_if_given, paths_given}
+use Rattle.royalty_program.specs.PlanWords.{FindsNumber}
 use Rattle.royalty_program.specs.Args.{HasArgs, IsOptionalArg, IsRequiredArg}
 use Rattle.royalty_program.proofs.SplitLemmas.{ReadsU64, unsigned_reads}
 
@@ -188,11 +189,21 @@ has_value c names app m name a k s p needed here low =
     (λ j e j_low. only_one c names app j k e a s j_low under) own.0 own.1 in
     subst (λ x. is_some (first_value (found_of m) x) ≡ true) id has
 
+-- and an entry, whatever it does with its values
+pub has_entry : (c : Command) (names : List Text) (app : App) (m : ArgMatches) (name : Text) (a : Arg) (k : ℕ) → HasOptions c names app → IsParsedFrom c m
+    → IsOptionalArg name a → a.required ≡ true → slice_index_or (args_of c) k a ≡ a → k < length names
+    → is_some (matched_of (found_of m) name) ≡ true
+has_entry c names app m name a k s p is needed here low =
+    let id : (slice_index_or (args_of c) k a).id.now ≡ name = rw here is.id in
+    let under : k < length (args_of c) = omega (arith, low, count c names app s) in
+    let used = required_present c m p s.plain s.globals s.negates k a under (rw here needed) in
+    present_has_entry (found_of m) name (rw id at used)
+
 -- one with a number has a text that passed its range
-number_text : (c : Command) (names : List Text) (app : App) (m : ArgMatches) (name : Text) (most : ℕ) (a : Arg) (k : ℕ) → HasOptions c names app → IsParsedFrom c m
+pub finds_number : (c : Command) (names : List Text) (app : App) (m : ArgMatches) (name : Text) (most : ℕ) (a : Arg) (k : ℕ) → HasOptions c names app → IsParsedFrom c m
     → IsRequiredArg name a → slice_index_or (args_of c) k a ≡ a → k < length names → a.value_parser ≡ Some (vp.Unsigned 1 most)
-    → (t : Text) × (one_text (found_of m) name ≡ Some t) × IsUnsignedIn 1 most t
-number_text c names app m name most a k s p needed here low parser =
+    → FindsNumber m name most
+finds_number c names app m name most a k s p needed here low parser =
     let value = needed.value in
     let id : (slice_index_or (args_of c) k a).id.now ≡ name = rw here needed.id in
     let under : k < length (args_of c) = omega (arith, low, count c names app s) in
@@ -211,12 +222,8 @@ IsNumberOf m name r = (t : Text) → one_text (found_of m) name ≡ Some t → R
 abbrev pub IsUpTo : ℕ → Option ℕ → Type 0
 IsUpTo most r = IsSome r × IfSome r (λ n. 1 ≤ n) × IfSome r (λ n. n ≤ most)
 
-pub number_read : (c : Command) (names : List Text) (app : App) (m : ArgMatches) (name : Text) (most : ℕ) (a : Arg) (k : ℕ) (r : Option ℕ) → HasOptions c names app → IsParsedFrom c m
-    → IsRequiredArg name a → slice_index_or (args_of c) k a ≡ a → k < length names → a.value_parser ≡ Some (vp.Unsigned 1 most)
-    → IsNumberOf m name r → IsUpTo most r
-number_read c names app m name most a k r s p needed here low parser reads =
-    let text = number_text c names app m name most a k s p needed here low parser in
-    unsigned_reads 1 most text.0 r (reads text.0 text.1) text.2
+pub number_read : (m : ArgMatches) (name : Text) (most : ℕ) (r : Option ℕ) → FindsNumber m name most → IsNumberOf m name r → IsUpTo most r
+number_read m name most r found reads = unsigned_reads 1 most found.0 r (reads found.0 found.1) found.2
 
 -- an answer that comes where a fact holds is there, since it holds
 pub some_by : {X P : Type 0} (o : Option X) → IfNone o (¬ P) → P → IsSome o
@@ -254,13 +261,26 @@ number_shown app m words name text r n are found reads is =
     let shown : one_of name (matches_of app words) ≡ Some text = sym (one_text-rows (found_of m) name ∙ ap (one_of name) are) ∙ found in
     read.0.1 ∙ sym (ap (λ (o : Option Text). number_in (unwrap_or o [])) shown)
 
-pub number_is : (c : Command) (names : List Text) (app : App) (m : ArgMatches) (words : List Text) (name : Text) (most : ℕ) (a : Arg) (k : ℕ) (r : Option ℕ) (n : ℕ)
-    → HasOptions c names app → IsParsedFrom c m → rows_of (found_of m) ≡ matches_of app words
-    → IsRequiredArg name a → slice_index_or (args_of c) k a ≡ a → k < length names → a.value_parser ≡ Some (vp.Unsigned 1 most)
-    → IsNumberOf m name r → r ≡ Some n → n ≡ number_given app name words
-number_is c names app m words name most a k r n s p are needed here low parser reads is =
-    let text = number_text c names app m name most a k s p needed here low parser in
-    number_shown app m words name text.0 r n are text.1 reads is
+pub number_is : (app : App) (m : ArgMatches) (words : List Text) (name : Text) (most : ℕ) (r : Option ℕ) (n : ℕ) → rows_of (found_of m) ≡ matches_of app words
+    → FindsNumber m name most → IsNumberOf m name r → r ≡ Some n → n ≡ number_given app name words
+number_is app m words name most r n are found reads is = number_shown app m words name found.0 r n are found.1 reads is
+
+-- the paths of an option that may stand several times are those that it is given
+pub values_are : {X : Type 0} (f : X → List Text) (app : App) (m : ArgMatches) (words : List Text) (name : Text) (r : Option X) (v : X) → rows_of (found_of m) ≡ matches_of app words
+    → option_map f r ≡ option_map raw_values (matched_of (found_of m) name) → r ≡ Some v → f v ≡ paths_given app name words
+unfolding paths_given
+values_are f app m words name r v are same is =
+    let at : all_of name (matches_of app words) ≡ Some (f v) =
+    ap (all_of name) (sym are) ∙ sym (raw_values-rows (found_of m) name) ∙ sym same ∙ ap (option_map f) is in
+    sym (ap (λ (o : Option (List Text)). unwrap_or o []) at)
+
+pub no_values_are : {X : Type 0} (f : X → List Text) (app : App) (m : ArgMatches) (words : List Text) (name : Text) (r : Option X) → rows_of (found_of m) ≡ matches_of app words
+    → option_map f r ≡ option_map raw_values (matched_of (found_of m) name) → r ≡ None → [] ≡ paths_given app name words
+unfolding paths_given
+no_values_are f app m words name r are same is =
+    let at : all_of name (matches_of app words) ≡ None =
+    ap (all_of name) (sym are) ∙ sym (raw_values-rows (found_of m) name) ∙ sym same ∙ ap (option_map f) is in
+    sym (ap (λ (o : Option (List Text)). unwrap_or o []) at)
 
 -- ---- the error of a parse that fails
 

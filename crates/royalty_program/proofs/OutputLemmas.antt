@@ -1,5 +1,5 @@
 -- Where a text went: to standard output, or into the file that the words name.
-use Rattle.std.proofs.Common.{◌≡◌, ◌≢◌, ◌∙◌, ℕ, List, Option, None, Some, codes, drop, inl, inr, refl, subst, sym}
+use Rattle.std.proofs.Common.{◌≡◌, ◌≢◌, ◌⊎◌, ◌∙◌, ℕ, Bool, true, false, List, Option, None, Some, codes, drop, inl, inr, refl, subst, sym}
 use Rattle.std.specs.Io.KnownBytes.{Appends, Keeps}
 use Rattle.std.specs.Option.{IfNone, IfSome, option_map}
 use Rattle.std.specs.Prelude.{String, string_bytes}
@@ -8,10 +8,17 @@ use Rattle.clap.specs.Words.{kind_of}
 use Rattle.clap.specs.declared.error.Error.{Error}
 use Rattle.clap.specs.declared.error.kind.ErrorKind.TheVariants as kinds
 use Rattle.pair_split.specs.Pair.{word_at}
-use Rattle.royalty_program.specs.Answered.{AskForOutput, IsDelivered, NameOutput}
-use Rattle.royalty_program.specs.Asked.{AskForHelp, IsMergeError, inputs_given, path_if_given}
-use Rattle.royalty_program.specs.OutputPath.{IsApart}
-use Rattle.run_inputs.specs.declared.inputs.Inputs.{Inputs}
+use Rattle.royalty_program.specs.Answered.{AreOneFile, AreSubmitted, AskForOutput, IsDelivered, NameOutput}
+use Rattle.royalty_program.specs.Asked.{AskForHelp, AskForRun, AskForSubmittedRun, EitherRun, IsErrorOf, IsMergeError, IsSubmittedError}
+use Rattle.royalty_program.specs.Asked.{inputs_given, name_works, path_if_given, run_output, submitted_given}
+use Rattle.royalty_program.specs.OutputPath.{IsNoInput}
+use Rattle.royalty_program.specs.RunInputs.{IsNoInputOf}
+use Rattle.royalty_program.specs.SubmittedFiles.{IsNoneOf}
+use Rattle.royalty_program.specs.declared.inputs.RunInputs.{RunInputs}
+use Rattle.royalty_program.proofs.EitherLemmas.{by_inputs, of_one_file, of_several}
+use Rattle.clap.specs.Words.{App}
+use Rattle.royalty_program.specs.Asked.{AreAccepted, AreFilesAccepted, AreRunAccepted, IsRunError}
+use Rattle.royalty_program.specs.SubmittedCommand.{submitted_app}
 use Rattle.royalty_program.specs.MergeCommand.{merge_app}
 use Rattle.royalty_program.specs.RunCommand.{run_app}
 use Rattle.royalty_program.specs.Status.{IsOfMerge}
@@ -35,15 +42,48 @@ no_merge_help_given words error (inr wrong) none = (
   λ version. let bad : kinds.ValueValidation ≡ kinds.DisplayVersion = sym wrong.kind ∙ version in cc,
 )
 
--- its words are refused for their paths, or since clap does not accept them
+-- nor is one of words that name files of submitters
+pub no_files_help_given : (app : App) (words : List (List ℕ)) (error : Error) → IsSubmittedError app words error → ¬ AskForHelp app words → (kind_of error ≢ kinds.DisplayHelp) × (kind_of error ≢ kinds.DisplayVersion)
+no_files_help_given app words error (inl is) none = no_help_given app words error is none
+no_files_help_given app words error (inr wrong) none = (
+  λ help. let bad : kinds.ValueValidation ≡ kinds.DisplayHelp = sym wrong.kind ∙ help in cc,
+  λ version. let bad : kinds.ValueValidation ≡ kinds.DisplayVersion = sym wrong.kind ∙ version in cc,
+)
+
+-- which are refused since clap does not accept them, or for the files
+pub not_accepted_files : (app : App) (words : List (List ℕ)) (error : Error) → kind_of error ≢ kinds.OutOfMemory → IsSubmittedError app words error → ¬ AreFilesAccepted app words
+not_accepted_files app words error not_memory (inl is) accepted = not_memory (accepted_is_memory app words error is accepted.0)
+not_accepted_files app words error not_memory (inr wrong) accepted = wrong.files accepted.1
+
+-- so are those of a run
+pub not_accepted_run : (words : List (List ℕ)) (error : Error) → kind_of error ≢ kinds.OutOfMemory → IsRunError words error → ¬ AreRunAccepted words
+not_accepted_run words error not_memory = by (name_works words)
+  where
+    by : (several : Bool) → EitherRun several (IsErrorOf run_app words error) (IsSubmittedError submitted_app words error)
+        → ¬ EitherRun several (AreAccepted run_app words) (AreFilesAccepted submitted_app words)
+    by false is accepted = not_memory (accepted_is_memory run_app words error is accepted)
+    by true is accepted = not_accepted_files submitted_app words error not_memory is accepted
+
+-- words that ask for a run and for no help have no error of help
+pub no_run_help_given : (words : List (List ℕ)) (error : Error) → (word_at words 1 ≡ codes "run" → IsRunError (drop 1 words) error) → AskForRun words ⊎ AskForSubmittedRun words
+    → (kind_of error ≢ kinds.DisplayHelp) × (kind_of error ≢ kinds.DisplayVersion)
+no_run_help_given words error is (inl run) = no_help_given run_app (drop 1 words) error (of_one_file _ _ _ run.one_file (is run.command)) run.no_help
+no_run_help_given words error is (inr run) = no_files_help_given submitted_app (drop 1 words) error (of_several _ _ _ run.several (is run.command)) run.no_help
+
+-- the words of a merge are refused for their paths, or since clap does not accept them
 pub unmerged_words : (gives : List ℕ → List ℕ → Type 0) (words : List (List ℕ)) (error : Error) → kind_of error ≢ kinds.OutOfMemory → IsMergeError words error → IsOfMerge gives words (Words error)
 unmerged_words gives words error not_memory (inl is) = inr (λ accepted. not_memory (accepted_is_memory merge_app words error is accepted))
 unmerged_words gives words error not_memory (inr wrong) = inl wrong
 
--- where no output is named, none is an input
-apart_from : (paths : Inputs (List ℕ)) (output : Option (List ℕ)) → ((path : List ℕ) → ¬ (output ≡ Some path)) → IsApart paths output
-apart_from paths None none = tt
-apart_from paths (Some path) none = absurd (none path refl)
+-- where no output is named, anything holds of the one that is
+if_none : (P : List ℕ → Type 0) (output : Option (List ℕ)) → ((path : List ℕ) → ¬ (output ≡ Some path)) → IfSome output P
+if_none P None none = tt
+if_none P (Some path) none = absurd (none path refl)
+
+-- words that ask for a run are those of the command
+of_run : (words : List (List ℕ)) → AskForRun words ⊎ AskForSubmittedRun words → word_at words 1 ≡ codes "run"
+of_run words (inl run) = run.command
+of_run words (inr run) = run.command
 
 module _ (keeps : List ℕ → Option (List ℕ) → Type 0) (words : List (List ℕ)) where
   -- a text stays where it went as the output is seen through
@@ -55,6 +95,7 @@ module _ (keeps : List ℕ → Option (List ℕ) → Type 0) (words : List (List
     ];
     kept_if_named = λ path asks. ((went.kept_if_named path asks).0, kept_on old mid new (went.kept_if_named path asks).1 kept);
     apart = went.apart;
+    apart_from_all = went.apart_from_all;
   }
 
   -- words that ask for no output file are answered on standard output
@@ -62,13 +103,14 @@ module _ (keeps : List ℕ → Option (List ℕ) → Type 0) (words : List (List
   delivered_out old new text none added = record {
     printed_or_kept = inl added;
     kept_if_named = λ path asks. absurd (none path asks);
-    apart = λ run. apart_from (inputs_given run_app (drop 1 words)) (path_if_given run_app (codes "output") (drop 1 words)) (λ path named. none path (inl (run, named)));
+    apart = λ run. if_none (IsNoInput (inputs_given run_app (drop 1 words))) (run_output (drop 1 words)) (λ path named. none path (inl (inl run, named)));
+    apart_from_all = λ run. if_none (IsNoneOf (submitted_given (drop 1 words))) (run_output (drop 1 words)) (λ path named. none path (inl (inr run, named)));
   }
 
   -- no other words do
   pub no_output : ¬ (word_at words 1 ≡ codes "run") → ¬ (word_at words 1 ≡ codes "merge") → (path : List ℕ) → ¬ AskForOutput words path
   no_output no_run no_merge path asks = elim asks [
-    | inl (run, named) ↦ no_run run.command
+    | inl (run, named) ↦ no_run (of_run words run)
     | inr (merge, named) ↦ no_merge merge.command
   ]
 
@@ -79,34 +121,40 @@ module _ (keeps : List ℕ → Option (List ℕ) → Type 0) (words : List (List
   ]
 
   -- a run goes where its option says
-  pub delivered_run : (paths : Inputs (List ℕ)) (output : Option (List ℕ)) (old new : Option (List ℕ)) (text : List ℕ) → word_at words 1 ≡ codes "run"
-      → paths ≡ inputs_given run_app (drop 1 words) → output ≡ path_if_given run_app (codes "output") (drop 1 words)
-      → IsApart paths output → IsPut output keeps old new text → IsDelivered keeps words old new text
-  delivered_run paths None old new text command of_words is apart put = delivered_out old new text
+  pub delivered_run : (inputs : RunInputs) (output : Option (List ℕ)) (old new : Option (List ℕ)) (text : List ℕ) → word_at words 1 ≡ codes "run"
+      → EitherRun (name_works (drop 1 words)) (AreOneFile (inputs_given run_app (drop 1 words)) inputs) (AreSubmitted (submitted_given (drop 1 words)) inputs)
+      → output ≡ run_output (drop 1 words) → IfSome output (IsNoInputOf inputs) → IsPut output keeps old new text → IsDelivered keeps words old new text
+  delivered_run inputs None old new text command of_words is apart put = delivered_out old new text
       (λ path asks. elim asks [ inl (run, named) ↦ cc | inr (merge, named) ↦ absurd (differ (sym command ∙ merge.command) refl) ])
       put
-  delivered_run paths (Some output) old new text command of_words is apart put = record {
+  delivered_run inputs (Some output) old new text command of_words is apart put = record {
     printed_or_kept = inr (output, inl (command, sym is), put.0, put.1);
     kept_if_named = λ path asks. elim asks [
       | inl (run, named) ↦ let same : output ≡ path = cc in (subst (λ (p : List ℕ). keeps p (Some text)) same put.0, put.1)
       | inr (merge, named) ↦ absurd (differ (sym command ∙ merge.command) refl)
     ];
-    apart = λ run. subst (λ (o : Option (List ℕ)). IsApart (inputs_given run_app (drop 1 words)) o) is (subst (λ (p : Inputs (List ℕ)). IsApart p (Some output)) of_words apart);
+    apart = λ run. subst (λ (o : Option (List ℕ)). IfSome o (IsNoInput (inputs_given run_app (drop 1 words)))) is (of_one_file _ _ _ run.one_file from_all);
+    apart_from_all = λ run. subst (λ (o : Option (List ℕ)). IfSome o (IsNoneOf (submitted_given (drop 1 words)))) is (of_several _ _ _ run.several from_all);
   }
+    where
+      from_all : EitherRun (name_works (drop 1 words)) (IsNoInput (inputs_given run_app (drop 1 words)) output) (IsNoneOf (submitted_given (drop 1 words)) output)
+      from_all = by_inputs (λ paths. IsNoInput paths output) (λ paths. IsNoneOf paths output) (name_works (drop 1 words)) (inputs_given run_app (drop 1 words))
+          (submitted_given (drop 1 words)) inputs of_words apart
 
   -- and so does a merge
   pub delivered_merge : (output : Option (List ℕ)) (old new : Option (List ℕ)) (text : List ℕ) → word_at words 1 ≡ codes "merge" → output ≡ path_if_given merge_app (codes "output") (drop 1 words)
       → IsPut output keeps old new text → IsDelivered keeps words old new text
   delivered_merge None old new text command is put = delivered_out old new text
-      (λ path asks. elim asks [ inl (run, named) ↦ absurd (differ (sym command ∙ run.command) refl) | inr (merge, named) ↦ cc ])
+      (λ path asks. elim asks [ inl (run, named) ↦ absurd (differ (sym command ∙ of_run words run) refl) | inr (merge, named) ↦ cc ])
       put
   delivered_merge (Some output) old new text command is put = record {
     printed_or_kept = inr (output, inr (command, sym is), put.0, put.1);
     kept_if_named = λ path asks. elim asks [
-      | inl (run, named) ↦ absurd (differ (sym command ∙ run.command) refl)
+      | inl (run, named) ↦ absurd (differ (sym command ∙ of_run words run) refl)
       | inr (merge, named) ↦ let same : output ≡ path = cc in (subst (λ (p : List ℕ). keeps p (Some text)) same put.0, put.1)
     ];
     apart = λ run. absurd (differ (sym command ∙ run.command) refl);
+    apart_from_all = λ run. absurd (differ (sym command ∙ run.command) refl);
   }
 
   -- a report goes to standard output
@@ -134,10 +182,10 @@ left_named old new (Some value) named path P Q is there weaker left =
 
 module _ (old new : List ℕ → Option (List ℕ) → Type 0) (words : List (List ℕ)) (output : Option (String Global)) (P Q : List ℕ → Type 0) where
   -- the path that a run names has what it had, or the whole text
-  pub left_run : word_at words 1 ≡ codes "run" → option_map string_bytes output ≡ path_if_given run_app (codes "output") (drop 1 words) → ((text : List ℕ) → P text → Q text)
+  pub left_run : word_at words 1 ≡ codes "run" → option_map string_bytes output ≡ run_output (drop 1 words) → ((text : List ℕ) → P text → Q text)
       → IfSome output (λ value. IsLeftOrHas (old (string_bytes value)) (new (string_bytes value)) P) → (path : List ℕ) → NameOutput words path → IsLeftOrHas (old path) (new path) Q
   left_run command is weaker left path named = elim named [
-    | inl (run, there) ↦ left_named old new output (path_if_given run_app (codes "output") (drop 1 words)) path P Q is there weaker left
+    | inl (run, there) ↦ left_named old new output (run_output (drop 1 words)) path P Q is there weaker left
     | inr (merge, there) ↦ absurd (differ (sym command ∙ merge) refl)
   ]
 
@@ -150,7 +198,7 @@ module _ (old new : List ℕ → Option (List ℕ) → Type 0) (words : List (Li
   ]
 
 -- where a run names no path, nothing is kept
-pub unused_run : (words : List (List ℕ)) (output : Option (String Global)) (Same : Type 0) → word_at words 1 ≡ codes "run" → option_map string_bytes output ≡ path_if_given run_app (codes "output") (drop 1 words)
+pub unused_run : (words : List (List ℕ)) (output : Option (String Global)) (Same : Type 0) → word_at words 1 ≡ codes "run" → option_map string_bytes output ≡ run_output (drop 1 words)
     → IfNone output Same → ((path : List ℕ) → ¬ NameOutput words path) → Same
 unused_run words None Same command is same none = same
 unused_run words (Some value) Same command is same none = absurd (none (string_bytes value) (inl (command, sym is)))
@@ -159,3 +207,9 @@ pub unused_merge : (words : List (List ℕ)) (output : Option (String Global)) (
     → IfNone output Same → ((path : List ℕ) → ¬ NameOutput words path) → Same
 unused_merge words None Same command is same none = same
 unused_merge words (Some value) Same command is same none = absurd (none (string_bytes value) (inr (command, sym is)))
+
+-- what was printed where no file is named went to where it was to go
+pub put_printed : (output : Option (String Global)) (keeps : List ℕ → Option (List ℕ) → Type 0) (old new : Option (List ℕ)) (text : List ℕ) → output ≡ None → Appends old new text
+    → IsPut (option_map string_bytes output) keeps old new text
+put_printed None keeps old new text none added = added
+put_printed (Some path) keeps old new text none added = cc none

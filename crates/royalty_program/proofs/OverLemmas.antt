@@ -7,56 +7,101 @@ use Rattle.std.specs.declared.alloc.Global.{Global}
 use Rattle.std.specs.declared.io.ErrorKind.{ErrorKind}
 use Rattle.pair_split.specs.Pair.{word_at}
 use Rattle.royalty_program.specs.RunCommand.{run_app}
-use Rattle.royalty_program.specs.Answered.{AreCheckedFrom, AreExplainedFrom, AreMergeFrom, AreReadFrom}
+use Rattle.royalty_program.specs.Answered.{AreCheckedFrom, AreExplainedFrom, AreMergeFrom, AreReadFrom, AreStarting}
 use Rattle.royalty_program.specs.MergeCommand.{merge_app}
 use Rattle.royalty_program.specs.MergeFiles.{IsMergeOver}
 use Rattle.royalty_program.specs.declared.merge_command.MergeWords.{MergeWords}
-use Rattle.royalty_program.specs.Asked.{AreRunWords, IsDivision, inputs_given, number_given, paths_given, paths_in_order}
+use Rattle.royalty_program.specs.Asked.{AreRunWords, EitherRun, IsDivision, files_given, inputs_given, name_works, number_given, paths_given, paths_in_order, submitted_given}
 use Rattle.royalty_program.specs.CheckCommand.{check_app}
 use Rattle.royalty_program.specs.ExplainCommand.{explain_app}
 use Rattle.royalty_program.specs.Files.{AreStatementsOver, IsExplanationOver, IsReportOver}
-use Rattle.royalty_program.specs.Status.{FailFor, IsOfCheck, IsOfDivision, IsOfExplanation, IsOfMerge, IsOfNoInput, IsOfOutput, IsOfPaths, IsOfRunOutput, IsOfTexts, IsOfRun, IsRefusal, IsUnexplained, status_of}
+use Rattle.royalty_program.specs.Status.{FailFor, IsOfCheck, IsOfDivision, IsOfExplanation, IsOfMerge, IsOfNoInput, IsOfOutput, IsOfPaths, IsOfRunOutput, IsOfFiles, IsOfSubmitted, IsOfTable, IsOfTexts, IsOfRun, IsRefusal, IsSaidOf, IsUnexplained, status_of}
 use Rattle.royalty_program.specs.declared.failure.Failure.{Failure}
-use Rattle.royalty_program.specs.declared.failure.Failure.TheVariants.{Words, NotText, Pairs, Input, Row, Room, File, Output, Target, Statement, Many, Changed, Replaces}
+use Rattle.royalty_program.specs.declared.failure.Failure.TheVariants.{Words, NotText, Pairs, Input, Works, Registrations, Row, Room, File, Output, Target, Statement, Many, Changed, Replaces}
 use Rattle.run_inputs.specs.Inputs.{map_inputs}
 use Rattle.run_inputs.specs.declared.inputs.Inputs.{Inputs}
 use Rattle.royalty_program.specs.declared.explain_command.ExplainWords.{ExplainWords}
 use Rattle.royalty_program.specs.declared.run_command.RunWords.{RunWords}
 use Rattle.royalty_program.proofs.EndLemmas.{IsThrough}
-use Rattle.royalty_program.proofs.RunLemmas.{inputs_in_order}
+use Rattle.royalty_program.proofs.EitherLemmas.{by_inputs, of_one_file, of_several}
+use Rattle.royalty_program.proofs.RunLemmas.{inputs_in_order, is_of_one_file}
+use Rattle.royalty_program.specs.RunInputs.{AreStatementsFrom, IsOfInputs}
+use Rattle.royalty_program.specs.SubmittedFiles.{AreSubmittedStatementsOver, paths_of}
+use Rattle.royalty_program.specs.declared.inputs.RunInputs.{RunInputs}
+use Rattle.royalty_program.specs.declared.inputs.RunInputs.TheVariants.{OneFile, Submitted}
+use Rattle.submitted_inputs.specs.declared.fault.SubmittedFault.{SubmittedFault}
+use Rattle.submitted_inputs.specs.declared.fault.SubmittedFault.TheVariants as submitted
+use Rattle.clap.specs.declared.error.Error.{Error}
+use Rattle.starting_files.specs.declared.making.StartingTable.{StartingTable}
+use Rattle.royalty_program.specs.StartingCommand.{starting_app, starting_name}
+use Rattle.royalty_program.specs.declared.starting_command.StartingWords.{StartingWords}
+use Rattle.royalty_program.specs.NamedFiles.{name_in, path_in}
+use Rattle.royalty_program.specs.SubmittedFiles.{HoldsAt, IsTableOver}
+use Rattle.starting_files.specs.Tables.{IsTableOf}
 
--- statements are those of the paths that the options are given
-pub over_given : (holds : List ℕ → List ℕ → Type 0) (words : List (List ℕ)) (asked : RunWords) (text : List ℕ) → AreReadFrom words asked
-    → AreStatementsOver holds (map_inputs string_bytes asked.inputs) text → AreStatementsOver holds (inputs_given run_app words) text
-over_given holds words asked text read over = subst (λ (paths : Inputs (List ℕ)). AreStatementsOver holds paths text) read.inputs over
+module _ (holds : List ℕ → List ℕ → Type 0) where
+  -- statements are those of the paths that the options are given
+  statements_given : (words : List (List ℕ)) (asked : RunWords) (text : List ℕ) → AreReadFrom words asked → AreStatementsFrom holds asked.inputs text
+      → EitherRun (name_works words) (AreStatementsOver holds (inputs_given run_app words) text) (AreSubmittedStatementsOver holds (submitted_given words) text)
+  statements_given words asked text read over =
+      by_inputs (λ paths. AreStatementsOver holds paths text) (λ paths. AreSubmittedStatementsOver holds paths text) (name_works words) (inputs_given run_app words) (submitted_given words) asked.inputs read.inputs over
 
--- and in the plain form of the values after the options
-pub over_in_order : (holds : List ℕ → List ℕ → Type 0) (words : List (List ℕ)) (asked : RunWords) (text : List ℕ) (r : AreRunWords words) → AreReadFrom words asked
-    → AreStatementsOver holds (map_inputs string_bytes asked.inputs) text → AreStatementsOver holds (paths_in_order r) text
-over_in_order holds words asked text r read over = subst (λ (paths : Inputs (List ℕ)). AreStatementsOver holds paths text) (read.inputs ∙ inputs_in_order words r) over
+  pub over_given : (words : List (List ℕ)) (asked : RunWords) (text : List ℕ) → name_works words ≡ false → AreReadFrom words asked
+      → AreStatementsFrom holds asked.inputs text → AreStatementsOver holds (inputs_given run_app words) text
+  over_given words asked text one read over = of_one_file _ _ _ one (statements_given words asked text read over)
+
+  pub over_submitted : (words : List (List ℕ)) (asked : RunWords) (text : List ℕ) → name_works words ≡ true → AreReadFrom words asked
+      → AreStatementsFrom holds asked.inputs text → AreSubmittedStatementsOver holds (submitted_given words) text
+  over_submitted words asked text several read over = of_several _ _ _ several (statements_given words asked text read over)
+
+  -- and in the plain form of the values after the options
+  pub over_in_order : (words : List (List ℕ)) (asked : RunWords) (text : List ℕ) (r : AreRunWords words) → AreReadFrom words asked
+      → AreStatementsFrom holds asked.inputs text → AreStatementsOver holds (paths_in_order r) text
+  over_in_order words asked text r read over =
+      subst (λ (paths : Inputs (List ℕ)). AreStatementsOver holds paths text) (inputs_in_order words r) (over_given words asked text (is_of_one_file words r) read over)
+
+-- a fault of an input is no fault of the words
+no_words_said : (files : List (List ℕ)) (fault : SubmittedFault) (error : Error) → ¬ IsSaidOf files fault (Words error)
+no_words_said files (submitted.Tis fault) error said = cc said
+no_words_said files (submitted.Payee fault) error said = cc said
+no_words_said files (submitted.Works fault) error said = cc said
+no_words_said files (submitted.Unreadable place) error (name, is, at) = cc is
+no_words_said files (submitted.Cwr place fault) error (name, is, at) = cc is
+no_words_said files (submitted.Usage fault) error said = cc said
+no_words_said files submitted.Room error said = cc said
 
 -- a run fails for the files that its options name, and for that of its output
 pub fails_given : (holds : List ℕ → List ℕ → Type 0) (refuses : List ℕ → ErrorKind → Type 0) (words : List (List ℕ)) (asked : RunWords) → AreReadFrom words asked → (failure : Failure)
-    → IsOfRunOutput asked.output (IsOfPaths holds refuses (map_inputs string_bytes asked.inputs)) failure → IsOfRun holds refuses words failure
+    → IsOfRunOutput asked.output (IsOfInputs holds refuses asked.inputs) failure → IsOfRun holds refuses words failure
 fails_given holds refuses words asked read failure is = as_run failure is
   where
-    given : (failure : Failure) → IsOfPaths holds refuses (map_inputs string_bytes asked.inputs) failure → IsOfPaths holds refuses (inputs_given run_app words) failure
-    given failure is = subst (λ (paths : Inputs (List ℕ)). IsOfPaths holds refuses paths failure) read.inputs is
+    given : (failure : Failure) → IsOfInputs holds refuses asked.inputs failure
+        → EitherRun (name_works words) (IsOfPaths holds refuses (inputs_given run_app words) failure) (IsOfSubmitted holds refuses (submitted_given words) failure)
+    given failure is =
+        by_inputs (λ paths. IsOfPaths holds refuses paths failure) (λ paths. IsOfSubmitted holds refuses paths failure) (name_works words) (inputs_given run_app words) (submitted_given words) asked.inputs read.inputs is
 
-    as_run : (failure : Failure) → IsOfRunOutput asked.output (IsOfPaths holds refuses (map_inputs string_bytes asked.inputs)) failure
+    no_words : (inputs : RunInputs) (error : Error) → ¬ IsOfInputs holds refuses inputs (Words error)
+    no_words (OneFile inputs) error none = none
+    no_words (Submitted inputs) error (inl room) = cc room
+    no_words (Submitted inputs) error (inr (inl none)) = none
+    no_words (Submitted inputs) error (inr (inr (fault, over, said))) = no_words_said (paths_of inputs).files fault error said
+
+    as_run : (failure : Failure) → IsOfRunOutput asked.output (IsOfInputs holds refuses asked.inputs) failure
         → IsOfRun holds refuses words failure
-    as_run (Words error) none = absurd none
-    as_run NotText none = none
-    as_run (Pairs fault) none = none
-    as_run (Row row) none = none
-    as_run (Input fault) over = given (Input fault) over
-    as_run Room any = any
-    as_run (File name) named = given (File name) named
-    as_run Output none = none
+    as_run (Words error) is = absurd (no_words asked.inputs error is)
+    as_run NotText is = given NotText is
+    as_run (Pairs fault) is = given (Pairs fault) is
+    as_run (Row row) is = given (Row row) is
+    as_run (Input fault) is = given (Input fault) is
+    as_run (Works fault) is = given (Works fault) is
+    as_run (Registrations fault path) is = given (Registrations fault path) is
+    as_run Room is = given Room is
+    as_run (File name) is = given (File name) is
+    as_run Output is = given Output is
     as_run (Target path) named = sym read.output ∙ ap (option_map string_bytes) named
-    as_run (Statement fault path) none = none
-    as_run Many none = none
-    as_run (Changed path) none = none
+    as_run (Statement fault path) is = given (Statement fault path) is
+    as_run Many is = given Many is
+    as_run (Changed path) is = given (Changed path) is
     as_run (Replaces path) named = sym read.output ∙ ap (option_map string_bytes) named
 
 -- and so does a merge
@@ -73,6 +118,8 @@ unmerged_given gives words asked read failure is = as_merge failure is
     as_merge (Pairs fault) none = none
     as_merge (Row row) none = none
     as_merge (Input fault) none = none
+    as_merge (Works fault) none = none
+    as_merge (Registrations fault path) none = none
     as_merge Room any = any
     as_merge (File name) named = given (File name) named
     as_merge Output none = none
@@ -103,6 +150,8 @@ as_unexplained holds refuses paths row NotText none = none
 as_unexplained holds refuses paths row (Pairs fault) none = none
 as_unexplained holds refuses paths row (Row beyond) none = absurd none
 as_unexplained holds refuses paths row (Input fault) over = over
+as_unexplained holds refuses paths row (Works fault) none = none
+as_unexplained holds refuses paths row (Registrations fault path) none = none
 as_unexplained holds refuses paths row Room any = any
 as_unexplained holds refuses paths row (File name) named = named
 as_unexplained holds refuses paths row Output none = none
@@ -127,6 +176,8 @@ unexplained_given holds refuses words asked read failure is =
     as_asked (Pairs fault) none = none
     as_asked (Row beyond) is = is
     as_asked (Input fault) is = is
+    as_asked (Works fault) none = none
+    as_asked (Registrations fault path) none = none
     as_asked Room is = is
     as_asked (File name) is = is
     as_asked Output none = none
@@ -157,6 +208,8 @@ unchecked_given holds refuses words inputs read failure is none =
     as_asked (Pairs fault) is none = (is, none)
     as_asked (Row beyond) is none = (is, none)
     as_asked (Input fault) is none = (is, none)
+    as_asked (Works fault) is none = (is, none)
+    as_asked (Registrations fault path) is none = (is, none)
     as_asked Room is none = (is, none)
     as_asked (File name) is none = (is, none)
     as_asked Output is none = (is, none)
@@ -166,15 +219,53 @@ unchecked_given holds refuses words inputs read failure is none =
     as_asked (Changed path) is none = (is, none)
     as_asked (Replaces path) is none = (is, none)
 
+-- a table to begin with is of the files that the option names
+pub table_given : (holds : List ℕ → List ℕ → Type 0) (words : List (List ℕ)) (table : StartingTable) (asked : StartingWords) (text : List ℕ) → AreStarting table words asked
+    → IsTableOf asked.table asked.files.names (HoldsAt holds (map string_bytes asked.files.paths.items)) text
+    → IsTableOver holds table (files_given (starting_app table) words) text
+table_given holds words table asked text read is =
+    subst (λ (t : StartingTable). IsTableOver holds t (files_given (starting_app table) words) text) read.table_is
+    (subst (λ (names : List (List ℕ)). IsTableOf asked.table names (HoldsAt holds (map path_in (files_given (starting_app table) words))) text) read.files.names
+    (subst (λ (paths : List (List ℕ)). IsTableOf asked.table asked.files.names (HoldsAt holds paths) text) read.files.paths is))
+
+-- and fails for them
+pub no_table_given : (holds : List ℕ → List ℕ → Type 0) (refuses : List ℕ → ErrorKind → Type 0) (words : List (List ℕ)) (table : StartingTable) (asked : StartingWords) → AreStarting table words asked
+    → (failure : Failure) → IsOfFiles holds refuses asked.files.names (map string_bytes asked.files.paths.items) failure → IsOfTable holds refuses table words failure
+no_table_given holds refuses words table asked read failure is = as_table failure (
+    subst (λ (names : List (List ℕ)). IsOfFiles holds refuses names (map path_in (files_given (starting_app table) words)) failure) read.files.names
+    (subst (λ (paths : List (List ℕ)). IsOfFiles holds refuses asked.files.names paths failure) read.files.paths is))
+  where
+    values : List (List ℕ)
+    values = files_given (starting_app table) words
+
+    as_table : (failure : Failure) → IsOfFiles holds refuses (map name_in values) (map path_in values) failure → IsOfTable holds refuses table words failure
+    as_table (Words error) (inl room) = cc room
+    as_table (Words error) (inr (fault, over, said)) = absurd (no_words_said (map path_in values) fault error said)
+    as_table NotText is = is
+    as_table (Pairs fault) is = is
+    as_table (Row row) is = is
+    as_table (Input fault) is = is
+    as_table (Works fault) is = is
+    as_table (Registrations fault path) is = is
+    as_table Room is = is
+    as_table (File name) is = is
+    as_table Output is = is
+    as_table (Target path) is = is
+    as_table (Statement fault path) is = is
+    as_table Many is = is
+    as_table (Changed path) is = is
+    as_table (Replaces path) is = is
+
 -- how the program ends: an answer ends with 0, a report that tells of a fault with 1, both with 4 where the output refuses them, and a failure with its status
 pub ends_with : {T E : Type 0} (r : Result (Result T E × Bool) Failure) (status : ℕ) (holds gives : List ℕ → List ℕ → Type 0) (refuses : List ℕ → ErrorKind → Type 0) (words : List (List ℕ)) (mid new : Option (List ℕ))
     → IfErr r (λ failure. status ≡ status_of failure) → IfOk r (IsThrough {T = T} {E = E} status mid new) → IfOk r (λ done. ¬ (word_at words 1 ≡ codes "check") → done.1 ≡ true) → IfErr r IsRefusal → (IsDivision words → IfErr r (IsOfDivision words))
     → (word_at words 1 ≡ codes "run" → IfErr r (IsOfRun holds refuses (drop 1 words))) → (word_at words 1 ≡ codes "explain" → IfErr r (IsOfExplanation holds refuses (drop 1 words)))
     → (word_at words 1 ≡ codes "check" → IfErr r (IsOfCheck holds refuses (drop 1 words))) → (word_at words 1 ≡ codes "merge" → IfErr r (IsOfMerge gives (drop 1 words)))
+    → ((table : StartingTable) → word_at words 1 ≡ starting_name table → IfErr r (IsOfTable holds refuses table (drop 1 words)))
     → status ≢ 0 → ¬ ((status ≡ 1) × (word_at words 1 ≡ codes "check")) → (failure : Failure) × (status ≡ status_of failure) × ((failure ≡ Output) ⊎ FailFor holds gives refuses words failure)
-ends_with (Ok done) status holds gives refuses words mid new is (inl refused) others refusal division run explanation checked merge failed no_report = (Output, refused, inl refl)
-ends_with (Ok (printed, true)) status holds gives refuses words mid new is (inr (told, ok, kept)) others refusal division run explanation checked merge failed no_report = absurd (failed told)
-ends_with (Ok (printed, false)) status holds gives refuses words mid new is (inr (told, ok, kept)) others refusal division run explanation checked merge failed no_report =
+ends_with (Ok done) status holds gives refuses words mid new is (inl refused) others refusal division run explanation checked merge table failed no_report = (Output, refused, inl refl)
+ends_with (Ok (printed, true)) status holds gives refuses words mid new is (inr (told, ok, kept)) others refusal division run explanation checked merge table failed no_report = absurd (failed told)
+ends_with (Ok (printed, false)) status holds gives refuses words mid new is (inr (told, ok, kept)) others refusal division run explanation checked merge table failed no_report =
     cc (others (λ check. no_report (told, check)))
-ends_with (Err failure) status holds gives refuses words mid new is through others refusal division run explanation checked merge failed no_report =
-    (failure, is, inr (record { refusal = refusal; division = division; run = run; explanation = explanation; checked = checked; merge = merge }))
+ends_with (Err failure) status holds gives refuses words mid new is through others refusal division run explanation checked merge table failed no_report =
+    (failure, is, inr (record { refusal = refusal; division = division; run = run; explanation = explanation; checked = checked; merge = merge; table = table }))

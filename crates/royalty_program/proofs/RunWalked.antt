@@ -166,19 +166,19 @@ walks_two w rows flag id word more asks takes is =
     ∙ ap (λ (v : Walk). fold (walked rules []) v more) (reads_value rows id word takes is)
 
 -- the words of a run from its options on
-abbrev from_nodes : Text → List Text
+abbrev pub from_nodes : Text → List Text
 from_nodes nodes = codes "--nodes" ∷ nodes ∷ []
 
-abbrev from_readers : (readers nodes : Text) → List Text
+abbrev pub from_readers : (readers nodes : Text) → List Text
 from_readers readers nodes = codes "--readers" ∷ readers ∷ from_nodes nodes
 
-abbrev from_workers : (workers readers nodes : Text) → List Text
+abbrev pub from_workers : (workers readers nodes : Text) → List Text
 from_workers workers readers nodes = codes "--workers" ∷ workers ∷ from_readers readers nodes
 
-abbrev from_usage : (usage workers readers nodes : Text) → List Text
+abbrev pub from_usage : (usage workers readers nodes : Text) → List Text
 from_usage usage workers readers nodes = codes "--usage" ∷ usage ∷ from_workers workers readers nodes
 
-abbrev from_cwr : (cwr usage workers readers nodes : Text) → List Text
+abbrev pub from_cwr : (cwr usage workers readers nodes : Text) → List Text
 from_cwr cwr usage workers readers nodes = codes "--cwr" ∷ cwr ∷ from_usage usage workers readers nodes
 
 abbrev options : (tis : Text) (payees : Option Text) (cwr usage workers readers nodes : Text) → List Text

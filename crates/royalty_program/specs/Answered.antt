@@ -1,12 +1,12 @@
 -- What is read of a command line, and what answers it.
 use Rattle.std.specs.Prelude.{ℕ, ◌≡◌, ◌<◌, ◌≤◌, ◌⊎◌, Bool, true, List, None}
-use Rattle.std.specs.Prelude.{Option, Some, String, codes, drop, length, map, string_bytes, ⊤}
+use Rattle.std.specs.Prelude.{IfSome, Option, Some, String, codes, drop, length, map, string_bytes, ⊤}
 use Rattle.std.specs.Option.{option_map}
 use Rattle.std.specs.Io.KnownBytes.{Appends, Keeps}
 use Rattle.line_split.specs.declared.TheConstants.{MOST_AMOUNT}
 use Rattle.royalty_program.specs.RunCommand.{run_app}
-use Rattle.royalty_program.specs.Asked.{AreRunWords, AreAccepted, AskForCheck, AskForExplanation, AskForMerge, AskForRun, IsDivision, IsRun}
-use Rattle.royalty_program.specs.Asked.{amount_of, inputs_given, number_given, number_in, pairs_of, path_if_given, paths_given, paths_in_order}
+use Rattle.royalty_program.specs.Asked.{AreRunWords, AreAccepted, AskForCheck, AskForExplanation, AskForMerge, AskForRun, AskForSubmittedRun, AskForTable, EitherRun, IsDivision, IsRun}
+use Rattle.royalty_program.specs.Asked.{amount_of, files_given, inputs_given, name_works, number_given, number_in, pairs_of, path_if_given, paths_given, paths_in_order, plan_given, run_grammar, run_output, submitted_given}
 use Rattle.std.specs.declared.alloc.Global.{Global}
 use Rattle.run_inputs.specs.Inputs.{map_inputs}
 use Rattle.run_inputs.specs.declared.inputs.Inputs.{Inputs}
@@ -17,10 +17,17 @@ use Rattle.royalty_program.specs.CheckCommand.{check_app}
 use Rattle.royalty_program.specs.ExplainCommand.{explain_app}
 use Rattle.royalty_program.specs.MergeCommand.{AreFewAndDifferent, merge_app}
 use Rattle.royalty_program.specs.MergeFiles.{IsMergeOver}
-use Rattle.royalty_program.specs.OutputPath.{IsApart}
+use Rattle.royalty_program.specs.OutputPath.{IsNoInput}
 use Rattle.royalty_program.specs.Files.{AreStatementsOver, IsExplanationOver, IsReportOver}
+use Rattle.royalty_program.specs.NamedFiles.{AreNamedBy}
+use Rattle.royalty_program.specs.StartingCommand.{starting_app, starting_name}
+use Rattle.royalty_program.specs.SubmittedFiles.{AreSubmittedStatementsOver, IsNoneOf, IsTableOver, SubmittedPaths, paths_of}
+use Rattle.royalty_program.specs.declared.starting_command.StartingWords.{StartingWords}
+use Rattle.starting_files.specs.declared.making.StartingTable.{StartingTable}
+use Rattle.royalty_program.specs.declared.inputs.RunInputs.{RunInputs}
+use Rattle.royalty_program.specs.declared.inputs.RunInputs.TheVariants.{OneFile, Submitted}
 use Rattle.royalty_program.specs.declared.commands.Asked.{Asked}
-use Rattle.royalty_program.specs.declared.commands.Asked.TheVariants.{Check, Division, Explanation, Merge, Run}
+use Rattle.royalty_program.specs.declared.commands.Asked.TheVariants.{Check, Division, Explanation, Merge, Run, Starting}
 use Rattle.royalty_program.specs.declared.explain_command.ExplainWords.{ExplainWords}
 use Rattle.royalty_program.specs.declared.merge_command.MergeWords.{MergeWords}
 use Rattle.royalty_program.specs.declared.run_command.RunWords.{RunWords}
@@ -32,36 +39,37 @@ IsNamedBy word (Run asked) = word ≡ codes "run"
 IsNamedBy word (Explanation asked) = word ≡ codes "explain"
 IsNamedBy word (Check asked) = word ≡ codes "check"
 IsNamedBy word (Merge asked) = word ≡ codes "merge"
+IsNamedBy word (Starting asked) = word ≡ starting_name asked.table
 
 -- an amount that is divided is in range
 abbrev pub IsInRange : Asked → Type 0
 IsInRange (Division asked) = asked.amount ≤ MOST_AMOUNT
-IsInRange (Run asked) = ⊤
-IsInRange (Explanation asked) = ⊤
-IsInRange (Check asked) = ⊤
-IsInRange (Merge asked) = ⊤
+IsInRange _ = ⊤
 
 -- the amount and the pairs are those of the words
 abbrev pub IsDivisionOf : List (List ℕ) → Asked → Type 0
 IsDivisionOf words (Division asked) = (asked.amount ≡ amount_of words) × (map string_bytes asked.pairs.items ≡ pairs_of words)
-IsDivisionOf words (Run asked) = ⊥
-IsDivisionOf words (Explanation asked) = ⊥
-IsDivisionOf words (Check asked) = ⊥
-IsDivisionOf words (Merge asked) = ⊥
+IsDivisionOf words _ = ⊥
+
+-- the inputs are those of one file with these paths, or of several submitters with these
+abbrev pub AreOneFile : Inputs (List ℕ) → RunInputs → Type 0
+AreOneFile paths (OneFile inputs) = map_inputs string_bytes inputs ≡ paths
+AreOneFile paths (Submitted inputs) = ⊥
+
+abbrev pub AreSubmitted : SubmittedPaths → RunInputs → Type 0
+AreSubmitted paths (OneFile inputs) = ⊥
+AreSubmitted paths (Submitted inputs) = paths_of inputs ≡ paths
 
 -- the paths and the numbers are those that the options of a run are given
 pub record AreReadFrom (words : List (List ℕ)) (asked : RunWords) : Type 0 where
-  pub inputs : map_inputs string_bytes asked.inputs ≡ inputs_given run_app words
-  pub plan : asked.plan ≡ record {
-    workers = number_given run_app (codes "workers") words;
-    readers = number_given run_app (codes "readers") words;
-    nodes = number_given run_app (codes "nodes") words;
-  }
-  pub output : option_map string_bytes asked.output ≡ path_if_given run_app (codes "output") words
+  pub inputs : EitherRun (name_works words) (AreOneFile (inputs_given run_app words) asked.inputs)
+      (AreSubmitted (submitted_given words) asked.inputs)
+  pub plan : asked.plan ≡ plan_given (run_grammar words) words
+  pub output : option_map string_bytes asked.output ≡ run_output words
 
 -- and in the plain form they are the values after the options, with no path of an output
 pub record AreReadInOrder (words : List (List ℕ)) (run : AreRunWords words) (asked : RunWords) : Type 0 where
-  pub inputs : map_inputs string_bytes asked.inputs ≡ paths_in_order run
+  pub inputs : AreOneFile (paths_in_order run) asked.inputs
   pub plan : asked.plan ≡ record {
     workers = number_in run.workers;
     readers = number_in run.readers;
@@ -70,18 +78,12 @@ pub record AreReadInOrder (words : List (List ℕ)) (run : AreRunWords words) (a
   pub output : asked.output ≡ None
 
 abbrev pub IsRunOf : List (List ℕ) → Asked → Type 0
-IsRunOf words (Division asked) = ⊥
 IsRunOf words (Run asked) = AreReadFrom (drop 1 words) asked
-IsRunOf words (Explanation asked) = ⊥
-IsRunOf words (Check asked) = ⊥
-IsRunOf words (Merge asked) = ⊥
+IsRunOf words _ = ⊥
 
 abbrev pub IsRunInOrder : (words : List (List ℕ)) → AreRunWords (drop 1 words) → Asked → Type 0
-IsRunInOrder words run (Division asked) = ⊥
 IsRunInOrder words run (Run asked) = AreReadInOrder (drop 1 words) run asked
-IsRunInOrder words run (Explanation asked) = ⊥
-IsRunInOrder words run (Check asked) = ⊥
-IsRunInOrder words run (Merge asked) = ⊥
+IsRunInOrder words run _ = ⊥
 
 -- the paths and the row are those that the options of an explanation are given
 pub record AreExplainedFrom (words : List (List ℕ)) (asked : ExplainWords) : Type 0 where
@@ -112,6 +114,15 @@ abbrev pub IsMergeAsked : List (List ℕ) → Asked → Type 0
 IsMergeAsked words (Merge asked) = AreMergeFrom (drop 1 words) asked
 IsMergeAsked words _ = ⊥
 
+-- the table is the one that is asked for, and its files are those that its option names
+pub record AreStarting (table : StartingTable) (words : List (List ℕ)) (asked : StartingWords) : Type 0 where
+  pub table_is : asked.table ≡ table
+  pub files : AreNamedBy (files_given (starting_app table) words) asked.files
+
+abbrev pub IsTableAsked : (table : StartingTable) → List (List ℕ) → Asked → Type 0
+IsTableAsked table words (Starting asked) = AreStarting table (drop 1 words) asked
+IsTableAsked table words _ = ⊥
+
 -- the text answers the division that the words ask for, and nothing is wrong with them
 pub record IsAnswerTo (words : List (List ℕ)) (text : List ℕ) : Type 0 where
   pub in_range : amount_of words ≤ MOST_AMOUNT
@@ -125,24 +136,26 @@ pub record IsAnswered (holds gives : List ℕ → List ℕ → Type 0) (words : 
   pub division : IsDivision words → IsAnswerTo words text
   pub run : AskForRun words
       → AreStatementsOver holds (inputs_given run_app (drop 1 words)) text
+  pub submitted : AskForSubmittedRun words → AreSubmittedStatementsOver holds (submitted_given (drop 1 words)) text
   pub explained : AskForExplanation words
       → IsExplanationOver holds (inputs_given explain_app (drop 1 words)) (number_given explain_app (codes "row") (drop 1 words)) text
   pub checked : AskForCheck words
       → IsReportOver holds (inputs_given check_app (drop 1 words)) sound text
   pub merged : AskForMerge words → IsMergeOver gives (paths_given merge_app (codes "statements") (drop 1 words)) text
+  pub table : (table : StartingTable) → AskForTable table words → IsTableOver holds table (files_given (starting_app table) (drop 1 words)) text
   pub others : ¬ (word_at words 1 ≡ codes "check") → sound ≡ true
   pub in_order : (asked : IsRun words) → AreStatementsOver holds (paths_in_order asked.options) text
 
 -- the words of a run or of a merge name a file for the text
 abbrev pub NameOutput : List (List ℕ) → (path : List ℕ) → Type 0
 NameOutput words path =
-    ((word_at words 1 ≡ codes "run") × (path_if_given run_app (codes "output") (drop 1 words) ≡ Some path))
+    ((word_at words 1 ≡ codes "run") × (run_output (drop 1 words) ≡ Some path))
     ⊎ ((word_at words 1 ≡ codes "merge") × (path_if_given merge_app (codes "output") (drop 1 words) ≡ Some path))
 
 -- and do not ask for help
 abbrev pub AskForOutput : List (List ℕ) → (path : List ℕ) → Type 0
 AskForOutput words path =
-    (AskForRun words × (path_if_given run_app (codes "output") (drop 1 words) ≡ Some path))
+    ((AskForRun words ⊎ AskForSubmittedRun words) × (run_output (drop 1 words) ≡ Some path))
     ⊎ (AskForMerge words × (path_if_given merge_app (codes "output") (drop 1 words) ≡ Some path))
 
 -- The text went to standard output, or it is kept in the file that the words name, and then nothing was printed. Only help is printed
@@ -150,4 +163,5 @@ AskForOutput words path =
 pub record IsDelivered (keeps : List ℕ → Option (List ℕ) → Type 0) (words : List (List ℕ)) (before after : Option (List ℕ)) (text : List ℕ) : Type 0 where
   pub printed_or_kept : Appends before after text ⊎ ((path : List ℕ) × NameOutput words path × keeps path (Some text) × Keeps before after)
   pub kept_if_named : (path : List ℕ) → AskForOutput words path → keeps path (Some text) × Keeps before after
-  pub apart : AskForRun words → IsApart (inputs_given run_app (drop 1 words)) (path_if_given run_app (codes "output") (drop 1 words))
+  pub apart : AskForRun words → IfSome (run_output (drop 1 words)) (IsNoInput (inputs_given run_app (drop 1 words)))
+  pub apart_from_all : AskForSubmittedRun words → IfSome (run_output (drop 1 words)) (IsNoneOf (submitted_given (drop 1 words)))

@@ -1,5 +1,7 @@
 -- What a command line asks for: a division in its plain form, with no options; or a run, its options in any order and form that clap takes.
-use Rattle.std.specs.Prelude.{ℕ, ◌≡◌, ◌≢◌, ◌⊎◌, ◌∷◌, ◌++◌, List, [], All, IfSome, None, Some, drop, codes, slice_index, unwrap_or, Option}
+use Rattle.std.specs.Prelude.{ℕ, ◌≡◌, ◌≢◌, ◌⊎◌, ◌∷◌, ◌++◌, ◌||◌, Bool, true, false, List, [], All, IfSome, None, Some, drop, codes, if◌then◌else◌, map, nat_eq, slice_index, unwrap_or, Option}
+use Rattle.std.specs.Cmp.Lexicographic.{pointwise}
+use Rattle.std.specs.List.{list_any, starts_with}
 use Rattle.std.specs.Str.Parse.{digits_value, without_leading_plus}
 use Rattle.clap.specs.Words.{App, HasKind, IsAmong, all_of, fault_of, first_of, kind_of, matches_of, one_of}
 use Rattle.clap.specs.declared.error.Error.{Error}
@@ -9,7 +11,13 @@ use Rattle.run_inputs.specs.declared.inputs.Inputs.{Inputs}
 use Rattle.royalty_program.specs.CheckCommand.{check_app}
 use Rattle.royalty_program.specs.ExplainCommand.{explain_app}
 use Rattle.royalty_program.specs.MergeCommand.{AreWrongPaths, merge_app}
+use Rattle.royalty_program.specs.NamedFiles.{AreNamed, name_in, path_in}
 use Rattle.royalty_program.specs.RunCommand.{run_app}
+use Rattle.royalty_program.specs.StartingCommand.{starting_app, starting_name}
+use Rattle.royalty_program.specs.SubmittedCommand.{submitted_app}
+use Rattle.starting_files.specs.declared.making.StartingTable.{StartingTable}
+use Rattle.royalty_program.specs.SubmittedFiles.{SubmittedPaths}
+use Rattle.split_run.specs.Plans.{Planned}
 
 -- a value, and no option: the word does not begin with `-`
 abbrev pub IsValue : List ℕ → Type 0
@@ -68,15 +76,90 @@ AreAccepted app words = fault_of app words ≡ []
 unfoldable pub IsErrorOf : App → List (List ℕ) → Error → Type 0
 IsErrorOf app words error = HasKind (fault_of app words) error
 
--- The words of a command line ask for a run, and for no help.
+-- the plan of a run
+abbrev pub plan_given : App → List (List ℕ) → Planned
+plan_given app words = record {
+  workers = number_given app (codes "workers") words;
+  readers = number_given app (codes "readers") words;
+  nodes = number_given app (codes "nodes") words;
+}
+
+-- A word is `--works`, or that with its value behind a `=`. Words of a run that have one after the first are of a run over the files of several submitters, and are read by another
+-- grammar: it has `--cwr NAME=F` as often as there are submitters.
+abbrev pub is_works_word : List ℕ → Bool
+is_works_word word = pointwise nat_eq word (codes "--works") || starts_with nat_eq word (codes "--works=")
+
+abbrev pub name_works : List (List ℕ) → Bool
+name_works words = list_any is_works_word (drop 1 words)
+
+-- this of a run over one file, that of one over the files of several submitters
+abbrev pub EitherRun : (several : Bool) → (one many : Type 0) → Type 0
+EitherRun false one many = one
+EitherRun true one many = many
+
+-- the values of the option `--cwr`, of which each names a file
+abbrev pub files_given : App → List (List ℕ) → List (List ℕ)
+files_given app words = paths_given app (codes "cwr") words
+
+-- the paths of the tables, and the names and paths of the files of the submitters
+abbrev pub submitted_given : List (List ℕ) → SubmittedPaths
+submitted_given words = record {
+  tables = record {
+    territories = path_given submitted_app (codes "tis") words;
+    payees = path_if_given submitted_app (codes "payees") words;
+    works = path_given submitted_app (codes "works") words;
+    usage = path_given submitted_app (codes "usage") words;
+  };
+  names = map name_in (files_given submitted_app words);
+  files = map path_in (files_given submitted_app words);
+}
+
+-- the grammar of the words of a run
+abbrev pub run_grammar : List (List ℕ) → App
+run_grammar words = if name_works words then submitted_app else run_app
+
+-- the path of the output of a run, where one is named
+abbrev pub run_output : List (List ℕ) → Option (List ℕ)
+run_output words = path_if_given (run_grammar words) (codes "output") words
+
+-- The words of a command line ask for a run over one file, and for no help.
 pub record AskForRun (words : List (List ℕ)) : Type 0 where
   pub command : word_at words 1 ≡ codes "run"
+  pub one_file : name_works (drop 1 words) ≡ false
   pub no_help : ¬ AskForHelp run_app (drop 1 words)
 
--- They are a run that clap accepts.
+-- They ask for a run over the files of several submitters, and for no help.
+pub record AskForSubmittedRun (words : List (List ℕ)) : Type 0 where
+  pub command : word_at words 1 ≡ codes "run"
+  pub several : name_works (drop 1 words) ≡ true
+  pub no_help : ¬ AskForHelp submitted_app (drop 1 words)
+
+-- clap accepts words, and the values of `--cwr` name the files of submitters
+abbrev pub AreFilesAccepted : App → List (List ℕ) → Type 0
+AreFilesAccepted app words = AreAccepted app words × AreNamed (files_given app words)
+
+-- the words of a run are accepted
+abbrev pub AreRunAccepted : List (List ℕ) → Type 0
+AreRunAccepted words = EitherRun (name_works words) (AreAccepted run_app words) (AreFilesAccepted submitted_app words)
+
+-- They are a run that is accepted.
 pub record AreRun (words : List (List ℕ)) : Type 0 where
   pub command : word_at words 1 ≡ codes "run"
-  pub accepted : AreAccepted run_app (drop 1 words)
+  pub accepted : AreRunAccepted (drop 1 words)
+
+-- clap accepts words, but the values of `--cwr` do not name the files of submitters
+pub record NameWrongFiles (app : App) (words : List (List ℕ)) (error : Error) : Type 0 where
+  pub accepted : AreAccepted app words
+  pub files : ¬ AreNamed (files_given app words)
+  pub kind : kind_of error ≡ kinds.ValueValidation
+
+-- the error is one that clap has for the words, or of the files in them, or memory was refused
+abbrev pub IsSubmittedError : App → List (List ℕ) → Error → Type 0
+IsSubmittedError app words error = IsErrorOf app words error ⊎ NameWrongFiles app words error
+
+abbrev pub IsRunError : List (List ℕ) → Error → Type 0
+IsRunError words error =
+    EitherRun (name_works words) (IsErrorOf run_app words error) (IsSubmittedError submitted_app words error)
 
 -- The words of a command line ask for the explanation of a line, and for no help.
 pub record AskForExplanation (words : List (List ℕ)) : Type 0 where
@@ -87,6 +170,11 @@ pub record AskForExplanation (words : List (List ℕ)) : Type 0 where
 pub record AskForCheck (words : List (List ℕ)) : Type 0 where
   pub command : word_at words 1 ≡ codes "check"
   pub no_help : ¬ AskForHelp check_app (drop 1 words)
+
+-- The words of a command line ask for a table to begin with, and for no help.
+pub record AskForTable (table : StartingTable) (words : List (List ℕ)) : Type 0 where
+  pub command : word_at words 1 ≡ starting_name table
+  pub no_help : ¬ AskForHelp (starting_app table) (drop 1 words)
 
 -- The words of a command line ask for a merge, and for no help.
 pub record AskForMerge (words : List (List ℕ)) : Type 0 where

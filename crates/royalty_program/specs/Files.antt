@@ -1,6 +1,7 @@
 -- What a run answers over files. `holds path bytes` says that the file of a path has these bytes.
-use Rattle.std.specs.Prelude.{ℕ, ◌≤◌, Bool, List, None, Option, Some, length, ⊤}
+use Rattle.std.specs.Prelude.{ℕ, ◌≤◌, ◌≢◌, Bool, List, None, Option, Some, length, ⊤}
 use Rattle.std.specs.declared.io.ErrorKind.{ErrorKind}
+use Rattle.std.specs.declared.io.ErrorKind.TheVariants.{OutOfMemory}
 use Rattle.check_inputs.specs.Checked.{IsReportOn}
 use Rattle.explain_line.specs.Explanation.{HasNoRow, IsExplanationOf}
 use Rattle.run_inputs.specs.Inputs.{HaveNoFault, IsFaultOf}
@@ -15,6 +16,10 @@ on_disk path bytes = length bytes ≤ 268435456
 -- Nor why it is refused.
 abbrev pub for_any_error : List ℕ → ErrorKind → Type 0
 for_any_error path kind = ⊤
+
+-- A file cannot be read, and that is no lack of memory. `refuses path kind` says that a path is refused with an error of this kind.
+abbrev pub IsUnread : (refuses : List ℕ → ErrorKind → Type 0) → List ℕ → Type 0
+IsUnread refuses path = (kind : ErrorKind) × refuses path kind × (kind ≢ OutOfMemory)
 
 -- the file of a path has these bytes, where there is a path
 abbrev pub HoldsIfGiven : (List ℕ → List ℕ → Type 0) → Option (List ℕ) → Option (List ℕ) → Type 0

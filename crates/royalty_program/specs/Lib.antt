@@ -8,7 +8,13 @@ pub mod InputCommand
 pub mod OutputPath
 pub mod MergeCommand
 pub mod MergeFiles
+pub mod NamedFiles
+pub mod PlanWords
 pub mod RunCommand
+pub mod RunInputs
 pub mod SplitCommand
+pub mod StartingCommand
 pub mod Status
+pub mod SubmittedCommand
+pub mod SubmittedFiles
 pub mod Targets

@@ -1,18 +1,21 @@
 -- What a failure stands for, and the status that the program answers.
-use Rattle.std.specs.Prelude.{ℕ, Contains, ◌≡◌, ◌≢◌, ◌<◌, ◌⊎◌, ◌++◌, [], ⊤, List, Option, Some, None, String, codes, decimal, drop, length, slice_index_or, string_bytes}
+use Rattle.std.specs.Prelude.{ℕ, Contains, ◌≡◌, ◌≢◌, ◌<◌, ◌⊎◌, ◌++◌, [], ⊤, List, Option, Some, None, String, codes, decimal, drop, length, map, slice_index_or, string_bytes}
 use Rattle.std.specs.declared.alloc.Global.{Global}
 use Rattle.clap.specs.Words.{kind_of}
 use Rattle.clap.specs.declared.error.kind.ErrorKind.TheVariants as kinds
 use Rattle.std.specs.declared.io.ErrorKind as io
 use Rattle.std.specs.declared.io.ErrorKind.TheVariants as io_kind
 use Rattle.pair_split.specs.Pair.{word_at}
-use Rattle.royalty_program.specs.RunCommand.{run_app}
-use Rattle.royalty_program.specs.Asked.{AreAccepted, IsDivision, NameWrongPaths, inputs_given, number_given, pairs_of, path_if_given, paths_given}
+use Rattle.royalty_program.specs.Asked.{AreAccepted, AreFilesAccepted, AreRunAccepted, EitherRun, IsDivision, NameWrongPaths, files_given, inputs_given, name_works, number_given, pairs_of, path_if_given, paths_given, run_output, submitted_given}
 use Rattle.pair_split.specs.PairFault.{IsFaultOf}
 use Rattle.pair_split.specs.PairFault as pair
 use Rattle.tis_tree.specs.TisRows as tis
 use Rattle.cwr_share.specs.CwrFile as cwr
 use Rattle.cwr_share.specs.PayeeTable as payees
+use Rattle.linked_works.specs.WorksTable as works
+use Rattle.submitted_inputs.specs.declared.fault.SubmittedFault.{SubmittedFault}
+use Rattle.submitted_inputs.specs.declared.fault.SubmittedFault.TheVariants as submitted
+use Rattle.submitted_inputs.specs.declared.inputs.SubmittedTables.{SubmittedTables}
 use Rattle.line_split.specs.UsageTable as usage
 use Rattle.merge_statements.specs.Refused.{IsFaultIn}
 use Rattle.merge_statements.specs.Refused as statement
@@ -21,12 +24,18 @@ use Rattle.merge_statements.specs.declared.refusal.Refusal.TheVariants as refusa
 use Rattle.merge_statements.specs.declared.refusal.StatementFault.{StatementFault}
 use Rattle.royalty_program.specs.CheckCommand.{check_app}
 use Rattle.royalty_program.specs.ExplainCommand.{explain_app}
-use Rattle.royalty_program.specs.Files.{HasNoRowOver, HoldsIfGiven, IsFaultOver}
+use Rattle.royalty_program.specs.Files.{HasNoRowOver, HoldsIfGiven, IsFaultOver, IsUnread}
 use Rattle.royalty_program.specs.MergeCommand.{merge_app}
+use Rattle.royalty_program.specs.RunCommand.{run_app}
 use Rattle.royalty_program.specs.SplitCommand.{split_app}
+use Rattle.royalty_program.specs.NamedFiles.{name_in, path_in}
+use Rattle.royalty_program.specs.StartingCommand.{starting_app, starting_name}
+use Rattle.royalty_program.specs.SubmittedFiles.{HoldsAt, IsSubmittedFaultOver, RefusesAt, SubmittedPaths}
+use Rattle.starting_files.specs.declared.making.StartingTable.{StartingTable}
+use Rattle.submitted_inputs.specs.Files.{IsFaultOfFiles}
 use Rattle.royalty_program.specs.MergeFiles.{AreTooMany, GivesFault, HasChanged, HoldsOf, IsFaultAt, IsFirstRefused}
 use Rattle.royalty_program.specs.declared.failure.Failure.{Failure}
-use Rattle.royalty_program.specs.declared.failure.Failure.TheVariants.{Words, NotText, Pairs, Input, Row, Room, File, Output, Target, Statement, Many, Changed, Replaces}
+use Rattle.royalty_program.specs.declared.failure.Failure.TheVariants.{Words, NotText, Pairs, Input, Works, Registrations, Row, Room, File, Output, Target, Statement, Many, Changed, Replaces}
 use Rattle.run_inputs.specs.Inputs.{ThisOrLater}
 use Rattle.run_inputs.specs.declared.fault.Fault.{Fault}
 use Rattle.run_inputs.specs.declared.fault.Fault.TheVariants as input
@@ -42,6 +51,8 @@ status_of NotText = 2
 status_of (Pairs fault) = 2
 status_of (Row row) = 2
 status_of (Input fault) = 1
+status_of (Works fault) = 1
+status_of (Registrations fault path) = 1
 status_of Room = 3
 status_of (File path) = 4
 status_of Output = 4
@@ -66,6 +77,12 @@ fault_text what number where_is (Some place) =
     codes "royalty_run: " ++ what ++ codes " fault " ++ decimal number ++ codes " at " ++ where_is ++ decimal place ++ codes "\n"
 fault_text what number where_is None = codes "royalty_run: " ++ what ++ codes " fault " ++ decimal number ++ codes "\n"
 
+-- and one of a CWR file among several
+abbrev pub file_fault_text : ℕ → Option ℕ → (path : List ℕ) → List ℕ
+file_fault_text number (Some line) path =
+    codes "royalty_run: cwr fault " ++ decimal number ++ codes " at line " ++ decimal line ++ codes " of " ++ path ++ codes "\n"
+file_fault_text number None path = codes "royalty_run: cwr fault " ++ decimal number ++ codes " of " ++ path ++ codes "\n"
+
 -- the text of a failure: that of refused words is clap's
 abbrev pub text_of : Failure → Option (List ℕ)
 text_of (Words error) = None
@@ -76,6 +93,8 @@ text_of (Input (input.Payee f)) = Some (fault_text (codes "payee") (payees.numbe
 text_of (Input (input.Cwr f)) = Some (fault_text (codes "cwr") (cwr.number_of_fault f) (codes "line ") (cwr.place_of_fault f))
 text_of (Input (input.Usage f)) = Some (fault_text (codes "usage") (usage.number_of_fault f) (codes "row ") (usage.place_of_fault f))
 text_of (Input input.Room) = Some (codes "royalty_run: out of room\n")
+text_of (Works f) = Some (fault_text (codes "works") (works.number_of_fault f) (codes "row ") (works.place_of_fault f))
+text_of (Registrations f path) = Some (file_fault_text (cwr.number_of_fault f) (cwr.place_of_fault f) (string_bytes path))
 text_of (Row row) = Some (codes "royalty_run: the usage list has no row " ++ decimal row ++ codes "\n")
 text_of Room = Some (codes "royalty_run: out of room\n")
 text_of (File path) = Some (codes "royalty_run: cannot read " ++ string_bytes path ++ codes "\n")
@@ -93,6 +112,8 @@ IsRefusal (Words error) =
     (kind_of error ≢ kinds.OutOfMemory) × (kind_of error ≢ kinds.DisplayHelp) × (kind_of error ≢ kinds.DisplayVersion)
 IsRefusal (Pairs f) = f ≢ fault.Memory
 IsRefusal (Input f) = f ≢ input.Room
+IsRefusal (Works f) = ⊤
+IsRefusal (Registrations f path) = ⊤
 IsRefusal (Row row) = ⊤
 IsRefusal Room = ⊤
 IsRefusal (File path) = ⊤
@@ -117,11 +138,7 @@ failure_of_target _ path = Target path
 abbrev pub IsOfFile : (refuses : List ℕ → io.ErrorKind → Type 0) → String Global → Failure → Type 0
 IsOfFile refuses path failure = (kind : io.ErrorKind) × refuses (string_bytes path) kind × (failure ≡ failure_of_file kind path)
 
--- it cannot be read, and that is no lack of memory
-abbrev pub IsUnread : (refuses : List ℕ → io.ErrorKind → Type 0) → List ℕ → Type 0
-IsUnread refuses path = (kind : io.ErrorKind) × refuses path kind × (kind ≢ io_kind.OutOfMemory)
-
--- it is the first of those of a run, in their order, where those before it were read
+-- a file is the first of those of a run, in their order, where those before it were read
 abbrev pub IsFirst : (holds : List ℕ → List ℕ → Type 0) → (paths : Inputs (List ℕ)) → (path : List ℕ) → Type 0
 IsFirst holds paths =
     ThisOrLater (λ path. path ≡ paths.territories) (holds paths.territories) (λ _.
@@ -153,13 +170,62 @@ abbrev pub IsOfRunOutput : (output : Option (String Global)) → (Failure → Ty
 IsOfRunOutput output IsOf (Replaces path) = output ≡ Some path
 IsOfRunOutput output IsOf failure = IsOfOutput output IsOf failure
 
+-- a table is the first of those of a run over the files of several submitters, in their order, where those before it were read
+abbrev pub IsFirstTable : (holds : List ℕ → List ℕ → Type 0) → (paths : SubmittedTables (List ℕ)) → (path : List ℕ) → Type 0
+IsFirstTable holds paths =
+    ThisOrLater (λ path. path ≡ paths.territories) (holds paths.territories) (λ _.
+    ThisOrLater (λ path. Some path ≡ paths.payees) (HoldsIfGiven holds paths.payees) (λ _.
+    ThisOrLater (λ path. path ≡ paths.works) (holds paths.works) (λ _.
+    λ path. path ≡ paths.usage)))
+
+-- and it cannot be read
+abbrev pub IsOfTables : (holds : List ℕ → List ℕ → Type 0) (refuses : List ℕ → io.ErrorKind → Type 0)
+    → SubmittedTables (List ℕ) → Failure → Type 0
+IsOfTables holds refuses paths (File name) = IsUnread refuses (string_bytes name) × IsFirstTable holds paths (string_bytes name)
+IsOfTables holds refuses paths _ = ⊥
+
+-- what the fault of an input comes to, where the files of submitters have these paths
+abbrev pub IsSaidOf : (files : List (List ℕ)) → SubmittedFault → Failure → Type 0
+IsSaidOf files (submitted.Tis fault) failure = failure ≡ Input (input.Tis fault)
+IsSaidOf files (submitted.Payee fault) failure = failure ≡ Input (input.Payee fault)
+IsSaidOf files (submitted.Works fault) failure = failure ≡ Works fault
+IsSaidOf files (submitted.Unreadable place) failure = (name : String Global) × (failure ≡ File name) × (string_bytes name ≡ word_at files place)
+IsSaidOf files (submitted.Cwr place fault) failure =
+    (name : String Global) × (failure ≡ Registrations fault name) × (string_bytes name ≡ word_at files place)
+IsSaidOf files (submitted.Usage fault) failure = failure ≡ Input (input.Usage fault)
+IsSaidOf files submitted.Room failure = failure ≡ Room
+
+-- A run over the files of several submitters fails for the first of its tables that cannot be read, or else for the first fault of the first input that has one, or for
+-- lack of memory.
+abbrev pub IsOfSubmitted : (holds : List ℕ → List ℕ → Type 0) (refuses : List ℕ → io.ErrorKind → Type 0)
+    → SubmittedPaths → Failure → Type 0
+IsOfSubmitted holds refuses paths failure =
+    (failure ≡ Room) ⊎ IsOfTables holds refuses paths.tables failure
+    ⊎ ((fault : SubmittedFault) × IsSubmittedFaultOver holds refuses paths fault × IsSaidOf paths.files fault failure)
+
+-- the files of submitters fail for the first that cannot be read or has a fault, or for lack of memory
+abbrev pub IsOfFiles : (holds : List ℕ → List ℕ → Type 0) (refuses : List ℕ → io.ErrorKind → Type 0)
+    → (names files : List (List ℕ)) → Failure → Type 0
+IsOfFiles holds refuses names files failure =
+    (failure ≡ Room)
+    ⊎ ((fault : SubmittedFault) × IsFaultOfFiles (HoldsAt holds files) (RefusesAt refuses files) (length names) fault × IsSaidOf files fault failure)
+
+-- and the words of a table to begin with for that, or for themselves where they are not accepted
+abbrev pub IsOfTable : (holds : List ℕ → List ℕ → Type 0) (refuses : List ℕ → io.ErrorKind → Type 0) → StartingTable
+    → List (List ℕ) → Failure → Type 0
+IsOfTable holds refuses table words (Words error) = ¬ AreFilesAccepted (starting_app table) words
+IsOfTable holds refuses table words failure =
+    let values = files_given (starting_app table) words in
+    IsOfFiles holds refuses (map name_in values) (map path_in values) failure
+
 -- and the words of a run fail for that, for the file of their output, which is an input or cannot be written, or for themselves where clap does not accept them
 abbrev pub IsOfRun : (holds : List ℕ → List ℕ → Type 0) (refuses : List ℕ → io.ErrorKind → Type 0) → List (List ℕ) → Failure → Type 0
-IsOfRun holds refuses words (Words error) = ¬ AreAccepted run_app words
-IsOfRun holds refuses words (Target path) = path_if_given run_app (codes "output") words ≡ Some (string_bytes path)
-IsOfRun holds refuses words (Replaces path) = path_if_given run_app (codes "output") words ≡ Some (string_bytes path)
+IsOfRun holds refuses words (Words error) = ¬ AreRunAccepted words
+IsOfRun holds refuses words (Target path) = run_output words ≡ Some (string_bytes path)
+IsOfRun holds refuses words (Replaces path) = run_output words ≡ Some (string_bytes path)
 IsOfRun holds refuses words failure =
-    IsOfPaths holds refuses (inputs_given run_app words) failure
+    EitherRun (name_works words) (IsOfPaths holds refuses (inputs_given run_app words) failure)
+    (IsOfSubmitted holds refuses (submitted_given words) failure)
 
 -- an explanation over the files of these paths fails for what a run over them fails for, or since the usage list has no such row
 abbrev pub IsUnexplained : (holds : List ℕ → List ℕ → Type 0) (refuses : List ℕ → io.ErrorKind → Type 0)
@@ -236,6 +302,8 @@ IsOfMerge gives words failure = IsOfTexts gives (paths_given merge_app (codes "s
 -- no input is refused: a check tells of what is wrong with it
 abbrev pub IsOfNoInput : Failure → Type 0
 IsOfNoInput (Input fault) = ⊥
+IsOfNoInput (Works fault) = ⊥
+IsOfNoInput (Registrations fault path) = ⊥
 IsOfNoInput _ = ⊤
 
 -- the words of a check fail for lack of memory, for the first file that cannot be read, or for themselves where clap does not accept them
@@ -260,6 +328,7 @@ pub record FailFor (holds gives : List ℕ → List ℕ → Type 0) (refuses : L
   pub explanation : word_at words 1 ≡ codes "explain" → IsOfExplanation holds refuses (drop 1 words) failure
   pub checked : word_at words 1 ≡ codes "check" → IsOfCheck holds refuses (drop 1 words) failure
   pub merge : word_at words 1 ≡ codes "merge" → IsOfMerge gives (drop 1 words) failure
+  pub table : (table : StartingTable) → word_at words 1 ≡ starting_name table → IsOfTable holds refuses table (drop 1 words) failure
 
 -- lack of memory is no fault of the pairs
 abbrev pub failure_of_fault : PairFault → Failure

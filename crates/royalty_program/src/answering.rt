@@ -2,13 +2,12 @@
 
 ghost use Rattle.std.specs.Prelude.{◌≡◌, ◌≢◌, ◌≤◌, ◌⊎◌, ℕ, List, None, true, false, IfOk, IfErr, IsOk, OnErr, OnOk, codes, drop, if◌then◌else◌, map, string_bytes};
 ghost use Rattle.std.specs.Io.KnownBytes.{Appends, Keeps};
-ghost use Rattle.royalty_program.specs.Asked.{AreRun, IsDivision, path_if_given};
+ghost use Rattle.royalty_program.specs.Asked.{AreRun, IsDivision, run_output};
 ghost use Rattle.royalty_program.specs.Answered.{IsAnswered, IsDelivered, NameOutput};
-ghost use Rattle.royalty_program.specs.Files.{for_any_error, on_disk};
-ghost use Rattle.royalty_program.specs.MergeFiles.{any_text};
-ghost use Rattle.royalty_program.specs.Targets.{IsLeftOrHas, in_any_file};
-ghost use Rattle.royalty_program.specs.RunCommand.{run_app};
-ghost use Rattle.royalty_program.specs.Status.{FailFor, IsOfCheck, IsOfDivision, IsOfExplanation, IsOfMerge, IsOfRun, IsRefusal, IsReportOfFault, IsStatusOfSilence, failure_of_kind, status_of};
+ghost use Rattle.royalty_program.specs.Targets.{IsLeftOrHas};
+ghost use Rattle.royalty_program.specs.StartingCommand.{starting_name};
+ghost use Rattle.starting_files.specs.declared.making.StartingTable.{StartingTable};
+ghost use Rattle.royalty_program.specs.Status.{FailFor, IsOfCheck, IsOfDivision, IsOfExplanation, IsOfMerge, IsOfRun, IsOfTable, IsRefusal, IsReportOfFault, IsStatusOfSilence, failure_of_kind, status_of};
 ghost use Rattle.royalty_program.specs.declared.failure.Failure.{Failure};
 ghost use Rattle.royalty_program.specs.declared.failure.Failure.TheVariants.{Output, Room};
 ghost use Rattle.pair_split.specs.Pair.{word_at};
@@ -19,14 +18,14 @@ use crate::commands::{Asked, read_words};
 use crate::failure::Failure;
 use crate::files::{check_files, explain_files, settle_out};
 use crate::merge_files::merge_out;
-use crate::sources::{Disk, Source};
+use crate::sources::{Source, Texts};
+use crate::submitted_files::starting_table;
 use crate::targets::Target;
 use clap::error::ErrorKind;
 use pair_split::split_words;
 use std::alloc::Global;
 use std::env::Args;
 use std::io::{self, Write};
-use std::rt::Files;
 use std::sync::Wait;
 use std::thread::Threads;
 
@@ -53,30 +52,36 @@ fn no_words(kind: io::ErrorKind) -> Failure
     }
 }
 
-/// Does what the words ask for, of which the first is the program's own name. The answer goes to
-/// `out`, or into the file that the words name, and what went wrong to `err`. The status is 0 where
+/// Does what the words ask for, of which the first is the program's own name. Files are read from
+/// `files`. The answer goes to `out`, or into the file of `target` that the words name, and what went
+/// wrong to `err`. The status is 0 where
 /// the answer was printed or kept, or help was asked for, 1 where an input file is refused for what
 /// is in it or a report tells of a fault, 2 where the words are refused, 3 where memory or a thread
 /// was, and 4 where a file cannot be read or written, or `out` refused a write.
-pub fn program<R: Files + Threads + Wait + Sync, W: Write, E: Write>(
+pub fn program<R: Threads + Wait + Sync, S: Source + Texts + Sync, T: Target, W: Write, E: Write>(
     rt: &R,
     alloc: Global,
+    files: &S,
+    target: &mut T,
     words: &[String],
     out: &mut W,
     err: &mut E,
 ) -> u8
     ensures known { result ≤ 4 }
-    ensures printed { result ≡ 0 → (text : List ℕ) × IsDelivered in_any_file (map string_bytes words.now) (W.contents out.old) (W.contents out.new) text
-        × IsAnswered on_disk any_text (map string_bytes words.now) true text }
+    ensures printed { result ≡ 0 → (text : List ℕ) × IsDelivered (T.keeps target.new) (map string_bytes words.now) (W.contents out.old) (W.contents out.new) text
+        × IsAnswered (S.holds files.now) (S.gives files.now) (map string_bytes words.now) true text }
     ensures reported { result ≡ 1 → word_at (map string_bytes words.now) 1 ≡ codes "check" → (text : List ℕ) × Appends (W.contents out.old) (W.contents out.new) text
-        × IsAnswered on_disk any_text (map string_bytes words.now) false text }
+        × IsAnswered (S.holds files.now) (S.gives files.now) (map string_bytes words.now) false text }
     ensures quiet { (result ≡ 0) ⊎ IsReportOfFault result (map string_bytes words.now) → err.new ≡ err.old }
     ensures silent { IsStatusOfSilence result (map string_bytes words.now) → out.new ≡ out.old }
-    ensures accepted { AreRun (map string_bytes words.now) → path_if_given run_app (codes "output") (drop 1 (map string_bytes words.now)) ≡ None → result ≢ 2 }
+    ensures accepted { AreRun (map string_bytes words.now) → run_output (drop 1 (map string_bytes words.now)) ≡ None → result ≢ 2 }
     ensures failed { result ≢ 0 → ¬ IsReportOfFault result (map string_bytes words.now) → (failure : Failure) × (result ≡ status_of failure)
-        × ((failure ≡ Output) ⊎ FailFor on_disk any_text for_any_error (map string_bytes words.now) failure) }
+        × ((failure ≡ Output) ⊎ FailFor (S.holds files.now) (S.gives files.now) (S.refuses files.now) (map string_bytes words.now) failure) }
+    ensures left { (path : List ℕ) → NameOutput (map string_bytes words.now) path → IsLeftOrHas (T.keeps target.old path) (T.keeps target.new path)
+        (IsAnswered (S.holds files.now) (S.gives files.now) (map string_bytes words.now) true) }
+    ensures unused { ((path : List ℕ) → ¬ NameOutput (map string_bytes words.now) path) → target.new ≡ target.old }
 {
-    let printed = answer(rt, alloc, &Disk { rt }, &mut Disk { rt }, words, out);
+    let printed = answer(rt, alloc, files, target, words, out);
     end(printed, out, err)
 }
 
@@ -101,12 +106,12 @@ fn end<W: Write, E: Write>(
     }
 }
 
-/// Does what the words ask for over any files: `program` is this over those of the system.
+/// Does what the words ask for, and says what failed: `program` is this with a status in the end.
 ///
 /// It prints the rows of a division, the statements of a run, merged statements, the explanation of
 /// a usage line or a report, or help; or keeps statements in the file that the words name. Answers
 /// whether no report tells of a fault.
-pub fn answer<R: Threads + Wait + Sync, S: Source, T: Target, W: Write>(
+pub fn answer<R: Threads + Wait + Sync, S: Source + Texts + Sync, T: Target, W: Write>(
     rt: &R,
     alloc: Global,
     files: &S,
@@ -124,6 +129,7 @@ pub fn answer<R: Threads + Wait + Sync, S: Source, T: Target, W: Write>(
     ensures checked { word_at (map string_bytes words.now) 1 ≡ codes "check" → IfErr result (IsOfCheck (S.holds files.now) (S.refuses files.now) (drop 1 (map string_bytes words.now))) }
     ensures pairs { IsDivision (map string_bytes words.now) → IfErr result (IsOfDivision (map string_bytes words.now)) }
     ensures merge { word_at (map string_bytes words.now) 1 ≡ codes "merge" → IfErr result (IsOfMerge (S.gives files.now) (drop 1 (map string_bytes words.now))) }
+    ensures table { (table : StartingTable) → word_at (map string_bytes words.now) 1 ≡ starting_name table → IfErr result (IsOfTable (S.holds files.now) (S.refuses files.now) table (drop 1 (map string_bytes words.now))) }
     ensures silent { IfErr result (λ failure. (status_of failure ≤ 2) ⊎ (¬ (word_at (map string_bytes words.now) 1 ≡ codes "merge")) → out.new ≡ out.old) }
     ensures left { (path : List ℕ) → NameOutput (map string_bytes words.now) path → IsLeftOrHas (T.keeps target.old path) (T.keeps target.new path)
         (IsAnswered (S.holds files.now) (S.gives files.now) (map string_bytes words.now) true) }
@@ -144,6 +150,10 @@ pub fn answer<R: Threads + Wait + Sync, S: Source, T: Target, W: Write>(
         Ok(Asked::Check(inputs)) => {
             let checked = check_files(alloc, files, inputs)?;
             Ok((out.write_all(checked.text.as_slice()), checked.is_sound))
+        }
+        Ok(Asked::Starting(asked)) => {
+            let text = starting_table(alloc, files, asked)?;
+            Ok((out.write_all(text.as_slice()), true))
         }
         Ok(Asked::Merge(asked)) => Ok((merge_out(alloc, files, target, asked, out)?, true)),
         Err(error) if error.kind() == ErrorKind::OutOfMemory => Err(Failure::Room),

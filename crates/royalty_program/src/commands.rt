@@ -3,12 +3,13 @@
 ghost use Rattle.std.specs.Prelude.{◌≡◌, ◌≢◌, IfOk, IfErr, codes, drop, map, string_bytes};
 ghost use Rattle.clap.specs.Words.{kind_of};
 ghost use Rattle.clap.specs.declared.error.kind.ErrorKind.TheVariants as kinds;
-ghost use Rattle.royalty_program.specs.Asked.{IsDivision, IsErrorOf, IsMergeError, IsRun};
+ghost use Rattle.royalty_program.specs.Asked.{IsDivision, IsErrorOf, IsMergeError, IsRun, IsRunError, IsSubmittedError};
 ghost use Rattle.royalty_program.specs.CheckCommand.{check_app};
 ghost use Rattle.royalty_program.specs.ExplainCommand.{explain_app};
-ghost use Rattle.royalty_program.specs.RunCommand.{run_app};
 ghost use Rattle.royalty_program.specs.SplitCommand.{split_app};
-ghost use Rattle.royalty_program.specs.Answered.{IsCheckAsked, IsDivisionOf, IsExplanationAsked, IsInRange, IsMergeAsked, IsNamedBy, IsRunInOrder, IsRunOf};
+ghost use Rattle.royalty_program.specs.StartingCommand.{starting_app, starting_name};
+ghost use Rattle.starting_files.specs.declared.making.StartingTable.{StartingTable};
+ghost use Rattle.royalty_program.specs.Answered.{IsCheckAsked, IsDivisionOf, IsExplanationAsked, IsInRange, IsMergeAsked, IsNamedBy, IsRunInOrder, IsRunOf, IsTableAsked};
 ghost use Rattle.pair_split.specs.Pair.{word_at};
 
 use crate::check_command::{check_command, read_check};
@@ -16,10 +17,12 @@ use crate::explain_command::{ExplainWords, explain_command, read_explain};
 use crate::merge_command::{MergeWords, merge_command, read_merge};
 use crate::run_command::{RunWords, read_run, run_command};
 use crate::split_command::{SplitWords, read_split, split_command};
+use crate::starting_command::{StartingWords, read_starting, starting_command};
 use clap::error::ErrorKind;
 use clap::{Command, Error};
 use pair_split::word;
 use run_inputs::Inputs;
+use starting_files::StartingTable;
 use std::alloc::{AllocError, Global};
 
 /// What `--version` says below the name: the version, and the checker and libraries that the
@@ -29,12 +32,13 @@ const VERSION: &str = "0.1.0\nlogic dac8208d650f15bf";
 /// What stands below the help of the whole program.
 const HELP: &str = "\
 `royalty_run run --help` says what the files of a distribution run have in them,
-`royalty_run merge --help` how the statements of several runs are merged, `royalty_run check --help`
-how the files are checked, `royalty_run explain --help` how one usage line is explained, and
-`royalty_run split --help` how an amount is divided.
+`royalty_run works --help` and `royalty_run parties --help` with which tables one over the files of
+several submitters begins, `royalty_run merge --help` how the statements of several runs are merged,
+`royalty_run check --help` how the files are checked, `royalty_run explain --help` how one usage line
+is explained, and `royalty_run split --help` how an amount is divided.
 
 A refusal has a number and a place. `royalty_run check` says what is wrong with the files of a run in
-words, and the table of faults in docs/FORMATS.md what to mend, in statements and in pairs too.
+words, and the table of faults in docs/FORMATS.md what to correct, in statements and in pairs too.
 
 Exit status:
   0  the answer was printed, or help, or the version
@@ -44,7 +48,7 @@ Exit status:
   4  a file cannot be read or written, or the output refused a write";
 
 /// What the words of the command line ask for.
-#[derive(Debug, Drop)]
+#[derive(Drop)]
 pub enum Asked {
     /// The division of one amount.
     Division(SplitWords),
@@ -56,6 +60,8 @@ pub enum Asked {
     Check(Inputs<String>),
     /// The statements of several runs in one text.
     Merge(MergeWords),
+    /// A table to begin with.
+    Starting(StartingWords),
 }
 
 /// Reads the words of the command line, the first of which is the program's own name.
@@ -70,8 +76,10 @@ pub fn read_words(alloc: Global, words: &[String]) -> Result<Asked, Error>
     ensures unchecked { word_at (map string_bytes words.now) 1 ≡ codes "check" → IfErr result (IsErrorOf check_app (drop 1 (map string_bytes words.now))) }
     ensures merged { word_at (map string_bytes words.now) 1 ≡ codes "merge" → IfOk result (IsMergeAsked (map string_bytes words.now)) }
     ensures unmerged { word_at (map string_bytes words.now) 1 ≡ codes "merge" → IfErr result (IsMergeError (drop 1 (map string_bytes words.now))) }
+    ensures table { (table : StartingTable) → word_at (map string_bytes words.now) 1 ≡ starting_name table → IfOk result (IsTableAsked table (map string_bytes words.now)) }
+    ensures no_table { (table : StartingTable) → word_at (map string_bytes words.now) 1 ≡ starting_name table → IfErr result (IsSubmittedError (starting_app table) (drop 1 (map string_bytes words.now))) }
     ensures in_order { (run : IsRun (map string_bytes words.now)) → IfOk result (IsRunInOrder (map string_bytes words.now) run.options) }
-    ensures error { word_at (map string_bytes words.now) 1 ≡ codes "run" → IfErr result (IsErrorOf run_app (drop 1 (map string_bytes words.now))) }
+    ensures error { word_at (map string_bytes words.now) 1 ≡ codes "run" → IfErr result (IsRunError (drop 1 (map string_bytes words.now))) }
     ensures undivided { word_at (map string_bytes words.now) 1 ≡ codes "split" → IfErr result (IsErrorOf split_app (drop 1 (map string_bytes words.now))) }
     ensures no_help { IsDivision (map string_bytes words.now) → IfErr result (λ error. (kind_of error ≢ kinds.DisplayHelp) × (kind_of error ≢ kinds.DisplayVersion)) }
 {
@@ -84,6 +92,10 @@ pub fn read_words(alloc: Global, words: &[String]) -> Result<Asked, Error>
         "explain" => Ok(Asked::Explanation(read_explain(alloc, &words[1..])?)),
         "check" => Ok(Asked::Check(read_check(alloc, &words[1..])?)),
         "merge" => Ok(Asked::Merge(read_merge(alloc, &words[1..])?)),
+        "works" => { Ok(Asked::Starting(read_starting(alloc, StartingTable::Works, &words[1..])?)) }
+        "parties" => {
+            Ok(Asked::Starting(read_starting(alloc, StartingTable::Parties, &words[1..])?))
+        }
         _ => Err(refusal(alloc, words)?),
     }
 }
@@ -99,6 +111,8 @@ fn refusal(alloc: Global, words: &[String]) -> Result<Error, AllocError> {
         .arg_required_else_help(true)
         .subcommand(run_command(alloc)?)?
         .subcommand(merge_command(alloc)?)?
+        .subcommand(starting_command(alloc, StartingTable::Works)?)?
+        .subcommand(starting_command(alloc, StartingTable::Parties)?)?
         .subcommand(check_command(alloc)?)?
         .subcommand(explain_command(alloc)?)?
         .subcommand(split_command(alloc)?)?;

@@ -3,9 +3,11 @@
 ghost use Rattle.std.specs.Io.KnownBytes.{Appends};
 ghost use Rattle.std.specs.Prelude.{◌≡◌, ◌++◌, IfSome, OnOk, codes, decimal};
 ghost use Rattle.std.specs.Fmt.{WritesOnOk};
-ghost use Rattle.royalty_program.specs.Status.{fault_text};
+ghost use Rattle.royalty_program.specs.Status.{fault_text, file_fault_text};
 
 use csv_table::FileFault;
+use cwr_share::CwrFault;
+use linked_works::WorksFault;
 use merge_statements::StatementFault;
 use pair_split::PairFault;
 use run_inputs::Fault;
@@ -24,6 +26,10 @@ pub enum Failure {
     Pairs(PairFault),
     /// An input of a run is refused.
     Input(Fault),
+    /// The table of works is refused.
+    Works(WorksFault),
+    /// The CWR file of a submitter is refused, which has this path.
+    Registrations { fault: CwrFault, path: String },
     /// The usage list has no row with this number.
     Row(u64),
     /// Memory was refused.
@@ -66,6 +72,12 @@ impl fmt::Display for Failure {
             Failure::Input(Fault::Usage(fault)) => {
                 write_fault(f, "usage", fault.number(), "row ", fault.place())
             }
+            Failure::Works(fault) => {
+                write_fault(f, "works", fault.number(), "row ", fault.place())
+            }
+            Failure::Registrations { fault, path } => {
+                write_file_fault(f, fault.number(), fault.place(), path.as_str())
+            }
             Failure::Row(row) => { write!(f, "royalty_run: the usage list has no row {row}\n") }
             Failure::Input(Fault::Room) | Failure::Room => {
                 f.write_str("royalty_run: out of room\n")
@@ -103,6 +115,24 @@ fn write_fault<W: fmt::Write>(
     match place {
         Some(place) => write!(f, "royalty_run: {what} fault {number} at {at}{place}\n"),
         None => write!(f, "royalty_run: {what} fault {number}\n"),
+    }
+}
+
+/// Says which fault the CWR file of a path has, and in which line, if it has one.
+fn write_file_fault<W: fmt::Write>(
+    f: &mut fmt::Formatter<W>,
+    number: u8,
+    line: Option<u64>,
+    path: &str,
+) -> fmt::Result
+    ensures { WritesOnOk W.write_str_gives f.old result (file_fault_text number line path.now) f.new }
+{
+    match line {
+        Some(line) => write!(
+            f,
+            "royalty_run: cwr fault {number} at line {line} of {path}\n"
+        ),
+        None => write!(f, "royalty_run: cwr fault {number} of {path}\n"),
     }
 }
 
@@ -163,7 +193,11 @@ impl Failure {
         ensures { result ≡ status_of self.now }
     {
         match self {
-            Failure::Input(_) | Failure::Statement { .. } | Failure::Many => 1,
+            Failure::Input(_)
+            | Failure::Works(_)
+            | Failure::Registrations { .. }
+            | Failure::Statement { .. }
+            | Failure::Many => 1,
             Failure::Words(_)
             | Failure::NotText
             | Failure::Pairs(_)

@@ -8,27 +8,30 @@ ghost use Rattle.check_inputs.specs.Checked.{bytes_of, path_of};
 ghost use Rattle.run_inputs.specs.Inputs.{map_inputs};
 ghost use Rattle.royalty_program.specs.Files.{AreRead, AreStatementsOver, HaveNoFaultOver};
 ghost use Rattle.royalty_program.specs.Files.{HoldsIfGiven, IsExplanationOver, IsReportOver};
-ghost use Rattle.royalty_program.specs.OutputPath.{IsApart, IsNoInput};
+ghost use Rattle.royalty_program.specs.OutputPath.{IsNoInput};
+ghost use Rattle.royalty_program.specs.RunInputs.{AreStatementsFrom, IsNoInputOf, IsOfInputs};
 ghost use Rattle.royalty_program.specs.Status.{IsOfFile, IsOfNoInput, IsOfPaths, IsOfRunOutput, IsRefusal, IsUnexplained};
 ghost use Rattle.royalty_program.specs.Targets.{IsLeftOrHas, IsPut};
 
 use crate::explain_command::ExplainWords;
 use crate::failure::Failure;
+use crate::inputs::RunInputs;
 use crate::run_command::RunWords;
 use crate::sources::{Source, unread};
+use crate::submitted_files::{is_submitted, settle_submitted};
 use crate::targets::{Target, finish, unkept};
 use check_inputs::{Checked, File, check};
 use explain_line::explain;
 use run_inputs::Inputs;
 use settle_run::settle_to;
+use split_run::Plan;
 use std::alloc::Global;
 use std::io::{self, Write};
 use std::sync::Wait;
 use std::thread::Threads;
 
-/// Prints the statements of a run over its files. All are read, in the order of `Inputs`, before
-/// any is parsed.
-pub fn settle_files<R: Threads + Wait + Sync, S: Source, W: Write>(
+/// Prints the statements of a run over its files.
+fn settle_files<R: Threads + Wait + Sync, S: Source + Sync, W: Write>(
     rt: &R,
     alloc: Global,
     files: &S,
@@ -36,22 +39,54 @@ pub fn settle_files<R: Threads + Wait + Sync, S: Source, W: Write>(
     out: &mut W,
 ) -> Result<io::Result<()>, Failure>
     ensures statements { IfOk result (λ printed. OnOk printed ((text : List ℕ) × Appends (W.contents out.old) (W.contents out.new) text
-        × AreStatementsOver (S.holds files.now) (map_inputs string_bytes asked.inputs) text)) }
-    ensures read { IfOk result (λ _. HaveNoFaultOver (S.holds files.now) (map_inputs string_bytes asked.inputs)) }
+        × AreStatementsFrom (S.holds files.now) asked.inputs text)) }
     ensures failure { IfErr result IsRefusal }
-    ensures files { IfErr result
-        (IsOfPaths (S.holds files.now) (S.refuses files.now) (map_inputs string_bytes asked.inputs)) }
+    ensures files { IfErr result (IsOfInputs (S.holds files.now) (S.refuses files.now) asked.inputs) }
     ensures silent { IfErr result (λ _. out.new ≡ out.old) }
 {
-    let inputs = read_all(files, alloc, asked.inputs)?;
-    match settle_to(rt, alloc, inputs, asked.plan, out) {
+    let RunWords { inputs, plan, .. } = asked;
+    match inputs {
+        RunInputs::OneFile(inputs) => settle_one_file(rt, alloc, files, inputs, plan, out),
+        RunInputs::Submitted(inputs) => settle_submitted(rt, alloc, files, inputs, plan, out),
+    }
+}
+
+/// Prints the statements of a run over one CWR file. All inputs are read, in the order of `Inputs`,
+/// before any is parsed.
+fn settle_one_file<R: Threads + Wait + Sync, S: Source, W: Write>(
+    rt: &R,
+    alloc: Global,
+    files: &S,
+    inputs: Inputs<String>,
+    plan: Plan,
+    out: &mut W,
+) -> Result<io::Result<()>, Failure>
+    ensures statements { IfOk result (λ printed. OnOk printed ((text : List ℕ) × Appends (W.contents out.old) (W.contents out.new) text
+        × AreStatementsOver (S.holds files.now) (map_inputs string_bytes inputs) text)) }
+    ensures read { IfOk result (λ _. HaveNoFaultOver (S.holds files.now) (map_inputs string_bytes inputs)) }
+    ensures failure { IfErr result IsRefusal }
+    ensures files { IfErr result (IsOfPaths (S.holds files.now) (S.refuses files.now) (map_inputs string_bytes inputs)) }
+    ensures silent { IfErr result (λ _. out.new ≡ out.old) }
+{
+    let inputs = read_all(files, alloc, inputs)?;
+    match settle_to(rt, alloc, inputs, plan, out) {
         Ok(printed) => Ok(printed),
         Err(fault) => Err(Failure::from(fault)),
     }
 }
 
 /// Whether a path is that of an input, by whatever name.
-fn is_input<T: Target>(target: &T, inputs: &Inputs<String>, path: &str) -> io::Result<bool>
+fn is_input<T: Target>(target: &T, inputs: &RunInputs, path: &str) -> io::Result<bool>
+    ensures none { IfOk result (λ is_input. is_input ≡ false → IsNoInputOf inputs.now path.now) }
+{
+    match inputs {
+        RunInputs::OneFile(inputs) => is_input_of_one(target, inputs, path),
+        RunInputs::Submitted(inputs) => is_submitted(target, inputs, path),
+    }
+}
+
+/// Whether a path is that of an input of a run over one CWR file.
+fn is_input_of_one<T: Target>(target: &T, inputs: &Inputs<String>, path: &str) -> io::Result<bool>
     ensures none { IfOk result (λ is_input.
         is_input ≡ false → IsNoInput (map_inputs string_bytes inputs.now) path.now) }
 {
@@ -69,7 +104,7 @@ fn is_input<T: Target>(target: &T, inputs: &Inputs<String>, path: &str) -> io::R
 
 /// The same into the file of a path: whole, or that is as it was. A path that is an input's is
 /// refused before anything is read.
-fn settle_kept<R: Threads + Wait + Sync, S: Source, T: Target>(
+fn settle_kept<R: Threads + Wait + Sync, S: Source + Sync, T: Target>(
     rt: &R,
     alloc: Global,
     files: &S,
@@ -78,13 +113,13 @@ fn settle_kept<R: Threads + Wait + Sync, S: Source, T: Target>(
     path: String,
 ) -> Result<(), Failure>
     ensures statements { IfOk result (λ _. (text : List ℕ) × T.keeps target.new (string_bytes path) (Some text)
-        × AreStatementsOver (S.holds files.now) (map_inputs string_bytes asked.inputs) text) }
-    ensures apart { IfOk result (λ _. IsNoInput (map_inputs string_bytes asked.inputs) (string_bytes path)) }
+        × AreStatementsFrom (S.holds files.now) asked.inputs text) }
+    ensures apart { IfOk result (λ _. IsNoInputOf asked.inputs (string_bytes path)) }
     ensures failure { IfErr result IsRefusal }
     ensures files { IfErr result (IsOfRunOutput (Some path)
-        (IsOfPaths (S.holds files.now) (S.refuses files.now) (map_inputs string_bytes asked.inputs))) }
+        (IsOfInputs (S.holds files.now) (S.refuses files.now) asked.inputs)) }
     ensures left { OnErr result (IsLeftOrHas (T.keeps target.old (string_bytes path)) (T.keeps target.new (string_bytes path))
-        (AreStatementsOver (S.holds files.now) (map_inputs string_bytes asked.inputs))) }
+        (AreStatementsFrom (S.holds files.now) asked.inputs)) }
 {
     match is_input(target, &asked.inputs, path.as_str()) {
         Ok(false) => {}
@@ -100,7 +135,7 @@ fn settle_kept<R: Threads + Wait + Sync, S: Source, T: Target>(
 }
 
 /// Prints the statements of a run, or keeps them in the file of a path, where there is one.
-pub fn settle_out<R: Threads + Wait + Sync, S: Source, T: Target, W: Write>(
+pub fn settle_out<R: Threads + Wait + Sync, S: Source + Sync, T: Target, W: Write>(
     rt: &R,
     alloc: Global,
     files: &S,
@@ -109,15 +144,14 @@ pub fn settle_out<R: Threads + Wait + Sync, S: Source, T: Target, W: Write>(
     out: &mut W,
 ) -> Result<io::Result<()>, Failure>
     ensures statements { IfOk result (λ printed. OnOk printed ((text : List ℕ) × IsPut (option_map string_bytes asked.output) (T.keeps target.new) (W.contents out.old) (W.contents out.new) text
-        × AreStatementsOver (S.holds files.now) (map_inputs string_bytes asked.inputs) text)) }
-    ensures apart { IfOk result (λ _.
-        IsApart (map_inputs string_bytes asked.inputs) (option_map string_bytes asked.output)) }
+        × AreStatementsFrom (S.holds files.now) asked.inputs text)) }
+    ensures apart { IfOk result (λ _. IfSome (option_map string_bytes asked.output) (IsNoInputOf asked.inputs)) }
     ensures failure { IfErr result IsRefusal }
     ensures files { IfErr result (IsOfRunOutput asked.output
-        (IsOfPaths (S.holds files.now) (S.refuses files.now) (map_inputs string_bytes asked.inputs))) }
+        (IsOfInputs (S.holds files.now) (S.refuses files.now) asked.inputs)) }
     ensures silent { IfErr result (λ _. out.new ≡ out.old) }
     ensures left { IfSome asked.output (λ path. IsLeftOrHas (T.keeps target.old (string_bytes path)) (T.keeps target.new (string_bytes path))
-        (AreStatementsOver (S.holds files.now) (map_inputs string_bytes asked.inputs))) }
+        (AreStatementsFrom (S.holds files.now) asked.inputs)) }
     ensures unused { IfNone asked.output (target.new ≡ target.old) }
 {
     match asked.output.take() {
@@ -199,7 +233,7 @@ fn read_all<S: Source>(
 }
 
 /// The file of a path.
-fn file_of<S: Source>(files: &S, alloc: Global, path: String) -> Result<File, Failure>
+pub(crate) fn file_of<S: Source>(files: &S, alloc: Global, path: String) -> Result<File, Failure>
     ensures bytes { IfOk result (λ file. S.holds files.now (string_bytes path) (bytes_of file)) }
     ensures path { IfOk result (λ file. path_of file ≡ string_bytes path) }
     ensures failure { IfErr result (IsOfFile (S.refuses files.now) path) }
@@ -211,7 +245,7 @@ fn file_of<S: Source>(files: &S, alloc: Global, path: String) -> Result<File, Fa
 }
 
 /// The file of a path, where there is one.
-fn file_if_given<S: Source>(
+pub(crate) fn file_if_given<S: Source>(
     files: &S,
     alloc: Global,
     path: Option<String>,

@@ -1,4 +1,4 @@
-//! The options that name the files of a run, which several commands have.
+//! The inputs of a run, and the options that name those of one over one CWR file, which several commands have.
 
 ghost use Rattle.std.specs.Prelude.{◌≡◌, [], List, ℕ, IfOk, string_bytes};
 ghost use Rattle.clap.specs.Words.{App, found_of, matches_of, new_app, rows_of};
@@ -6,10 +6,30 @@ ghost use Rattle.run_inputs.specs.Inputs.{map_inputs};
 ghost use Rattle.royalty_program.specs.Asked.{inputs_given};
 ghost use Rattle.royalty_program.specs.InputCommand.{FindsInputs, HasInputArgs, with_inputs};
 
+use crate::named_files::NamedFiles;
 use crate::options::{file_arg, new_command, optional_file_arg, owned};
 use clap::{ArgMatches, Command};
 use run_inputs::Inputs;
 use std::alloc::{AllocError, Global};
+use submitted_inputs::SubmittedTables;
+
+/// The paths of the inputs of a run.
+#[derive(Drop)]
+pub enum RunInputs {
+    /// Over one CWR file.
+    OneFile(Inputs<String>),
+    /// Over the files of several submitters.
+    Submitted(SubmittedInputs),
+}
+
+/// The paths of the inputs of a run over the files of several submitters.
+#[derive(Drop)]
+pub struct SubmittedInputs {
+    /// The paths of the tables.
+    pub tables: SubmittedTables<String>,
+    /// The CWR file of each submitter.
+    pub files: NamedFiles,
+}
 
 /// The paths that a parse found.
 pub(crate) fn read_inputs(

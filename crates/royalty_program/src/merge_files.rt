@@ -10,7 +10,7 @@ ghost use Rattle.royalty_program.specs.declared.failure.Failure.TheVariants.{Man
 
 use crate::failure::Failure;
 use crate::merge_command::MergeWords;
-use crate::sources::{Source, unread};
+use crate::sources::{Texts, unread};
 use crate::targets::{Target, finish, unkept};
 use merge_statements::amount::MOST_COUNT;
 use merge_statements::{Refusal, TextRefusal, check, merge};
@@ -19,7 +19,7 @@ use std::io::{self, ErrorKind, Write};
 
 /// Prints what the texts of statements in the files of these paths merge to, in their order. All
 /// are read through before anything is printed.
-pub fn merge_files<S: Source, W: Write>(
+pub fn merge_files<S: Texts, W: Write>(
     alloc: Global,
     files: &S,
     paths: &[String],
@@ -37,7 +37,7 @@ pub fn merge_files<S: Source, W: Write>(
 
 /// The same of texts that are read once, for an output that may have a beginning where one is
 /// refused. Only then are they read through, to tell which is the first.
-fn merge_once<S: Source, W: Write>(
+fn merge_once<S: Texts, W: Write>(
     alloc: Global,
     files: &S,
     paths: &[String],
@@ -58,7 +58,7 @@ fn merge_once<S: Source, W: Write>(
 }
 
 /// Prints what the texts merge to while they are read.
-fn merge_opened<S: Source, W: Write>(
+fn merge_opened<S: Texts, W: Write>(
     alloc: Global,
     files: &S,
     paths: &[String],
@@ -80,7 +80,7 @@ fn merge_opened<S: Source, W: Write>(
 }
 
 /// The same into the file of a path: whole, or that is as it was.
-fn merge_kept<S: Source, T: Target>(
+fn merge_kept<S: Texts, T: Target>(
     alloc: Global,
     files: &S,
     target: &mut T,
@@ -103,7 +103,7 @@ fn merge_kept<S: Source, T: Target>(
 }
 
 /// Prints the merged text, or keeps it in the file of a path, where there is one.
-pub fn merge_out<S: Source, T: Target, W: Write>(
+pub fn merge_out<S: Texts, T: Target, W: Write>(
     alloc: Global,
     files: &S,
     target: &mut T,
@@ -130,7 +130,7 @@ pub fn merge_out<S: Source, T: Target, W: Write>(
 }
 
 /// Reads the text of each path through.
-fn check_all<S: Source>(alloc: Global, files: &S, paths: &[String]) -> Result<(), Failure>
+fn check_all<S: Texts>(alloc: Global, files: &S, paths: &[String]) -> Result<(), Failure>
     ensures sound { OnOk result ((lines : ℕ) × AreSoundTexts (S.gives files.now) (map string_bytes paths.now) lines × (lines ≤ 10 ^ 18)) }
     ensures failure { IfErr result IsRefusal }
     ensures files { IfErr result (IsOfTexts (S.gives files.now) (map string_bytes paths.now)) }
@@ -144,7 +144,7 @@ fn check_all<S: Source>(alloc: Global, files: &S, paths: &[String]) -> Result<()
 }
 
 /// Reads the text of a path through, and answers how many usage lines it is of.
-fn check_text<S: Source>(alloc: Global, files: &S, path: &str) -> Result<u64, Failure>
+fn check_text<S: Texts>(alloc: Global, files: &S, path: &str) -> Result<u64, Failure>
     ensures sound { IfOk result (IsSoundText (S.gives files.now) path.now) }
     ensures failure { IfErr result IsRefusal }
     ensures refused { IfErr result (IsOfText (S.gives files.now) path.now) }
@@ -173,11 +173,7 @@ fn more_lines(lines: u64, more: u64) -> Result<u64, Failure>
 }
 
 /// Readers of the files of these paths, in their order.
-fn open_all<S: Source>(
-    alloc: Global,
-    files: &S,
-    paths: &[String],
-) -> Result<Vec<S::Reader>, Failure>
+fn open_all<S: Texts>(alloc: Global, files: &S, paths: &[String]) -> Result<Vec<S::Reader>, Failure>
     ensures opened { IfOk result (λ readers. AreOpened (S.gives files.now) (map string_bytes paths.now) (map S.Reader.remaining readers.items)) }
     ensures failure { IfErr result IsRefusal }
     ensures files { IfErr result (IsOfOne (S.gives files.now) (map string_bytes paths.now)) }

@@ -1,9 +1,10 @@
 //! What several commands have: the form of a command, and of its options.
 
 ghost use Rattle.std.specs.Option.{option_map};
-ghost use Rattle.std.specs.Prelude.{◌≡◌, [], IfOk, Some, map, string_bytes};
+ghost use Rattle.std.specs.Prelude.{◌≡◌, [], IfOk, Some, codes, map, string_bytes, true};
 ghost use Rattle.clap.specs.Words.{new_app, rule_of};
 ghost use Rattle.royalty_program.specs.Args.{HasArgs, IsOptionalArg, IsRequiredArg, file_rule, optional_rule};
+ghost use Rattle.royalty_program.specs.SubmittedCommand.{files_rule};
 
 use clap::builder::ValueParser;
 use clap::{Arg, ArgAction, Command};
@@ -46,6 +47,32 @@ pub(crate) fn optional_file_arg<'a>(alloc: Global, name: &'a str, help: &'a str)
         .value_name("F")
         .help(help)
         .action(ArgAction::Set)
+}
+
+/// An option whose value is the path of a file, and which may stand any number of times but none.
+pub(crate) fn files_arg<'a>(alloc: Global, name: &'a str, help: &'a str) -> Arg<'a>
+    ensures optional { IsOptionalArg name.entry.now result }
+    ensures needed { result.required ≡ true }
+    ensures rule { rule_of result ≡ files_rule name.entry.now }
+{
+    Arg::new(alloc, name)
+        .long(name)
+        .value_name("NAME=F")
+        .help(help)
+        .required(true)
+        .action(ArgAction::Append)
+}
+
+/// The option of a file for the statements of a run.
+pub(crate) fn output_arg<'a>(alloc: Global) -> Arg<'a>
+    ensures optional { IsOptionalArg (codes "output") result }
+    ensures rule { rule_of result ≡ optional_rule (codes "output") }
+{
+    optional_file_arg(
+        alloc,
+        "output",
+        "A file for the statements, in place of standard output",
+    )
 }
 
 /// A required option whose value is a number, of which clap checks that the parser takes it.

@@ -1,19 +1,26 @@
 //! The grammar of the command `run`, and what its words ask for.
 
-ghost use Rattle.std.specs.Prelude.{IfOk, IfErr, map, string_bytes};
-ghost use Rattle.royalty_program.specs.Asked.{IsErrorOf};
-ghost use Rattle.royalty_program.specs.Answered.{AreReadFrom};
+ghost use Rattle.std.specs.List.{list_any};
+ghost use Rattle.std.specs.Option.{option_map};
+ghost use Rattle.std.specs.Prelude.{◌≡◌, IfOk, IfErr, codes, map, string_bytes};
+ghost use Rattle.royalty_program.specs.Asked.{IsErrorOf, IsRunError, inputs_given, is_works_word as is_works, name_works};
+ghost use Rattle.royalty_program.specs.Asked.{path_if_given, plan_given};
+ghost use Rattle.royalty_program.specs.Answered.{AreOneFile, AreReadFrom};
 ghost use Rattle.royalty_program.specs.RunCommand.{IsRunCommand, run_app};
 
-use crate::inputs::{input_command, read_inputs};
-use crate::options::{number_arg, optional_file_arg, owned};
-use clap::{Command, Error, value_parser};
-use run_inputs::Inputs;
+use crate::inputs::{RunInputs, input_command, read_inputs};
+use crate::options::{optional_file_arg, output_arg, owned};
+use crate::plan_words::{nodes_arg, read_plan, readers_arg, workers_arg};
+use crate::submitted_command::read_submitted_run;
+use clap::{Command, Error};
 use split_run::Plan;
 use std::alloc::{AllocError, Global};
 
+/// What `run` does, in a line.
+pub(crate) const RUN_ABOUT: &str = "Make the statements of all payees of a distribution";
+
 /// What stands below the help of `run`.
-const RUN_HELP: &str = "\
+pub(crate) const RUN_HELP: &str = "\
 A file has at most 268435456 bytes. The tables are CSV with a header:
   territories  code,groups: a TIS numeric code, and the codes of its groups with spaces between
                them, each of an earlier row; 2136 is the world
@@ -25,6 +32,13 @@ A file has at most 268435456 bytes. The tables are CSV with a header:
 The registrations are a CWR 2.2 file: of NWR and REV records the submitter work number is read, of
 SPT and SWT records the party, the three collection shares, the mark I or E and the territory.
 Records of other types are skipped, and nothing checks that the file is CWR, or all of it.
+
+With `--works F` it is a run over the files of several submitters, who may share works. Each file has
+a `--cwr NAME=F` of its own, and the tables name it by NAME:
+  works        work,submitter,number,title: a name for the work, and the submitter work number of a
+               registration of it, with a row for each; usage lines have the name
+  payees       submitter,party,payee,name: as above; a party without a row is paid to NAME:PARTY
+`royalty_run works` and `royalty_run parties` print such tables to begin with.
 
 The answer is CSV too. A row L,payee,usage,amount for each portion of a payee, then its sum
 S,payee,count,total; for each portion of the residue M,reason,usage,amount with the reason WORK,
@@ -40,36 +54,75 @@ behind the new name does status 4 leave F whole and new.
 
 A refusal has a number and a place. `royalty_run check` with the same files says what is wrong with
 them in words, and what the lines come to by reason; the table of faults in docs/FORMATS.md says
-what to mend.
+what to correct.
 
-Example:
+Examples:
   royalty_run run --tis territories.csv --cwr works.cwr --usage usage.csv \\
+    --workers 4 --readers 2 --nodes 16
+  royalty_run run --tis territories.csv --works works.csv --payees payees.csv \\
+    --cwr MOON=moon.cwr --cwr HARBOR=harbor.cwr --usage usage.csv \\
     --workers 4 --readers 2 --nodes 16";
 
-/// The words of a run: the paths of its files, and its plan.
-#[derive(Debug, Drop)]
+/// The words of a run: the paths of its inputs, and its plan.
+#[derive(Drop)]
 pub struct RunWords {
-    pub inputs: Inputs<String>,
+    pub inputs: RunInputs,
     pub plan: Plan,
     /// The file that the statements go to, where it is not standard output.
     pub output: Option<String>,
 }
 
 /// Reads the words of a run, the first of which is `run`. They are a command of their own, as those
-/// of a division are.
+/// of a division are; with the option `--works` those of a run over the files of several submitters.
 pub fn read_run(alloc: Global, words: &[String]) -> Result<RunWords, Error>
     ensures read { IfOk result (AreReadFrom (map string_bytes words.now)) }
+    ensures error { IfErr result (IsRunError (map string_bytes words.now)) }
+{
+    if names_works(words) {
+        read_submitted_run(alloc, words)
+    } else {
+        read_run_of_one_file(alloc, words)
+    }
+}
+
+/// Whether words have the option `--works` after the first.
+fn names_works(words: &[String]) -> bool
+    ensures { result ≡ name_works (map string_bytes words.now) }
+{
+    if words.is_empty() {
+        return false;
+    }
+    have_works(&words[1..])
+}
+
+/// Whether words have the option `--works`.
+fn have_works(words: &[String]) -> bool
+    ensures { result ≡ list_any (λ word. is_works (string_bytes word)) words.now }
+{
+    words.iter().any(|word| is_works_word(word.as_str()))
+}
+
+/// Whether a word is the option `--works`, alone or with its value.
+fn is_works_word(word: &str) -> bool
+    ensures { result ≡ is_works word.now }
+{
+    word == "--works" || word.starts_with("--works=")
+}
+
+/// Reads the words of a run over one CWR file.
+fn read_run_of_one_file(alloc: Global, words: &[String]) -> Result<RunWords, Error>
+    ensures inputs { IfOk result (λ asked. AreOneFile (inputs_given run_app (map string_bytes words.now)) asked.inputs) }
+    ensures plan { IfOk result (λ asked. asked.plan ≡ plan_given run_app (map string_bytes words.now)) }
+    ensures output { IfOk result (λ asked. option_map string_bytes asked.output
+        ≡ path_if_given run_app (codes "output") (map string_bytes words.now)) }
     ensures error { IfErr result (IsErrorOf run_app (map string_bytes words.now)) }
 {
     let matches = run_command(alloc)?.try_get_matches_from(words)?;
     let inputs = read_inputs(alloc, &matches)?;
     let output = owned(alloc, matches.get_str("output"))?;
-    let workers = matches.get_one::<u64>("workers").unwrap();
-    let readers = matches.get_one::<u64>("readers").unwrap();
-    let nodes = matches.get_one::<u64>("nodes").unwrap();
-    let plan = Plan::new(workers, readers, nodes).unwrap();
+    let plan = read_plan(&matches);
     Ok(RunWords {
-        inputs,
+        inputs: RunInputs::OneFile(inputs),
         plan,
         output,
     })
@@ -78,34 +131,14 @@ pub fn read_run(alloc: Global, words: &[String]) -> Result<RunWords, Error>
 pub fn run_command<'a>(alloc: Global) -> Result<Command<'a>, AllocError>
     ensures { IfOk result IsRunCommand }
 {
-    input_command(
-        alloc,
-        "run",
-        "royalty_run run",
-        "Make the statements of all payees from three files or four",
-        RUN_HELP,
-    )?
-    .arg(number_arg(
-        alloc,
-        "workers",
-        value_parser!(u64).range(1..=8),
-        "How many threads divide usage lines: 1 to 8",
-    ))?
-    .arg(number_arg(
-        alloc,
-        "readers",
-        value_parser!(u64).range(1..=8),
-        "How many threads keep statements: 1 to 8",
-    ))?
-    .arg(number_arg(
-        alloc,
-        "nodes",
-        value_parser!(u64).range(1..=64),
-        "How many postings a worker has under way at most: 1 to 64",
-    ))?
-    .arg(optional_file_arg(
-        alloc,
-        "output",
-        "A file for the statements, in place of standard output",
-    ))
+    input_command(alloc, "run", "royalty_run run", RUN_ABOUT, RUN_HELP)?
+        .arg(workers_arg(alloc))?
+        .arg(readers_arg(alloc))?
+        .arg(nodes_arg(alloc))?
+        .arg(output_arg(alloc))?
+        .arg(optional_file_arg(
+            alloc,
+            "works",
+            "The table of works, where several submitters have a CWR file each: --cwr NAME=F, for each",
+        ))
 }

@@ -18,21 +18,25 @@ pub const MOST_BYTES: u64 = 268_435_456;
 
 /// Where the files of a run are read from.
 pub trait Source {
-    /// What a text is read through.
-    type Reader: Read + Drop;
-
     // The file of a path has these bytes.
     ghost holds: { Self → List ℕ → List ℕ → Type 0 };
     // It refuses a path with an error of this kind.
     ghost refuses: { Self → List ℕ → ErrorKind → Type 0 };
-    // The file of a path gives this text, whatever its size.
-    ghost gives: { Self → List ℕ → List ℕ → Type 0 };
 
     /// The bytes of the file of a path. A file of more than the most bytes cannot be read.
     fn read(&self, alloc: Global, path: &str) -> io::Result<Vec<u8>>
         ensures bytes { IfOk result (λ bytes. holds self.now path.now bytes.items) }
         ensures few { IfOk result (λ bytes. length bytes.items ≤ 268435456) }
         ensures error { IfErr result (λ error. refuses self.now path.now (error_kind error)) };
+}
+
+/// Where the texts of statements are read from, whatever their size.
+pub trait Texts {
+    /// What a text is read through.
+    type Reader: Read + Drop;
+
+    // The file of a path gives this text.
+    ghost gives: { Self → List ℕ → List ℕ → Type 0 };
 
     /// A reader of the text of the file of a path.
     fn open(&self, path: &str) -> io::Result<Self::Reader>
@@ -46,13 +50,9 @@ pub struct Disk<'a, R> {
 }
 
 impl<'a, R: Files> Source for Disk<'a, R> {
-    type Reader = R::File;
-
     ghost holds = { λ _. on_disk };
 
     ghost refuses = { λ _. for_any_error };
-
-    ghost gives = { λ _. any_text };
 
     fn read(&self, alloc: Global, path: &str) -> io::Result<Vec<u8>> {
         let file = fs::open(self.rt, path)?;
@@ -62,6 +62,12 @@ impl<'a, R: Files> Source for Disk<'a, R> {
         }
         read_whole(alloc, file, size as usize + 1)
     }
+}
+
+impl<'a, R: Files> Texts for Disk<'a, R> {
+    type Reader = R::File;
+
+    ghost gives = { λ _. any_text };
 
     fn open(&self, path: &str) -> io::Result<R::File> {
         fs::open(self.rt, path)

@@ -1,7 +1,7 @@
 //! The distribution run's command line.
 #![tactic(auto)]
 
-use royalty_program::{program, words_of};
+use royalty_program::{Disk, program, words_of};
 use std::env;
 use std::process::ExitCode;
 
@@ -11,6 +11,8 @@ fn main(rt: HostRuntime) -> ExitCode {
         Ok(words) => program(
             &rt,
             rt.alloc(),
+            &Disk { rt: &rt },
+            &mut Disk { rt: &rt },
             words.as_slice(),
             &mut rt.stdout(),
             &mut err,

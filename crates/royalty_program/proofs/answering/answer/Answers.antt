@@ -1,4 +1,4 @@
-use Rattle.std.proofs.Common.{◌≡◌, ◌≢◌, ◌∙◌, ℕ, List, Bool, refl, drop, inl, inr, map, codes, false, sym, true, rules}
+use Rattle.std.proofs.Common.{◌≡◌, ◌≢◌, ◌⊎◌, ◌∙◌, ℕ, List, Bool, refl, drop, inl, inr, map, codes, false, sym, true, rules}
 use Rattle.std.proofs.lemmas.Result.{err_from_is_err_and, on_ok_weaker}
 use Rattle.std.specs.Option.{option_map}
 use Rattle.std.specs.Prelude.{String, string_bytes}
@@ -11,11 +11,10 @@ use Rattle.pair_split.specs.declared.pair_fault.PairFault.{PairFault}
 use Rattle.pair_split.specs.declared.pair_fault.PairFault.TheVariants.{Pair, Name, Share, Many, Memory}
 use Rattle.royalty_program.specs.CheckCommand.{check_app}
 use Rattle.royalty_program.specs.ExplainCommand.{explain_app}
-use Rattle.royalty_program.specs.RunCommand.{run_app}
 use Rattle.royalty_program.specs.SplitCommand.{split_app}
 use Rattle.royalty_program.specs.Answered.{AreCheckedFrom, AreExplainedFrom, AreMergeFrom, AreReadFrom, AskForOutput, IsAnswerTo, IsAnswered}
 use Rattle.royalty_program.specs.Asked.{AskForHelp, IsDivision, pairs_of}
-use Rattle.royalty_program.specs.Files.{AreStatementsOver, IsExplanationOver, IsReportOver}
+use Rattle.royalty_program.specs.Files.{IsExplanationOver, IsReportOver}
 use Rattle.royalty_program.specs.MergeCommand.{merge_app}
 use Rattle.royalty_program.specs.MergeFiles.{IsMergeOver}
 use Rattle.royalty_program.specs.Status.{IsOfCheck, IsOfDivision, IsOfNoInput, IsOfPaths, failure_of_fault}
@@ -27,9 +26,18 @@ use Rattle.run_inputs.specs.declared.inputs.Inputs.{Inputs}
 use Rattle.royalty_program.specs.declared.explain_command.ExplainWords.{ExplainWords}
 use Rattle.royalty_program.specs.declared.merge_command.MergeWords.{MergeWords}
 use Rattle.royalty_program.specs.declared.run_command.RunWords.{RunWords}
-use Rattle.royalty_program.proofs.CommandNames.{differ}
-use Rattle.royalty_program.proofs.OutputLemmas.{delivered_merge, delivered_out, delivered_run, left_merge, left_run, no_merge_help_given, no_output, unmerged_words, unused_merge, unused_run}
-use Rattle.royalty_program.proofs.OverLemmas.{explained_given, merged_given, over_given, over_in_order, reported_given}
+use Rattle.royalty_program.proofs.CommandNames.{differ, no_table}
+use Rattle.royalty_program.proofs.RunLemmas.{is_of_one_file}
+use Rattle.royalty_program.specs.Answered.{AreStarting}
+use Rattle.royalty_program.specs.Asked.{AskForRun, AskForSubmittedRun, AskForTable}
+use Rattle.royalty_program.specs.RunInputs.{AreStatementsFrom}
+use Rattle.royalty_program.specs.StartingCommand.{starting_app, starting_name}
+use Rattle.royalty_program.specs.SubmittedFiles.{HoldsAt}
+use Rattle.royalty_program.specs.declared.starting_command.StartingWords.{StartingWords}
+use Rattle.starting_files.specs.Tables.{IsTableOf}
+use Rattle.starting_files.specs.declared.making.StartingTable.{StartingTable}
+use Rattle.royalty_program.proofs.OutputLemmas.{delivered_merge, delivered_out, delivered_run, left_merge, left_run, no_files_help_given, no_merge_help_given, no_output, no_run_help_given, not_accepted_files, not_accepted_run, unmerged_words, unused_merge, unused_run}
+use Rattle.royalty_program.proofs.OverLemmas.{explained_given, fails_given, merged_given, no_table_given, over_given, over_in_order, over_submitted, reported_given, table_given}
 use Rattle.royalty_program.proofs.OptionLemmas.{accepted_is_memory, no_help_given}
 use Rattle.royalty_program.proofs.RunWalked.{no_help}
 use Rattle.royalty_program.proofs.answering.answer.Goals as goal
@@ -54,22 +62,26 @@ answers_division : {holds gives : List ℕ → List ℕ → Type 0} (words : Lis
 answers_division words text command division = record {
   division = division;
   run = λ run. absurd (differ (sym command ∙ run.command) refl);
+  submitted = λ run. absurd (differ (sym command ∙ run.command) refl);
   explained = λ explain. absurd (differ (sym command ∙ explain.command) refl);
   checked = λ check. absurd (differ (sym command ∙ check.command) refl);
   merged = λ merge. absurd (differ (sym command ∙ merge.command) refl);
+  table = λ table asks. absurd (no_table refl refl table (sym command ∙ asks.command));
   others = λ other. refl;
   in_order = λ run. absurd (differ (sym command ∙ run.command) refl);
 }
 
 -- those that ask for a run by its statements
 answers_run : (holds gives : List ℕ → List ℕ → Type 0) (words : List (List ℕ)) (asked : RunWords) (text : List ℕ) → word_at words 1 ≡ codes "run" → AreReadFrom (drop 1 words) asked
-    → AreStatementsOver holds (map_inputs string_bytes asked.inputs) text → IsAnswered holds gives words true text
+    → AreStatementsFrom holds asked.inputs text → IsAnswered holds gives words true text
 answers_run holds gives words asked text command read over = record {
   division = λ division. absurd (differ (sym command ∙ division.command) refl);
-  run = λ run. over_given holds (drop 1 words) asked text read over;
+  run = λ run. over_given holds (drop 1 words) asked text run.one_file read over;
+  submitted = λ run. over_submitted holds (drop 1 words) asked text run.several read over;
   explained = λ explain. absurd (differ (sym command ∙ explain.command) refl);
   checked = λ check. absurd (differ (sym command ∙ check.command) refl);
   merged = λ merge. absurd (differ (sym command ∙ merge.command) refl);
+  table = λ table asks. absurd (no_table refl refl table (sym command ∙ asks.command));
   others = λ other. refl;
   in_order = λ run. over_in_order holds (drop 1 words) asked text run.options read over;
 }
@@ -80,9 +92,11 @@ answers_merge : (holds gives : List ℕ → List ℕ → Type 0) (words : List (
 answers_merge holds gives words asked text command read over = record {
   division = λ division. absurd (differ (sym command ∙ division.command) refl);
   run = λ run. absurd (differ (sym command ∙ run.command) refl);
+  submitted = λ run. absurd (differ (sym command ∙ run.command) refl);
   explained = λ explain. absurd (differ (sym command ∙ explain.command) refl);
   checked = λ check. absurd (differ (sym command ∙ check.command) refl);
   merged = λ merge. merged_given gives (drop 1 words) asked text read over;
+  table = λ table asks. absurd (no_table refl refl table (sym command ∙ asks.command));
   others = λ other. refl;
   in_order = λ run. absurd (differ (sym command ∙ run.command) refl);
 }
@@ -93,9 +107,11 @@ answers_explanation : (holds gives : List ℕ → List ℕ → Type 0) (words : 
 answers_explanation holds gives words asked text command read over = record {
   division = λ division. absurd (differ (sym command ∙ division.command) refl);
   run = λ run. absurd (differ (sym command ∙ run.command) refl);
+  submitted = λ run. absurd (differ (sym command ∙ run.command) refl);
   explained = λ explain. explained_given holds (drop 1 words) asked text read over;
   checked = λ check. absurd (differ (sym command ∙ check.command) refl);
   merged = λ merge. absurd (differ (sym command ∙ merge.command) refl);
+  table = λ table asks. absurd (no_table refl refl table (sym command ∙ asks.command));
   others = λ other. refl;
   in_order = λ run. absurd (differ (sym command ∙ run.command) refl);
 }
@@ -107,11 +123,29 @@ answers_check : (holds gives : List ℕ → List ℕ → Type 0) (words : List (
 answers_check holds gives words inputs sound text command read over = record {
   division = λ division. absurd (differ (sym command ∙ division.command) refl);
   run = λ run. absurd (differ (sym command ∙ run.command) refl);
+  submitted = λ run. absurd (differ (sym command ∙ run.command) refl);
   explained = λ explain. absurd (differ (sym command ∙ explain.command) refl);
   checked = λ check. reported_given holds (drop 1 words) inputs sound text read over;
   merged = λ merge. absurd (differ (sym command ∙ merge.command) refl);
+  table = λ table asks. absurd (no_table refl refl table (sym command ∙ asks.command));
   others = λ other. absurd (other command);
   in_order = λ run. absurd (differ (sym command ∙ run.command) refl);
+}
+
+-- and those that ask for a table to begin with by it
+answers_table : (holds gives : List ℕ → List ℕ → Type 0) (words : List (List ℕ)) (asked : StartingWords) (text : List ℕ) → word_at words 1 ≡ starting_name asked.table
+    → ((table : StartingTable) → word_at words 1 ≡ starting_name table → AreStarting table (drop 1 words) asked)
+    → IsTableOf asked.table asked.files.names (HoldsAt holds (map string_bytes asked.files.paths.items)) text → IsAnswered holds gives words true text
+answers_table holds gives words asked text command read is = record {
+  division = λ division. absurd (no_table refl refl asked.table (sym division.command ∙ command));
+  run = λ run. absurd (no_table refl refl asked.table (sym run.command ∙ command));
+  submitted = λ run. absurd (no_table refl refl asked.table (sym run.command ∙ command));
+  explained = λ explain. absurd (no_table refl refl asked.table (sym explain.command ∙ command));
+  checked = λ check. absurd (no_table refl refl asked.table (sym check.command ∙ command));
+  merged = λ merge. absurd (no_table refl refl asked.table (sym merge.command ∙ command));
+  table = λ table asks. table_given holds (drop 1 words) table asked text (read table asks.command) is;
+  others = λ other. refl;
+  in_order = λ run. absurd (no_table refl refl asked.table (sym run.command ∙ command));
 }
 
 pub returns-in-Ok-clause-answered : goal.returns-in-Ok-clause-answered
@@ -121,14 +155,14 @@ returns-in-Ok-clause-answered g c =
     let command : word_at words 1 ≡ codes "split" = rw (c.in-Ok-Division.is, c.in-Ok-Division.field-0-is) at c.read_words.ensures.named in
     let no_file = no_output (g.T.Target.keeps c.args.target.now) words (λ run. differ (sym command ∙ run) refl) (λ merge. differ (sym command ∙ merge) refl) in
     let rows : IsDivision words → IsAnswerTo words text = search rules in
-    let answered : IsAnswered (g.S.Source.holds c.args.files.now) (g.S.Source.gives c.args.files.now) words true text = answers_division words text command rows in
+    let answered : IsAnswered (g.S.Source.holds c.args.files.now) (g.S.Texts.gives c.args.files.now) words true text = answers_division words text command rows in
     on_ok_weaker c.write_all.result (λ wrote. (text, delivered_out _ words _ _ text no_file wrote, answered)) c.write_all.ensures.bytes
 
 pub returns-in-Ok-Run-clause-answered : goal.returns-in-Ok-Run-clause-answered
 returns-in-Ok-Run-clause-answered g c =
     let words = map string_bytes c.args.words.now in
     let holds = g.S.Source.holds c.args.files.now in
-    let gives = g.S.Source.gives c.args.files.now in
+    let gives = g.S.Texts.gives c.args.files.now in
     let keeps = g.T.Target.keeps c.settle_out.new.target in
     let asked = c.in-Ok-Run.asked in
     let command : word_at words 1 ≡ codes "run" = rw (c.in-Ok-Run.is, c.in-Ok-Run.field-0-is) at c.read_words.ensures.named in
@@ -136,7 +170,7 @@ returns-in-Ok-Run-clause-answered g c =
     on_ok_weaker c.in_ok-settle_out-in-Ok-Run.field-0
     (λ wrote. (
       wrote.0,
-      delivered_run keeps words (map_inputs string_bytes asked.inputs) (option_map string_bytes asked.output) _ _ wrote.0 command read.inputs read.output
+      delivered_run keeps words asked.inputs (option_map string_bytes asked.output) _ _ wrote.0 command read.inputs read.output
           c.in_ok-settle_out-in-Ok-Run.ensures.apart wrote.1,
       answers_run holds gives words asked wrote.0 command read wrote.2,
     ))
@@ -146,7 +180,7 @@ pub returns-in-Ok-Merge-clause-answered : goal.returns-in-Ok-Merge-clause-answer
 returns-in-Ok-Merge-clause-answered g c =
     let words = map string_bytes c.args.words.now in
     let holds = g.S.Source.holds c.args.files.now in
-    let gives = g.S.Source.gives c.args.files.now in
+    let gives = g.S.Texts.gives c.args.files.now in
     let keeps = g.T.Target.keeps c.merge_out.new.target in
     let asked = c.in-Ok-Merge.asked in
     let command : word_at words 1 ≡ codes "merge" = rw (c.in-Ok-Merge.is, c.in-Ok-Merge.field-0-is) at c.read_words.ensures.named in
@@ -158,8 +192,11 @@ returns-in-Ok-Merge-clause-answered g c =
 pub returns-in-Ok-format-clause-answered : goal.returns-in-Ok-format-clause-answered
 returns-in-Ok-format-clause-answered g c =
     let words = map string_bytes c.args.words.now in
-    let no_help_asked : word_at words 1 ≡ codes "run" → ¬ AskForHelp run_app (drop 1 words) → ⊥ = λ command none.
-    let bad : false ≡ true = c.if-use_stderr.ensures.1 (no_help_given run_app (drop 1 words) c.in-Err.error (c.in-Err.ensures.error command) none) in cc in
+    let no_run_help : AskForRun words ⊎ AskForSubmittedRun words → ⊥ = λ asks.
+    let bad : false ≡ true = c.if-use_stderr.ensures.1 (no_run_help_given words c.in-Err.error c.in-Err.ensures.error asks) in cc in
+    let no_table_help : (table : StartingTable) → AskForTable table words → ⊥ = λ table asks.
+    let bad : false ≡ true = c.if-use_stderr.ensures.1
+    (no_files_help_given (starting_app table) (drop 1 words) c.in-Err.error (c.in-Err.ensures.no_table table asks.command) asks.no_help) in cc in
     let no_explain_help : word_at words 1 ≡ codes "explain" → ¬ AskForHelp explain_app (drop 1 words) → ⊥ = λ command none.
     let bad : false ≡ true = c.if-use_stderr.ensures.1 (no_help_given explain_app (drop 1 words) c.in-Err.error (c.in-Err.ensures.unexplained command) none) in cc in
     let no_check_help : word_at words 1 ≡ codes "check" → ¬ AskForHelp check_app (drop 1 words) → ⊥ = λ command none.
@@ -167,25 +204,37 @@ returns-in-Ok-format-clause-answered g c =
     let no_merge_help : word_at words 1 ≡ codes "merge" → ¬ AskForHelp merge_app (drop 1 words) → ⊥ = λ command none.
     let bad : false ≡ true = c.if-use_stderr.ensures.1 (no_merge_help_given (drop 1 words) c.in-Err.error (c.in-Err.ensures.unmerged command) none) in cc in
     let no_file : (path : List ℕ) → ¬ AskForOutput words path = λ path asks. elim asks [
-      | inl (run, named) ↦ no_help_asked run.command run.no_help
+      | inl (run, named) ↦ no_run_help run
       | inr (merge, named) ↦ no_merge_help merge.command merge.no_help
     ] in
-    let answered : IsAnswered (g.S.Source.holds c.args.files.now) (g.S.Source.gives c.args.files.now) words true c.as_bytes.result.now = record {
+    let answered : IsAnswered (g.S.Source.holds c.args.files.now) (g.S.Texts.gives c.args.files.now) words true c.as_bytes.result.now = record {
       division = λ asked. let bad : false ≡ true = c.if-use_stderr.ensures.1 (c.in-Err.ensures.no_help asked) in cc;
-      run = λ asked. absurd (no_help_asked asked.command asked.no_help);
+      run = λ asked. absurd (no_run_help (inl asked));
+      submitted = λ asked. absurd (no_run_help (inr asked));
       explained = λ asked. absurd (no_explain_help asked.command asked.no_help);
       checked = λ asked. absurd (no_check_help asked.command asked.no_help);
       merged = λ asked. absurd (no_merge_help asked.command asked.no_help);
+      table = λ table asked. absurd (no_table_help table asked);
       others = λ other. refl;
-      in_order = λ asked. absurd (no_help_asked asked.command (no_help (drop 1 words) asked.options));
+      in_order = λ asked. absurd (no_run_help (inl (record {
+        command = asked.command;
+        one_file = is_of_one_file (drop 1 words) asked.options;
+        no_help = no_help (drop 1 words) asked.options;
+      })));
     } in
     on_ok_weaker c.write_all-in-Ok-format.result (λ wrote. (c.as_bytes.result.now, delivered_out (g.T.Target.keeps c.args.target.now) words _ _ c.as_bytes.result.now no_file wrote, answered)) c.write_all-in-Ok-format.ensures.bytes
 
 pub returns-in-Err-2-clause-run : goal.returns-in-Err-2-clause-run
-returns-in-Err-2-clause-run g c command accepted =
+returns-in-Err-2-clause-run g c command =
     let words = map string_bytes c.args.words.now in
     let not_memory : kind_of c.in-Err-2.error ≢ kinds.OutOfMemory = search rules in
-    not_memory (accepted_is_memory run_app (drop 1 words) c.in-Err-2.error (c.in-Err-2.ensures.error command) accepted)
+    not_accepted_run (drop 1 words) c.in-Err-2.error not_memory (c.in-Err-2.ensures.error command)
+
+pub returns-in-Err-2-clause-table : goal.returns-in-Err-2-clause-table
+returns-in-Err-2-clause-table g c table command =
+    let words = map string_bytes c.args.words.now in
+    let not_memory : kind_of c.in-Err-2.error ≢ kinds.OutOfMemory = search rules in
+    not_accepted_files (starting_app table) (drop 1 words) c.in-Err-2.error not_memory (c.in-Err-2.ensures.no_table table command)
 
 pub returns-in-Err-2-clause-explanation : goal.returns-in-Err-2-clause-explanation
 returns-in-Err-2-clause-explanation g c command accepted =
@@ -209,18 +258,32 @@ pub returns-in-Err-2-clause-merge : goal.returns-in-Err-2-clause-merge
 returns-in-Err-2-clause-merge g c command =
     let words = map string_bytes c.args.words.now in
     let not_memory : kind_of c.in-Err.error ≢ kinds.OutOfMemory = search rules in
-    unmerged_words (g.S.Source.gives c.args.files.now) (drop 1 words) c.in-Err.error not_memory (c.in-Err.ensures.unmerged command)
+    unmerged_words (g.S.Texts.gives c.args.files.now) (drop 1 words) c.in-Err.error not_memory (c.in-Err.ensures.unmerged command)
 
 pub returns-in-Ok-Run-clause-pairs : goal.returns-in-Ok-Run-clause-pairs
 returns-in-Ok-Run-clause-pairs g c division =
     let none : ⊥ = rw (c.in-Ok-Run.is, c.in-Ok-Run.field-0-is) at (c.read_words.ensures.division division) in
     absurd none
 
+pub returns-in-Ok-Starting-clause-answered : goal.returns-in-Ok-Starting-clause-answered
+returns-in-Ok-Starting-clause-answered g c =
+    let words = map string_bytes c.args.words.now in
+    let holds = g.S.Source.holds c.args.files.now in
+    let gives = g.S.Texts.gives c.args.files.now in
+    let asked = c.in-Ok-Starting.asked in
+    let text = c.in_ok-text-in-Ok-Starting.text.items in
+    let command : word_at words 1 ≡ starting_name asked.table = rw (c.in-Ok-Starting.is, c.in-Ok-Starting.field-0-is) at c.read_words.ensures.named in
+    let read : (table : StartingTable) → word_at words 1 ≡ starting_name table → AreStarting table (drop 1 words) asked = λ table named.
+    rw (c.in-Ok-Starting.is, c.in-Ok-Starting.field-0-is) at (c.read_words.ensures.table table named) in
+    let no_file = no_output (g.T.Target.keeps c.args.target.now) words (λ run. no_table refl refl asked.table (sym run ∙ command)) (λ merge. no_table refl refl asked.table (sym merge ∙ command)) in
+    let answered : IsAnswered holds gives words true text = answers_table holds gives words asked text command read c.in_ok-text-in-Ok-Starting.ensures.table in
+    on_ok_weaker c.write_all-in-Ok-Starting.result (λ wrote. (text, delivered_out (g.T.Target.keeps c.args.target.now) words _ _ text no_file wrote, answered)) (rw c.as_slice-in-Ok-Starting.ensures.value at c.write_all-in-Ok-Starting.ensures.bytes)
+
 pub returns-in-Ok-Explanation-clause-answered : goal.returns-in-Ok-Explanation-clause-answered
 returns-in-Ok-Explanation-clause-answered g c =
     let words = map string_bytes c.args.words.now in
     let holds = g.S.Source.holds c.args.files.now in
-    let gives = g.S.Source.gives c.args.files.now in
+    let gives = g.S.Texts.gives c.args.files.now in
     let asked = c.in-Ok-Explanation.asked in
     let text = c.in_ok-text-in-Ok-Explanation.text.items in
     let command : word_at words 1 ≡ codes "explain" = rw (c.in-Ok-Explanation.is, c.in-Ok-Explanation.field-0-is) at c.read_words.ensures.named in
@@ -233,7 +296,7 @@ pub returns-in-Ok-Check-clause-answered : goal.returns-in-Ok-Check-clause-answer
 returns-in-Ok-Check-clause-answered g c =
     let words = map string_bytes c.args.words.now in
     let holds = g.S.Source.holds c.args.files.now in
-    let gives = g.S.Source.gives c.args.files.now in
+    let gives = g.S.Texts.gives c.args.files.now in
     let inputs = c.in-Ok-Check.inputs in
     let checked = c.in_ok-checked-in-Ok-Check.checked in
     let command : word_at words 1 ≡ codes "check" = rw (c.in-Ok-Check.is, c.in-Ok-Check.field-0-is) at c.read_words.ensures.named in
@@ -258,6 +321,8 @@ of_check holds refuses words inputs (failures.Statement fault path) read of none
 of_check holds refuses words inputs failures.Many read of none = absurd of
 of_check holds refuses words inputs (failures.Changed path) read of none = absurd of
 of_check holds refuses words inputs (failures.Replaces path) read of none = absurd of
+of_check holds refuses words inputs (failures.Works fault) read of none = absurd of
+of_check holds refuses words inputs (failures.Registrations fault path) read of none = absurd of
 
 pub returns-in_err-checked-in-Ok-Check-clause-checked : goal.returns-in_err-checked-in-Ok-Check-clause-checked
 returns-in_err-checked-in-Ok-Check-clause-checked g c command =
@@ -276,7 +341,7 @@ returns-in_err-settle_out-in-Ok-Run-clause-left g c path named =
     let command : word_at words 1 ≡ codes "run" = rw (c.in-Ok-Run.is, c.in-Ok-Run.field-0-is) at c.read_words.ensures.named in
     let read : AreReadFrom (drop 1 words) asked = rw (c.in-Ok-Run.is, c.in-Ok-Run.field-0-is) at (c.read_words.ensures.run command) in
     left_run (g.T.Target.keeps c.args.target.now) (g.T.Target.keeps c.settle_out.new.target) words asked.output _ _ command read.output
-    (λ text over. answers_run (g.S.Source.holds c.args.files.now) (g.S.Source.gives c.args.files.now) words asked text command read over) c.settle_out.ensures.left path named
+    (λ text over. answers_run (g.S.Source.holds c.args.files.now) (g.S.Texts.gives c.args.files.now) words asked text command read over) c.settle_out.ensures.left path named
 
 pub returns-in-Ok-Run-clause-left : goal.returns-in-Ok-Run-clause-left
 returns-in-Ok-Run-clause-left g c path named =
@@ -285,7 +350,7 @@ returns-in-Ok-Run-clause-left g c path named =
     let command : word_at words 1 ≡ codes "run" = rw (c.in-Ok-Run.is, c.in-Ok-Run.field-0-is) at c.read_words.ensures.named in
     let read : AreReadFrom (drop 1 words) asked = rw (c.in-Ok-Run.is, c.in-Ok-Run.field-0-is) at (c.read_words.ensures.run command) in
     left_run (g.T.Target.keeps c.args.target.now) (g.T.Target.keeps c.settle_out.new.target) words asked.output _ _ command read.output
-    (λ text over. answers_run (g.S.Source.holds c.args.files.now) (g.S.Source.gives c.args.files.now) words asked text command read over) c.settle_out.ensures.left path named
+    (λ text over. answers_run (g.S.Source.holds c.args.files.now) (g.S.Texts.gives c.args.files.now) words asked text command read over) c.settle_out.ensures.left path named
 
 pub returns-in_err-merge_out-in-Ok-Merge-clause-left : goal.returns-in_err-merge_out-in-Ok-Merge-clause-left
 returns-in_err-merge_out-in-Ok-Merge-clause-left g c path named =
@@ -294,7 +359,7 @@ returns-in_err-merge_out-in-Ok-Merge-clause-left g c path named =
     let command : word_at words 1 ≡ codes "merge" = rw (c.in-Ok-Merge.is, c.in-Ok-Merge.field-0-is) at c.read_words.ensures.named in
     let read : AreMergeFrom (drop 1 words) asked = rw (c.in-Ok-Merge.is, c.in-Ok-Merge.field-0-is) at (c.read_words.ensures.merged command) in
     left_merge (g.T.Target.keeps c.args.target.now) (g.T.Target.keeps c.merge_out.new.target) words asked.output _ _ command read.output
-    (λ text over. answers_merge (g.S.Source.holds c.args.files.now) (g.S.Source.gives c.args.files.now) words asked text command read over) c.merge_out.ensures.left path named
+    (λ text over. answers_merge (g.S.Source.holds c.args.files.now) (g.S.Texts.gives c.args.files.now) words asked text command read over) c.merge_out.ensures.left path named
 
 pub returns-in-Ok-Merge-clause-left : goal.returns-in-Ok-Merge-clause-left
 returns-in-Ok-Merge-clause-left g c path named =
@@ -303,7 +368,7 @@ returns-in-Ok-Merge-clause-left g c path named =
     let command : word_at words 1 ≡ codes "merge" = rw (c.in-Ok-Merge.is, c.in-Ok-Merge.field-0-is) at c.read_words.ensures.named in
     let read : AreMergeFrom (drop 1 words) asked = rw (c.in-Ok-Merge.is, c.in-Ok-Merge.field-0-is) at (c.read_words.ensures.merged command) in
     left_merge (g.T.Target.keeps c.args.target.now) (g.T.Target.keeps c.merge_out.new.target) words asked.output _ _ command read.output
-    (λ text over. answers_merge (g.S.Source.holds c.args.files.now) (g.S.Source.gives c.args.files.now) words asked text command read over) c.merge_out.ensures.left path named
+    (λ text over. answers_merge (g.S.Source.holds c.args.files.now) (g.S.Texts.gives c.args.files.now) words asked text command read over) c.merge_out.ensures.left path named
 
 pub returns-in_err-settle_out-in-Ok-Run-clause-unused : goal.returns-in_err-settle_out-in-Ok-Run-clause-unused
 returns-in_err-settle_out-in-Ok-Run-clause-unused g c none =
@@ -332,3 +397,23 @@ returns-in-Ok-Merge-clause-unused g c none =
     let command : word_at words 1 ≡ codes "merge" = rw (c.in-Ok-Merge.is, c.in-Ok-Merge.field-0-is) at c.read_words.ensures.named in
     let read : AreMergeFrom (drop 1 words) c.in-Ok-Merge.asked = rw (c.in-Ok-Merge.is, c.in-Ok-Merge.field-0-is) at (c.read_words.ensures.merged command) in
     unused_merge words c.in-Ok-Merge.asked.output _ command read.output c.merge_out.ensures.unused none
+
+pub returns-in_err-settle_out-in-Ok-Run-clause-run : goal.returns-in_err-settle_out-in-Ok-Run-clause-run
+returns-in_err-settle_out-in-Ok-Run-clause-run g c command =
+    let words = map string_bytes c.args.words.now in
+    let asked = c.in-Ok-Run.asked in
+    let failed = c.in_err-settle_out-in-Ok-Run in
+    let read : AreReadFrom (drop 1 words) asked = rw (c.in-Ok-Run.is, c.in-Ok-Run.field-0-is) at (c.read_words.ensures.run command) in
+    let exit = err_from_is_err_and c.from_residual.result c.from_residual.ensures.1 in
+    rw (exit.1, exit.2)
+    (fails_given (g.S.Source.holds c.args.files.now) (g.S.Source.refuses c.args.files.now) (drop 1 words) asked read failed.field-0.0 failed.ensures.files)
+
+pub returns-in_err-text-in-Ok-Starting-clause-table : goal.returns-in_err-text-in-Ok-Starting-clause-table
+returns-in_err-text-in-Ok-Starting-clause-table g c table named =
+    let words = map string_bytes c.args.words.now in
+    let asked = c.in-Ok-Starting.asked in
+    let failed = c.in_err-text-in-Ok-Starting in
+    let read : AreStarting table (drop 1 words) asked = rw (c.in-Ok-Starting.is, c.in-Ok-Starting.field-0-is) at (c.read_words.ensures.table table named) in
+    let exit = err_from_is_err_and c.from_residual-in_err-text-in-Ok-Starting.result c.from_residual-in_err-text-in-Ok-Starting.ensures.1 in
+    rw (exit.1, exit.2)
+    (no_table_given (g.S.Source.holds c.args.files.now) (g.S.Source.refuses c.args.files.now) (drop 1 words) table asked read failed.field-0.0 failed.ensures.files)

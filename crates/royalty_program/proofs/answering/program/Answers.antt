@@ -3,10 +3,7 @@ use Rattle.std.proofs.lemmas.Result.{IfErr-weaker}
 use Rattle.std.specs.Prelude.{string_bytes}
 use Rattle.pair_split.specs.Pair.{word_at}
 use Rattle.royalty_program.specs.Answered.{IsAnswered, IsDelivered}
-use Rattle.royalty_program.specs.Files.{for_any_error, on_disk}
-use Rattle.royalty_program.specs.MergeFiles.{any_text}
 use Rattle.royalty_program.specs.Status.{status_of}
-use Rattle.royalty_program.specs.Targets.{in_any_file}
 use Rattle.royalty_program.specs.declared.failure.Failure.{Failure}
 use Rattle.royalty_program.proofs.EndLemmas.{check_fails_with, fails_with, left_alone, printed_whole, quiet_then, silent_then}
 use Rattle.royalty_program.proofs.OutputLemmas.{delivered_on, printed_check}
@@ -14,24 +11,24 @@ use Rattle.royalty_program.proofs.OverLemmas.{ends_with}
 use Rattle.royalty_program.proofs.answering.program.Goals as goal
 
 pub returns-clause-failed : goal.returns-clause-failed
-returns-clause-failed g c = ends_with c.answer-printed.result c.end.result on_disk any_text for_any_error (map string_bytes c.args.words.now) _ _
+returns-clause-failed g c = ends_with c.answer-printed.result c.end.result (g.S.Source.holds c.args.files.now) (g.S.Texts.gives c.args.files.now) (g.S.Source.refuses c.args.files.now) (map string_bytes c.args.words.now) _ _
     c.end.ensures.failed c.end.ensures.answered c.answer-printed.ensures.others c.answer-printed.ensures.failure c.answer-printed.ensures.pairs c.answer-printed.ensures.run c.answer-printed.ensures.explanation
-    c.answer-printed.ensures.checked c.answer-printed.ensures.merge
+    c.answer-printed.ensures.checked c.answer-printed.ensures.merge c.answer-printed.ensures.table
 
 pub returns-clause-printed : goal.returns-clause-printed
 returns-clause-printed g c same =
     let words = map string_bytes c.args.words.now in
-    printed_whole c.answer-printed.result c.end.result true (IsDelivered in_any_file words (g.W.Write.contents c.args.out.now)) (IsAnswered on_disk any_text words) _ _
-    (λ text put kept. delivered_on in_any_file words (g.W.Write.contents c.args.out.now) _ _ text put kept) c.answer-printed.ensures.answered c.end.ensures.answered c.end.ensures.failed
+    printed_whole c.answer-printed.result c.end.result true (IsDelivered (g.T.Target.keeps c.answer-printed.new.target) words (g.W.Write.contents c.args.out.now)) (IsAnswered (g.S.Source.holds c.args.files.now) (g.S.Texts.gives c.args.files.now) words) _ _
+    (λ text put kept. delivered_on (g.T.Target.keeps c.answer-printed.new.target) words (g.W.Write.contents c.args.out.now) _ _ text put kept) c.answer-printed.ensures.answered c.end.ensures.answered c.end.ensures.failed
     (IfErr-weaker c.answer-printed.result _ _ (λ failure _. fails_with failure) c.answer-printed.ensures.failure) same
 
 pub returns-clause-reported : goal.returns-clause-reported
 returns-clause-reported g c same command =
     let words = map string_bytes c.args.words.now in
-    printed_check in_any_file words (g.W.Write.contents c.args.out.now) _ (IsAnswered on_disk any_text words false) command
-    (printed_whole c.answer-printed.result c.end.result false (IsDelivered in_any_file words (g.W.Write.contents c.args.out.now)) (IsAnswered on_disk any_text words) _ _
-    (λ text put kept. delivered_on in_any_file words (g.W.Write.contents c.args.out.now) _ _ text put kept) c.answer-printed.ensures.answered c.end.ensures.answered c.end.ensures.failed
-    (IfErr-weaker c.answer-printed.result _ _ (check_fails_with on_disk for_any_error (drop 1 words)) (c.answer-printed.ensures.checked command)) same)
+    printed_check (g.T.Target.keeps c.answer-printed.new.target) words (g.W.Write.contents c.args.out.now) _ (IsAnswered (g.S.Source.holds c.args.files.now) (g.S.Texts.gives c.args.files.now) words false) command
+    (printed_whole c.answer-printed.result c.end.result false (IsDelivered (g.T.Target.keeps c.answer-printed.new.target) words (g.W.Write.contents c.args.out.now)) (IsAnswered (g.S.Source.holds c.args.files.now) (g.S.Texts.gives c.args.files.now) words) _ _
+    (λ text put kept. delivered_on (g.T.Target.keeps c.answer-printed.new.target) words (g.W.Write.contents c.args.out.now) _ _ text put kept) c.answer-printed.ensures.answered c.end.ensures.answered c.end.ensures.failed
+    (IfErr-weaker c.answer-printed.result _ _ (check_fails_with (g.S.Source.holds c.args.files.now) (g.S.Source.refuses c.args.files.now) (drop 1 words)) (c.answer-printed.ensures.checked command)) same)
 
 pub returns-clause-quiet : goal.returns-clause-quiet
 returns-clause-quiet g c which = elim which [
@@ -40,7 +37,7 @@ returns-clause-quiet g c which = elim which [
       (IfErr-weaker c.answer-printed.result _ _ (λ failure _. fails_with failure) c.answer-printed.ensures.failure) none
   | inr (one, command) ↦
       quiet_then c.answer-printed.result c.end.result false _ c.end.ensures.quiet c.end.ensures.failed
-      (IfErr-weaker c.answer-printed.result _ _ (check_fails_with on_disk for_any_error (drop 1 (map string_bytes c.args.words.now))) (c.answer-printed.ensures.checked command)) one
+      (IfErr-weaker c.answer-printed.result _ _ (check_fails_with (g.S.Source.holds c.args.files.now) (g.S.Source.refuses c.args.files.now) (drop 1 (map string_bytes c.args.words.now))) (c.answer-printed.ensures.checked command)) one
 ]
 
 pub returns-clause-silent : goal.returns-clause-silent

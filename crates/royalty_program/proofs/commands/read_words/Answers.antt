@@ -1,7 +1,12 @@
-use Rattle.std.proofs.Common.{All, map, drop, ap, ◌∙◌}
+use Rattle.std.proofs.Common.{All, map, drop, ap, sym, ◌∙◌}
 use Rattle.std.specs.Prelude.{string_bytes}
 use Rattle.royalty_program.specs.Asked.{IsValue, number_in}
 use Rattle.royalty_program.specs.Answered.{AreCheckedFrom, AreExplainedFrom, AreMergeFrom, AreReadFrom}
+use Rattle.royalty_program.specs.Asked.{files_given}
+use Rattle.royalty_program.specs.NamedFiles.{AreNamedBy}
+use Rattle.royalty_program.specs.StartingCommand.{starting_app}
+use Rattle.starting_files.specs.declared.making.StartingTable.TheVariants.{Works, Parties}
+use Rattle.royalty_program.proofs.CommandNames.{starting_given}
 use Rattle.royalty_program.proofs.RunLemmas.{read_in_order}
 use Rattle.royalty_program.proofs.Shifted.{mapped_others, one_on, others, third, two_on}
 use Rattle.royalty_program.proofs.commands.read_words.Goals as goal
@@ -43,3 +48,17 @@ returns-in_ok-read_merge-in-merge-clause-merged c command =
     let words = c.args.words.now in
     let read : AreMergeFrom (map string_bytes (others words)) c.in_ok-read_merge-in-merge.field-0 = c.in_ok-read_merge-in-merge.ensures.read in
     rw (mapped_others string_bytes words) at read
+
+pub returns-in_ok-read_starting-in-works-clause-table : goal.returns-in_ok-read_starting-in-works-clause-table
+returns-in_ok-read_starting-in-works-clause-table c =
+    let words = c.args.words.now in
+    let read : AreNamedBy (files_given (starting_app Works) (map string_bytes (others words))) c.in_ok-read_starting-in-works.field-0.files = c.in_ok-read_starting-in-works.ensures.files in
+    starting_given (map string_bytes words) Works c.in_ok-read_starting-in-works.field-0 (sym c.word.ensures ∙ c.in-works.is) c.in_ok-read_starting-in-works.ensures.table
+    (rw (mapped_others string_bytes words) at read)
+
+pub returns-in_ok-read_starting-in-parties-clause-table : goal.returns-in_ok-read_starting-in-parties-clause-table
+returns-in_ok-read_starting-in-parties-clause-table c =
+    let words = c.args.words.now in
+    let read : AreNamedBy (files_given (starting_app Parties) (map string_bytes (others words))) c.in_ok-read_starting-in-parties.field-0.files = c.in_ok-read_starting-in-parties.ensures.files in
+    starting_given (map string_bytes words) Parties c.in_ok-read_starting-in-parties.field-0 (sym c.word.ensures ∙ c.in-parties.is) c.in_ok-read_starting-in-parties.ensures.table
+    (rw (mapped_others string_bytes words) at read)

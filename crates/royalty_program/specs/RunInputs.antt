@@ -1,0 +1,32 @@
+-- The inputs of a run: over one CWR file, or over those of several submitters.
+use Rattle.std.specs.Prelude.{ℕ, List, string_bytes}
+use Rattle.std.specs.declared.io.ErrorKind.{ErrorKind}
+use Rattle.run_inputs.specs.Inputs.{map_inputs}
+use Rattle.run_inputs.specs.declared.inputs.Inputs.{Inputs}
+use Rattle.royalty_program.specs.Files.{AreStatementsOver}
+use Rattle.royalty_program.specs.OutputPath.{IsNoInput}
+use Rattle.royalty_program.specs.SubmittedFiles.{AreSubmittedStatementsOver, IsNoneOf, SubmittedPaths, paths_of}
+use Rattle.royalty_program.specs.Status.{IsOfPaths, IsOfSubmitted}
+use Rattle.royalty_program.specs.declared.failure.Failure.{Failure}
+use Rattle.royalty_program.specs.declared.inputs.RunInputs.{RunInputs}
+use Rattle.royalty_program.specs.declared.inputs.RunInputs.TheVariants.{OneFile, Submitted}
+
+-- this of the paths of a run over one file, that of those of one over the files of several submitters
+abbrev pub EitherInputs : (Inputs (List ℕ) → Type 0) → (SubmittedPaths → Type 0) → RunInputs → Type 0
+EitherInputs One Many (OneFile inputs) = One (map_inputs string_bytes inputs)
+EitherInputs One Many (Submitted inputs) = Many (paths_of inputs)
+
+-- the text is the statements of the files of these paths
+abbrev pub AreStatementsFrom : (holds : List ℕ → List ℕ → Type 0) → RunInputs → List ℕ → Type 0
+AreStatementsFrom holds inputs text =
+    EitherInputs (λ paths. AreStatementsOver holds paths text) (λ paths. AreSubmittedStatementsOver holds paths text) inputs
+
+-- a run over them fails for this
+abbrev pub IsOfInputs : (holds : List ℕ → List ℕ → Type 0) → (refuses : List ℕ → ErrorKind → Type 0) → RunInputs
+    → Failure → Type 0
+IsOfInputs holds refuses inputs failure =
+    EitherInputs (λ paths. IsOfPaths holds refuses paths failure) (λ paths. IsOfSubmitted holds refuses paths failure) inputs
+
+-- a path is that of no input
+abbrev pub IsNoInputOf : RunInputs → (path : List ℕ) → Type 0
+IsNoInputOf inputs path = EitherInputs (λ paths. IsNoInput paths path) (λ paths. IsNoneOf paths path) inputs

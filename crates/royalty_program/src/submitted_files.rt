@@ -1,0 +1,198 @@
+//! A run over the files of several submitters.
+
+ghost use Rattle.std.specs.Io.KnownBytes.{Appends};
+ghost use Rattle.std.specs.Prelude.{◌≡◌, ◌⊎◌, ℕ, All, List, false, IfErr, IfOk, OnOk, length, map, string_bytes};
+ghost use Rattle.royalty_program.specs.OutputPath.{IsOther};
+ghost use Rattle.royalty_program.specs.Status.{IsOfFiles, IsOfSubmitted, IsOfTables, IsRefusal, IsSaidOf};
+ghost use Rattle.royalty_program.specs.SubmittedFiles.{AreSubmittedStatementsOver, AreTablesRead, HoldsAt, IsNoneOf, IsWithin, paths_of};
+ghost use Rattle.starting_files.specs.Tables.{IsTableOf};
+ghost use Rattle.submitted_inputs.specs.Submitted.{map_tables};
+ghost use Rattle.royalty_program.specs.declared.failure.Failure.TheVariants.{Room};
+
+use crate::failure::Failure;
+use crate::files::{file_if_given, file_of};
+use crate::inputs::SubmittedInputs;
+use crate::sources::Source;
+use crate::starting_command::StartingWords;
+use crate::targets::Target;
+use pair_split::word;
+use run_inputs::Fault;
+use settle_run::settle_tables_to;
+use split_run::Plan;
+use starting_files::table_of;
+use std::alloc::{AllocError, Global};
+use std::io::{self, ErrorKind, Write};
+use std::sync::Wait;
+use std::thread::Threads;
+use submitted_inputs::{SubmittedFault, SubmittedTables, SubmitterFiles, read_submitted};
+
+/// The CWR files of submitters under their paths.
+#[derive(Drop)]
+struct CwrFiles<'a, S> {
+    files: &'a S,
+    paths: &'a [String],
+}
+
+impl<'a, S: Source + Sync> SubmitterFiles for CwrFiles<'a, S> {
+    ghost use Rattle.std.specs.Prelude.{map, string_bytes};
+    ghost use Rattle.royalty_program.specs.SubmittedFiles.{HoldsAt, RefusesAt};
+
+    ghost holds = { λ files. HoldsAt (S.holds files.files.now) (map string_bytes files.paths.now) };
+
+    ghost refuses = { λ files. RefusesAt (S.refuses files.files.now) (map string_bytes files.paths.now) };
+
+    fn read(&self, alloc: Global, place: usize) -> Result<Option<Vec<u8>>, AllocError> {
+        if place >= self.paths.len() {
+            return Ok(None);
+        }
+        match self.files.read(alloc, word(self.paths, place)) {
+            Ok(bytes) => Ok(Some(bytes)),
+            Err(error) if error.kind() == ErrorKind::OutOfMemory => Err(AllocError),
+            Err(_) => Ok(None),
+        }
+    }
+}
+
+/// Prints the statements of a run over the files of several submitters. The tables and the usage list are read whole
+/// before any is parsed; the files are read where they are needed.
+pub(crate) fn settle_submitted<R: Threads + Wait + Sync, S: Source + Sync, W: Write>(
+    rt: &R,
+    alloc: Global,
+    files: &S,
+    inputs: SubmittedInputs,
+    plan: Plan,
+    out: &mut W,
+) -> Result<io::Result<()>, Failure>
+    ensures statements { IfOk result (λ printed. OnOk printed ((text : List ℕ) × Appends (W.contents out.old) (W.contents out.new) text
+        × AreSubmittedStatementsOver (S.holds files.now) (paths_of inputs) text)) }
+    ensures failure { IfErr result IsRefusal }
+    ensures files { IfErr result (IsOfSubmitted (S.holds files.now) (S.refuses files.now) (paths_of inputs)) }
+    ensures silent { IfErr result (λ _. out.new ≡ out.old) }
+{
+    let SubmittedInputs {
+        tables,
+        files: named,
+    } = inputs;
+    let tables = read_tables(files, alloc, tables)?;
+    let cwr = CwrFiles {
+        files,
+        paths: named.paths.as_slice(),
+    };
+    match read_submitted(rt, alloc, &named.names, tables, &cwr, plan.thread_count()) {
+        Ok(tables) => match settle_tables_to(rt, alloc, tables, plan, out) {
+            Ok(printed) => Ok(printed),
+            Err(_) => Err(Failure::Room),
+        },
+        Err(fault) => Err(what_failed(fault, named.paths)),
+    }
+}
+
+/// A table to begin with, of the files of submitters.
+pub(crate) fn starting_table<S: Source + Sync>(
+    alloc: Global,
+    files: &S,
+    asked: StartingWords,
+) -> Result<Vec<u8>, Failure>
+    ensures table { IfOk result (λ text. IsTableOf asked.table asked.files.names (HoldsAt (S.holds files.now) (map string_bytes asked.files.paths.items)) text.items) }
+    ensures failure { IfErr result IsRefusal }
+    ensures files { IfErr result (IsOfFiles (S.holds files.now) (S.refuses files.now) asked.files.names (map string_bytes asked.files.paths.items)) }
+{
+    let StartingWords {
+        table,
+        files: named,
+    } = asked;
+    let cwr = CwrFiles {
+        files,
+        paths: named.paths.as_slice(),
+    };
+    match table_of(alloc, table, &named.names, &cwr) {
+        Ok(text) => Ok(text),
+        Err(fault) => Err(what_failed(fault, named.paths)),
+    }
+}
+
+/// What the fault of an input comes to, where the files of the submitters have these paths.
+fn what_failed(fault: SubmittedFault, mut paths: Vec<String>) -> Failure
+    ensures said { IsWithin (length (map string_bytes paths.items)) fault → IsSaidOf (map string_bytes paths.items) fault result }
+    ensures beyond { (¬ IsWithin (length (map string_bytes paths.items)) fault) → result ≡ Room }
+    ensures refusal { IsRefusal result }
+{
+    let count = paths.len();
+    match fault {
+        SubmittedFault::Tis(fault) => Failure::Input(Fault::Tis(fault)),
+        SubmittedFault::Payee(fault) => Failure::Input(Fault::Payee(fault)),
+        SubmittedFault::Works(fault) => Failure::Works(fault),
+        SubmittedFault::Unreadable(place) if place < count => {
+            Failure::File(paths.swap_remove(place))
+        }
+        SubmittedFault::Cwr(place, fault) if place < count => Failure::Registrations {
+            fault,
+            path: paths.swap_remove(place),
+        },
+        SubmittedFault::Usage(fault) => Failure::Input(Fault::Usage(fault)),
+        SubmittedFault::Unreadable(_) | SubmittedFault::Cwr(_, _) | SubmittedFault::Room => {
+            Failure::Room
+        }
+    }
+}
+
+/// The tables of these paths, read in this order.
+fn read_tables<S: Source>(
+    files: &S,
+    alloc: Global,
+    paths: SubmittedTables<String>,
+) -> Result<SubmittedTables<Vec<u8>>, Failure>
+    ensures read { IfOk result (λ read.
+        AreTablesRead (S.holds files.now) (map_tables string_bytes paths) (map_tables (λ bytes. bytes.items) read)) }
+    ensures failure { IfErr result IsRefusal }
+    ensures files { IfErr result (λ failure. (failure ≡ Room)
+        ⊎ IsOfTables (S.holds files.now) (S.refuses files.now) (map_tables string_bytes paths) failure) }
+{
+    let territories = file_of(files, alloc, paths.territories)?.bytes;
+    let payees = match file_if_given(files, alloc, paths.payees)? {
+        Some(file) => Some(file.bytes),
+        None => None,
+    };
+    let works = file_of(files, alloc, paths.works)?.bytes;
+    let usage = file_of(files, alloc, paths.usage)?.bytes;
+    Ok(SubmittedTables {
+        territories,
+        payees,
+        works,
+        usage,
+    })
+}
+
+/// Whether a path is that of a table or of a file of a run over the files of several submitters, by whatever name.
+pub(crate) fn is_submitted<T: Target>(
+    target: &T,
+    inputs: &SubmittedInputs,
+    path: &str,
+) -> io::Result<bool>
+    ensures none { IfOk result (λ is_input. is_input ≡ false → IsNoneOf (paths_of inputs.now) path.now) }
+{
+    let tables = &inputs.tables;
+    if let Some(payees) = &tables.payees
+        && target.is_one_file(path, payees.as_str())?
+    {
+        return Ok(true);
+    }
+    Ok(
+        target.is_one_file(path, tables.territories.as_str())?
+            || target.is_one_file(path, tables.works.as_str())?
+            || target.is_one_file(path, tables.usage.as_str())?
+            || is_among(target, inputs.files.paths.as_slice(), path)?,
+    )
+}
+
+/// Whether a path is one of these, by whatever name.
+fn is_among<T: Target>(target: &T, paths: &[String], path: &str) -> io::Result<bool>
+    ensures none { IfOk result (λ is_among. is_among ≡ false → All (IsOther path.now) (map string_bytes paths.now)) }
+{
+    for other in paths {
+        if target.is_one_file(path, other.as_str())? {
+            return Ok(true);
+        }
+    }
+    Ok(false)
+}
