@@ -2,8 +2,9 @@
 # Runs months as docs/CLUSTER.md tells it, without Slurm: sbatch, squeue and scontrol are stand-ins
 # here, which run the same scripts. The list is made up, has 4,000 lines and is cut in 16 parts; the
 # merged text has to be that of the plain program over the whole list. Parts are killed, and tables,
-# parts and statements changed, which has to be found. It takes python3 and cargo, and half a
-# minute. PROGRAM may be the plain program too: it is given the option --output here.
+# parts and statements changed, which has to be found. Smaller months are over the files of the
+# three submitters of examples/. It takes python3 and cargo, and half a minute. PROGRAM may be the
+# plain program too: it is given the option --output here.
 #
 #   cluster/test.sh PROGRAM
 set -euo pipefail
@@ -425,6 +426,90 @@ sed -i '/part-0016/d' parts/manifest
 check 'a manifest that lacks a part' 1 'the manifest has 15 parts, and the plan 16' \
     "$month" merge parts
 
+# --- Several submitters ---
+
+three=$top/examples/three_submitters
+tables=(--tis "$three/territories.csv" --payees "$three/payees.csv" --works "$three/works.csv")
+usage=(--usage "$three/usage.csv")
+cwr=(--cwr MOON="$three/moon.cwr" --cwr=HARBOR="$three/harbor.cwr" --cwr NORTH="$three/north.cwr")
+few=("${usage[@]}" --program royalty_run --lines 60)
+four=("${all[@]:0:4}")
+sed '/THE SALT ROAD/s/1012/9912/' "$three/north.cwr" > north.cwr
+"$plain" run "${tables[@]}" "${cwr[@]:0:3}" --cwr NORTH=north.cwr "${usage[@]}" "${plan[@]}" \
+    --whole > whole_without_1012
+
+rm -rf accidents/* calls
+hold 'cutting for three' "$month" cut three "${few[@]}" "${cwr[@]}" "${tables[@]}"
+hold 'cutting for three in another order' \
+    "$month" cut three_again "${tables[@]}" "${cwr[@]:3}" "${few[@]}" "${cwr[@]:0:3}"
+cmp -s three/manifest three_again/manifest || not_so 'the order of submitters makes a difference'
+[[ $(wc -l < three/manifest) == 12 ]] || not_so 'a month of three has another manifest'
+for file in moon harbor north; do
+    cmp -s "$three/$file.cwr" "three/inputs/submitters/${file^^}.cwr" ||
+        not_so "a month of three does not have $file.cwr"
+done
+hold 'submit for three' "$month" submit three
+called 'submit for three' "${four[@]}" "$last"
+is_merged 'submit for three' three "$three/statements.csv"
+
+file=inputs/submitters/NORTH.cwr
+damage "three_again/$file"
+check 'part 2, with another file of NORTH' 1 "$file is not what the manifest says" \
+    "$month" part three_again 2
+check 'status with another file of NORTH' 1 "part-0002: $file is not what the manifest says" \
+    "$month" status three_again
+damage "three/$file"
+for words in 'merge three' 'run three' 'submit three'; do
+    check "$words with another file of NORTH" 1 "$file is not what the manifest says" \
+        "$month" $words
+done
+rm -f "three/$file"
+check 'merging without the file of NORTH' 1 "$file is missing" "$month" merge three
+cp three/manifest manifest_of_three
+check 'renew without the file of NORTH' 4 'there is no new manifest' \
+    "$month" renew three --cwr MOON="$three/moon.cwr"
+cmp -s three/manifest manifest_of_three || not_so 'renew without a file wrote a manifest'
+put_back "three/$file"
+hold 'run with the file of NORTH as it was' "$month" run three
+called 'run with the file of NORTH as it was' "$last"
+
+check 'renew one of three' 0 '' "$month" renew three --cwr NORTH=north.cwr
+[[ ! -s said ]] || not_so "renew one of three: it wrote $(< said)"
+check 'merging parts of another file of NORTH' 1 "part-0001: it was made from another $file" \
+    "$month" merge three
+hold 'run after that' "$month" run three
+called 'run after that' "${four[@]}" "$last"
+is_merged 'run after that' three whole_without_1012
+check 'one more submitter' 0 'EAST-2 is a new submitter' \
+    "$month" renew three --cwr EAST-2=north.cwr --works "$three/works.csv"
+check 'merging parts without one' 1 \
+    'part-0004: it was made without inputs/submitters/EAST-2.cwr' "$month" merge three
+hold 'run with one more submitter' "$month" run three
+called 'run with one more submitter' "${four[@]}" "$last"
+is_merged 'run with one more submitter' three whole_without_1012
+
+for file in works payees; do grep -v NORTH "$three/$file.csv" > "$file.two.csv"; done
+hold 'cutting for two' "$month" cut two "${few[@]}" "${tables[@]:0:2}" --payees payees.two.csv \
+    --works=works.two.csv "${cwr[@]:0:3}"
+hold 'making a part for two' "$month" part two 3
+check 'from two to three' 0 'NORTH is a new submitter' \
+    "$month" renew two "${tables[@]:2}" "${cwr[@]:3}"
+rm -f calls
+hold 'run from two to three' "$month" run two
+called 'run from two to three' "${four[@]}" "$last"
+is_merged 'run from two to three' two "$three/statements.csv"
+
+for word in ../NORTH sub/NORTH -NORTH NORTH/../../../NORTH A.B 12345678901234567; do
+    sed "s|NORTH|$word|" manifest_of_three > three_again/manifest
+    check "a manifest with $word" 1 'the manifest is damaged' "$month" status three_again
+done
+sed '/works.csv/d' manifest_of_three > three_again/manifest
+check 'a manifest that lacks the works' 1 'the manifest has no inputs/works.csv' \
+    "$month" run three_again
+sed '/submitters/d' manifest_of_three > three_again/manifest
+check 'a manifest that lacks submitters' 1 'the manifest has no file of a submitter' \
+    "$month" run three_again
+
 # --- Refusals ---
 
 { sed -n 1p made/usage.csv; echo $'"two\nlines",W1,276,P,1'; sed 1d made/usage.csv; } > faulty.csv
@@ -448,6 +533,42 @@ check 'a list without a header' 1 'does not begin with the header' \
     "$month" cut other --tis tis.csv --cwr works.cwr --usage other.csv --program royalty_run
 check 'what of it is there' 4 'has no manifest' "$month" run other
 check 'a command that is none' 2 'there is no command merg' "$month" merg faulty
+for word in works.cwr MOON MOON= =; do
+    check "--cwr $word with --works" 2 "--cwr $word is not NAME=F" \
+        "$month" cut new_one "${few[@]}" "${tables[@]}" --cwr "$word"
+done
+for word in =a -A=a 'A B=a' A.B=a A/B=a 12345678901234567=a $'A\n=a' Ä=a; do
+    check "--cwr $word" 2 'the name is not 1 to 16 letters' \
+        "$month" cut new_one "${few[@]}" "${tables[@]}" --cwr "$word"
+done
+check 'a submitter twice' 2 '--cwr=MOON is given twice' \
+    "$month" cut new_one "${few[@]}" "${tables[@]}" "${cwr[@]}" --cwr MOON=works.cwr
+check 'a file that is not there' 4 'cannot read absent=b' \
+    "$month" cut new_one "${few[@]}" "${tables[@]}" "${cwr[@]}" --cwr WEST=absent=b
+many=()
+for k in {1..257}; do many+=(--cwr "N$k=$three/north.cwr"); done
+check '257 submitters' 2 'at most 256 submitters' \
+    "$month" cut new_one "${few[@]}" "${tables[@]}" "${many[@]}"
+check '254 submitters more' 2 'at most 256 submitters' "$month" renew two "${many[@]:6}"
+check 'no submitter' 2 '--cwr is missing' "$month" cut new_one "${few[@]}" "${tables[@]}"
+check 'several submitters without --works' 2 '--cwr is given twice' \
+    "$month" cut new_one "${few[@]}" "${tables[@]:0:2}" "${cwr[@]}"
+[[ ! -e new_one ]] || not_so 'a month whose words are wrong is begun'
+cp works.cwr A=works.cwr
+hold 'a path with = in it' "$month" cut one --tis tis.csv --cwr A=works.cwr --usage list.csv \
+    --program royalty_run
+cmp -s one/inputs/works.cwr works.cwr || not_so 'a path with = in it is not taken whole'
+cp one/manifest manifest_of_one
+for words in '--works works.two.csv' '--works=works.two.csv --cwr A=works.cwr --cwr B=works.cwr'; do
+    check "renew $words" 2 'one was cut without --works' "$month" renew one $words
+done
+check 'renew with two files' 2 '--cwr is given twice' "$month" renew one --cwr a=b --cwr c=d
+cmp -s one/manifest manifest_of_one || not_so 'what renew refuses has another manifest'
+check 'renew with a name that is mistyped' 2 'two has no submitter moon' \
+    "$month" renew two --cwr NORTH=north.cwr --cwr moon=works.cwr
+check 'renew with a file of no submitter' 2 '--cwr works.cwr is not NAME=F' \
+    "$month" renew two --cwr works.cwr
+(cd two && sha256sum --check --quiet manifest) > said 2>&1 || not_so "what renew refuses: $(< said)"
 check 'no words' 2 'month cut FOLDER' "$month"
 check 'help' 0 'month cut FOLDER' "$month" --help
 check 'help for a command' 0 'month cut FOLDER' "$month" submit --help

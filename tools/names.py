@@ -51,7 +51,7 @@ WORDS = {
 MADE = {
     "what `make build` leaves": ["out/*", "../../out/*"],
     "a month's folder, which cluster/month makes and cluster/test.sh looks through":
-        ["march/*", "parts/part-*", "month.made", "month.statements", "inputs/", "logs/",
+        ["march/*", "parts/part-*", "month.made", "month.statements", "inputs/*", "logs/",
          "merging/", "manifest", ".made"],
     "files of whoever calls": ["/dev/null", "usage.csv", "payees.csv", "territories.csv",
                                "works.cwr", "F.new"],
