@@ -1,11 +1,19 @@
 #!/usr/bin/env bash
-# Runs a program with what it asks of the system refused: each allocation, each thread, each read and write, and each file that is opened, given permissions, brought to
-# the disk or renamed, in turn; and with reads and writes that are cut short or interrupted. It divides one amount, checks the examples, explains a line of them, runs on
-# them with several plans, with an output file too, merges statements, to standard output and into a file, and runs on
-# 2,000 usage lines, whose rows are written by four threads. Each run has to end within a minute: with the whole answer; where memory or a thread was refused, with status 3 and nothing
-# printed, but that a merge may have begun; where a read, a write or a file was, with status 4, what the output took, and a message that says which. An output file is then as it was, or
-# at the very end whole, and no new file is left beside it. It takes a C compiler, and half a
-# minute; `quick`, all but the other plans and the many lines, some seconds. Usage: tests/refuse.sh PROGRAM [quick]
+# Runs a program with what it asks of the system refused: each allocation, each thread, each read
+# and write, and each file that is opened, given permissions, brought to the disk or renamed, in
+# turn; and with reads and writes that are cut short or interrupted. It divides one amount, checks
+# the examples, explains a line of them, makes the tables to begin with over three submitters'
+# files, runs on the examples with several plans, and into an output file over one submitter's file
+# and over three, merges statements, to standard output and into a file, and runs on 2,000 usage
+# lines, whose rows are written by four threads.
+#
+# Each run has to end within a minute: with the whole answer; where memory or a thread was refused,
+# with status 3 and nothing printed, but that a merge may have begun; where a read, a write or a
+# file was, with status 4, what the output took, and a message that says which. An output file is
+# then as it was, or at the very end whole, and no new file is left beside it.
+#
+# It takes a C compiler, and a minute; `quick`, all but the other plans and the many lines, half of
+# it. Usage: tests/refuse.sh PROGRAM [quick]
 set -euo pipefail
 program=$(realpath "$1")
 plans=('1 1 1' '2 2 16' '3 1 2' '8 8 64')
@@ -143,6 +151,16 @@ for words_of in 'check' 'explain --row 2'; do
     sweep_all 0
 done
 
+# The tables to begin with over the files of several submitters; program.sh has their texts, too.
+several=$examples/three_submitters
+cwr=(--cwr "MOON=$several/moon.cwr" --cwr "HARBOR=$several/harbor.cwr"
+    --cwr "NORTH=$several/north.cwr")
+for table in works parties; do
+    words=("$table" "${cwr[@]}") name="the table of $table" whole=$room/whole
+    "$program" "${words[@]}" > "$whole"
+    sweep_all 0
+done
+
 whole=$examples/statements.csv
 for plan in "${plans[@]}"; do
     read -r workers readers nodes <<< "$plan"
@@ -155,6 +173,12 @@ kept=$room/kept
 set_run "$examples/usage.csv" 2 1 16
 words+=(--output "$kept") name="$name, into a file"
 sweep_all 3 9
+words=(run --tis "$several/territories.csv" --works "$several/works.csv" "${cwr[@]}"
+    --payees "$several/payees.csv" --usage "$several/usage.csv"
+    --workers 2 --readers 1 --nodes 16 --output "$kept")
+name='a run over three files, into a file' whole=$several/statements.csv
+sweep_all 3 13
+whole=$examples/statements.csv
 cp "$whole" "$room/all"
 printf 'T,,0,0\nR,,0,0\n' > "$room/none"
 words=(merge --output "$kept" "$room/all" "$room/none") name='a merge into a file'
