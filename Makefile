@@ -83,6 +83,7 @@ fuzz:
 
 sizes:
 	python3 -m bench.sizes --program $(PROGRAM)
+	python3 -m bench.sizes --program $(PROGRAM) --submitters
 
 refuse:
 	tests/refuse.sh $(PROGRAM)

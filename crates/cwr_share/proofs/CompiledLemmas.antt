@@ -109,7 +109,7 @@ module _ (party place : ℕ) where
   ]
 
   -- what holds of each claimant once the place is added
-  each_with_place : (P Q : ℕ × List ℕ → Type 0) → ((claimant : ℕ × List ℕ) → Q claimant → ¬ (claimant.0 ≡ party) → P claimant)
+  pub each_with_place : (P Q : ℕ × List ℕ → Type 0) → ((claimant : ℕ × List ℕ) → Q claimant → ¬ (claimant.0 ≡ party) → P claimant)
       → ((claimant : ℕ × List ℕ) → Q claimant → claimant.0 ≡ party → P (party, claimant.1 ++ place ∷ []))
       → (claimants : List (ℕ × List ℕ)) → (All (λ claimant. ¬ (claimant.0 ≡ party)) claimants → P (party, place ∷ []))
       → Rising claimants → All Q claimants → All P (with_place party place claimants)

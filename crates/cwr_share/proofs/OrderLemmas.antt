@@ -1,21 +1,29 @@
 -- How the share lines of a registration are put in order: in order of party, and those of a party from the last one back.
-use Rattle.std.proofs.Common.{◌≡◌, ◌==◌, ◌∙◌, ◌++◌, inl, inr, ◌<◌, ◌≤◌, ◌+◌, ◌∷◌, [], ℕ, zero, suc, List, All, ltb, true, false, drop, insert, length, map, get_or, not, ap, sym, refl, subst, arith, zero-le, Bool, Option, Some, None}
+use Rattle.std.proofs.Common.{◌≡◌, ◌==◌, ◌∙◌, ◌++◌, inl, inr, ◌<◌, ◌≤◌, ◌+◌, ◌∷◌, [], ℕ, zero, suc, List, All, AllPairs, eqb, ltb, true, false, drop, length, map, get_or, not, ap, sym, refl, subst, arith, Bool, Option, Some, None}
 use Rattle.std.specs.Prelude.{⊤, ◌&&◌, flat_map, if◌then◌else◌, reverse}
 use Rattle.std.specs.Option.{option_eq}
 use Rattle.std.specs.List.{HoldsAt}
-use Rattle.std.specs.List.Sorted.{IsNonDecreasingBy, IsPartitionPoint}
+use Rattle.std.specs.List.Sorted.{IsNonDecreasingBy}
 use Rattle.std.proofs.lemmas.Bool.{cases_Bool, eq-eqb, le-ltb, lt-ltb, ne_eqb}
 use Rattle.std.proofs.lemmas.Cmp.{nat_eq_equiv}
 use Rattle.cwr_share.specs.ClaimsOn.{is_alike}
 use Rattle.std.proofs.lemmas.List.{append_assoc, drop_more, get_or-map, map-append, reverse-append}
-use Rattle.std.proofs.lemmas.List.Elements.{All-append, All-cons, All-nil, All-push, All-tail}
-use Rattle.cwr_share.specs.Compiled.{begins_interest, claim_line, claim_lines, in_order, IsCompiled, line_by, placed, with_place}
+use Rattle.std.proofs.lemmas.List.Elements.{All-append, All-cons, All-head, All-nil, All-push, All-tail}
+use Rattle.cwr_share.specs.Compiled.{AreInOrder, begins_interest, claim_line, claim_lines, in_order, IsCompiled, line_by, placed, rank_of, with_place}
 use Rattle.cwr_share.specs.Registrations.{ShareLine}
 use Rattle.cwr_share.specs.declared.claim_line.ClaimLine.{ClaimLine}
 use Rattle.cwr_share.specs.declared.registration.Placed.{Placed}
 use Rattle.cwr_share.specs.declared.share_line.RegisteredShare.{RegisteredShare}
 use Rattle.cwr_share.proofs.ClaimLemmas.{claim_lines_more, claim_lines_none}
-use Rattle.cwr_share.proofs.CompiledLemmas.{AllPairs-head, AllPairs-tail, Rising, place_goes}
+use Rattle.cwr_share.proofs.CompiledLemmas.{AllPairs-head, AllPairs-tail, Rising, each_with_place, place_goes}
+use Rattle.line_split.proofs.ByAccount.{only_rising}
+use Rattle.std.specs.List.{IsDistinct}
+use Rattle.std.proofs.lemmas.List.Kept.{AllPairs-cons}
+use Rattle.std.specs.List.Sorted.{IsPermutation, IsStrictlyIncreasing}
+use Rattle.std.proofs.lemmas.List.{length-map}
+use Rattle.std.proofs.lemmas.List.Quantifiers.{all_pairs_push}
+use Rattle.std.proofs.lemmas.List.Sorted.{All-permutation, IsPermutation-cons, IsPermutation-map, IsPermutation-middle, IsPermutation-push_more, IsPermutation-refl, IsPermutation-sym, IsPermutation-trans}
+use Rattle.std.proofs.lemmas.Map.Keys.{IsDistinct-IsPermutation, IsDistinct-from_apart, IsStrictlyIncreasing-from_distinct}
 
 -- a place with its party
 abbrev at_place : ℕ → ℕ → Placed
@@ -50,17 +58,6 @@ module _ (party place : ℕ) where
   abbrev pub put : List Placed → List Placed
   put [] = at_place party place ∷ []
   put (entry ∷ order) = if ltb entry.party party then entry ∷ put order else at_place party place ∷ entry ∷ order
-
-  -- by where the lower parties end
-  pub put_at : (order : List Placed) (at : ℕ) → at ≤ length order → IsPartitionPoint (λ (entry : Placed). ltb entry.party party ≡ true) (λ (entry : Placed). ltb entry.party party ≡ false) order at
-      → insert order at (at_place party place) ≡ put order
-  put_at [] zero within split = refl
-  put_at [] (suc at) within split = absurd (omega arith)
-  put_at (entry ∷ order) zero within split = let high : ltb entry.party party ≡ false = split.1 0 entry zero-le (omega arith) in rw high refl
-  put_at (entry ∷ order) (suc at) within split =
-      let low : ltb entry.party party ≡ true = split.0 0 entry zero-le (omega arith) in
-      let rest = put_at order at (omega (arith, within)) (λ k d from to. split.0 (suc k) d zero-le (omega (arith, to)), λ k d from to. split.1 (suc k) d (omega (arith, from)) (omega (arith, to))) in
-      rw low (ap (λ (l : List Placed). entry ∷ l) rest)
 
   put_front : (order : List Placed) → All (λ entry. party ≤ entry.party) order → put order ≡ at_place party place ∷ order
   put_front [] high = refl
@@ -191,35 +188,147 @@ lines_next account_of shares order n d share before lines within inside is own =
     (ap (λ (p : ℕ × ShareLine). claim_line (account_of p.0) (not (option_eq same_interest before (Some (p.0, p.1.interest)))) p.1 ∷ lines_in account_of line_of (Some (p.0, p.1.interest)) rest) both
     ∙ ap (lines_in account_of line_of before) (sym (drop_more order n d within)))
 
--- the lines of claimants in order do not fall
-rises_cons : (entry : Placed) (order : List Placed) → All (λ other. entry.party ≤ other.party) order → IsNonDecreasingBy (λ (other : Placed). other.party) order
-    → IsNonDecreasingBy (λ (other : Placed). other.party) (entry ∷ order)
-rises_cons entry order high rises = λ i j d low within. by i j d low within
+-- ---- the order by numbers
+
+abbrev Below : Placed → Placed → Type 0
+Below entry later = rank_of entry < rank_of later
+
+abbrev Few : Placed → Type 0
+Few entry = entry.place < 4294967296
+
+all_pairs_append : {X : Type 0} (R : X → X → Type 0) (xs ys : List X) → AllPairs R xs → AllPairs R ys → All (λ x. All (R x) ys) xs → AllPairs R (xs ++ ys)
+all_pairs_append R [] ys first second cross = second
+all_pairs_append R (x ∷ xs) ys first second cross =
+    AllPairs-cons R x (xs ++ ys) (All-append (R x) xs ys (AllPairs-head R x xs first) (All-head (λ x. All (R x) ys) x xs cross))
+    (all_pairs_append R xs ys (AllPairs-tail R x xs first) second (All-tail (λ x. All (R x) ys) x xs cross))
+
+-- the lines of a claimant rise in number
+claimant_ranks : (party : ℕ) (places : List ℕ) → AllPairs (λ place later. place < later) places → All (λ place. place < 4294967296) places → AllPairs Below (placed (party, places))
+claimant_ranks party [] rise few = λ i j d before within. absurd (omega (arith, within))
+claimant_ranks party (place ∷ places) rise few =
+    let later = AllPairs-head (λ (place later : ℕ). place < later) place places rise in
+    let first = All-head (λ (place : ℕ). place < 4294967296) place places few in
+    let rest = All-tail (λ (place : ℕ). place < 4294967296) place places few in
+    let above : All (λ entry. Below entry (at_place party place)) (placed (party, places)) =
+    each_placed (λ entry. Below entry (at_place party place)) party places (λ i d inside. omega (arith, later i d inside, rest i d inside, first)) in
+    subst (AllPairs Below) (sym (placed_before party place places))
+    (all_pairs_push Below (placed (party, places)) (at_place party place) (claimant_ranks party places (AllPairs-tail (λ (place later : ℕ). place < later) place places rise) rest) above)
+
+-- and so do those of all claimants
+ranks_rise : (claimants : List (ℕ × List ℕ)) → Rising claimants → All (λ claimant. AllPairs (λ place later. place < later) claimant.1) claimants
+    → All (λ claimant. All (λ place. place < 4294967296) claimant.1) claimants → AllPairs Below (in_order claimants)
+ranks_rise [] rising places few = λ i j d before within. absurd (omega (arith, within))
+ranks_rise (claimant ∷ later) rising places few =
+    let above = AllPairs-head (λ claimant other. claimant.0 < other.0) claimant later rising in
+    let own = All-head (λ (claimant : ℕ × List ℕ). All (λ place. place < 4294967296) claimant.1) claimant later few in
+    let others = All-tail (λ (claimant : ℕ × List ℕ). All (λ place. place < 4294967296) claimant.1) claimant later few in
+    all_pairs_append Below (placed claimant) (in_order later)
+    (claimant_ranks claimant.0 claimant.1 (All-head (λ (claimant : ℕ × List ℕ). AllPairs (λ place later. place < later) claimant.1) claimant later places) own)
+    (ranks_rise later (AllPairs-tail (λ claimant other. claimant.0 < other.0) claimant later rising)
+    (All-tail (λ (claimant : ℕ × List ℕ). AllPairs (λ place later. place < later) claimant.1) claimant later places) others)
+    (each_placed (λ entry. All (Below entry) (in_order later)) claimant.0 claimant.1
+    (λ i d inside. each_in_order (Below (at_place claimant.0 (get_or claimant.1 i d))) later
+    (λ k e within j q low. omega (arith, above k e within, own i d inside, others k e within j q low))))
+
+each_few : (claimants : List (ℕ × List ℕ)) → All (λ claimant. All (λ place. place < 4294967296) claimant.1) claimants → All Few (in_order claimants)
+each_few claimants few = each_in_order Few claimants few
+
+-- lines are the same where their numbers are
+one_line : (x y : Placed) → Few x → Few y → rank_of x ≡ rank_of y → x ≡ y
+one_line x y few_x few_y same =
+    let party : x.party ≡ y.party = omega (arith, few_x, few_y, same) in
+    let place : x.place ≡ y.place = omega (arith, few_x, few_y, same) in
+    rw (party, place) refl
+
+abbrev ranked : Placed → ℕ × ℕ
+ranked entry = (rank_of entry, 0)
+
+from_ranks : (xs ys : List Placed) → All Few xs → All Few ys → map ranked xs ≡ map ranked ys → xs ≡ ys
+from_ranks [] [] few_xs few_ys same = refl
+from_ranks [] (y ∷ ys) few_xs few_ys same = cc same
+from_ranks (x ∷ xs) [] few_xs few_ys same = cc same
+from_ranks (x ∷ xs) (y ∷ ys) few_xs few_ys same =
+    let first : rank_of x ≡ rank_of y = ap (λ (l : List (ℕ × ℕ)). (get_or l 0 (0, 0)).0) same in
+    let rest : map ranked xs ≡ map ranked ys = ap (drop 1) same in
+    let one = one_line x y (All-head Few x xs few_xs) (All-head Few y ys few_ys) first in
+    let others = from_ranks xs ys (All-tail Few x xs few_xs) (All-tail Few y ys few_ys) rest in
+    rw (one, others) refl
+
+first_ranks : (xs : List Placed) → map (λ (pair : ℕ × ℕ). pair.0) (map ranked xs) ≡ map rank_of xs
+first_ranks [] = refl
+first_ranks (x ∷ xs) = ap (λ (l : List ℕ). rank_of x ∷ l) (first_ranks xs)
+
+module _ (ys : List Placed) (rise : AllPairs Below ys) where
+  some_placed : Placed
+  some_placed = record { party = 0; place = 0 }
+
+  increasing : IsStrictlyIncreasing (map rank_of ys)
+  increasing k lt =
+      let low : k + 1 < length ys = omega (arith, lt, length-map ys rank_of) in
+      rw (get_or-map rank_of ys k some_placed 0 (omega (arith, low)), get_or-map rank_of ys (k + 1) some_placed 0 low) (rise k (k + 1) some_placed (omega arith) low)
+
+  differing : IsDistinct eqb (map rank_of ys)
+  differing = IsDistinct-from_apart eqb (map rank_of ys) (λ i j d lt small.
+      let in_list : j < length ys = omega (arith, small, length-map ys rank_of) in
+      ne_eqb _ _ (λ same.
+      let less = rise i j some_placed lt in_list in
+      let equal : rank_of (get_or ys i some_placed) ≡ rank_of (get_or ys j some_placed) =
+      sym (get_or-map rank_of ys i some_placed d (omega (arith, lt, in_list))) ∙ (same ∙ get_or-map rank_of ys j some_placed d in_list) in
+      absurd (omega (arith, less, equal))))
+
+-- lines that are sorted by their numbers are those that rise, where the two have the same lines
+only_order : (xs ys : List Placed) → IsPermutation xs ys → IsNonDecreasingBy rank_of xs → AllPairs Below ys → All Few ys → xs ≡ ys
+only_order xs ys moved up rise few =
+    let back = IsPermutation-sym xs ys moved in
+    let distinct = IsDistinct-IsPermutation eqb nat_eq_equiv.symm (map rank_of ys) (map rank_of xs) (IsPermutation-map rank_of ys xs back) (differing ys rise) in
+    let climbs : IsStrictlyIncreasing (map rank_of xs) = IsStrictlyIncreasing-from_distinct (map rank_of xs)
+    (λ i j d le lt.
+    let in_list : j < length xs = omega (arith, lt, length-map xs rank_of) in
+    rw (get_or-map rank_of xs i some_line d (omega (arith, le, in_list)), get_or-map rank_of xs j some_line d in_list) (up i j some_line le in_list)) distinct in
+    from_ranks xs ys (All-permutation Few ys xs back few) few
+    (only_rising (map ranked xs) (map ranked ys) (IsPermutation-map ranked xs ys moved)
+    (subst IsStrictlyIncreasing (sym (first_ranks xs)) climbs) (subst IsStrictlyIncreasing (sym (first_ranks ys)) (increasing ys rise)))
   where
-    by : (i j : ℕ) (d : Placed) → i ≤ j → j < length (entry ∷ order) → (get_or (entry ∷ order) i d).party ≤ (get_or (entry ∷ order) j d).party
-    by zero zero d low within = omega arith
-    by zero (suc j) d low within = high j d (omega (arith, within))
-    by (suc i) zero d low within = absurd (omega (arith, low))
-    by (suc i) (suc j) d low within = rises i j d (omega (arith, low)) (omega (arith, within))
+    some_line : Placed
+    some_line = record { party = 0; place = 0 }
 
-claimant_rises : (party : ℕ) (places : List ℕ) (rest : List Placed) → All (λ entry. party ≤ entry.party) rest → IsNonDecreasingBy (λ (entry : Placed). entry.party) rest
-    → IsNonDecreasingBy (λ (entry : Placed). entry.party) (placed (party, places) ++ rest)
-claimant_rises party [] rest high rises = rises
-claimant_rises party (place ∷ places) rest high rises =
-    let split : placed (party, place ∷ places) ++ rest ≡ placed (party, places) ++ at_place party place ∷ rest =
-    ap (λ (l : List Placed). l ++ rest) (placed_before party place places) ∙ append_assoc (placed (party, places)) (at_place party place ∷ []) rest in
-    subst (IsNonDecreasingBy (λ (entry : Placed). entry.party)) (sym split)
-    (claimant_rises party places (at_place party place ∷ rest) (All-cons (λ (entry : Placed). party ≤ entry.party) (at_place party place) rest (omega arith) high) (rises_cons (at_place party place) rest high rises))
+pub sorted_in_order : (claimants : List (ℕ × List ℕ)) (old new : List Placed) → AreInOrder claimants → IsPermutation old (in_order claimants) → IsPermutation old new
+    → IsNonDecreasingBy rank_of new → new ≡ in_order claimants
+sorted_in_order claimants old new are all moved up =
+    only_order new (in_order claimants) (IsPermutation-trans new old (in_order claimants) (IsPermutation-sym old new moved) all) up
+    (ranks_rise claimants are.rising are.places are.few) (each_few claimants are.few)
 
-pub in_order_rises : (claimants : List (ℕ × List ℕ)) → Rising claimants → IsNonDecreasingBy (λ (entry : Placed). entry.party) (in_order claimants)
-in_order_rises [] rising = λ i j d low within. absurd (omega (arith, within))
-in_order_rises (claimant ∷ later) rising =
-    let above : All (λ other. claimant.0 < other.0) later = AllPairs-head (λ claimant other. claimant.0 < other.0) claimant later rising in
-    claimant_rises claimant.0 claimant.1 (in_order later) (each_in_order (λ entry. claimant.0 ≤ entry.party) later (λ k d within i e inside. omega (arith, above k d within)))
-    (in_order_rises later (AllPairs-tail (λ claimant other. claimant.0 < other.0) claimant later rising))
+-- ---- one line more
 
--- Share lines are compiled, and these are their places in order.
+put_shuffles : (party place : ℕ) (order : List Placed) → IsPermutation (at_place party place ∷ order) (put party place order)
+put_shuffles party place [] = IsPermutation-refl (at_place party place ∷ [])
+put_shuffles party place (entry ∷ order) = elim (cases_Bool (ltb entry.party party)) [
+  | inl low ↦
+      rw low
+      (IsPermutation-trans (at_place party place ∷ entry ∷ order) (entry ∷ at_place party place ∷ order) (entry ∷ put party place order)
+      (IsPermutation-sym (entry ∷ at_place party place ∷ order) (at_place party place ∷ entry ∷ order) (IsPermutation-middle (entry ∷ []) (at_place party place) order))
+      (IsPermutation-cons entry (at_place party place ∷ order) (put party place order) (put_shuffles party place order)))
+  | inr high ↦ rw high (IsPermutation-refl (at_place party place ∷ entry ∷ order))
+]
+
+pub moved_more : (party place : ℕ) (claimants : List (ℕ × List ℕ)) (order : List Placed) → Rising claimants → IsPermutation order (in_order claimants)
+    → IsPermutation (order ++ at_place party place ∷ []) (in_order (with_place party place claimants))
+moved_more party place claimants order rising moved =
+    IsPermutation-push_more order (in_order claimants) (in_order (with_place party place claimants)) (at_place party place) moved
+    (subst (IsPermutation (at_place party place ∷ in_order claimants)) (put_in_order party place claimants rising) (put_shuffles party place (in_order claimants)))
+
+pub places_more : (party place : ℕ) (claimants : List (ℕ × List ℕ)) → Rising claimants → All (λ claimant. AllPairs (λ place later. place < later) claimant.1) claimants
+    → All (λ claimant. All (λ other. other < place) claimant.1) claimants → All (λ claimant. AllPairs (λ place later. place < later) claimant.1) (with_place party place claimants)
+places_more party place claimants rising places below =
+    each_with_place party place (λ claimant. AllPairs (λ place later. place < later) claimant.1)
+    (λ claimant. AllPairs (λ place later. place < later) claimant.1 × All (λ other. other < place) claimant.1)
+    (λ claimant both apart. both.0)
+    (λ claimant both equal. all_pairs_push (λ (place later : ℕ). place < later) claimant.1 place both.0 both.1)
+    claimants (λ apart. λ i j d before within. absurd (omega (arith, before, within))) rising (λ k d within. (places k d within, below k d within))
+
+-- Share lines are compiled, and these are their places, in any order.
 pub record IsGathered (parties : List (List ℕ)) (lines : List ShareLine) (order : List Placed) : Type 0 where
   pub claimants : List (ℕ × List ℕ)
   pub compiled : IsCompiled parties lines claimants
-  pub exact : order ≡ in_order claimants
+  pub places : All (λ claimant. AllPairs (λ place later. place < later) claimant.1) claimants
+  pub moved : IsPermutation order (in_order claimants)

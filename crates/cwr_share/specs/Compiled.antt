@@ -1,5 +1,5 @@
 -- How a registration is kept, so that its claims take one look at each of its share lines.
-use Rattle.std.specs.Prelude.{ℕ, ⊤, ◌≡◌, ◌≤◌, ◌<◌, ◌+◌, ◌++◌, ◌==◌, ◌∷◌, [], Bool, List, Vec, All, AllPairs, Contains, false, true, not, if◌then◌else◌}
+use Rattle.std.specs.Prelude.{◌*◌, ◌-◌, ℕ, ⊤, ◌≡◌, ◌≤◌, ◌<◌, ◌+◌, ◌++◌, ◌==◌, ◌∷◌, [], Bool, List, Vec, All, AllPairs, Contains, false, true, not, if◌then◌else◌}
 use Rattle.std.specs.Prelude.{drop, filter, flat_map, length, map, nat_eq, nat_lt, reverse, slice_index_or, sum_by, take, zip}
 use Rattle.std.specs.List.{list_any}
 use Rattle.std.specs.Cmp.Lexicographic.{pointwise}
@@ -108,6 +108,16 @@ placed claimant = map (λ place. record { party = claimant.0; place = place }) (
 -- those of claimants, one claimant's after another's
 abbrev pub in_order : List (ℕ × List ℕ) → List Placed
 in_order claimants = flat_map placed claimants
+
+-- claimants in order of party, each with places that rise, which are few enough for the numbers below
+pub record AreInOrder (claimants : List (ℕ × List ℕ)) : Type 0 where
+  pub rising : AllPairs (λ claimant later. claimant.0 < later.0) claimants
+  pub places : All (λ claimant. AllPairs (λ place later. place < later) claimant.1) claimants
+  pub few : All (λ claimant. All (λ place. place < 4294967296) claimant.1) claimants
+
+-- a number by which share lines are in order: those of a party stand together, the last one first
+abbrev pub rank_of : Placed → ℕ
+rank_of entry = entry.party * 4294967296 + (4294967295 - entry.place)
 
 -- those of claimants in order of party
 pub record IsInOrder (claimants : List (ℕ × List ℕ)) (order : List Placed) : Type 0 where

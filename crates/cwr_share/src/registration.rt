@@ -2,7 +2,8 @@
 
 ghost use Rattle.std.specs.Prelude.{ℕ, ◌≡◌, ◌≤◌, ◌<◌, ◌++◌, List, All, AllPairs, Contains, [], OnOk, length, map};
 ghost use Rattle.std.specs.List.{HoldsAt};
-ghost use Rattle.cwr_share.specs.Compiled.{IsInOrder, IsKept, accounts_of, kept_lines, line_by, lines_of_parties, names_of, whole, with_place};
+ghost use Rattle.cwr_share.specs.Compiled.{AreInOrder, IsInOrder, IsKept, accounts_of, in_order, kept_lines, line_by, lines_of_parties, names_of, rank_of, whole};
+ghost use Rattle.std.specs.List.Sorted.{IsPermutation};
 ghost use Rattle.cwr_share.specs.declared.TheConstants.{MOST_LINES};
 
 use crate::claim_line::ClaimLine;
@@ -63,9 +64,13 @@ impl CompiledRegistration {
             let share = &shares[place];
             if let Some(party) = accounts.get_index_of(&share.party) {
                 self.shares.push(share.kept(party))?;
-                add_place(&mut self.order, party, place as u32)?;
+                self.order.push(Placed {
+                    party,
+                    place: place as u32,
+                })?;
             }
         }
+        put_in_order(&mut self.order);
         add_lines(
             accounts,
             self.shares.as_slice(),
@@ -76,16 +81,21 @@ impl CompiledRegistration {
     }
 }
 
-/// Adds the place of one share line more before the others of its party.
-fn add_place(order: &mut Vec<Placed>, party: usize, place: u32) -> Result<(), AllocError>
-    requires { (claimants : List (ℕ × List ℕ)) × IsInOrder claimants order.old.items }
-    ensures { OnOk result ((claimants : List (ℕ × List ℕ)) → IsInOrder claimants order.old.items → IsInOrder (with_place party place claimants) order.new.items) }
+impl Placed {
+    /// A number by which share lines are in order: those of a party stand together, the last one first.
+    fn rank(&self) -> u128
+        ensures { result ≡ rank_of self.now }
+    {
+        self.party as u128 * 4_294_967_296 + (4_294_967_295 - self.place as u128)
+    }
+}
+
+/// Puts share lines in order of party, and those of a party from the last one back.
+fn put_in_order(order: &mut Vec<Placed>)
+    ensures { (claimants : List (ℕ × List ℕ)) → AreInOrder claimants → IsPermutation order.old.items (in_order claimants)
+        → order.new.items ≡ in_order claimants }
 {
-    let at = order
-        .as_slice()
-        .partition_point(|entry| entry.party < party);
-    order.insert(at, Placed { party, place })?;
-    Ok(())
+    order.sort_unstable_by_key(|entry| entry.rank());
 }
 
 /// Adds the share lines in this order, each under the account of its party.
