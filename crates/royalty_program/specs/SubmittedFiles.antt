@@ -2,6 +2,7 @@
 -- is refused with an error of this kind.
 use Rattle.std.specs.Prelude.{ℕ, ◌≤◌, ◌<◌, ◌⊎◌, All, IfSome, List, length, map, string_bytes, ⊤}
 use Rattle.std.specs.declared.io.ErrorKind.{ErrorKind}
+use Rattle.std.specs.declared.io.ErrorKind.TheVariants.{OutOfMemory}
 use Rattle.pair_split.specs.Pair.{word_at}
 use Rattle.royalty_program.specs.Files.{HoldsIfGiven, IsUnread}
 use Rattle.royalty_program.specs.NamedFiles.{name_in, path_in}
@@ -35,6 +36,10 @@ HoldsAt holds files place bytes = (place < length files) × holds (word_at files
 -- and cannot be read
 abbrev pub RefusesAt : (refuses : List ℕ → ErrorKind → Type 0) → (files : List (List ℕ)) → ℕ → Type 0
 RefusesAt refuses files place = (length files ≤ place) ⊎ IsUnread refuses (word_at files place)
+
+-- and there is no memory for it
+abbrev pub LacksAt : (refuses : List ℕ → ErrorKind → Type 0) → (files : List (List ℕ)) → ℕ → Type 0
+LacksAt refuses files place = refuses (word_at files place) OutOfMemory
 
 -- these are the bytes of the tables of these paths
 pub record AreTablesRead (holds : List ℕ → List ℕ → Type 0) (paths tables : SubmittedTables (List ℕ)) : Type 0 where

@@ -35,11 +35,13 @@ struct CwrFiles<'a, S> {
 
 impl<'a, S: Source + Sync> SubmitterFiles for CwrFiles<'a, S> {
     ghost use Rattle.std.specs.Prelude.{map, string_bytes};
-    ghost use Rattle.royalty_program.specs.SubmittedFiles.{HoldsAt, RefusesAt};
+    ghost use Rattle.royalty_program.specs.SubmittedFiles.{HoldsAt, LacksAt, RefusesAt};
 
     ghost holds = { λ files. HoldsAt (S.holds files.files.now) (map string_bytes files.paths.now) };
 
     ghost refuses = { λ files. RefusesAt (S.refuses files.files.now) (map string_bytes files.paths.now) };
+
+    ghost lacks = { λ files. LacksAt (S.refuses files.files.now) (map string_bytes files.paths.now) };
 
     fn read(&self, alloc: Global, place: usize) -> Result<Option<Vec<u8>>, AllocError> {
         if place >= self.paths.len() {

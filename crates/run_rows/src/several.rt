@@ -25,6 +25,8 @@ impl SubmitterFiles for Kept {
 
     ghost refuses = { λ _ _. Unit {0} };
 
+    ghost lacks = { λ _ _. Unit {0} };
+
     fn read(&self, alloc: Global, place: usize) -> Result<Option<Vec<u8>>, AllocError> {
         match self.files.get(place) {
             Some(Some(bytes)) => Ok(Some(Vec::from_slice(alloc, bytes.as_slice())?)),

@@ -17,11 +17,14 @@ pub trait SubmitterFiles {
     ghost holds: { Self → ℕ → List ℕ → Type 0 };
     // the file of a place cannot be read
     ghost refuses: { Self → ℕ → Type 0 };
+    // there is no memory for the file of a place
+    ghost lacks: { Self → ℕ → Type 0 };
 
     /// The bytes of the file at a place. None: it cannot be read.
     fn read(&self, alloc: Global, place: usize) -> Result<Option<Vec<u8>>, AllocError>
         ensures bytes { IfOk result (λ found. IfSome found (λ bytes. holds self.now place bytes.items)) }
-        ensures unreadable { IfOk result (λ found. IfNone found (refuses self.now place)) };
+        ensures unreadable { IfOk result (λ found. IfNone found (refuses self.now place)) }
+        ensures memory { IfErr result (λ _. lacks self.now place) };
 }
 
 /// The registrations in force of the file at a place.
