@@ -8,15 +8,28 @@ use Rattle.cwr_share.specs.declared.numbers.TheConstants.{MOST_WORK_NAME_BYTES}
 use Rattle.linked_works.specs.Linked as linked
 use Rattle.linked_works.specs.Submitters.{IsSubmitter}
 use Rattle.linked_works.specs.declared.linking.Link.{Link}
+use Rattle.linked_works.specs.declared.works.WorksRow.{WorksRow}
 use Rattle.linked_works.specs.declared.TheConstants.{MOST_LINKS}
 
 -- the texts of names
 abbrev pub names_by : List (Vec ℕ Global) → List (List ℕ)
 names_by names = map (λ name. name.items) names
 
--- rows, of which each has the place of its submitter among these names
+-- a row that has the place of its submitter among these names
+abbrev pub link_by : List (List ℕ) → Link → linked.Link
+link_by names link = record { work = link.work; submitter = slice_index_or names link.submitter []; number = link.number }
+
+-- rows, of which each has that
 abbrev pub links_by : List (List ℕ) → List Link → List linked.Link
-links_by names links = map (λ link. record { work = link.work; submitter = slice_index_or names link.submitter []; number = link.number }) links
+links_by names links = map (link_by names) links
+
+-- a row of a work as it is shown
+abbrev pub link_shown : WorksRow → linked.Link
+link_shown row = record { work = row.work.now; submitter = row.name.now; number = row.number.now }
+
+-- it has the name of the submitter at its place
+abbrev pub IsKnownRow : List (List ℕ) → WorksRow → Type 0
+IsKnownRow names row = (row.submitter < length names) × (slice_index_or names row.submitter [] ≡ row.name.now)
 
 -- what a work has when a registration of its own, or of another work, is linked too, where there is one
 abbrev pub with_registration : (found : Option (List ShareLine)) → (its_work submitter : List ℕ) → (before : Option (List ShareLine)) → (work : List ℕ) → Option (List ShareLine)

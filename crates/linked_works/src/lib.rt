@@ -12,7 +12,7 @@ mod works_fault;
 pub use csv_table::FileFault;
 pub use payee_rows::{MOST_SUBMITTER_PAYEES, read_payees};
 pub use submitters::{Submitters, is_submitter};
-pub use works::Works;
+pub use works::{Works, WorksRow};
 pub use works_fault::WorksFault;
 
 /// The most rows that a table of works has below its header.

@@ -1,6 +1,7 @@
 //! The table of works: which registrations are of which work.
 
-ghost use Rattle.std.specs.Prelude.{◌≡◌, ◌≤◌, ◌<◌, ◌∷◌, ◌++◌, ℕ, List, [], AllPairs, All, Contains, IfErr, IfOk, OnOk, Some, length, map, slice_index_or, zip};
+ghost use Rattle.std.specs.Prelude.{◌≡◌, ◌≤◌, ◌<◌, ◌∷◌, ◌++◌, ℕ, List, [], AllPairs, All, Contains, IfErr, IfOk, OnOk, Some, filter, length, map, nat_eq, slice_index_or, zip};
+ghost use Rattle.std.specs.Cmp.Lexicographic.{pointwise};
 ghost use Rattle.csv_table.specs.Table.{rows_of};
 ghost use Rattle.cwr_share.specs.InForce.{IsOneRegistration};
 ghost use Rattle.cwr_share.specs.Joined.{qualified as qualified_text};
@@ -12,7 +13,7 @@ ghost use Rattle.cwr_share.specs.declared.TheConstants.{MOST_LINES};
 ghost use Rattle.cwr_share.specs.declared.numbers.TheConstants.{MOST_SUBMITTER_BYTES, MOST_WORK_BYTES, MOST_WORK_NAME_BYTES};
 ghost use Rattle.linked_works.specs.Linked.{finds_among, shares_linked};
 ghost use Rattle.linked_works.specs.ManyPayees.{IsFaultOfLinks};
-ghost use Rattle.linked_works.specs.Rows.{key_of, names_by};
+ghost use Rattle.linked_works.specs.Rows.{IsKnownRow, key_of, link_by, link_shown, names_by};
 ghost use Rattle.linked_works.specs.declared.TheConstants.{MOST_LINKS};
 ghost use Rattle.linked_works.specs.Submitters.{IsSubmitter};
 ghost use Rattle.linked_works.specs.WorksTable.{IsFaultOf, IsTableOf};
@@ -123,6 +124,19 @@ impl<'a> RowTable for Works<'a> {
     }
 }
 
+/// A row of a work: a registration that is of it.
+#[derive(Clone, Copy, Debug)]
+pub struct WorksRow<'a> {
+    /// The name of the work, as usage lines have it.
+    pub work: &'a [u8],
+    /// The place of the submitter among the names.
+    pub submitter: usize,
+    /// The name of the submitter.
+    pub name: &'a [u8],
+    /// The submitter work number.
+    pub number: &'a [u8],
+}
+
 impl<'a> Works<'a> {
     /// Reads a table of works: CSV with the header `work,submitter,number,title`. Each submitter is one of these.
     pub fn read(
@@ -209,6 +223,21 @@ impl<'a> Works<'a> {
         }
     }
 
+    /// The rows of a work, in their order.
+    pub fn of_work(&self, alloc: Global, work: &[u8]) -> Result<Vec<WorksRow<'_>>, AllocError>
+        ensures rows { IfOk result (λ rows. map link_shown rows.items
+            ≡ filter (λ link. pointwise nat_eq link.work work.now) self.now.links) }
+        ensures known { IfOk result (λ rows. All (IsKnownRow self.now.names) rows.items) }
+    {
+        let mut rows = Vec::new(alloc);
+        for link in &self.links {
+            if link.work.as_slice() == work {
+                rows.push(row_of(self.names, link))?;
+            }
+        }
+        Ok(rows)
+    }
+
     /// How many submitters there are, each with or without a row.
     pub fn submitters(&self) -> usize
         ensures { result ≡ length self.now.names }
@@ -221,6 +250,20 @@ impl<'a> Works<'a> {
         ensures { result ≡ length self.now.links }
     {
         self.links.len()
+    }
+}
+
+/// A link as a row of its work.
+fn row_of<'a>(names: &'a [Vec<u8>], link: &'a Link) -> WorksRow<'a>
+    requires { link.now.submitter < length names.now }
+    ensures shown { link_shown result ≡ link_by (names_by names.now) link.now }
+    ensures known { IsKnownRow (names_by names.now) result }
+{
+    WorksRow {
+        work: link.work.as_slice(),
+        submitter: link.submitter,
+        name: names[link.submitter].as_slice(),
+        number: link.number.as_slice(),
     }
 }
 
