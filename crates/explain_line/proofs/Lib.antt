@@ -1,4 +1,6 @@
 pub mod ClaimedLemmas
 pub mod OneExplanation
 pub mod Postings
+pub mod LookedLemmas
+pub mod SubmittedLemmas
 pub mod RowLemmas

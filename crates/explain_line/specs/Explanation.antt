@@ -55,17 +55,42 @@ registration_row line reason = codes "N" ∷ option_map_or decimal line [] ∷ o
 abbrev pub decides : List (ℕ × List ℕ) → (land : ℕ) → ShareLine → (later : List ShareLine) → Bool
 decides table land share later = covers table land share && not (list_any (λ other. is_alike share other && covers table land other) later)
 
--- the fields of a share line: the number of its line, its interest, party and payee, its share, whether it includes, its territory, and
--- whether that contains the land and the line decides
-abbrev pub share_fields : (number interest : ℕ) → (party payee : List ℕ) → (recorded : ℕ) → (mark : List ℕ) → (territory : ℕ) → (covers decides : List ℕ) → List (List ℕ)
-share_fields number interest party payee recorded mark territory covers decides =
-    codes "C" ∷ decimal number ∷ decimal interest ∷ party ∷ payee ∷ decimal recorded ∷ mark ∷ decimal territory ∷ covers ∷ decides ∷ []
+-- What a row says of a share line: the number of its line, its interest, party and payee, its share, whether it includes, its territory, and
+-- whether that contains the land and the line decides.
+pub record Shown : Type 0 where
+  pub number : ℕ
+  pub interest : ℕ
+  pub party : List ℕ
+  pub payee : List ℕ
+  pub recorded : ℕ
+  pub mark : List ℕ
+  pub territory : ℕ
+  pub covers : List ℕ
+  pub decides : List ℕ
 
--- a share line of a registration, by its place, for a land and a right
+-- as fields
+abbrev pub share_fields : Shown → List (List ℕ)
+share_fields shown =
+    decimal shown.number ∷ decimal shown.interest ∷ shown.party ∷ shown.payee ∷ decimal shown.recorded ∷ shown.mark ∷ decimal shown.territory ∷ shown.covers ∷ shown.decides ∷ []
+
+-- a share line of a registration, by its place, for a land and a right, where its party is paid to this payee
+abbrev pub shown_of : List (ℕ × List ℕ) → (land : ℕ) → Right → (payee : List ℕ) → (numbers : List ℕ) → (shares : List ShareLine) → ℕ × ShareLine → Shown
+shown_of table land right payee numbers shares e = record {
+  number = slice_index numbers e.0;
+  interest = e.1.interest;
+  party = e.1.party;
+  payee = payee;
+  recorded = recorded_share right e.1;
+  mark = mark_text e.1.includes;
+  territory = e.1.territory;
+  covers = yes_or_no (covers table land e.1);
+  decides = yes_or_no (decides table land e.1 (drop (e.0 + 1) shares));
+}
+
+-- and its row
 abbrev pub share_row : List (ℕ × List ℕ) → Registered → (land : ℕ) → Right → (numbers : List ℕ) → (shares : List ShareLine) → ℕ × ShareLine → List (List ℕ)
 share_row table registered land right numbers shares e =
-    share_fields (slice_index numbers e.0) e.1.interest e.1.party (payee_of registered.payees e.1.party) (recorded_share right e.1) (mark_text e.1.includes)
-    e.1.territory (yes_or_no (covers table land e.1)) (yes_or_no (decides table land e.1 (drop (e.0 + 1) shares)))
+    codes "C" ∷ share_fields (shown_of table land right (payee_of registered.payees e.1.party) numbers shares e)
 
 -- an account with its payee, which the residue's has none of
 abbrev pub payee_at : Registered → (account : ℕ) → List ℕ

@@ -5,7 +5,7 @@ ghost use Rattle.std.specs.List.{list_any};
 ghost use Rattle.cwr_share.specs.ClaimsOn.{claim_of as claim_by, covers, is_alike};
 ghost use Rattle.cwr_share.specs.Payees.{payee_of};
 ghost use Rattle.cwr_share.specs.Registrations.{ShareLine};
-ghost use Rattle.cwr_share.specs.declared.TheConstants.{MOST_SHARES};
+ghost use Rattle.cwr_share.specs.declared.TheConstants.{MOST_LINES};
 ghost use Rattle.explain_line.specs.Claimed.{ArePayeesOf, claimed_by};
 ghost use Rattle.explain_line.specs.Explanation.{decides as is_deciding};
 
@@ -75,12 +75,12 @@ pub(crate) fn claim_of(
     shares: &[ShareRecord],
     payees: &[&[u8]],
     payee: &[u8],
-) -> u32
-    requires few { length shares.now ≤ MOST_SHARES }
+) -> u64
+    requires few { length shares.now ≤ MOST_LINES }
     requires payees { length payees.now ≡ length shares.now }
     ensures { (pay : List ℕ → List ℕ) → ArePayeesOf pay (map (λ p. p.now) payees.now) shares.now → result ≡ claim_by tis.now land right pay shares.now payee.now }
 {
-    let mut claim: u32 = 0;
+    let mut claim: u64 = 0;
     for place in 0..shares.len() {
         claim += claimed_at(tis, land, right, shares, payees, payee, place);
     }
@@ -96,7 +96,7 @@ fn claimed_at(
     payees: &[&[u8]],
     payee: &[u8],
     place: usize,
-) -> u32
+) -> u64
     requires place { place < length shares.now }
     requires payees { length payees.now ≡ length shares.now }
     ensures claimed { (pay : List ℕ → List ℕ) (d : ShareLine) → ArePayeesOf pay (map (λ p. p.now) payees.now) shares.now
@@ -104,7 +104,7 @@ fn claimed_at(
     ensures small { result ≤ u16.MAX }
 {
     if payees[place] == payee && decides(tis, land, shares, place) {
-        u32::from(shares[place].collected(right))
+        u64::from(shares[place].collected(right))
     } else {
         0
     }

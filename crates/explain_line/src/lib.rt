@@ -6,5 +6,9 @@ mod claimed;
 mod explanation;
 pub mod laws;
 mod rows;
+mod submitted;
+mod submitted_files;
+mod submitted_rows;
 
 pub use explanation::explain;
+pub use submitted::explain_submitted;

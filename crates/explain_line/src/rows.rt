@@ -8,9 +8,10 @@ ghost use Rattle.cwr_share.specs.ClaimsOn.{claims_among};
 ghost use Rattle.cwr_share.specs.Filed.{IsFiled};
 ghost use Rattle.cwr_share.specs.Payees.{payee_of};
 ghost use Rattle.cwr_share.specs.Registrations.{ShareLine};
-ghost use Rattle.cwr_share.specs.declared.TheConstants.{MOST_SHARES};
+ghost use Rattle.cwr_share.specs.declared.TheConstants.{MOST_LINES, MOST_SHARES};
 ghost use Rattle.explain_line.specs.Explanation.{AddsRow, AddsRows, base_row, claim_row, division_rows, line_row, mark_text, participant_fields};
-ghost use Rattle.explain_line.specs.Explanation.{participant_row, payee_at, registration_rows, right_text, share_fields, share_row, yes_or_no};
+ghost use Rattle.explain_line.specs.Explanation.{participant_row, payee_at, registration_rows, right_text, share_fields, share_row, shown_of, yes_or_no};
+ghost use Rattle.explain_line.specs.Shares.{shown_by};
 ghost use Rattle.line_split.specs.Claims.{participants_of};
 ghost use Rattle.line_split.specs.ReasonTexts.{reason_text};
 ghost use Rattle.line_split.specs.Signs.{with_sign_of};
@@ -125,7 +126,7 @@ fn write_registration<'a>(
 }
 
 /// The word for a reason; nothing where there is none.
-fn reason_word(reason: Option<Reason>) -> &'static str
+pub(crate) fn reason_word(reason: Option<Reason>) -> &'static str
     ensures { result.now ≡ option_map_or reason_text reason [] }
 {
     match reason {
@@ -166,35 +167,63 @@ fn write_share(
     requires { place < length shares.now }
     ensures { (d : ShareLine) → OnOk result (AddsRow rows.old.text rows.new.text (share_row tis.now registry.now land right numbers.now shares.now (place, slice_index_or shares.now place d))) }
 {
-    let share = &shares[place];
-    let party = share.party();
-    write_share_fields(
-        rows,
-        number_at(numbers, place),
-        share.interest(),
-        party,
-        payee_by(registry, party),
-        share.recorded(right),
-        mark_word(share.includes()).as_bytes(),
-        share.territory().number(),
-        yes_or_no_word(covers_land(tis, land, share)).as_bytes(),
-        yes_or_no_word(decides(tis, land, shares, place)).as_bytes(),
-    )
+    let payee = payee_by(registry, shares[place].party());
+    let shown = shown_share(tis, land, right, payee, numbers, shares, place);
+    write_share_fields(rows, &shown)
 }
 
-fn write_share_fields<'a>(
-    rows: &mut RowWriter,
-    number: u64,
-    interest: usize,
-    party: &'a [u8],
+/// What a row says of a share line.
+#[derive(Clone, Copy, Debug)]
+pub(crate) struct Shown<'a> {
+    /// The number of its line in the file.
+    pub(crate) number: u64,
+    /// Its interest, from 0 in each registration.
+    pub(crate) interest: usize,
+    /// Its party.
+    pub(crate) party: &'a [u8],
+    /// The payee of its party.
+    pub(crate) payee: &'a [u8],
+    /// Its share for the right of the usage line, also where it excludes.
+    pub(crate) recorded: u16,
+    /// Whether it includes or excludes.
+    pub(crate) mark: &'a [u8],
+    /// The code of its territory.
+    pub(crate) territory: u16,
+    /// Whether its territory contains the land of the usage line.
+    pub(crate) covers: &'a [u8],
+    /// Whether it decides there.
+    pub(crate) decides: &'a [u8],
+}
+
+/// What a row says of the share line at a place, whose party is paid to this payee.
+pub(crate) fn shown_share<'a>(
+    tis: &TisTable,
+    land: Code,
+    right: Right,
     payee: &'a [u8],
-    recorded: u16,
-    mark: &'a [u8],
-    territory: u16,
-    covers: &'a [u8],
-    decides: &'a [u8],
-) -> Result<(), AllocError>
-    ensures { OnOk result (AddsRow rows.old.text rows.new.text (share_fields number interest party.now payee.now recorded mark.now territory covers.now decides.now)) }
+    numbers: &[u64],
+    shares: &'a [ShareRecord],
+    place: usize,
+) -> Shown<'a>
+    requires { place < length shares.now }
+    ensures { (d : ShareLine) → shown_by result ≡ shown_of tis.now land right payee.now numbers.now shares.now (place, slice_index_or shares.now place d) }
+{
+    let share = &shares[place];
+    Shown {
+        number: number_at(numbers, place),
+        interest: share.interest(),
+        party: share.party(),
+        payee,
+        recorded: share.recorded(right),
+        mark: mark_word(share.includes()).as_bytes(),
+        territory: share.territory().number(),
+        covers: yes_or_no_word(covers_land(tis, land, share)).as_bytes(),
+        decides: yes_or_no_word(decides(tis, land, shares, place)).as_bytes(),
+    }
+}
+
+fn write_share_fields(rows: &mut RowWriter, shown: &Shown<'_>) -> Result<(), AllocError>
+    ensures { OnOk result (AddsRow rows.old.text rows.new.text (codes "C" ∷ share_fields (shown_by shown.now))) }
 {
     let mut line = Buffer::new();
     let mut place = Buffer::new();
@@ -202,15 +231,15 @@ fn write_share_fields<'a>(
     let mut code = Buffer::new();
     rows.row(&[
         b"C",
-        line.format(number).as_bytes(),
-        place.format(interest).as_bytes(),
-        party,
-        payee,
-        share.format(recorded).as_bytes(),
-        mark,
-        code.format(territory).as_bytes(),
-        covers,
-        decides,
+        line.format(shown.number).as_bytes(),
+        place.format(shown.interest).as_bytes(),
+        shown.party,
+        shown.payee,
+        share.format(shown.recorded).as_bytes(),
+        shown.mark,
+        code.format(shown.territory).as_bytes(),
+        shown.covers,
+        shown.decides,
     ])
 }
 
@@ -237,7 +266,7 @@ fn yes_or_no_word(holds: bool) -> &'static str
 }
 
 /// What each account claims by share lines, where that is not nothing.
-fn write_claims(
+pub(crate) fn write_claims(
     alloc: Global,
     rows: &mut RowWriter,
     tis: &TisTable,
@@ -246,7 +275,7 @@ fn write_claims(
     right: Right,
     shares: &[ShareRecord],
 ) -> Result<(), AllocError>
-    requires { length shares.now ≤ MOST_SHARES }
+    requires { length shares.now ≤ MOST_LINES }
     ensures { OnOk result (AddsRows rows.old.text rows.new.text (map (claim_row registry.now)
         (claims_among tis.now land right (payee_of registry.now.payees) shares.now (drop 1 registry.now.accounts)))) }
 {
@@ -266,7 +295,7 @@ fn write_claim(
     rows: &mut RowWriter,
     account: Account,
     payee: &[u8],
-    claim: u32,
+    claim: u64,
 ) -> Result<(), AllocError>
     ensures { OnOk result (AddsRow rows.old.text rows.new.text (codes "A" ∷ decimal account ∷ payee.now ∷ decimal claim ∷ [])) }
 {

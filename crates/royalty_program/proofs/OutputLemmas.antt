@@ -1,5 +1,5 @@
 -- Where a text went: to standard output, or into the file that the words name.
-use Rattle.std.proofs.Common.{◌≡◌, ◌≢◌, ◌⊎◌, ◌∙◌, ℕ, Bool, true, false, List, Option, None, Some, codes, drop, inl, inr, refl, subst, sym}
+use Rattle.std.proofs.Common.{◌≡◌, ◌≢◌, ◌⊎◌, ◌∙◌, ℕ, Bool, true, false, cond, List, Option, None, Some, codes, drop, inl, inr, refl, subst, sym}
 use Rattle.std.specs.Io.KnownBytes.{Appends, Keeps}
 use Rattle.std.specs.Option.{IfNone, IfSome, option_map}
 use Rattle.std.specs.Prelude.{String, string_bytes}
@@ -9,7 +9,7 @@ use Rattle.clap.specs.declared.error.Error.{Error}
 use Rattle.clap.specs.declared.error.kind.ErrorKind.TheVariants as kinds
 use Rattle.pair_split.specs.Pair.{word_at}
 use Rattle.royalty_program.specs.Answered.{AreOneFile, AreSubmitted, AskForOutput, IsDelivered, NameOutput}
-use Rattle.royalty_program.specs.Asked.{AskForHelp, AskForRun, AskForSubmittedRun, EitherRun, IsErrorOf, IsMergeError, IsSubmittedError}
+use Rattle.royalty_program.specs.Asked.{AskForHelp, AskForRun, AskForSubmittedRun, EitherRun, IsErrorOf, IsExplainError, IsMergeError, IsSubmittedError}
 use Rattle.royalty_program.specs.Asked.{inputs_given, name_works, path_if_given, run_output, submitted_given}
 use Rattle.royalty_program.specs.OutputPath.{IsNoInput}
 use Rattle.royalty_program.specs.RunInputs.{IsNoInputOf}
@@ -17,8 +17,9 @@ use Rattle.royalty_program.specs.SubmittedFiles.{IsNoneOf}
 use Rattle.royalty_program.specs.declared.inputs.RunInputs.{RunInputs}
 use Rattle.royalty_program.proofs.EitherLemmas.{by_inputs, of_one_file, of_several}
 use Rattle.clap.specs.Words.{App}
-use Rattle.royalty_program.specs.Asked.{AreAccepted, AreFilesAccepted, AreRunAccepted, IsRunError}
-use Rattle.royalty_program.specs.SubmittedCommand.{submitted_app}
+use Rattle.royalty_program.specs.Asked.{AreAccepted, AreExplainAccepted, AreFilesAccepted, AreRunAccepted, IsRunError, explain_grammar}
+use Rattle.royalty_program.specs.ExplainCommand.{explain_app}
+use Rattle.royalty_program.specs.SubmittedCommand.{submitted_app, submitted_explain_app}
 use Rattle.royalty_program.specs.MergeCommand.{merge_app}
 use Rattle.royalty_program.specs.RunCommand.{run_app}
 use Rattle.royalty_program.specs.Status.{IsOfMerge}
@@ -64,7 +65,26 @@ not_accepted_run words error not_memory = by (name_works words)
     by false is accepted = not_memory (accepted_is_memory run_app words error is accepted)
     by true is accepted = not_accepted_files submitted_app words error not_memory is accepted
 
--- words that ask for a run and for no help have no error of help
+-- and those of an explanation
+pub not_accepted_explain : (words : List (List ℕ)) (error : Error) → kind_of error ≢ kinds.OutOfMemory → IsExplainError words error → ¬ AreExplainAccepted words
+not_accepted_explain words error not_memory = by (name_works words)
+  where
+    by : (several : Bool) → EitherRun several (IsErrorOf explain_app words error) (IsSubmittedError submitted_explain_app words error)
+        → ¬ EitherRun several (AreAccepted explain_app words) (AreFilesAccepted submitted_explain_app words)
+    by false is accepted = not_memory (accepted_is_memory explain_app words error is accepted)
+    by true is accepted = not_accepted_files submitted_explain_app words error not_memory is accepted
+
+-- words that ask for an explanation and for no help have no error of help
+pub no_explain_help_given : (words : List (List ℕ)) (error : Error) → IsExplainError words error → ¬ AskForHelp (explain_grammar words) words
+    → (kind_of error ≢ kinds.DisplayHelp) × (kind_of error ≢ kinds.DisplayVersion)
+no_explain_help_given words error = by (name_works words)
+  where
+    by : (several : Bool) → EitherRun several (IsErrorOf explain_app words error) (IsSubmittedError submitted_explain_app words error)
+        → ¬ AskForHelp (cond several submitted_explain_app explain_app) words → (kind_of error ≢ kinds.DisplayHelp) × (kind_of error ≢ kinds.DisplayVersion)
+    by false is none = no_help_given explain_app words error is none
+    by true is none = no_files_help_given submitted_explain_app words error is none
+
+-- and so do those that ask for a run
 pub no_run_help_given : (words : List (List ℕ)) (error : Error) → (word_at words 1 ≡ codes "run" → IsRunError (drop 1 words) error) → AskForRun words ⊎ AskForSubmittedRun words
     → (kind_of error ≢ kinds.DisplayHelp) × (kind_of error ≢ kinds.DisplayVersion)
 no_run_help_given words error is (inl run) = no_help_given run_app (drop 1 words) error (of_one_file _ _ _ run.one_file (is run.command)) run.no_help
@@ -104,7 +124,7 @@ module _ (keeps : List ℕ → Option (List ℕ) → Type 0) (words : List (List
     printed_or_kept = inl added;
     kept_if_named = λ path asks. absurd (none path asks);
     apart = λ run. if_none (IsNoInput (inputs_given run_app (drop 1 words))) (run_output (drop 1 words)) (λ path named. none path (inl (inl run, named)));
-    apart_from_all = λ run. if_none (IsNoneOf (submitted_given (drop 1 words))) (run_output (drop 1 words)) (λ path named. none path (inl (inr run, named)));
+    apart_from_all = λ run. if_none (IsNoneOf (submitted_given submitted_app (drop 1 words))) (run_output (drop 1 words)) (λ path named. none path (inl (inr run, named)));
   }
 
   -- no other words do
@@ -122,7 +142,7 @@ module _ (keeps : List ℕ → Option (List ℕ) → Type 0) (words : List (List
 
   -- a run goes where its option says
   pub delivered_run : (inputs : RunInputs) (output : Option (List ℕ)) (old new : Option (List ℕ)) (text : List ℕ) → word_at words 1 ≡ codes "run"
-      → EitherRun (name_works (drop 1 words)) (AreOneFile (inputs_given run_app (drop 1 words)) inputs) (AreSubmitted (submitted_given (drop 1 words)) inputs)
+      → EitherRun (name_works (drop 1 words)) (AreOneFile (inputs_given run_app (drop 1 words)) inputs) (AreSubmitted (submitted_given submitted_app (drop 1 words)) inputs)
       → output ≡ run_output (drop 1 words) → IfSome output (IsNoInputOf inputs) → IsPut output keeps old new text → IsDelivered keeps words old new text
   delivered_run inputs None old new text command of_words is apart put = delivered_out old new text
       (λ path asks. elim asks [ inl (run, named) ↦ cc | inr (merge, named) ↦ absurd (differ (sym command ∙ merge.command) refl) ])
@@ -134,12 +154,12 @@ module _ (keeps : List ℕ → Option (List ℕ) → Type 0) (words : List (List
       | inr (merge, named) ↦ absurd (differ (sym command ∙ merge.command) refl)
     ];
     apart = λ run. subst (λ (o : Option (List ℕ)). IfSome o (IsNoInput (inputs_given run_app (drop 1 words)))) is (of_one_file _ _ _ run.one_file from_all);
-    apart_from_all = λ run. subst (λ (o : Option (List ℕ)). IfSome o (IsNoneOf (submitted_given (drop 1 words)))) is (of_several _ _ _ run.several from_all);
+    apart_from_all = λ run. subst (λ (o : Option (List ℕ)). IfSome o (IsNoneOf (submitted_given submitted_app (drop 1 words)))) is (of_several _ _ _ run.several from_all);
   }
     where
-      from_all : EitherRun (name_works (drop 1 words)) (IsNoInput (inputs_given run_app (drop 1 words)) output) (IsNoneOf (submitted_given (drop 1 words)) output)
+      from_all : EitherRun (name_works (drop 1 words)) (IsNoInput (inputs_given run_app (drop 1 words)) output) (IsNoneOf (submitted_given submitted_app (drop 1 words)) output)
       from_all = by_inputs (λ paths. IsNoInput paths output) (λ paths. IsNoneOf paths output) (name_works (drop 1 words)) (inputs_given run_app (drop 1 words))
-          (submitted_given (drop 1 words)) inputs of_words apart
+          (submitted_given submitted_app (drop 1 words)) inputs of_words apart
 
   -- and so does a merge
   pub delivered_merge : (output : Option (List ℕ)) (old new : Option (List ℕ)) (text : List ℕ) → word_at words 1 ≡ codes "merge" → output ≡ path_if_given merge_app (codes "output") (drop 1 words)

@@ -11,11 +11,11 @@ use Rattle.royalty_program.specs.Answered.{AreCheckedFrom, AreExplainedFrom, Are
 use Rattle.royalty_program.specs.MergeCommand.{merge_app}
 use Rattle.royalty_program.specs.MergeFiles.{IsMergeOver}
 use Rattle.royalty_program.specs.declared.merge_command.MergeWords.{MergeWords}
-use Rattle.royalty_program.specs.Asked.{AreRunWords, EitherRun, IsDivision, files_given, inputs_given, name_works, number_given, paths_given, paths_in_order, submitted_given}
+use Rattle.royalty_program.specs.Asked.{AreRunWords, EitherRun, IsDivision, files_given, inputs_given, name_works, paths_given, paths_in_order, row_given, submitted_given}
 use Rattle.royalty_program.specs.CheckCommand.{check_app}
 use Rattle.royalty_program.specs.ExplainCommand.{explain_app}
 use Rattle.royalty_program.specs.Files.{AreStatementsOver, IsExplanationOver, IsReportOver}
-use Rattle.royalty_program.specs.Status.{FailFor, IsOfCheck, IsOfDivision, IsOfExplanation, IsOfMerge, IsOfNoInput, IsOfOutput, IsOfPaths, IsOfRunOutput, IsOfFiles, IsOfSubmitted, IsOfTable, IsOfTexts, IsOfRun, IsRefusal, IsSaidOf, IsUnexplained, status_of}
+use Rattle.royalty_program.specs.Status.{FailFor, IsOfCheck, IsOfDivision, IsOfExplanation, IsOfMerge, IsOfNoInput, IsOfOutput, IsOfPaths, IsOfRunOutput, IsOfFiles, IsOfSubmitted, IsOfTable, IsOfTexts, IsOfRun, IsRefusal, IsSaidOf, IsSubmittedUnexplained, IsUnexplained, status_of}
 use Rattle.royalty_program.specs.declared.failure.Failure.{Failure}
 use Rattle.royalty_program.specs.declared.failure.Failure.TheVariants.{Words, NotText, Pairs, Input, Works, Registrations, Row, Room, File, Output, Target, Statement, Many, Changed, Replaces}
 use Rattle.run_inputs.specs.Inputs.{map_inputs}
@@ -25,8 +25,9 @@ use Rattle.royalty_program.specs.declared.run_command.RunWords.{RunWords}
 use Rattle.royalty_program.proofs.EndLemmas.{IsThrough}
 use Rattle.royalty_program.proofs.EitherLemmas.{by_inputs, of_one_file, of_several}
 use Rattle.royalty_program.proofs.RunLemmas.{inputs_in_order, is_of_one_file}
-use Rattle.royalty_program.specs.RunInputs.{AreStatementsFrom, IsOfInputs}
-use Rattle.royalty_program.specs.SubmittedFiles.{AreSubmittedStatementsOver, paths_of}
+use Rattle.royalty_program.specs.RunInputs.{AreStatementsFrom, IsExplanationFrom, IsOfInputs, IsUnexplainedFrom}
+use Rattle.royalty_program.specs.SubmittedCommand.{submitted_app, submitted_explain_app}
+use Rattle.royalty_program.specs.SubmittedFiles.{AreSubmittedStatementsOver, IsSubmittedExplanationOver, SubmittedPaths, paths_of}
 use Rattle.royalty_program.specs.declared.inputs.RunInputs.{RunInputs}
 use Rattle.royalty_program.specs.declared.inputs.RunInputs.TheVariants.{OneFile, Submitted}
 use Rattle.submitted_inputs.specs.declared.fault.SubmittedFault.{SubmittedFault}
@@ -42,16 +43,16 @@ use Rattle.starting_files.specs.Tables.{IsTableOf}
 module _ (holds : List ℕ → List ℕ → Type 0) where
   -- statements are those of the paths that the options are given
   statements_given : (words : List (List ℕ)) (asked : RunWords) (text : List ℕ) → AreReadFrom words asked → AreStatementsFrom holds asked.inputs text
-      → EitherRun (name_works words) (AreStatementsOver holds (inputs_given run_app words) text) (AreSubmittedStatementsOver holds (submitted_given words) text)
+      → EitherRun (name_works words) (AreStatementsOver holds (inputs_given run_app words) text) (AreSubmittedStatementsOver holds (submitted_given submitted_app words) text)
   statements_given words asked text read over =
-      by_inputs (λ paths. AreStatementsOver holds paths text) (λ paths. AreSubmittedStatementsOver holds paths text) (name_works words) (inputs_given run_app words) (submitted_given words) asked.inputs read.inputs over
+      by_inputs (λ paths. AreStatementsOver holds paths text) (λ paths. AreSubmittedStatementsOver holds paths text) (name_works words) (inputs_given run_app words) (submitted_given submitted_app words) asked.inputs read.inputs over
 
   pub over_given : (words : List (List ℕ)) (asked : RunWords) (text : List ℕ) → name_works words ≡ false → AreReadFrom words asked
       → AreStatementsFrom holds asked.inputs text → AreStatementsOver holds (inputs_given run_app words) text
   over_given words asked text one read over = of_one_file _ _ _ one (statements_given words asked text read over)
 
   pub over_submitted : (words : List (List ℕ)) (asked : RunWords) (text : List ℕ) → name_works words ≡ true → AreReadFrom words asked
-      → AreStatementsFrom holds asked.inputs text → AreSubmittedStatementsOver holds (submitted_given words) text
+      → AreStatementsFrom holds asked.inputs text → AreSubmittedStatementsOver holds (submitted_given submitted_app words) text
   over_submitted words asked text several read over = of_several _ _ _ several (statements_given words asked text read over)
 
   -- and in the plain form of the values after the options
@@ -70,21 +71,39 @@ no_words_said files (submitted.Cwr place fault) error (name, is, at) = cc is
 no_words_said files (submitted.Usage fault) error said = cc said
 no_words_said files submitted.Room error said = cc said
 
+no_words_of_submitted : (holds : List ℕ → List ℕ → Type 0) (refuses : List ℕ → ErrorKind → Type 0) (paths : SubmittedPaths) (error : Error) → ¬ IsOfSubmitted holds refuses paths (Words error)
+no_words_of_submitted holds refuses paths error (inl room) = cc room
+no_words_of_submitted holds refuses paths error (inr (inl none)) = none
+no_words_of_submitted holds refuses paths error (inr (inr (fault, over, said))) = no_words_said paths.files fault error said
+
+-- nor is it that there is no such row
+no_row_is_said : (files : List (List ℕ)) (fault : SubmittedFault) (row : ℕ) → ¬ IsSaidOf files fault (Row row)
+no_row_is_said files (submitted.Tis fault) row said = cc said
+no_row_is_said files (submitted.Payee fault) row said = cc said
+no_row_is_said files (submitted.Works fault) row said = cc said
+no_row_is_said files (submitted.Unreadable place) row (name, is, at) = cc is
+no_row_is_said files (submitted.Cwr place fault) row (name, is, at) = cc is
+no_row_is_said files (submitted.Usage fault) row said = cc said
+no_row_is_said files submitted.Room row said = cc said
+
+no_row_said : (holds : List ℕ → List ℕ → Type 0) (refuses : List ℕ → ErrorKind → Type 0) (paths : SubmittedPaths) (row : ℕ) → ¬ IsOfSubmitted holds refuses paths (Row row)
+no_row_said holds refuses paths row (inl room) = cc room
+no_row_said holds refuses paths row (inr (inl none)) = none
+no_row_said holds refuses paths row (inr (inr (fault, over, said))) = no_row_is_said paths.files fault row said
+
 -- a run fails for the files that its options name, and for that of its output
 pub fails_given : (holds : List ℕ → List ℕ → Type 0) (refuses : List ℕ → ErrorKind → Type 0) (words : List (List ℕ)) (asked : RunWords) → AreReadFrom words asked → (failure : Failure)
     → IsOfRunOutput asked.output (IsOfInputs holds refuses asked.inputs) failure → IsOfRun holds refuses words failure
 fails_given holds refuses words asked read failure is = as_run failure is
   where
     given : (failure : Failure) → IsOfInputs holds refuses asked.inputs failure
-        → EitherRun (name_works words) (IsOfPaths holds refuses (inputs_given run_app words) failure) (IsOfSubmitted holds refuses (submitted_given words) failure)
+        → EitherRun (name_works words) (IsOfPaths holds refuses (inputs_given run_app words) failure) (IsOfSubmitted holds refuses (submitted_given submitted_app words) failure)
     given failure is =
-        by_inputs (λ paths. IsOfPaths holds refuses paths failure) (λ paths. IsOfSubmitted holds refuses paths failure) (name_works words) (inputs_given run_app words) (submitted_given words) asked.inputs read.inputs is
+        by_inputs (λ paths. IsOfPaths holds refuses paths failure) (λ paths. IsOfSubmitted holds refuses paths failure) (name_works words) (inputs_given run_app words) (submitted_given submitted_app words) asked.inputs read.inputs is
 
     no_words : (inputs : RunInputs) (error : Error) → ¬ IsOfInputs holds refuses inputs (Words error)
     no_words (OneFile inputs) error none = none
-    no_words (Submitted inputs) error (inl room) = cc room
-    no_words (Submitted inputs) error (inr (inl none)) = none
-    no_words (Submitted inputs) error (inr (inr (fault, over, said))) = no_words_said (paths_of inputs).files fault error said
+    no_words (Submitted inputs) error is = no_words_of_submitted holds refuses (paths_of inputs) error is
 
     as_run : (failure : Failure) → IsOfRunOutput asked.output (IsOfInputs holds refuses asked.inputs) failure
         → IsOfRun holds refuses words failure
@@ -136,11 +155,13 @@ merged_given gives words asked text read over = subst (λ (paths : List (List �
 
 -- an explanation is that of the paths and the row that the options are given
 pub explained_given : (holds : List ℕ → List ℕ → Type 0) (words : List (List ℕ)) (asked : ExplainWords) (text : List ℕ) → AreExplainedFrom words asked
-    → IsExplanationOver holds (map_inputs string_bytes asked.inputs) asked.row text
-    → IsExplanationOver holds (inputs_given explain_app words) (number_given explain_app (codes "row") words) text
+    → IsExplanationFrom holds asked.inputs asked.row text
+    → EitherRun (name_works words) (IsExplanationOver holds (inputs_given explain_app words) (row_given words) text)
+    (IsSubmittedExplanationOver holds (submitted_given submitted_explain_app words) (row_given words) text)
 explained_given holds words asked text read over =
-    subst (λ (row : ℕ). IsExplanationOver holds (inputs_given explain_app words) row text) read.row
-    (subst (λ (paths : Inputs (List ℕ)). IsExplanationOver holds paths asked.row text) read.inputs over)
+    by_inputs (λ paths. IsExplanationOver holds paths (row_given words) text) (λ paths. IsSubmittedExplanationOver holds paths (row_given words) text) (name_works words)
+    (inputs_given explain_app words) (submitted_given submitted_explain_app words) asked.inputs read.inputs
+    (subst (λ (row : ℕ). IsExplanationFrom holds asked.inputs row text) read.row over)
 
 -- what files fail for is why a line of theirs is not explained
 pub as_unexplained : (holds : List ℕ → List ℕ → Type 0) (refuses : List ℕ → ErrorKind → Type 0) (paths : Inputs (List ℕ)) (row : ℕ) (failure : Failure)
@@ -161,31 +182,58 @@ as_unexplained holds refuses paths row Many none = none
 as_unexplained holds refuses paths row (Changed path) none = none
 as_unexplained holds refuses paths row (Replaces path) none = none
 
+-- so is what the tables and files of several submitters fail for
+pub as_submitted_unexplained : (holds : List ℕ → List ℕ → Type 0) (refuses : List ℕ → ErrorKind → Type 0) (paths : SubmittedPaths) (row : ℕ) (failure : Failure)
+    → IsOfSubmitted holds refuses paths failure → IsSubmittedUnexplained holds refuses paths row failure
+as_submitted_unexplained holds refuses paths row (Words error) is = is
+as_submitted_unexplained holds refuses paths row (Row beyond) is = absurd (no_row_said holds refuses paths beyond is)
+as_submitted_unexplained holds refuses paths row NotText is = is
+as_submitted_unexplained holds refuses paths row (Pairs fault) is = is
+as_submitted_unexplained holds refuses paths row (Input fault) is = is
+as_submitted_unexplained holds refuses paths row (Works fault) is = is
+as_submitted_unexplained holds refuses paths row (Registrations fault path) is = is
+as_submitted_unexplained holds refuses paths row Room is = is
+as_submitted_unexplained holds refuses paths row (File name) is = is
+as_submitted_unexplained holds refuses paths row Output is = is
+as_submitted_unexplained holds refuses paths row (Target path) is = is
+as_submitted_unexplained holds refuses paths row (Statement fault path) is = is
+as_submitted_unexplained holds refuses paths row Many is = is
+as_submitted_unexplained holds refuses paths row (Changed path) is = is
+as_submitted_unexplained holds refuses paths row (Replaces path) is = is
+
 -- and its words fail for that
 pub unexplained_given : (holds : List ℕ → List ℕ → Type 0) (refuses : List ℕ → ErrorKind → Type 0) (words : List (List ℕ)) (asked : ExplainWords) → AreExplainedFrom words asked → (failure : Failure)
-    → IsUnexplained holds refuses (map_inputs string_bytes asked.inputs) asked.row failure → IsOfExplanation holds refuses words failure
-unexplained_given holds refuses words asked read failure is =
-    as_asked failure (subst (λ (row : ℕ). IsUnexplained holds refuses (inputs_given explain_app words) row failure) read.row
-    (subst (λ (paths : Inputs (List ℕ)). IsUnexplained holds refuses paths asked.row failure) read.inputs is))
+    → IsUnexplainedFrom holds refuses asked.inputs asked.row failure → IsOfExplanation holds refuses words failure
+unexplained_given holds refuses words asked read failure is = as_asked failure is
   where
-    as_asked : (failure : Failure)
-        → IsUnexplained holds refuses (inputs_given explain_app words) (number_given explain_app (codes "row") words) failure
-        → IsOfExplanation holds refuses words failure
-    as_asked (Words error) none = absurd none
-    as_asked NotText none = none
-    as_asked (Pairs fault) none = none
-    as_asked (Row beyond) is = is
-    as_asked (Input fault) is = is
-    as_asked (Works fault) none = none
-    as_asked (Registrations fault path) none = none
-    as_asked Room is = is
-    as_asked (File name) is = is
-    as_asked Output none = none
-    as_asked (Target path) none = none
-    as_asked (Statement fault path) none = none
-    as_asked Many none = none
-    as_asked (Changed path) none = none
-    as_asked (Replaces path) none = none
+    given : (failure : Failure) → IsUnexplainedFrom holds refuses asked.inputs asked.row failure
+        → EitherRun (name_works words) (IsUnexplained holds refuses (inputs_given explain_app words) (row_given words) failure)
+        (IsSubmittedUnexplained holds refuses (submitted_given submitted_explain_app words) (row_given words) failure)
+    given failure is =
+        by_inputs (λ paths. IsUnexplained holds refuses paths (row_given words) failure) (λ paths. IsSubmittedUnexplained holds refuses paths (row_given words) failure) (name_works words)
+        (inputs_given explain_app words) (submitted_given submitted_explain_app words) asked.inputs read.inputs
+        (subst (λ (row : ℕ). IsUnexplainedFrom holds refuses asked.inputs row failure) read.row is)
+
+    no_words : (inputs : RunInputs) (row : ℕ) (error : Error) → ¬ IsUnexplainedFrom holds refuses inputs row (Words error)
+    no_words (OneFile inputs) row error none = none
+    no_words (Submitted inputs) row error is = no_words_of_submitted holds refuses (paths_of inputs) error is
+
+    as_asked : (failure : Failure) → IsUnexplainedFrom holds refuses asked.inputs asked.row failure → IsOfExplanation holds refuses words failure
+    as_asked (Words error) is = absurd (no_words asked.inputs asked.row error is)
+    as_asked (Row beyond) is = given (Row beyond) is
+    as_asked NotText is = given NotText is
+    as_asked (Pairs fault) is = given (Pairs fault) is
+    as_asked (Input fault) is = given (Input fault) is
+    as_asked (Works fault) is = given (Works fault) is
+    as_asked (Registrations fault path) is = given (Registrations fault path) is
+    as_asked Room is = given Room is
+    as_asked (File name) is = given (File name) is
+    as_asked Output is = given Output is
+    as_asked (Target path) is = given (Target path) is
+    as_asked (Statement fault path) is = given (Statement fault path) is
+    as_asked Many is = given Many is
+    as_asked (Changed path) is = given (Changed path) is
+    as_asked (Replaces path) is = given (Replaces path) is
 
 -- a check reports on the paths that the options are given
 pub reported_given : (holds : List ℕ → List ℕ → Type 0) (words : List (List ℕ)) (inputs : Inputs (String Global)) (sound : Bool) (text : List ℕ) → AreCheckedFrom words inputs

@@ -10,18 +10,19 @@ use Rattle.clap.specs.declared.builder.value_parser.ValueParser.TheVariants as v
 use Rattle.clap.specs.declared.error.Error.{Error}
 use Rattle.clap.specs.declared.error.kind.ErrorKind.TheVariants as kinds
 use Rattle.clap.specs.declared.parser.matches.ArgMatches.{ArgMatches}
+use Rattle.line_split.specs.declared.TheConstants.{MOST_LINES}
 use Rattle.split_run.specs.Plans.{MOST_NODES}
 use Rattle.split_run.specs.declared.TheConstants.{MOST_THREADS}
 use Rattle.royalty_program.specs.Args.{HasArgs, IsOptionalArg, IsRequiredArg, file_rule, number_rule, optional_rule}
-use Rattle.royalty_program.specs.Asked.{AreAccepted, IsErrorOf, IsSubmittedError, files_given}
+use Rattle.royalty_program.specs.Asked.{AreAccepted, IsErrorOf, IsSubmittedError, files_given, number_given}
 use Rattle.royalty_program.specs.NamedFiles.{AreNamed, AreNamedBy}
 use Rattle.royalty_program.specs.declared.named_files.NamedFiles.{NamedFiles}
 use Rattle.royalty_program.specs.SubmittedFiles.{SubmittedPaths}
 use Rattle.submitted_inputs.specs.declared.inputs.SubmittedTables.{SubmittedTables}
-use Rattle.royalty_program.specs.PlanWords.{FindsPlan}
-use Rattle.royalty_program.specs.SubmittedCommand.{FindsTables, HasSubmittedArgs, IsSubmittedCommand, files_rule, submitted_app, with_submitted}
-use Rattle.royalty_program.proofs.OptionLemmas.{HasOptions, as_optional, finds_number, has_entry, has_more, has_value, optional_same, options_of, rows_are}
-use Rattle.royalty_program.proofs.SplitLemmas.{required_same, some_of_map}
+use Rattle.royalty_program.specs.PlanWords.{FindsNumber, FindsPlan}
+use Rattle.royalty_program.specs.SubmittedCommand.{FindsTables, HasSubmittedArgs, IsSubmittedCommand, IsSubmittedExplainCommand, files_rule, submitted_app, submitted_explain_app, with_submitted}
+use Rattle.royalty_program.proofs.OptionLemmas.{HasOptions, IsNumberOf, IsUpTo, as_optional, finds_number, has_entry, has_more, has_value, number_is, number_read, optional_same, options_of, rows_are}
+use Rattle.royalty_program.proofs.SplitLemmas.{required_same}
 
 -- a new command with the five options has them
 pub adds_five : (c0 c1 c2 c3 c4 c5 : Command) (app : App) (tis payees works cwr usage : Arg) → HasArgs c0 [] app
@@ -95,16 +96,38 @@ adds_four_more c0 c1 c2 c3 c4 workers readers nodes output inputs a1 a2 a3 a4 n1
       inputs = adds_more c3 c4 output _ _ _ _ h3 a4 n4 r4;
     }
 
+-- or with this one that of an explanation
+pub adds_row_too : (c0 c1 : Command) (row : Arg) → HasSubmittedArgs c0 [] (with_submitted (new_app (codes "explain"))) → AddsArg c0 row c1
+    → IsRequiredArg (codes "row") row → rule_of row ≡ number_rule (codes "row") MOST_LINES → row.value_parser ≡ Some (vp.Unsigned 1 MOST_LINES)
+    → IsSubmittedExplainCommand c1
+adds_row_too c0 c1 row inputs a needed rule parser = record {
+  row = a.arg;
+  needs_row = required_same _ row a.arg a.rules needed;
+  few_rows = a.rules.parser _ parser;
+  inputs = adds_more c0 c1 row _ _ _ _ inputs a (as_optional _ row needed) rule;
+}
+
 pub submitted_simple : is_simple submitted_app ≡ true
 submitted_simple = refl
 
 pub submitted_free : is_simple_and_free submitted_app ≡ true
 submitted_free = refl
 
--- the names of its options
+pub submitted_explain_simple : is_simple submitted_explain_app ≡ true
+submitted_explain_simple = refl
+
+pub submitted_explain_free : is_simple_and_free submitted_explain_app ≡ true
+submitted_explain_free = refl
+
+-- the names of the options
+abbrev pub names_before : (more : List Text) → List Text
+names_before more = codes "tis" ∷ codes "payees" ∷ codes "works" ∷ codes "cwr" ∷ codes "usage" ∷ more
+
 abbrev pub submitted_names : List Text
-submitted_names =
-    codes "tis" ∷ codes "payees" ∷ codes "works" ∷ codes "cwr" ∷ codes "usage" ∷ codes "workers" ∷ codes "readers" ∷ codes "nodes" ∷ codes "output" ∷ []
+submitted_names = names_before (codes "workers" ∷ codes "readers" ∷ codes "nodes" ∷ codes "output" ∷ [])
+
+abbrev pub submitted_explain_names : List Text
+submitted_explain_names = names_before (codes "row" ∷ [])
 
 pub submitted_options : (c : Command) → IsSubmittedCommand c → HasOptions c submitted_names submitted_app
 submitted_options c s =
@@ -126,21 +149,42 @@ submitted_options c s =
 pub rows_of_submitted : (c : Command) (m : ArgMatches) (words : List Text) → IsSubmittedCommand c → HasMatchesOf (app_of c) words m → rows_of (found_of m) ≡ matches_of submitted_app words
 rows_of_submitted c m words s found = rows_are c submitted_names submitted_app m words (submitted_options c s) submitted_simple found
 
--- a parse finds the tables and a plan
-pub finds_tables : (c : Command) (m : ArgMatches) → IsSubmittedCommand c → IsParsedFrom c m → FindsTables m
-finds_tables c m s p =
+-- a command of an explanation has its options
+pub submitted_explain_options : (c : Command) → IsSubmittedExplainCommand c → HasOptions c submitted_explain_names submitted_explain_app
+submitted_explain_options c s =
     let i = s.inputs in
-    let o = submitted_options c s in record {
-      tis = has_value c submitted_names submitted_app m (codes "tis") i.tis 0 o p i.needs_tis (rw i.has.list refl) (omega arith);
-      works = has_value c submitted_names submitted_app m (codes "works") i.works 2 o p i.needs_works (rw i.has.list refl) (omega arith);
-      usage = has_value c submitted_names submitted_app m (codes "usage") i.usage 4 o p i.needs_usage (rw i.has.list refl) (omega arith);
-    }
+    options_of c (i.tis ∷ i.payees ∷ i.works ∷ i.cwr ∷ i.usage ∷ s.row ∷ []) submitted_explain_names submitted_explain_app i.has
+    (rw (i.needs_tis.id, i.may_have_payees.id, i.needs_works.id, i.has_cwr.id, i.needs_usage.id, s.needs_row.id) refl) refl
 
-pub finds_files : {X : Type 0} (f : X → List Text) (c : Command) (m : ArgMatches) (r : Option X) → IsSubmittedCommand c → IsParsedFrom c m
-    → option_map f r ≡ option_map raw_values (matched_of (found_of m) (codes "cwr")) → IsSome r
-finds_files f c m r s p same = some_of_map f raw_values r _ same
-    (has_entry c submitted_names submitted_app m (codes "cwr") s.inputs.cwr 3 (submitted_options c s) p s.inputs.has_cwr s.inputs.needs_cwr (rw s.inputs.has.list refl) (omega arith))
+pub rows_of_submitted_explain : (c : Command) (m : ArgMatches) (words : List Text) → IsSubmittedExplainCommand c → HasMatchesOf (app_of c) words m
+    → rows_of (found_of m) ≡ matches_of submitted_explain_app words
+rows_of_submitted_explain c m words s found =
+    rows_are c submitted_explain_names submitted_explain_app m words (submitted_explain_options c s) submitted_explain_simple found
 
+-- a parse finds the tables and the files
+pub finds_tables : (c : Command) (m : ArgMatches) (more : List Arg) (names : List Text) (app : App) → HasSubmittedArgs c more app
+    → HasOptions c (names_before names) app → IsParsedFrom c m → FindsTables m
+finds_tables c m more names app i o p = record {
+  tis = has_value c (names_before names) app m (codes "tis") i.tis 0 o p i.needs_tis (rw i.has.list refl) (omega arith);
+  works = has_value c (names_before names) app m (codes "works") i.works 2 o p i.needs_works (rw i.has.list refl) (omega arith);
+  usage = has_value c (names_before names) app m (codes "usage") i.usage 4 o p i.needs_usage (rw i.has.list refl) (omega arith);
+  files = has_entry c (names_before names) app m (codes "cwr") i.cwr 3 o p i.has_cwr i.needs_cwr (rw i.has.list refl) (omega arith);
+}
+
+-- the one of an explanation the row too
+finds_row_too : (c : Command) (m : ArgMatches) → IsSubmittedExplainCommand c → IsParsedFrom c m → FindsNumber m (codes "row") MOST_LINES
+finds_row_too c m s p =
+    finds_number c submitted_explain_names submitted_explain_app m (codes "row") MOST_LINES s.row 5 (submitted_explain_options c s) p s.needs_row
+    (rw s.inputs.has.list refl) (omega arith) s.few_rows
+
+pub row_read_too : (c : Command) (m : ArgMatches) (r : Option ℕ) → IsSubmittedExplainCommand c → IsParsedFrom c m → IsNumberOf m (codes "row") r → IsUpTo MOST_LINES r
+row_read_too c m r s p = number_read m (codes "row") MOST_LINES r (finds_row_too c m s p)
+
+pub row_is_too : (c : Command) (m : ArgMatches) (words : List Text) (r : Option ℕ) (n : ℕ) → IsSubmittedExplainCommand c → IsParsedFrom c m
+    → rows_of (found_of m) ≡ matches_of submitted_explain_app words → IsNumberOf m (codes "row") r → r ≡ Some n → n ≡ number_given submitted_explain_app (codes "row") words
+row_is_too c m words r n s p are = number_is submitted_explain_app m words (codes "row") MOST_LINES r n are (finds_row_too c m s p)
+
+-- and the one of a run a plan
 pub finds_plan_too : (c : Command) (m : ArgMatches) → IsSubmittedCommand c → IsParsedFrom c m → FindsPlan m
 finds_plan_too c m s p =
     let o = submitted_options c s in record {

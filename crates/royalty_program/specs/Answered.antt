@@ -6,7 +6,7 @@ use Rattle.std.specs.Io.KnownBytes.{Appends, Keeps}
 use Rattle.line_split.specs.declared.TheConstants.{MOST_AMOUNT}
 use Rattle.royalty_program.specs.RunCommand.{run_app}
 use Rattle.royalty_program.specs.Asked.{AreRunWords, AreAccepted, AskForCheck, AskForExplanation, AskForMerge, AskForRun, AskForSubmittedRun, AskForTable, EitherRun, IsDivision, IsRun}
-use Rattle.royalty_program.specs.Asked.{amount_of, files_given, inputs_given, name_works, number_given, number_in, pairs_of, path_if_given, paths_given, paths_in_order, plan_given, run_grammar, run_output, submitted_given}
+use Rattle.royalty_program.specs.Asked.{amount_of, files_given, inputs_given, name_works, number_in, pairs_of, path_if_given, paths_given, paths_in_order, plan_given, row_given, run_grammar, run_output, submitted_given}
 use Rattle.std.specs.declared.alloc.Global.{Global}
 use Rattle.run_inputs.specs.Inputs.{map_inputs}
 use Rattle.run_inputs.specs.declared.inputs.Inputs.{Inputs}
@@ -21,7 +21,8 @@ use Rattle.royalty_program.specs.OutputPath.{IsNoInput}
 use Rattle.royalty_program.specs.Files.{AreStatementsOver, IsExplanationOver, IsReportOver}
 use Rattle.royalty_program.specs.NamedFiles.{AreNamedBy}
 use Rattle.royalty_program.specs.StartingCommand.{starting_app, starting_name}
-use Rattle.royalty_program.specs.SubmittedFiles.{AreSubmittedStatementsOver, IsNoneOf, IsTableOver, SubmittedPaths, paths_of}
+use Rattle.royalty_program.specs.SubmittedCommand.{submitted_app, submitted_explain_app}
+use Rattle.royalty_program.specs.SubmittedFiles.{AreSubmittedStatementsOver, IsNoneOf, IsSubmittedExplanationOver, IsTableOver, SubmittedPaths, paths_of}
 use Rattle.royalty_program.specs.declared.starting_command.StartingWords.{StartingWords}
 use Rattle.starting_files.specs.declared.making.StartingTable.{StartingTable}
 use Rattle.royalty_program.specs.declared.inputs.RunInputs.{RunInputs}
@@ -63,7 +64,7 @@ AreSubmitted paths (Submitted inputs) = paths_of inputs ≡ paths
 -- the paths and the numbers are those that the options of a run are given
 pub record AreReadFrom (words : List (List ℕ)) (asked : RunWords) : Type 0 where
   pub inputs : EitherRun (name_works words) (AreOneFile (inputs_given run_app words) asked.inputs)
-      (AreSubmitted (submitted_given words) asked.inputs)
+      (AreSubmitted (submitted_given submitted_app words) asked.inputs)
   pub plan : asked.plan ≡ plan_given (run_grammar words) words
   pub output : option_map string_bytes asked.output ≡ run_output words
 
@@ -87,8 +88,9 @@ IsRunInOrder words run _ = ⊥
 
 -- the paths and the row are those that the options of an explanation are given
 pub record AreExplainedFrom (words : List (List ℕ)) (asked : ExplainWords) : Type 0 where
-  pub inputs : map_inputs string_bytes asked.inputs ≡ inputs_given explain_app words
-  pub row : asked.row ≡ number_given explain_app (codes "row") words
+  pub inputs : EitherRun (name_works words) (AreOneFile (inputs_given explain_app words) asked.inputs)
+      (AreSubmitted (submitted_given submitted_explain_app words) asked.inputs)
+  pub row : asked.row ≡ row_given words
 
 abbrev pub IsExplanationAsked : List (List ℕ) → Asked → Type 0
 IsExplanationAsked words (Explanation asked) = AreExplainedFrom (drop 1 words) asked
@@ -136,9 +138,10 @@ pub record IsAnswered (holds gives : List ℕ → List ℕ → Type 0) (words : 
   pub division : IsDivision words → IsAnswerTo words text
   pub run : AskForRun words
       → AreStatementsOver holds (inputs_given run_app (drop 1 words)) text
-  pub submitted : AskForSubmittedRun words → AreSubmittedStatementsOver holds (submitted_given (drop 1 words)) text
-  pub explained : AskForExplanation words
-      → IsExplanationOver holds (inputs_given explain_app (drop 1 words)) (number_given explain_app (codes "row") (drop 1 words)) text
+  pub submitted : AskForSubmittedRun words → AreSubmittedStatementsOver holds (submitted_given submitted_app (drop 1 words)) text
+  pub explained : AskForExplanation words → EitherRun (name_works (drop 1 words))
+      (IsExplanationOver holds (inputs_given explain_app (drop 1 words)) (row_given (drop 1 words)) text)
+      (IsSubmittedExplanationOver holds (submitted_given submitted_explain_app (drop 1 words)) (row_given (drop 1 words)) text)
   pub checked : AskForCheck words
       → IsReportOver holds (inputs_given check_app (drop 1 words)) sound text
   pub merged : AskForMerge words → IsMergeOver gives (paths_given merge_app (codes "statements") (drop 1 words)) text
@@ -164,4 +167,4 @@ pub record IsDelivered (keeps : List ℕ → Option (List ℕ) → Type 0) (word
   pub printed_or_kept : Appends before after text ⊎ ((path : List ℕ) × NameOutput words path × keeps path (Some text) × Keeps before after)
   pub kept_if_named : (path : List ℕ) → AskForOutput words path → keeps path (Some text) × Keeps before after
   pub apart : AskForRun words → IfSome (run_output (drop 1 words)) (IsNoInput (inputs_given run_app (drop 1 words)))
-  pub apart_from_all : AskForSubmittedRun words → IfSome (run_output (drop 1 words)) (IsNoneOf (submitted_given (drop 1 words)))
+  pub apart_from_all : AskForSubmittedRun words → IfSome (run_output (drop 1 words)) (IsNoneOf (submitted_given submitted_app (drop 1 words)))

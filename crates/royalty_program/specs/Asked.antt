@@ -14,7 +14,7 @@ use Rattle.royalty_program.specs.MergeCommand.{AreWrongPaths, merge_app}
 use Rattle.royalty_program.specs.NamedFiles.{AreNamed, name_in, path_in}
 use Rattle.royalty_program.specs.RunCommand.{run_app}
 use Rattle.royalty_program.specs.StartingCommand.{starting_app, starting_name}
-use Rattle.royalty_program.specs.SubmittedCommand.{submitted_app}
+use Rattle.royalty_program.specs.SubmittedCommand.{submitted_app, submitted_explain_app}
 use Rattle.starting_files.specs.declared.making.StartingTable.{StartingTable}
 use Rattle.royalty_program.specs.SubmittedFiles.{SubmittedPaths}
 use Rattle.split_run.specs.Plans.{Planned}
@@ -102,21 +102,29 @@ abbrev pub files_given : App → List (List ℕ) → List (List ℕ)
 files_given app words = paths_given app (codes "cwr") words
 
 -- the paths of the tables, and the names and paths of the files of the submitters
-abbrev pub submitted_given : List (List ℕ) → SubmittedPaths
-submitted_given words = record {
+abbrev pub submitted_given : App → List (List ℕ) → SubmittedPaths
+submitted_given app words = record {
   tables = record {
-    territories = path_given submitted_app (codes "tis") words;
-    payees = path_if_given submitted_app (codes "payees") words;
-    works = path_given submitted_app (codes "works") words;
-    usage = path_given submitted_app (codes "usage") words;
+    territories = path_given app (codes "tis") words;
+    payees = path_if_given app (codes "payees") words;
+    works = path_given app (codes "works") words;
+    usage = path_given app (codes "usage") words;
   };
-  names = map name_in (files_given submitted_app words);
-  files = map path_in (files_given submitted_app words);
+  names = map name_in (files_given app words);
+  files = map path_in (files_given app words);
 }
 
 -- the grammar of the words of a run
 abbrev pub run_grammar : List (List ℕ) → App
 run_grammar words = if name_works words then submitted_app else run_app
+
+-- and of an explanation
+abbrev pub explain_grammar : List (List ℕ) → App
+explain_grammar words = if name_works words then submitted_explain_app else explain_app
+
+-- the row that is explained
+abbrev pub row_given : List (List ℕ) → ℕ
+row_given words = number_given (explain_grammar words) (codes "row") words
 
 -- the path of the output of a run, where one is named
 abbrev pub run_output : List (List ℕ) → Option (List ℕ)
@@ -142,6 +150,11 @@ AreFilesAccepted app words = AreAccepted app words × AreNamed (files_given app 
 abbrev pub AreRunAccepted : List (List ℕ) → Type 0
 AreRunAccepted words = EitherRun (name_works words) (AreAccepted run_app words) (AreFilesAccepted submitted_app words)
 
+-- so are those of an explanation
+abbrev pub AreExplainAccepted : List (List ℕ) → Type 0
+AreExplainAccepted words =
+    EitherRun (name_works words) (AreAccepted explain_app words) (AreFilesAccepted submitted_explain_app words)
+
 -- They are a run that is accepted.
 pub record AreRun (words : List (List ℕ)) : Type 0 where
   pub command : word_at words 1 ≡ codes "run"
@@ -161,10 +174,14 @@ abbrev pub IsRunError : List (List ℕ) → Error → Type 0
 IsRunError words error =
     EitherRun (name_works words) (IsErrorOf run_app words error) (IsSubmittedError submitted_app words error)
 
--- The words of a command line ask for the explanation of a line, and for no help.
+abbrev pub IsExplainError : List (List ℕ) → Error → Type 0
+IsExplainError words error =
+    EitherRun (name_works words) (IsErrorOf explain_app words error) (IsSubmittedError submitted_explain_app words error)
+
+-- The words of a command line ask for the explanation of a line, in a run over one file or over those of several submitters, and for no help.
 pub record AskForExplanation (words : List (List ℕ)) : Type 0 where
   pub command : word_at words 1 ≡ codes "explain"
-  pub no_help : ¬ AskForHelp explain_app (drop 1 words)
+  pub no_help : ¬ AskForHelp (explain_grammar (drop 1 words)) (drop 1 words)
 
 -- The words of a command line ask for a check of the files, and for no help.
 pub record AskForCheck (words : List (List ℕ)) : Type 0 where

@@ -3,10 +3,10 @@ use Rattle.std.specs.Prelude.{ℕ, List, string_bytes}
 use Rattle.std.specs.declared.io.ErrorKind.{ErrorKind}
 use Rattle.run_inputs.specs.Inputs.{map_inputs}
 use Rattle.run_inputs.specs.declared.inputs.Inputs.{Inputs}
-use Rattle.royalty_program.specs.Files.{AreStatementsOver}
+use Rattle.royalty_program.specs.Files.{AreStatementsOver, IsExplanationOver}
 use Rattle.royalty_program.specs.OutputPath.{IsNoInput}
-use Rattle.royalty_program.specs.SubmittedFiles.{AreSubmittedStatementsOver, IsNoneOf, SubmittedPaths, paths_of}
-use Rattle.royalty_program.specs.Status.{IsOfPaths, IsOfSubmitted}
+use Rattle.royalty_program.specs.SubmittedFiles.{AreSubmittedStatementsOver, IsNoneOf, IsSubmittedExplanationOver, SubmittedPaths, paths_of}
+use Rattle.royalty_program.specs.Status.{IsOfPaths, IsOfSubmitted, IsSubmittedUnexplained, IsUnexplained}
 use Rattle.royalty_program.specs.declared.failure.Failure.{Failure}
 use Rattle.royalty_program.specs.declared.inputs.RunInputs.{RunInputs}
 use Rattle.royalty_program.specs.declared.inputs.RunInputs.TheVariants.{OneFile, Submitted}
@@ -30,3 +30,14 @@ IsOfInputs holds refuses inputs failure =
 -- a path is that of no input
 abbrev pub IsNoInputOf : RunInputs → (path : List ℕ) → Type 0
 IsNoInputOf inputs path = EitherInputs (λ paths. IsNoInput paths path) (λ paths. IsNoneOf paths path) inputs
+
+-- the text explains the line in a row of their usage list
+abbrev pub IsExplanationFrom : (holds : List ℕ → List ℕ → Type 0) → RunInputs → (row : ℕ) → List ℕ → Type 0
+IsExplanationFrom holds inputs row text =
+    EitherInputs (λ paths. IsExplanationOver holds paths row text) (λ paths. IsSubmittedExplanationOver holds paths row text) inputs
+
+-- a line of theirs is not explained for this
+abbrev pub IsUnexplainedFrom : (holds : List ℕ → List ℕ → Type 0) → (refuses : List ℕ → ErrorKind → Type 0) → RunInputs → (row : ℕ)
+    → Failure → Type 0
+IsUnexplainedFrom holds refuses inputs row failure =
+    EitherInputs (λ paths. IsUnexplained holds refuses paths row failure) (λ paths. IsSubmittedUnexplained holds refuses paths row failure) inputs

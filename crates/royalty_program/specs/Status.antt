@@ -6,7 +6,8 @@ use Rattle.clap.specs.declared.error.kind.ErrorKind.TheVariants as kinds
 use Rattle.std.specs.declared.io.ErrorKind as io
 use Rattle.std.specs.declared.io.ErrorKind.TheVariants as io_kind
 use Rattle.pair_split.specs.Pair.{word_at}
-use Rattle.royalty_program.specs.Asked.{AreAccepted, AreFilesAccepted, AreRunAccepted, EitherRun, IsDivision, NameWrongPaths, files_given, inputs_given, name_works, number_given, pairs_of, path_if_given, paths_given, run_output, submitted_given}
+use Rattle.royalty_program.specs.Asked.{AreAccepted, AreExplainAccepted, AreFilesAccepted, AreRunAccepted, EitherRun, IsDivision, NameWrongPaths}
+use Rattle.royalty_program.specs.Asked.{files_given, inputs_given, name_works, pairs_of, path_if_given, paths_given, row_given, run_output, submitted_given}
 use Rattle.pair_split.specs.PairFault.{IsFaultOf}
 use Rattle.pair_split.specs.PairFault as pair
 use Rattle.tis_tree.specs.TisRows as tis
@@ -30,7 +31,8 @@ use Rattle.royalty_program.specs.RunCommand.{run_app}
 use Rattle.royalty_program.specs.SplitCommand.{split_app}
 use Rattle.royalty_program.specs.NamedFiles.{name_in, path_in}
 use Rattle.royalty_program.specs.StartingCommand.{starting_app, starting_name}
-use Rattle.royalty_program.specs.SubmittedFiles.{HoldsAt, IsSubmittedFaultOver, RefusesAt, SubmittedPaths}
+use Rattle.royalty_program.specs.SubmittedCommand.{submitted_app, submitted_explain_app}
+use Rattle.royalty_program.specs.SubmittedFiles.{HoldsAt, IsSubmittedFaultOver, RefusesAt, SubmittedHaveNoRowOver, SubmittedPaths}
 use Rattle.starting_files.specs.declared.making.StartingTable.{StartingTable}
 use Rattle.submitted_inputs.specs.Files.{IsFaultOfFiles}
 use Rattle.royalty_program.specs.MergeFiles.{AreTooMany, GivesFault, HasChanged, HoldsOf, IsFaultAt, IsFirstRefused}
@@ -225,7 +227,7 @@ IsOfRun holds refuses words (Target path) = run_output words ≡ Some (string_by
 IsOfRun holds refuses words (Replaces path) = run_output words ≡ Some (string_bytes path)
 IsOfRun holds refuses words failure =
     EitherRun (name_works words) (IsOfPaths holds refuses (inputs_given run_app words) failure)
-    (IsOfSubmitted holds refuses (submitted_given words) failure)
+    (IsOfSubmitted holds refuses (submitted_given submitted_app words) failure)
 
 -- an explanation over the files of these paths fails for what a run over them fails for, or since the usage list has no such row
 abbrev pub IsUnexplained : (holds : List ℕ → List ℕ → Type 0) (refuses : List ℕ → io.ErrorKind → Type 0)
@@ -233,11 +235,18 @@ abbrev pub IsUnexplained : (holds : List ℕ → List ℕ → Type 0) (refuses :
 IsUnexplained holds refuses paths row (Row beyond) = (beyond ≡ row) × HasNoRowOver holds paths row
 IsUnexplained holds refuses paths row failure = IsOfPaths holds refuses paths failure
 
--- and its words for that, or for themselves where clap does not accept them
+-- so does one over the files of several submitters
+abbrev pub IsSubmittedUnexplained : (holds : List ℕ → List ℕ → Type 0) (refuses : List ℕ → io.ErrorKind → Type 0)
+    (paths : SubmittedPaths) (row : ℕ) → Failure → Type 0
+IsSubmittedUnexplained holds refuses paths row (Row beyond) = (beyond ≡ row) × SubmittedHaveNoRowOver holds paths row
+IsSubmittedUnexplained holds refuses paths row failure = IsOfSubmitted holds refuses paths failure
+
+-- and its words for that, or for themselves where they are not accepted
 abbrev pub IsOfExplanation : (holds : List ℕ → List ℕ → Type 0) (refuses : List ℕ → io.ErrorKind → Type 0) → List (List ℕ) → Failure → Type 0
-IsOfExplanation holds refuses words (Words error) = ¬ AreAccepted explain_app words
+IsOfExplanation holds refuses words (Words error) = ¬ AreExplainAccepted words
 IsOfExplanation holds refuses words failure =
-    IsUnexplained holds refuses (inputs_given explain_app words) (number_given explain_app (codes "row") words) failure
+    EitherRun (name_works words) (IsUnexplained holds refuses (inputs_given explain_app words) (row_given words) failure)
+    (IsSubmittedUnexplained holds refuses (submitted_given submitted_explain_app words) (row_given words) failure)
 
 -- A merge of the texts of these paths fails for the first fault of the first that has one, since they are of too many usage lines, for
 -- lack of memory, for one that cannot be read, or since one changed after all were found to be sound.

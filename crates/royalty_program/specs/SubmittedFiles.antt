@@ -3,6 +3,7 @@
 use Rattle.std.specs.Prelude.{ℕ, ◌≤◌, ◌<◌, ◌⊎◌, All, IfSome, List, length, map, string_bytes, ⊤}
 use Rattle.std.specs.declared.io.ErrorKind.{ErrorKind}
 use Rattle.std.specs.declared.io.ErrorKind.TheVariants.{OutOfMemory}
+use Rattle.explain_line.specs.Submitted.{IsSubmittedExplanationOf, SubmittedHaveNoRow}
 use Rattle.pair_split.specs.Pair.{word_at}
 use Rattle.royalty_program.specs.Files.{HoldsIfGiven, IsUnread}
 use Rattle.royalty_program.specs.NamedFiles.{name_in, path_in}
@@ -54,6 +55,19 @@ pub record AreSubmittedStatementsOver (holds : List ℕ → List ℕ → Type 0)
   pub tables : SubmittedTables (List ℕ)
   pub read : AreTablesRead holds paths.tables tables
   pub statements : AreStatementsOf paths.names (HoldsAt holds paths.files) tables text
+
+-- the text explains the line in a row of the usage list, by the tables and files of these paths
+pub record IsSubmittedExplanationOver (holds : List ℕ → List ℕ → Type 0) (paths : SubmittedPaths) (row : ℕ)
+    (text : List ℕ) : Type 0 where
+  pub tables : SubmittedTables (List ℕ)
+  pub read : AreTablesRead holds paths.tables tables
+  pub explanation : IsSubmittedExplanationOf paths.names (HoldsAt holds paths.files) tables row text
+
+-- these are sound, and the usage list has no such row
+pub record SubmittedHaveNoRowOver (holds : List ℕ → List ℕ → Type 0) (paths : SubmittedPaths) (row : ℕ) : Type 0 where
+  pub tables : SubmittedTables (List ℕ)
+  pub read : AreTablesRead holds paths.tables tables
+  pub beyond : SubmittedHaveNoRow paths.names (HoldsAt holds paths.files) tables row
 
 -- the fault is the first of the first of the inputs that has one
 pub record IsSubmittedFaultOver (holds : List ℕ → List ℕ → Type 0) (refuses : List ℕ → ErrorKind → Type 0)

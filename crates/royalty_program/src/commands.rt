@@ -3,9 +3,8 @@
 ghost use Rattle.std.specs.Prelude.{◌≡◌, ◌≢◌, IfOk, IfErr, codes, drop, map, string_bytes};
 ghost use Rattle.clap.specs.Words.{kind_of};
 ghost use Rattle.clap.specs.declared.error.kind.ErrorKind.TheVariants as kinds;
-ghost use Rattle.royalty_program.specs.Asked.{IsDivision, IsErrorOf, IsMergeError, IsRun, IsRunError, IsSubmittedError};
+ghost use Rattle.royalty_program.specs.Asked.{IsDivision, IsErrorOf, IsExplainError, IsMergeError, IsRun, IsRunError, IsSubmittedError};
 ghost use Rattle.royalty_program.specs.CheckCommand.{check_app};
-ghost use Rattle.royalty_program.specs.ExplainCommand.{explain_app};
 ghost use Rattle.royalty_program.specs.SplitCommand.{split_app};
 ghost use Rattle.royalty_program.specs.StartingCommand.{starting_app, starting_name};
 ghost use Rattle.starting_files.specs.declared.making.StartingTable.{StartingTable};
@@ -71,7 +70,7 @@ pub fn read_words(alloc: Global, words: &[String]) -> Result<Asked, Error>
     ensures division { IsDivision (map string_bytes words.now) → IfOk result (IsDivisionOf (map string_bytes words.now)) }
     ensures run { word_at (map string_bytes words.now) 1 ≡ codes "run" → IfOk result (IsRunOf (map string_bytes words.now)) }
     ensures explanation { word_at (map string_bytes words.now) 1 ≡ codes "explain" → IfOk result (IsExplanationAsked (map string_bytes words.now)) }
-    ensures unexplained { word_at (map string_bytes words.now) 1 ≡ codes "explain" → IfErr result (IsErrorOf explain_app (drop 1 (map string_bytes words.now))) }
+    ensures unexplained { word_at (map string_bytes words.now) 1 ≡ codes "explain" → IfErr result (IsExplainError (drop 1 (map string_bytes words.now))) }
     ensures checked { word_at (map string_bytes words.now) 1 ≡ codes "check" → IfOk result (IsCheckAsked (map string_bytes words.now)) }
     ensures unchecked { word_at (map string_bytes words.now) 1 ≡ codes "check" → IfErr result (IsErrorOf check_app (drop 1 (map string_bytes words.now))) }
     ensures merged { word_at (map string_bytes words.now) 1 ≡ codes "merge" → IfOk result (IsMergeAsked (map string_bytes words.now)) }

@@ -9,7 +9,7 @@ ghost use Rattle.run_inputs.specs.Inputs.{map_inputs};
 ghost use Rattle.royalty_program.specs.Files.{AreRead, AreStatementsOver, HaveNoFaultOver};
 ghost use Rattle.royalty_program.specs.Files.{HoldsIfGiven, IsExplanationOver, IsReportOver};
 ghost use Rattle.royalty_program.specs.OutputPath.{IsNoInput};
-ghost use Rattle.royalty_program.specs.RunInputs.{AreStatementsFrom, IsNoInputOf, IsOfInputs};
+ghost use Rattle.royalty_program.specs.RunInputs.{AreStatementsFrom, IsExplanationFrom, IsNoInputOf, IsOfInputs, IsUnexplainedFrom};
 ghost use Rattle.royalty_program.specs.Status.{IsOfFile, IsOfNoInput, IsOfPaths, IsOfRunOutput, IsRefusal, IsUnexplained};
 ghost use Rattle.royalty_program.specs.Targets.{IsLeftOrHas, IsPut};
 
@@ -18,7 +18,7 @@ use crate::failure::Failure;
 use crate::inputs::RunInputs;
 use crate::run_command::RunWords;
 use crate::sources::{Source, unread};
-use crate::submitted_files::{is_submitted, settle_submitted};
+use crate::submitted_files::{explain_in_submitted, is_submitted, settle_submitted};
 use crate::targets::{Target, finish, unkept};
 use check_inputs::{Checked, File, check};
 use explain_line::explain;
@@ -163,20 +163,36 @@ pub fn settle_out<R: Threads + Wait + Sync, S: Source + Sync, T: Target, W: Writ
     }
 }
 
-/// The explanation of a usage line over the files of a run. All are read, in the order of
-/// `Inputs`, before any is parsed.
+/// The explanation of a usage line over the files of a run.
 pub fn explain_files<S: Source>(
     alloc: Global,
     files: &S,
     asked: ExplainWords,
 ) -> Result<Vec<u8>, Failure>
-    ensures explanation { IfOk result (λ text.
-        IsExplanationOver (S.holds files.now) (map_inputs string_bytes asked.inputs) asked.row text.items) }
+    ensures explanation { IfOk result (λ text. IsExplanationFrom (S.holds files.now) asked.inputs asked.row text.items) }
     ensures failure { IfErr result IsRefusal }
-    ensures files { IfErr result
-        (IsUnexplained (S.holds files.now) (S.refuses files.now) (map_inputs string_bytes asked.inputs) asked.row) }
+    ensures files { IfErr result (IsUnexplainedFrom (S.holds files.now) (S.refuses files.now) asked.inputs asked.row) }
 {
     let ExplainWords { inputs, row } = asked;
+    match inputs {
+        RunInputs::OneFile(inputs) => explain_one_file(alloc, files, inputs, row),
+        RunInputs::Submitted(inputs) => explain_in_submitted(alloc, files, inputs, row),
+    }
+}
+
+/// The same over one CWR file. All inputs are read, in the order of `Inputs`, before any is parsed.
+fn explain_one_file<S: Source>(
+    alloc: Global,
+    files: &S,
+    inputs: Inputs<String>,
+    row: u64,
+) -> Result<Vec<u8>, Failure>
+    ensures explanation { IfOk result (λ text.
+        IsExplanationOver (S.holds files.now) (map_inputs string_bytes inputs) row text.items) }
+    ensures failure { IfErr result IsRefusal }
+    ensures files { IfErr result
+        (IsUnexplained (S.holds files.now) (S.refuses files.now) (map_inputs string_bytes inputs) row) }
+{
     let inputs = read_all(files, alloc, inputs)?;
     match explain(alloc, &inputs, row) {
         Ok(Some(text)) => Ok(text),

@@ -49,6 +49,18 @@ pub(crate) fn optional_file_arg<'a>(alloc: Global, name: &'a str, help: &'a str)
         .action(ArgAction::Set)
 }
 
+/// The option `--works`, as it stands among the options of a run over one CWR file: for the help alone.
+pub(crate) fn works_arg<'a>(alloc: Global) -> Arg<'a>
+    ensures optional { IsOptionalArg (codes "works") result }
+    ensures rule { rule_of result ≡ optional_rule (codes "works") }
+{
+    optional_file_arg(
+        alloc,
+        "works",
+        "The table of works, where several submitters have a CWR file each: --cwr NAME=F, for each",
+    )
+}
+
 /// An option whose value is the path of a file, and which may stand any number of times but none.
 pub(crate) fn files_arg<'a>(alloc: Global, name: &'a str, help: &'a str) -> Arg<'a>
     ensures optional { IsOptionalArg name.entry.now result }

@@ -1,17 +1,16 @@
 //! The grammar of the command `run`, and what its words ask for.
 
-ghost use Rattle.std.specs.List.{list_any};
 ghost use Rattle.std.specs.Option.{option_map};
 ghost use Rattle.std.specs.Prelude.{◌≡◌, IfOk, IfErr, codes, map, string_bytes};
-ghost use Rattle.royalty_program.specs.Asked.{IsErrorOf, IsRunError, inputs_given, is_works_word as is_works, name_works};
+ghost use Rattle.royalty_program.specs.Asked.{IsErrorOf, IsRunError, inputs_given};
 ghost use Rattle.royalty_program.specs.Asked.{path_if_given, plan_given};
 ghost use Rattle.royalty_program.specs.Answered.{AreOneFile, AreReadFrom};
 ghost use Rattle.royalty_program.specs.RunCommand.{IsRunCommand, run_app};
 
 use crate::inputs::{RunInputs, input_command, read_inputs};
-use crate::options::{optional_file_arg, output_arg, owned};
+use crate::options::{output_arg, owned, works_arg};
 use crate::plan_words::{nodes_arg, read_plan, readers_arg, workers_arg};
-use crate::submitted_command::read_submitted_run;
+use crate::submitted_command::{names_works, read_submitted_run};
 use clap::{Command, Error};
 use split_run::Plan;
 use std::alloc::{AllocError, Global};
@@ -85,30 +84,6 @@ pub fn read_run(alloc: Global, words: &[String]) -> Result<RunWords, Error>
     }
 }
 
-/// Whether words have the option `--works` after the first.
-fn names_works(words: &[String]) -> bool
-    ensures { result ≡ name_works (map string_bytes words.now) }
-{
-    if words.is_empty() {
-        return false;
-    }
-    have_works(&words[1..])
-}
-
-/// Whether words have the option `--works`.
-fn have_works(words: &[String]) -> bool
-    ensures { result ≡ list_any (λ word. is_works (string_bytes word)) words.now }
-{
-    words.iter().any(|word| is_works_word(word.as_str()))
-}
-
-/// Whether a word is the option `--works`, alone or with its value.
-fn is_works_word(word: &str) -> bool
-    ensures { result ≡ is_works word.now }
-{
-    word == "--works" || word.starts_with("--works=")
-}
-
 /// Reads the words of a run over one CWR file.
 fn read_run_of_one_file(alloc: Global, words: &[String]) -> Result<RunWords, Error>
     ensures inputs { IfOk result (λ asked. AreOneFile (inputs_given run_app (map string_bytes words.now)) asked.inputs) }
@@ -136,9 +111,5 @@ pub fn run_command<'a>(alloc: Global) -> Result<Command<'a>, AllocError>
         .arg(readers_arg(alloc))?
         .arg(nodes_arg(alloc))?
         .arg(output_arg(alloc))?
-        .arg(optional_file_arg(
-            alloc,
-            "works",
-            "The table of works, where several submitters have a CWR file each: --cwr NAME=F, for each",
-        ))
+        .arg(works_arg(alloc))
 }

@@ -3,8 +3,8 @@
 ghost use Rattle.std.specs.Io.KnownBytes.{Appends};
 ghost use Rattle.std.specs.Prelude.{◌≡◌, ◌⊎◌, ℕ, All, List, false, IfErr, IfOk, OnOk, length, map, string_bytes};
 ghost use Rattle.royalty_program.specs.OutputPath.{IsOther};
-ghost use Rattle.royalty_program.specs.Status.{IsOfFiles, IsOfSubmitted, IsOfTables, IsRefusal, IsSaidOf};
-ghost use Rattle.royalty_program.specs.SubmittedFiles.{AreSubmittedStatementsOver, AreTablesRead, HoldsAt, IsNoneOf, IsWithin, paths_of};
+ghost use Rattle.royalty_program.specs.Status.{IsOfFiles, IsOfSubmitted, IsOfTables, IsRefusal, IsSaidOf, IsSubmittedUnexplained};
+ghost use Rattle.royalty_program.specs.SubmittedFiles.{AreSubmittedStatementsOver, AreTablesRead, HoldsAt, IsNoneOf, IsSubmittedExplanationOver, IsWithin, paths_of};
 ghost use Rattle.starting_files.specs.Tables.{IsTableOf};
 ghost use Rattle.submitted_inputs.specs.Submitted.{map_tables};
 ghost use Rattle.royalty_program.specs.declared.failure.Failure.TheVariants.{Room};
@@ -15,6 +15,7 @@ use crate::inputs::SubmittedInputs;
 use crate::sources::Source;
 use crate::starting_command::StartingWords;
 use crate::targets::Target;
+use explain_line::explain_submitted;
 use pair_split::word;
 use run_inputs::Fault;
 use settle_run::settle_tables_to;
@@ -33,7 +34,7 @@ struct CwrFiles<'a, S> {
     paths: &'a [String],
 }
 
-impl<'a, S: Source + Sync> SubmitterFiles for CwrFiles<'a, S> {
+impl<'a, S: Source> SubmitterFiles for CwrFiles<'a, S> {
     ghost use Rattle.std.specs.Prelude.{map, string_bytes};
     ghost use Rattle.royalty_program.specs.SubmittedFiles.{HoldsAt, LacksAt, RefusesAt};
 
@@ -85,6 +86,35 @@ pub(crate) fn settle_submitted<R: Threads + Wait + Sync, S: Source + Sync, W: Wr
             Ok(printed) => Ok(printed),
             Err(_) => Err(Failure::Room),
         },
+        Err(fault) => Err(what_failed(fault, named.paths)),
+    }
+}
+
+/// The explanation of a usage line of such a run. The tables and the usage list are read whole before any is parsed; the
+/// files are read one after another.
+pub(crate) fn explain_in_submitted<S: Source>(
+    alloc: Global,
+    files: &S,
+    inputs: SubmittedInputs,
+    row: u64,
+) -> Result<Vec<u8>, Failure>
+    ensures explanation { IfOk result (λ text.
+        IsSubmittedExplanationOver (S.holds files.now) (paths_of inputs) row text.items) }
+    ensures failure { IfErr result IsRefusal }
+    ensures files { IfErr result (IsSubmittedUnexplained (S.holds files.now) (S.refuses files.now) (paths_of inputs) row) }
+{
+    let SubmittedInputs {
+        tables,
+        files: named,
+    } = inputs;
+    let tables = read_tables(files, alloc, tables)?;
+    let cwr = CwrFiles {
+        files,
+        paths: named.paths.as_slice(),
+    };
+    match explain_submitted(alloc, &named.names, &tables, &cwr, row) {
+        Ok(Some(text)) => Ok(text),
+        Ok(None) => Err(Failure::Row(row)),
         Err(fault) => Err(what_failed(fault, named.paths)),
     }
 }

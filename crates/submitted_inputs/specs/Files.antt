@@ -10,6 +10,12 @@ use Rattle.cwr_share.specs.declared.in_force.InForce.{InForce}
 use Rattle.submitted_inputs.specs.declared.fault.SubmittedFault.{SubmittedFault}
 use Rattle.submitted_inputs.specs.declared.fault.SubmittedFault.TheVariants.{Unreadable, Cwr}
 
+-- the file of a place holds these bytes, which are sound lines, after which these works are in force
+pub record IsTextRead (holds : ℕ → List ℕ → Type 0) (place : ℕ) (bytes : List ℕ) (in_force : InForce) : Type 0 where
+  pub held : holds place bytes
+  pub sound : AreSound (lines_of bytes)
+  pub registrations : HasInForce (lines_of bytes) in_force
+
 -- the file of a place holds sound lines, after which these works are in force
 pub record IsFileRead (holds : ℕ → List ℕ → Type 0) (place : ℕ) (in_force : InForce) : Type 0 where
   pub bytes : List ℕ

@@ -1,7 +1,7 @@
 //! The CWR files of submitters, read side by side.
 
 ghost use Rattle.std.specs.Prelude.{◌≡◌, ◌⊎◌, ◌<◌, ℕ, List, Ok, Some, IfErr, IfNone, IfOk, IfSome, length, map};
-ghost use Rattle.submitted_inputs.specs.Files.{AreFilesRead, IsFaultOfFile, IsFaultOfFiles, IsFileRead};
+ghost use Rattle.submitted_inputs.specs.Files.{AreFilesRead, IsFaultOfFile, IsFaultOfFiles, IsFileRead, IsTextRead};
 ghost use Rattle.submitted_inputs.specs.Outcomes.{AreOutcomes, IsFirstRefused, IsOutcomeOf};
 ghost use Rattle.submitted_inputs.specs.declared.fault.SubmittedFault.TheVariants.{Room};
 
@@ -27,6 +27,25 @@ pub trait SubmitterFiles {
         ensures memory { IfErr result (λ _. lacks self.now place) };
 }
 
+/// The bytes of the file at a place, and its registrations in force.
+pub fn read_with_text<F: SubmitterFiles>(
+    alloc: Global,
+    files: &F,
+    place: usize,
+) -> Result<(Vec<u8>, InForce), SubmittedFault>
+    ensures read { IfOk result (λ read. IsTextRead (F.holds files.now) place read.0.items read.1) }
+    ensures fault { IfErr result (λ fault. (fault ≡ Room) ⊎ IsFaultOfFile (F.holds files.now) (F.refuses files.now) place fault) }
+{
+    let Some(bytes) = files.read(alloc, place)? else {
+        return Err(SubmittedFault::Unreadable(place));
+    };
+    match InForce::read(alloc, bytes.as_slice()) {
+        Ok(in_force) => Ok((bytes, in_force)),
+        Err(CwrFault::Memory) => Err(SubmittedFault::Room),
+        Err(fault) => Err(SubmittedFault::Cwr(place, fault)),
+    }
+}
+
 /// The registrations in force of the file at a place.
 fn read_file<F: SubmitterFiles>(
     alloc: Global,
@@ -36,14 +55,8 @@ fn read_file<F: SubmitterFiles>(
     ensures read { IfOk result (IsFileRead (F.holds files.now) place) }
     ensures fault { IfErr result (λ fault. (fault ≡ Room) ⊎ IsFaultOfFile (F.holds files.now) (F.refuses files.now) place fault) }
 {
-    let Some(bytes) = files.read(alloc, place)? else {
-        return Err(SubmittedFault::Unreadable(place));
-    };
-    match InForce::read(alloc, bytes.as_slice()) {
-        Ok(in_force) => Ok(in_force),
-        Err(CwrFault::Memory) => Err(SubmittedFault::Room),
-        Err(fault) => Err(SubmittedFault::Cwr(place, fault)),
-    }
+    let (_, in_force) = read_with_text(alloc, files, place)?;
+    Ok(in_force)
 }
 
 /// What became of a file: its registrations in force, or why there are none. Nothing, before it is read.

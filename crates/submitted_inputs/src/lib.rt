@@ -8,6 +8,6 @@ mod inputs;
 mod reading;
 
 pub use fault::SubmittedFault;
-pub use files::SubmitterFiles;
+pub use files::{SubmitterFiles, read_with_text};
 pub use inputs::SubmittedTables;
-pub use reading::read_submitted;
+pub use reading::{read_payees_if_given, read_submitted};

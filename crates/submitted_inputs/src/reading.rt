@@ -70,7 +70,7 @@ fn works_of<'a, I: Input + Drop>(
     Works::read(alloc, submitters, file.bytes())
 }
 
-/// The payees of a table, or those of a table without rows where there is none.
+/// The payees of a table, which is freed when it is read if it was given away.
 fn payees_of<I: Input + Drop>(
     alloc: Global,
     submitters: &Submitters,
@@ -78,6 +78,18 @@ fn payees_of<I: Input + Drop>(
 ) -> Result<Payees, PayeeFault>
     ensures payees { IfOk result (ArePayees submitters.now (option_map I.bytes file)) }
     ensures fault { IfErr result (λ fault. IsFaultOfPayees submitters.now (option_map I.bytes file) fault) }
+{
+    read_payees_if_given(alloc, submitters, &file)
+}
+
+/// The payees of a table, or those of a table without rows where there is none.
+pub fn read_payees_if_given<I: Input>(
+    alloc: Global,
+    submitters: &Submitters,
+    file: &Option<I>,
+) -> Result<Payees, PayeeFault>
+    ensures payees { IfOk result (ArePayees submitters.now (option_map I.bytes file.now)) }
+    ensures fault { IfErr result (λ fault. IsFaultOfPayees submitters.now (option_map I.bytes file.now) fault) }
 {
     match file {
         Some(file) => read_payees(alloc, submitters, file.bytes()),

@@ -1,29 +1,15 @@
-use Rattle.std.proofs.Common.{Bor, ◌≡◌, ◌+◌, ◌-◌, ◌<◌, ◌++◌, ◌∷◌, ◌∙◌, ℕ, suc, List, Some, ap, arith, drop, get_or, inl, inr, length, subst, sym, take}
-use Rattle.std.specs.Prelude.{slice_get}
-use Rattle.std.proofs.Math.Seq.{drop-cons}
-use Rattle.std.proofs.lemmas.List.{length-take-le, take-append-drop}
-use Rattle.std.proofs.lemmas.Option.{get_or_from_slice_get}
+use Rattle.std.proofs.Common.{Bor, ◌≡◌, ◌+◌, ◌-◌, ◌<◌, ℕ, List, arith, inl, inr, length, subst, sym}
 use Rattle.csv_table.specs.Written.{text_of}
 use Rattle.cwr_share.specs.CwrFile.{AreSound}
 use Rattle.cwr_share.specs.Lines.{lines_of}
-use Rattle.line_split.specs.UsageLine.{UsageLine, usage_line_of}
+use Rattle.line_split.specs.UsageLine.{usage_line_of}
 use Rattle.run_inputs.specs.Inputs.{IsReading, map_inputs}
 use Rattle.run_inputs.specs.declared.inputs.Inputs.{Inputs}
 use Rattle.run_inputs.proofs.Made.{of_made}
 use Rattle.explain_line.specs.Explanation.{IsRow, explanation_rows}
+use Rattle.explain_line.proofs.RowLemmas.{row_after}
 use Rattle.explain_line.proofs.explanation.explain.Goals.{then-row-eq0-via-then-row-eq0, then-row-eq0-via-else-row-eq0+then-row-len}
 use Rattle.explain_line.proofs.explanation.explain.Goals as goal
-
--- the line at a place stands in the row after it
-row_after : (lines : List UsageLine) (place : ℕ) (line : UsageLine) → place < length lines → slice_get lines place ≡ Some line → IsRow lines (place + 1) line
-row_after lines place line within is =
-    let here : get_or lines place line ≡ line = get_or_from_slice_get lines place line line is in
-    record {
-      before = take place lines;
-      after = drop (suc place) lines;
-      split = sym (take-append-drop place lines) ∙ ap (λ (l : List UsageLine). take place lines ++ l) (drop-cons lines place line within ∙ ap (λ (l : UsageLine). l ∷ drop (suc place) lines) here);
-      place = ap (λ (n : ℕ). n + 1) (sym (length-take-le place lines (omega (arith, within))));
-    }
 
 -- what holds of the inputs that were lent holds of the inputs
 of_inputs : {I : Type 0} (bytes : I → List ℕ) (lent : Inputs (Bor I)) (inputs : Inputs I) (P : Inputs (List ℕ) → Type 0) → map_inputs (λ file. file.now) lent ≡ inputs

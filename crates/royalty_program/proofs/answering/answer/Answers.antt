@@ -10,11 +10,10 @@ use Rattle.pair_split.specs.PairFault.{IsFaultOf}
 use Rattle.pair_split.specs.declared.pair_fault.PairFault.{PairFault}
 use Rattle.pair_split.specs.declared.pair_fault.PairFault.TheVariants.{Pair, Name, Share, Many, Memory}
 use Rattle.royalty_program.specs.CheckCommand.{check_app}
-use Rattle.royalty_program.specs.ExplainCommand.{explain_app}
 use Rattle.royalty_program.specs.SplitCommand.{split_app}
 use Rattle.royalty_program.specs.Answered.{AreCheckedFrom, AreExplainedFrom, AreMergeFrom, AreReadFrom, AskForOutput, IsAnswerTo, IsAnswered}
-use Rattle.royalty_program.specs.Asked.{AskForHelp, IsDivision, pairs_of}
-use Rattle.royalty_program.specs.Files.{IsExplanationOver, IsReportOver}
+use Rattle.royalty_program.specs.Asked.{AskForHelp, IsDivision, explain_grammar, pairs_of}
+use Rattle.royalty_program.specs.Files.{IsReportOver}
 use Rattle.royalty_program.specs.MergeCommand.{merge_app}
 use Rattle.royalty_program.specs.MergeFiles.{IsMergeOver}
 use Rattle.royalty_program.specs.Status.{IsOfCheck, IsOfDivision, IsOfNoInput, IsOfPaths, failure_of_fault}
@@ -30,13 +29,13 @@ use Rattle.royalty_program.proofs.CommandNames.{differ, no_table}
 use Rattle.royalty_program.proofs.RunLemmas.{is_of_one_file}
 use Rattle.royalty_program.specs.Answered.{AreStarting}
 use Rattle.royalty_program.specs.Asked.{AskForRun, AskForSubmittedRun, AskForTable}
-use Rattle.royalty_program.specs.RunInputs.{AreStatementsFrom}
+use Rattle.royalty_program.specs.RunInputs.{AreStatementsFrom, IsExplanationFrom}
 use Rattle.royalty_program.specs.StartingCommand.{starting_app, starting_name}
 use Rattle.royalty_program.specs.SubmittedFiles.{HoldsAt}
 use Rattle.royalty_program.specs.declared.starting_command.StartingWords.{StartingWords}
 use Rattle.starting_files.specs.Tables.{IsTableOf}
 use Rattle.starting_files.specs.declared.making.StartingTable.{StartingTable}
-use Rattle.royalty_program.proofs.OutputLemmas.{delivered_merge, delivered_out, delivered_run, left_merge, left_run, no_files_help_given, no_merge_help_given, no_output, no_run_help_given, not_accepted_files, not_accepted_run, unmerged_words, unused_merge, unused_run}
+use Rattle.royalty_program.proofs.OutputLemmas.{delivered_merge, delivered_out, delivered_run, left_merge, left_run, no_explain_help_given, no_files_help_given, no_merge_help_given, no_output, no_run_help_given, not_accepted_explain, not_accepted_files, not_accepted_run, unmerged_words, unused_merge, unused_run}
 use Rattle.royalty_program.proofs.OverLemmas.{explained_given, fails_given, merged_given, no_table_given, over_given, over_in_order, over_submitted, reported_given, table_given}
 use Rattle.royalty_program.proofs.OptionLemmas.{accepted_is_memory, no_help_given}
 use Rattle.royalty_program.proofs.RunWalked.{no_help}
@@ -103,7 +102,7 @@ answers_merge holds gives words asked text command read over = record {
 
 -- and those that ask for an explanation by it
 answers_explanation : (holds gives : List ℕ → List ℕ → Type 0) (words : List (List ℕ)) (asked : ExplainWords) (text : List ℕ) → word_at words 1 ≡ codes "explain" → AreExplainedFrom (drop 1 words) asked
-    → IsExplanationOver holds (map_inputs string_bytes asked.inputs) asked.row text → IsAnswered holds gives words true text
+    → IsExplanationFrom holds asked.inputs asked.row text → IsAnswered holds gives words true text
 answers_explanation holds gives words asked text command read over = record {
   division = λ division. absurd (differ (sym command ∙ division.command) refl);
   run = λ run. absurd (differ (sym command ∙ run.command) refl);
@@ -197,8 +196,8 @@ returns-in-Ok-format-clause-answered g c =
     let no_table_help : (table : StartingTable) → AskForTable table words → ⊥ = λ table asks.
     let bad : false ≡ true = c.if-use_stderr.ensures.1
     (no_files_help_given (starting_app table) (drop 1 words) c.in-Err.error (c.in-Err.ensures.no_table table asks.command) asks.no_help) in cc in
-    let no_explain_help : word_at words 1 ≡ codes "explain" → ¬ AskForHelp explain_app (drop 1 words) → ⊥ = λ command none.
-    let bad : false ≡ true = c.if-use_stderr.ensures.1 (no_help_given explain_app (drop 1 words) c.in-Err.error (c.in-Err.ensures.unexplained command) none) in cc in
+    let no_explain_help : word_at words 1 ≡ codes "explain" → ¬ AskForHelp (explain_grammar (drop 1 words)) (drop 1 words) → ⊥ = λ command none.
+    let bad : false ≡ true = c.if-use_stderr.ensures.1 (no_explain_help_given (drop 1 words) c.in-Err.error (c.in-Err.ensures.unexplained command) none) in cc in
     let no_check_help : word_at words 1 ≡ codes "check" → ¬ AskForHelp check_app (drop 1 words) → ⊥ = λ command none.
     let bad : false ≡ true = c.if-use_stderr.ensures.1 (no_help_given check_app (drop 1 words) c.in-Err.error (c.in-Err.ensures.unchecked command) none) in cc in
     let no_merge_help : word_at words 1 ≡ codes "merge" → ¬ AskForHelp merge_app (drop 1 words) → ⊥ = λ command none.
@@ -237,10 +236,10 @@ returns-in-Err-2-clause-table g c table command =
     not_accepted_files (starting_app table) (drop 1 words) c.in-Err-2.error not_memory (c.in-Err-2.ensures.no_table table command)
 
 pub returns-in-Err-2-clause-explanation : goal.returns-in-Err-2-clause-explanation
-returns-in-Err-2-clause-explanation g c command accepted =
+returns-in-Err-2-clause-explanation g c command =
     let words = map string_bytes c.args.words.now in
     let not_memory : kind_of c.in-Err-2.error ≢ kinds.OutOfMemory = search rules in
-    not_memory (accepted_is_memory explain_app (drop 1 words) c.in-Err-2.error (c.in-Err-2.ensures.unexplained command) accepted)
+    not_accepted_explain (drop 1 words) c.in-Err-2.error not_memory (c.in-Err-2.ensures.unexplained command)
 
 pub returns-in-Err-2-clause-pairs : goal.returns-in-Err-2-clause-pairs
 returns-in-Err-2-clause-pairs g c division accepted =

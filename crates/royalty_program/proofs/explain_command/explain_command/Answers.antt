@@ -1,15 +1,11 @@
 use Rattle.std.proofs.lemmas.Result.{IfOk-weaker}
-use Rattle.line_split.specs.declared.TheConstants.{MOST_LINES}
 use Rattle.royalty_program.specs.ExplainCommand.{IsExplainCommand}
-use Rattle.royalty_program.proofs.OptionLemmas.{narrowed}
-use Rattle.royalty_program.proofs.ExplainLemmas.{adds_row}
+use Rattle.royalty_program.proofs.ExplainLemmas.{adds_row_and_works}
 use Rattle.royalty_program.proofs.explain_command.explain_command.Goals as goal
 
 pub returns : goal.returns
-returns c =
-    let row = narrowed c.value_parser.result c.range.result _ _ MOST_LINES c.value_parser.ensures c.range.ensures c.new.ensures.start c.new.ensures.end in
-    IfOk-weaker c.arg.result _ IsExplainCommand (λ command added.
-    adds_row c.in_ok-input_command.field-0 command c.number_arg.result
-    c.in_ok-input_command.ensures added c.number_arg.ensures.needed
-    (rw row at c.number_arg.ensures.rule) (rw row at c.number_arg.ensures.in_range))
-    c.arg.ensures
+returns c = IfOk-weaker c.arg-2.result _ IsExplainCommand (λ command added.
+    adds_row_and_works c.in_ok-input_command.field-0 c.in_ok-arg.field-0 command c.row_arg.result c.works_arg.result
+    c.in_ok-input_command.ensures c.in_ok-arg.ensures added c.row_arg.ensures.needed c.works_arg.ensures.optional
+    c.row_arg.ensures.rule c.works_arg.ensures.rule c.row_arg.ensures.few)
+    c.arg-2.ensures

@@ -6,7 +6,7 @@ use Rattle.royalty_program.specs.ExplainCommand.{explain_app}
 use Rattle.royalty_program.proofs.ExplainLemmas.{explain_free, explain_names, explain_options, explain_simple, row_is, row_read}
 use Rattle.royalty_program.proofs.InputLemmas.{finds_inputs}
 use Rattle.royalty_program.proofs.OptionLemmas.{error_is, memory_is, rows_are}
-use Rattle.royalty_program.proofs.explain_command.read_explain.Goals as goal
+use Rattle.royalty_program.proofs.explain_command.read_explain_of_one_file.Goals as goal
 
 pub returns-in_err-matches-clause-error : goal.returns-in_err-matches-clause-error
 returns-in_err-matches-clause-error c =
@@ -31,15 +31,19 @@ pub unwrap-row-requires : goal.unwrap-row-requires
 unwrap-row-requires c = (row_read c.in_ok-explain_command.field-0 c.in_ok-matches.matches c.get_one.result
     c.in_ok-explain_command.ensures c.in_ok-matches.ensures.parsed c.get_one.ensures.value).0
 
-pub returns-clause-read : goal.returns-clause-read
-returns-clause-read c =
+pub returns-clause-inputs : goal.returns-clause-inputs
+returns-clause-inputs c =
+    let command = c.in_ok-explain_command.field-0 in
+    let m = c.in_ok-matches.matches in
+    let words = map string_bytes c.args.words.now in
+    let rows = rows_are command explain_names explain_app m words (explain_options command c.in_ok-explain_command.ensures) explain_simple c.in_ok-matches.ensures.matches in
+    c.in_ok-inputs.ensures explain_app words rows
+
+pub returns-clause-row : goal.returns-clause-row
+returns-clause-row c =
     let command = c.in_ok-explain_command.field-0 in
     let m = c.in_ok-matches.matches in
     let words = map string_bytes c.args.words.now in
     let s = c.in_ok-explain_command.ensures in
-    let p = c.in_ok-matches.ensures.parsed in
     let rows = rows_are command explain_names explain_app m words (explain_options command s) explain_simple c.in_ok-matches.ensures.matches in
-    record {
-      inputs = c.in_ok-inputs.ensures explain_app words rows;
-      row = row_is command m words c.get_one.result c.unwrap-row.result s p rows c.get_one.ensures.value c.unwrap-row.ensures;
-    }
+    row_is command m words c.get_one.result c.unwrap-row.result s c.in_ok-matches.ensures.parsed rows c.get_one.ensures.value c.unwrap-row.ensures

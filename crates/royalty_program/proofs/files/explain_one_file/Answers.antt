@@ -5,7 +5,7 @@ use Rattle.clap.proofs.TakesLemmas.{passed_up}
 use Rattle.royalty_program.specs.Status.{IsUnexplained, failure_of_run}
 use Rattle.royalty_program.proofs.FileLemmas.{fails}
 use Rattle.royalty_program.proofs.OverLemmas.{as_unexplained}
-use Rattle.royalty_program.proofs.files.explain_files.Goals as goal
+use Rattle.royalty_program.proofs.files.explain_one_file.Goals as goal
 
 pub returns-in-Ok-Some-clause-explanation : goal.returns-in-Ok-Some-clause-explanation
 returns-in-Ok-Some-clause-explanation g c = record { files = _; read = c.in_ok-inputs.ensures.read; explanation = rw c.in-Ok-Some.field-0-is at c.in-Ok-Some.ensures.explained }
@@ -15,18 +15,18 @@ returns-in-Ok-None-clause-files g c = (refl, record { files = _; read = c.in_ok-
 
 pub returns-clause-files : goal.returns-clause-files
 returns-clause-files g c =
-    let paths = map_inputs string_bytes c.args.asked.inputs in
+    let paths = map_inputs string_bytes c.args.inputs in
     let holds = g.S.Source.holds c.args.files.now in
     let refuses = g.S.Source.refuses c.args.files.now in
     let fault = c.in-Err.fault in
     rw c.from.ensures
-    (as_unexplained holds refuses paths c.args.asked.row (failure_of_run fault)
+    (as_unexplained holds refuses paths c.args.row (failure_of_run fault)
     (fails holds refuses paths fault (record { files = _; read = c.in_ok-inputs.ensures.read; fault_of = c.in-Err.ensures.fault })))
 
 pub returns-in_err-inputs-clause-files : goal.returns-in_err-inputs-clause-files
 returns-in_err-inputs-clause-files g c =
-    let paths = map_inputs string_bytes c.args.asked.inputs in
+    let paths = map_inputs string_bytes c.args.inputs in
     let holds = g.S.Source.holds c.args.files.now in
     let refuses = g.S.Source.refuses c.args.files.now in
-    passed_up c.from_residual.result c.in_err-inputs.field-0.0 (IsUnexplained holds refuses paths c.args.asked.row) c.from_residual.ensures.1
-    (as_unexplained holds refuses paths c.args.asked.row c.in_err-inputs.field-0.0 c.in_err-inputs.ensures.files)
+    passed_up c.from_residual.result c.in_err-inputs.field-0.0 (IsUnexplained holds refuses paths c.args.row) c.from_residual.ensures.1
+    (as_unexplained holds refuses paths c.args.row c.in_err-inputs.field-0.0 c.in_err-inputs.ensures.files)

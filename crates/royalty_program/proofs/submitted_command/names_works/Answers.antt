@@ -4,7 +4,7 @@ use Rattle.std.specs.Prelude.{string_bytes}
 use Rattle.clap.proofs.WalkLemmas.{list_any-map}
 use Rattle.royalty_program.specs.Asked.{is_works_word}
 use Rattle.royalty_program.proofs.Shifted.{mapped_others, others}
-use Rattle.royalty_program.proofs.run_command.names_works.Goals as goal
+use Rattle.royalty_program.proofs.submitted_command.names_works.Goals as goal
 
 pub returns : goal.returns
 returns c =
