@@ -55,12 +55,12 @@ struct Filed {
 }
 
 /// The last registration of each number that is asked for, with the shares for a right.
-fn in_force<'a>(
-    cwr: &'a [u8],
+fn in_force(
+    cwr: &[u8],
     right: usize,
     is_asked: impl Fn(&[u8]) -> bool,
     payee: impl Fn(&[u8]) -> Vec<u8>,
-) -> HashMap<&'a [u8], Filed> {
+) -> HashMap<&[u8], Filed> {
     let (mut found, mut open, mut interest) = (HashMap::new(), None, 0);
     for (n, line) in cwr.split(|&b| b == b'\n').enumerate() {
         let line = line.strip_suffix(b"\r").unwrap_or(line);

@@ -133,13 +133,7 @@ impl<'a> Linked<'a> {
     }
 
     /// Takes in what the file of the submitter in a place registers, so far as it is linked.
-    pub fn add(
-        &mut self,
-        place: usize,
-        submitter: &Submitter,
-        filing: &Filing,
-        payees: &Payees,
-    ) {
+    pub fn add(&mut self, place: usize, submitter: &Submitter, filing: &Filing, payees: &Payees) {
         let numbers = &self.works.numbers[place];
         let mut parties = vec![UNKNOWN; filing.parties.len()];
         for (number, lines) in filing.in_force() {

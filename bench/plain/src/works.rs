@@ -84,7 +84,9 @@ impl Works {
     pub fn rows_of(&self, work: &[u8]) -> Vec<usize> {
         let place = self.places.get(work);
         let rows = self.rows.iter().enumerate();
-        rows.filter(|(_, of)| place == Some(*of)).map(|(row, _)| row).collect()
+        rows.filter(|(_, of)| place == Some(*of))
+            .map(|(row, _)| row)
+            .collect()
     }
 
     /// Of each row, the place of the submitter, and the submitter work number.
