@@ -2,7 +2,7 @@
 answer.
 
     python3 -m bench.compare --program PATH [--cases 2000] [--explained 3] [--checked 1] [--seed 1]
-    python3 -m bench.compare --program PATH --submitters [--cases 2000] [--seed 1]
+        [--submitters]
 
 Half of the inputs are small. The others are realistic, with up to 2,000 parties and 6,000 usage
 lines, so that some of them are read in parts. Half have a table of payees.
@@ -15,10 +15,12 @@ What a run is refused for has to be the first fault of the report, and where a r
 the report has no fault.
 
 With --submitters each case has the files of one to five submitters, and a third of the cases have a
-table, a file or the names of submitters damaged. Compared are a run, the tables that `works` and
-`parties` print, and a run over these tables, which may not be refused for them. In some cases all
-values stand behind a `=`. Where both programs refuse the words (status 2), their messages may
-differ.
+table, a file or the names of submitters damaged. Compared are a run, explanations and reports as
+above, the tables that `works` and `parties` print, and a run over these tables, which may not be
+refused for them. Half of the reports are over files that were spoilt further, and a quarter over
+usage lists with many lines of unknown works and territories, for half of which the registrations
+are linked to other works. In some cases all values stand behind a `=`. Where both programs refuse
+the words (status 2), their messages may differ.
 """
 import os
 import random
@@ -29,8 +31,8 @@ from tools import made_up_submitters, plain
 from tools.comparing import alike, contradicts, csv_rows, first_difference, missing, refuses_tables
 from tools.made_up import case
 from tools.running import NAMES, parser_of_program, run, run_options, words_of, written
-from tools.spoilt import all_spoilt, strange
-from tools.submitters import over_tables, written_options
+from tools.spoilt import all_spoilt, strange, titles_in
+from tools.submitters import over_tables, without_plan, written_options
 
 
 def data_rows(path):
@@ -90,7 +92,7 @@ class Comparison:
         if ours != theirs:
             self.tell(number, f", check {place} differs: {first_difference(ours, theirs)}")
         refusal = run(words_of(self.programs[0], "run", run_options(paths, plan)))
-        if contradicts(ours, paths, refusal):
+        if contradicts(ours, dict(zip(NAMES, paths)), refusal):
             self.tell(number, f", check {place}: {ours[0]} {ours[1][:300]!r}, "
                               f"but a run {refusal[0]} {refusal[2]!r}")
 
@@ -112,7 +114,8 @@ class Comparison:
             if kind < 0.5:
                 paths = written(os.path.join(folder, "spoilt"), all_spoilt(rng, files))
             elif kind < 0.75:
-                paths = written(os.path.join(folder, "strange"), strange(rng, files))
+                made = strange(rng, files, titles_in(files["cwr"]))
+                paths = written(os.path.join(folder, "strange"), made)
             self.compare_report(number, place, paths, plan)
 
     def compare_submitted(self, number, folder, command, options, are_joined):
@@ -124,18 +127,29 @@ class Comparison:
                               f"{first_difference(ours, theirs)}")
         return ours
 
-    def compare_submitters(self, number, folder):
-        """Compares all answers on one case with the files of several submitters."""
-        rng = random.Random(self.seed * 1_000_003 + number)
-        submitted = made_up_submitters.case(rng, os.path.join(folder, "made"))
-        plan = rng.randint(1, 8), rng.randint(1, 8), rng.randint(1, 64)
-        options = written_options(folder, submitted, plan)
-        if rng.random() < 0.05:
-            options = made_up_submitters.with_wrong_words(rng, options)
-        are_joined = rng.random() < 0.2
-        ours = self.compare_submitted(number, folder, "run", options, are_joined)
-        self.statuses[ours[0]] = self.statuses.get(ours[0], 0) + 1
-        self.rows += ours[1].count(b"\n")
+    def compare_explanation_over(self, number, folder, options, row, are_joined, run_over):
+        """Compares the explanation of a row over the files of submitters, also with a run."""
+        options = [*without_plan(options), ("row", row)]
+        ours = self.compare_submitted(number, folder, "explain", options, are_joined)
+        if ours[0] == 0:
+            self.explained += 1
+            unposted = run_over[0] == 0 and missing(csv_rows(run_over[1]), ours[1])
+            if unposted:
+                self.tell(number, f", row {row}: the statements lack {unposted}")
+
+    def compare_report_over(self, number, folder, options, are_joined):
+        """Compares a report on the files of submitters, also with what a run over them says."""
+        files = without_plan(options)
+        ours = self.compare_submitted(number, folder, "check", files, are_joined)
+        self.checked += 1
+        self.faulty += ours[0] == 1
+        refusal = run(words_of(self.programs[0], "run", options, are_joined))
+        if refusal[0] != 2 and contradicts(ours, dict(files), refusal):
+            self.tell(number, f", check: {ours[0]} {ours[1][:300]!r}, "
+                              f"but a run {refusal[0]} {refusal[2]!r}")
+
+    def compare_tables(self, number, folder, options, are_joined):
+        """Compares the tables to begin with, and a run over them."""
         files = [option for option in options if option[0] == "cwr"]
         tables = [self.compare_submitted(number, folder, command, files, are_joined)
                   for command in ("works", "parties")]
@@ -147,6 +161,34 @@ class Comparison:
         self.begun += 1
         if refuses_tables(ours):
             self.tell(number, f": tables to begin with are refused: {ours[2]!r}")
+
+    def compare_submitters(self, number, folder, explained, checked):
+        """Compares all answers on one case with the files of several submitters."""
+        rng = random.Random(self.seed * 1_000_003 + number)
+        submitted = made_up_submitters.case(rng, os.path.join(folder, "made"))
+        plan = rng.randint(1, 8), rng.randint(1, 8), rng.randint(1, 64)
+        options = written_options(folder, submitted, plan)
+        if rng.random() < 0.05:
+            options = made_up_submitters.with_wrong_words(rng, options)
+        are_joined = rng.random() < 0.2
+        ours = self.compare_submitted(number, folder, "run", options, are_joined)
+        self.statuses[ours[0]] = self.statuses.get(ours[0], 0) + 1
+        self.rows += ours[1].count(b"\n")
+        self.compare_tables(number, folder, options, are_joined)
+        lines = data_rows(dict(options).get("usage", ""))
+        for _ in range(explained):
+            row = rng.randint(1, lines + 1)
+            if rng.random() < 0.02:
+                row = rng.choice([0, 1_000_000, 1_000_001, "+1", "x", ""])
+            self.compare_explanation_over(number, folder, options, row, are_joined, ours)
+        for _ in range(checked):
+            asked, kind = options, rng.random()
+            if kind < 0.75:
+                change = (made_up_submitters.all_spoilt if kind < 0.5
+                          else made_up_submitters.strange_uses)
+                made = change(rng, submitted)
+                asked = written_options(os.path.join(folder, "changed"), made, plan)
+            self.compare_report_over(number, folder, asked, are_joined)
 
     def summary(self, cases):
         """What was compared, and how much of it differs."""
@@ -173,7 +215,7 @@ def main():
     with tempfile.TemporaryDirectory() as folder:
         for number in range(a.cases):
             if a.submitters:
-                comparison.compare_submitters(number, folder)
+                comparison.compare_submitters(number, folder, a.explained, a.checked)
             else:
                 comparison.compare_case(number, folder, a.explained, a.checked)
     print(comparison.summary(a.cases))

@@ -10,8 +10,9 @@ times each: cut off, or with bytes, fields or lines left out, doubled, swapped, 
 from elsewhere or from another file.
 
 With --submitters each case has the files of one to five submitters, which are damaged in the same
-way. Beside a run, the tables that `works` and `parties` print are compared, and of words that are
-refused (status 2) the status alone.
+way. Beside a run, the tables that `works` and `parties` print are compared, the explanations of
+three usage lines, at times one past the last, and a report of `check`. Of words that are refused
+(status 2) only the status is compared.
 
 The same seed and number give the same case, so a case that differs can be run again alone: its
 files are left in a folder of their own below FOLDER, and the two commands are printed. A run that
@@ -24,12 +25,15 @@ import sys
 import tempfile
 
 from tools import made_up_submitters, plain, small_inputs
-from tools.comparing import alike
+from tools.comparing import alike, first_difference
 from tools.damage import in_bytes, in_fields, in_lines
 from tools.large_inputs import generate
 from tools.made_up import example, files_in, parties_of
 from tools.running import NAMES, parser_of_program, run, run_options, words_of, written
-from tools.submitters import written_options
+from tools.submitters import without_plan, written_options
+
+# Usage lines that are explained in each case of several submitters.
+EXPLAINED = 3
 
 
 def payees_of(rng, registrations):
@@ -81,7 +85,12 @@ def commands(a, number, room, folder):
         plan = rng.randint(1, 8), rng.randint(1, 8), rng.choice([1, 2, 3, 8, 64])
         options = written_options(folder, submitted, plan)
         files = [option for option in options if option[0] == "cwr"]
-        return [("run", options), ("works", files), ("parties", files)]
+        inputs = without_plan(options)
+        lines = max(1, submitted.tables["usage"].count(b"\n") - 1)
+        explained = [("explain", [*inputs, ("row", rng.randint(1, lines + 1))])
+                     for _ in range(EXPLAINED)]
+        return [("run", options), ("works", files), ("parties", files), *explained,
+                ("check", inputs)]
     files, plan = case(a.seed, number, room)
     paths = written(folder, dict(zip(NAMES, files)))
     return [("run", run_options(paths, plan))]
@@ -150,8 +159,8 @@ def main():
     for end, count in sorted(ends.items(), key=lambda e: -e[1]):
         print(f"{count:8} {end}")
     for number, command, ours, theirs in sorted(differing)[:20]:
-        print(f"case {number} of seed {a.seed} differs, {command}: {ours[0]} {ours[2]!r} and "
-              f"{theirs[0]} {theirs[2]!r}; its files and commands:")
+        print(f"case {number} of seed {a.seed} differs, {command}: "
+              f"{first_difference(ours, theirs)}; its files and commands:")
         keep(a, programs, number)
     print(f"{a.cases} cases of seed {a.seed}: {len(differing)} differ")
     return 1 if differing else 0

@@ -6,12 +6,11 @@ import csv
 import io
 import re
 
-from tools.running import NAMES
-
 # The limits that tables to begin with may pass.
 LIMITS = re.compile(rb"payee fault 4\n|works fault (?:[68]|7 at row \d+)\n")
 
-REFUSED = re.compile(rb"(tis|payee|cwr|usage) fault (\d+)(?: at (row|line) (\d+))?\n")
+REFUSED = re.compile(rb"(tis|payee|works|cwr|usage) fault (\d+)"
+                     rb"(?: at (row|line) (\d+)(?: of (.+))?)?\n")
 
 
 def csv_rows(text):
@@ -23,7 +22,9 @@ def contradicts(report, paths, refusal):
     """Whether the outcome of `check` doesn't fit how `run` over the same files ended.
 
     What a run is refused for has to be the first fault of the report; a run that isn't refused for
-    a fault has to have a report without one, and its status and message.
+    a fault has to have a report without one, and its status and message. `paths` has the paths of
+    the files by their options; of the files of several submitters a refusal names the path. Of
+    these a run may be refused for a fault before it comes to a file that cannot be read.
     """
     status, text, message = report
     if refusal[0] != 1:
@@ -32,14 +33,18 @@ def contradicts(report, paths, refusal):
     fault = REFUSED.fullmatch(refusal[2])
     if not fault:
         return True
-    what, number, unit, place = fault.groups()
-    path = dict(zip(NAMES, paths))["payees" if what == b"payee" else what.decode()]
+    if status == 4 and "works" in paths:
+        return text != b"" or not message.startswith(b"cannot read ")
+    what, number, unit, place, path = fault.groups()
+    if path is None:
+        path = paths["payees" if what == b"payee" else what.decode()].encode()
     if place:
         subject = unit + b" " + place + b": "
     else:
-        subject = b"the parties " if what == b"cwr" else b"there are "
+        is_of_parties = (what, number) in [(b"cwr", b"8"), (b"works", b"8")]
+        subject = b"the parties " if is_of_parties else b"there are "
     first = text.split(b"\n")[0]
-    begins = first.startswith(path.encode() + b": " + subject)
+    begins = first.startswith(path + b": " + subject)
     ends = first.endswith(b" (fault " + number + b")")
     return status != 1 or message != b"" or not (begins and ends)
 
@@ -75,7 +80,7 @@ def missing(statements, explanation):
     The residue has no payee: its row of the statements gives the reason instead.
     """
     rows = csv_rows(explanation)
-    usage, reason = rows[0][2], rows[1][2] or "OPEN"
+    usage, reason = rows[0][2], rows[1][-1] or "OPEN"
     lacking = []
     for row in rows:
         if row[0] == "P" and row[7] != "0":

@@ -10,7 +10,7 @@ from tools.damage import damaged, in_bytes, in_fields, in_lines
 from tools.large_inputs import FILES, generate
 from tools.made_up import files_in, parties_of
 from tools.small_inputs import CODES, OTHERS, PARTIES, territories, usage
-from tools.spoilt import ODD, SUBMITTED, spoilt
+from tools.spoilt import ODD, SUBMITTED, filled, spoilt, strange
 from tools.submitters import Submitted, field, table
 
 NAMES = ["A", "B", "a", "0", "_", "P-1", "SIXTEEN_BYTES_16"]
@@ -322,8 +322,54 @@ def after_accident(rng, submitted):
         place = "usage"
     if rng.random() < 0.4:
         return with_file(submitted, place, lambda data: damaged(rng, data))
+    return with_spoilt(rng, submitted, place)
+
+
+def with_spoilt(rng, submitted, place):
+    """A case after an accident to a table or a file that `check` has words for."""
     kind = {"payees": SUBMITTED}.get(place, place) if place in submitted.tables else "cwr"
     return with_file(submitted, place, lambda data: spoilt(rng, kind, data))
+
+
+def all_spoilt(rng, submitted):
+    """A case after a few accidents all over."""
+    if rng.random() < 0.05:
+        submitted = with_file(submitted, "tis", lambda _: filled(rng, "tis"))
+    for _ in range(rng.randint(1, 5)):
+        submitted = with_spoilt(rng, submitted, rng.choice([*kinds_of(submitted), "usage"]))
+    return submitted
+
+
+def rows_without_quotes(data):
+    """The rows below the header of a table that have no quotes, as lists of fields."""
+    rows = (line.strip(b"\r").split(b",") for line in data.split(b"\n")[1:] if b'"' not in line)
+    return [row for row in rows if row != [b""]]
+
+
+def relinked(rng, submitted):
+    """A case in which registrations are those of other works, of many or of a few.
+
+    At times some of the rows are of numbers that no file has.
+    """
+    rows = [row for row in rows_without_quotes(submitted.tables["works"]) if len(row) == 4]
+    works = [row[0] for row in rows]
+    names = rng.sample(works, min(len(works), rng.choice([1, 3, 12, len(works)])))
+    part = rng.choice([0, 0.1, 0.5])
+    for place, row in enumerate(rows):
+        row[0] = rng.choice(names)
+        if rng.random() < part:
+            row[2] = b"NONE%d" % place
+    tables = {**submitted.tables, "works": table("works", rows)}
+    return Submitted(tables, submitted.files)
+
+
+def strange_uses(rng, submitted):
+    """A case with more usage lines, of works and territories that are unknown or known. In half of
+    the cases other registrations are linked to each work."""
+    if rng.random() < 0.5:
+        submitted = relinked(rng, submitted)
+    works = [row[0] for row in rows_without_quotes(submitted.tables["works"])]
+    return Submitted(strange(rng, submitted.tables, works), submitted.files)
 
 
 def at_limits(rng):

@@ -147,15 +147,19 @@ def some_or_few(rng):
     return rng.choice([1, 10, 11, 12, 40])
 
 
-def strange(rng, files):
+def titles_in(data):
+    """The numbers of the works that a CWR file registers."""
+    titles = (line for line in data.split(b"\n") if line[:3] in (b"NWR", b"REV"))
+    return [line[81:95].strip() for line in titles]
+
+
+def strange(rng, files, registered):
     """The files of a case, by name, with more usage lines, of works and territories that are
-    unknown or known.
+    unknown or known. Works that are known are given as fields.
 
     These lines have few different amounts, so that several works or territories come to the same
     amount, or to the opposite one, or to 0. In half of the cases there are no other usage lines.
     """
-    titles = (line for line in files["cwr"].split(b"\n") if line[:3] in (b"NWR", b"REV"))
-    registered = [line[81:95].strip() for line in titles]
     codes = [line.split(b",")[0] for line in files["tis"].split(b"\n")[1:]]
     listed = [code for code in codes if code.isdigit()]
     works = rng.sample(UNKNOWN, some_or_few(rng))

@@ -50,6 +50,11 @@ def written_options(folder, submitted, plan=()):
             *zip(("workers", "readers", "nodes"), plan)]
 
 
+def without_plan(options):
+    """The options of a run that name its files."""
+    return [option for option in options if option[0] in (*TABLES, "cwr")]
+
+
 def over_tables(folder, options, works, payees):
     """The options of a run, with other tables of works and of payees, which are written."""
     paths = written(folder, {"other.works": works, "other.payees": payees})

@@ -76,7 +76,9 @@ class Spoilt(unittest.TestCase):
 
     def test_strange_lines_are_whole_rows_behind_the_header(self):
         for seed in range(20):
-            rows = spoilt.strange(random.Random(seed), self.FILES)["usage"].split(b"\n")
+            registered = spoilt.titles_in(self.FILES["cwr"])
+            made = spoilt.strange(random.Random(seed), self.FILES, registered)
+            rows = made["usage"].split(b"\n")
             self.assertEqual(rows[0], spoilt.HEADERS["usage"])
             self.assertTrue(rows[1].startswith(b"s0,"))
             self.assertRegex(rows[1], rb",[PMS],-?\d+$")

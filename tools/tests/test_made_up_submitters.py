@@ -72,6 +72,29 @@ class MadeUp(unittest.TestCase):
         self.assertEqual(bytes_of(submitted), before)
         self.assertGreater(changed, 40)
 
+    def test_a_case_is_changed_for_a_report_and_stays_as_it_was(self):
+        submitted = made_up_submitters.small(random.Random(3))
+        before = bytes_of(submitted)
+        for change in (made_up_submitters.all_spoilt, made_up_submitters.strange_uses):
+            first, second = ([bytes_of(change(random.Random(seed), submitted))
+                              for seed in range(40)] for _ in range(2))
+            self.assertEqual(first, second)
+            self.assertGreater(sum(it != before for it in first), 30)
+        self.assertEqual(bytes_of(submitted), before)
+
+    def test_rows_are_of_other_works_of_the_table(self):
+        rows = [[b"S%d" % n, b"A", b"W%d" % n, b""] for n in range(20)]
+        submitted = Submitted({"works": table("works", rows)}, [])
+        counts, absent = set(), 0
+        for seed in range(40):
+            made = made_up_submitters.relinked(random.Random(seed), submitted)
+            others = properties.rows_of(made.tables["works"])
+            self.assertEqual(len(others), len(rows))
+            self.assertTrue({row[0] for row in others} <= {row[0] for row in rows})
+            counts.add(len({row[0] for row in others}))
+            absent += any(row[2].startswith(b"NONE") for row in others)
+        self.assertTrue(1 in counts and max(counts) > 8 and 10 < absent < 40)
+
     def test_an_accident_to_a_record_stays_within_it(self):
         data = file_of(work(b"W1", b"T", b"T0345246801"), publisher(b"P", b"N", b"1" * 11),
                        publisher_share(b"P", 1), writer(b"Q", b"L", b"F", b"2" * 11))
@@ -104,7 +127,8 @@ class MadeUp(unittest.TestCase):
         with tempfile.TemporaryDirectory() as folder, tempfile.TemporaryDirectory() as room:
             first = [fuzz.commands(words, number, room, folder) for number in (7, 8, 7)]
         self.assertEqual(first[0], first[2])
-        self.assertEqual([command for command, _ in first[0]], ["run", "works", "parties"])
+        self.assertEqual([command for command, _ in first[0]],
+                         ["run", "works", "parties", *["explain"] * 3, "check"])
         self.assertEqual({name for name, _ in first[0][1][1]}, {"cwr"})
 
     def test_options_name_tables_and_files(self):

@@ -10,6 +10,7 @@ from tools import comparing, measuring, running
 EXPLANATION = b"U,1,u1,W1,276,P,100\nN,1,\nP,1,A,60,60,0,1,60\nP,0,,40,40,0,2,40\n"
 REFUSED = 1, b"", b"usage fault 5 at row 3\n"
 PATHS = ["f/tis", "f/cwr", "f/usage"]
+NAMED = dict(zip(running.NAMES, [*PATHS, "f/payees"]))
 
 
 class Running(unittest.TestCase):
@@ -82,38 +83,54 @@ class Comparing(unittest.TestCase):
             return 1, text, b""
 
         fits = b"f/usage: row 3: the amount is no number (fault 5)\nmore (fault 1)\n"
-        self.assertFalse(comparing.contradicts(report(fits), PATHS, REFUSED))
+        self.assertFalse(comparing.contradicts(report(fits), NAMED, REFUSED))
         for wrong in (fits.replace(b"row 3", b"row 4"), fits.replace(b"fault 5", b"fault 4"),
                       fits.replace(b"f/usage", b"f/tis"), b"f/usage: usage lines: 3\n" + fits):
-            self.assertTrue(comparing.contradicts(report(wrong), PATHS, REFUSED), wrong)
-        self.assertTrue(comparing.contradicts((0, fits, b""), PATHS, REFUSED))
+            self.assertTrue(comparing.contradicts(report(wrong), NAMED, REFUSED), wrong)
+        self.assertTrue(comparing.contradicts((0, fits, b""), NAMED, REFUSED))
 
     def test_a_fault_of_payees_is_one_of_their_file(self):
         refusal = 1, b"", b"payee fault 2 at row 1\n"
         report = 1, b"f/payees: row 1: the party is blank (fault 2)\n", b""
-        self.assertFalse(comparing.contradicts(report, [*PATHS, "f/payees"], refusal))
+        self.assertFalse(comparing.contradicts(report, NAMED, refusal))
         report = 1, report[1].replace(b"f/payees", b"f/tis"), b""
-        self.assertTrue(comparing.contradicts(report, [*PATHS, "f/payees"], refusal))
+        self.assertTrue(comparing.contradicts(report, NAMED, refusal))
 
     def test_a_refusal_without_a_fault_fits_no_report(self):
-        self.assertTrue(comparing.contradicts((1, b"", b""), PATHS, (1, b"", b"")))
+        self.assertTrue(comparing.contradicts((1, b"", b""), NAMED, (1, b"", b"")))
 
     def test_a_fault_of_a_whole_file_has_no_place(self):
         for name, number, text in ((b"tis", b"5", b"f/tis: there are more rows (fault 5)"),
                                    (b"cwr", b"8", b"f/cwr: the parties are too many (fault 8)")):
             refusal = 1, b"", name + b" fault " + number + b"\n"
-            self.assertFalse(comparing.contradicts((1, text, b""), PATHS, refusal))
+            self.assertFalse(comparing.contradicts((1, text, b""), NAMED, refusal))
 
     def test_a_run_with_statements_has_a_report_without_faults(self):
         run = 0, b"T,,0,0\n", b""
-        self.assertFalse(comparing.contradicts((0, b"f: territories: 1\n", b""), PATHS, run))
-        self.assertTrue(comparing.contradicts((1, b"f: row 1: x (fault 2)\n", b""), PATHS, run))
-        self.assertTrue(comparing.contradicts((0, b"f: row 1: x (fault 2)\n", b""), PATHS, run))
+        self.assertFalse(comparing.contradicts((0, b"f: territories: 1\n", b""), NAMED, run))
+        self.assertTrue(comparing.contradicts((1, b"f: row 1: x (fault 2)\n", b""), NAMED, run))
+        self.assertTrue(comparing.contradicts((0, b"f: row 1: x (fault 2)\n", b""), NAMED, run))
 
     def test_a_run_without_a_file_has_a_report_with_its_message(self):
         run = 4, b"", b"cannot read f/tis\n"
-        self.assertFalse(comparing.contradicts((4, b"", b"cannot read f/tis\n"), PATHS, run))
-        self.assertTrue(comparing.contradicts((4, b"", b"cannot read f/cwr\n"), PATHS, run))
+        self.assertFalse(comparing.contradicts((4, b"", b"cannot read f/tis\n"), NAMED, run))
+        self.assertTrue(comparing.contradicts((4, b"", b"cannot read f/cwr\n"), NAMED, run))
+
+    def test_of_several_submitters_a_refusal_has_the_path_of_the_file(self):
+        paths = {"tis": "f/tis", "works": "f/works", "usage": "f/usage", "cwr": "B=f/1.cwr"}
+        for refusal, text, fits in (
+                (b"cwr fault 2 at line 7 of f/0.cwr\n", b"f/0.cwr: line 7: x (fault 2)\n", True),
+                (b"cwr fault 2 at line 7 of f/0.cwr\n", b"f/1.cwr: line 7: x (fault 2)\n", False),
+                (b"works fault 7 at row 3\n", b"f/works: row 3: x (fault 7)\n", True),
+                (b"works fault 8\n", b"f/works: the parties of all (fault 8)\n", True),
+                (b"works fault 6\n", b"f/works: there are more (fault 6)\n", True),
+                (b"works fault 6\n", b"f/works: row 3: x (fault 6)\n", False)):
+            answer = comparing.contradicts((1, text, b""), paths, (1, b"", refusal))
+            self.assertEqual(answer, not fits, text)
+        # A run comes to a fault before it comes to a file that cannot be read.
+        refusal, unread = (1, b"", b"tis fault 1 at row 0\n"), (4, b"", b"cannot read f/1.cwr\n")
+        self.assertFalse(comparing.contradicts(unread, paths, refusal))
+        self.assertTrue(comparing.contradicts(unread, NAMED, refusal))
 
     def test_portions_without_a_row_of_the_statements_are_missing(self):
         rows = [["L", "A", "u1", "60"], ["M", "OPEN", "u1", "40"]]
@@ -122,6 +139,8 @@ class Comparing(unittest.TestCase):
         self.assertEqual(comparing.missing(rows[1:], EXPLANATION), [("A", "60")])
         nothing = EXPLANATION.replace(b"N,1,\n", b"N,1,OVER\n")
         self.assertEqual(comparing.missing(rows, nothing), [(None, "40")])
+        over = EXPLANATION.replace(b"N,1,\n", b"R,OVER\nW,A,W1,1\n")
+        self.assertEqual(comparing.missing([*rows, ["M", "OVER", "u1", "40"]], over), [])
 
 
 if __name__ == "__main__":

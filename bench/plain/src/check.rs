@@ -21,16 +21,16 @@ const TOLD: usize = 100;
 const GREATEST: usize = 10;
 
 /// How many of the lines or rows that a run passes over are named.
-const NAMED: usize = 10;
+pub const NAMED: usize = 10;
 
 /// How many bytes of a field are shown.
 const SHOWN: usize = 64;
 
 /// What is wrong: the number of the fault, and the message.
-type Wrong = (u8, String);
+pub type Wrong = (u8, String);
 
 /// What is told of a file.
-struct Sheet<'a> {
+pub struct Sheet<'a> {
     path: &'a str,
     /// What its places are called.
     unit: &'a str,
@@ -40,11 +40,11 @@ struct Sheet<'a> {
 }
 
 impl<'a> Sheet<'a> {
-    fn new(path: &'a str, unit: &'a str) -> Sheet<'a> {
+    pub fn new(path: &'a str, unit: &'a str) -> Sheet<'a> {
         Sheet { path, unit, faults: 0, told: String::new(), facts: String::new() }
     }
 
-    fn fault(&mut self, place: Option<usize>, (number, message): Wrong) {
+    pub fn fault(&mut self, place: Option<usize>, (number, message): Wrong) {
         self.faults += 1;
         if self.faults <= TOLD {
             let place = place.map(|n| format!("{} {n}: ", self.unit)).unwrap_or_default();
@@ -52,17 +52,21 @@ impl<'a> Sheet<'a> {
         }
     }
 
-    fn fact(&mut self, label: &str, number: usize) {
+    pub fn fact(&mut self, label: &str, number: usize) {
         self.facts += &format!("{}: {label}: {number}\n", self.path);
     }
 
-    fn remark(&mut self, text: &str) {
+    pub fn remark(&mut self, text: &str) {
         self.facts += &format!("{}: remark: {text}\n", self.path);
+    }
+
+    pub fn is_sound(&self) -> bool {
+        self.faults == 0
     }
 }
 
 /// A field between quotes, its first bytes as they stand where they are printable.
-fn shown(field: &[u8]) -> String {
+pub fn shown(field: &[u8]) -> String {
     let byte = |&b: &u8| match b {
         b' '..=b'~' => char::from(b).to_string(),
         _ => format!("\\x{b:02x}"),
@@ -74,7 +78,7 @@ fn shown(field: &[u8]) -> String {
 
 /// Reads a table, and answers how many rows are sound. `many` is what is wrong where there are more of them than `most`; `read`
 /// takes a row with the right number of fields, or says what is wrong with it.
-fn table(
+pub fn table(
     sheet: &mut Sheet,
     bytes: &[u8],
     header: &[&str],
@@ -112,7 +116,7 @@ fn table(
 }
 
 /// The codes of the sound rows.
-fn territories(sheet: &mut Sheet, bytes: &[u8]) -> HashSet<u16> {
+pub fn territories(sheet: &mut Sheet, bytes: &[u8]) -> HashSet<u16> {
     let mut known = HashSet::new();
     let many = (5, "there are more than 2048 rows".into());
     let count = table(sheet, bytes, &["code", "groups"], 2048, many, |row| {
@@ -133,17 +137,22 @@ fn territories(sheet: &mut Sheet, bytes: &[u8]) -> HashSet<u16> {
     known
 }
 
+/// A party and its payee, from the fields of a row.
+pub fn party_and_payee<'a>(party: &'a [u8], payee: &'a [u8]) -> Result<(&'a [u8], &'a [u8]), Wrong> {
+    let of = |field| name(field).filter(|text: &&[u8]| text.len() <= LONGEST);
+    of(party).zip(of(payee)).ok_or_else(|| {
+        let (party, payee) = (shown(party), shown(payee));
+        let text = "are not both 1 to 64 printable ASCII characters that are not all spaces";
+        (2, format!("party {party} and payee {payee} {text}"))
+    })
+}
+
 /// The payees of the sound rows, and the parties in the order of these rows.
 fn payees(sheet: &mut Sheet, bytes: &[u8]) -> (Payees, Vec<Vec<u8>>) {
     let (mut payees, mut parties) = (Payees::new(), Vec::new());
     let many = (4, "there are more than 65536 rows".into());
     let count = table(sheet, bytes, &["party", "payee"], 65_536, many, |row| {
-        let field = |n: usize| name(row[n]).filter(|text| text.len() <= LONGEST);
-        let (Some(party), Some(payee)) = (field(0), field(1)) else {
-            let (party, payee) = (shown(row[0]), shown(row[1]));
-            let text = "are not both 1 to 64 printable ASCII characters that are not all spaces";
-            return Err((2, format!("party {party} and payee {payee} {text}")));
-        };
+        let (party, payee) = party_and_payee(row[0], row[1])?;
         if payees.contains_key(party) {
             return Err((3, format!("party {} has an earlier row", shown(row[0]))));
         }
@@ -198,36 +207,76 @@ fn short(line: &[u8]) -> Wrong {
     (1, format!("record {} {text}", shown(&line[..3])))
 }
 
-/// What the sound lines of a CWR file have.
-struct Found<'a> {
-    /// The territory of each share line of a registration, with the number of the line.
-    territories: Vec<(usize, u16)>,
-    /// The parties of the registrations in force.
-    parties: BTreeSet<&'a [u8]>,
+/// The last registration of a number, without the lines that have a fault.
+pub struct Filed<'a> {
+    /// The number of its first line.
+    line: usize,
+    /// The parties of its share lines.
+    pub parties: Vec<&'a [u8]>,
 }
 
-/// `payees` are those of the sound rows; the accounts are told where all rows are sound.
-fn registrations<'a>(sheet: &mut Sheet, bytes: &'a [u8], payees: &Payees, all: bool) -> Found<'a> {
-    // Of each work the parties of the share lines of its last registration; and the work of the open one.
-    let mut works: BTreeMap<&[u8], Vec<&[u8]>> = BTreeMap::new();
+/// What the sound lines of a CWR file have.
+#[derive(Default)]
+pub struct Found<'a> {
+    /// The territory of each share line of a registration, with the number of the line.
+    territories: Vec<(usize, u16)>,
+    /// How many registrations there are, those that were replaced too.
+    registrations: usize,
+    /// The registrations in force, by their numbers.
+    in_force: BTreeMap<&'a [u8], Filed<'a>>,
+}
+
+impl<'a> Found<'a> {
+    pub fn in_force(&self) -> &BTreeMap<&'a [u8], Filed<'a>> {
+        &self.in_force
+    }
+
+    /// The numbers of the registrations in force, in the order of their first lines.
+    pub fn numbers(&self) -> Vec<&'a [u8]> {
+        let mut numbers: Vec<&[u8]> = self.in_force.keys().copied().collect();
+        numbers.sort_by_key(|number| self.in_force[number].line);
+        numbers
+    }
+
+    /// How many registrations were replaced by later ones.
+    pub fn replaced(&self) -> usize {
+        self.registrations - self.in_force.len()
+    }
+
+    /// The share lines whose territory is not known.
+    pub fn unknown(&self, known: &HashSet<u16>) -> Vec<usize> {
+        let lines = self.territories.iter();
+        lines.filter(|(_, land)| !known.contains(land)).map(|line| line.0).collect()
+    }
+
+    /// The remark where there is no registration.
+    pub fn remark(&self, sheet: &mut Sheet) {
+        if self.registrations == 0 {
+            sheet.remark("no line is an NWR or REV");
+        }
+    }
+}
+
+/// What is in a CWR file, with the faults of its lines.
+pub fn registrations<'a>(sheet: &mut Sheet, bytes: &'a [u8]) -> Found<'a> {
+    let mut found = Found::default();
     let mut open: Option<&[u8]> = None;
-    let mut registrations = 0;
-    let mut territories = Vec::new();
     for (n, line) in bytes.split(|&b| b == b'\n').enumerate() {
         let line = line.strip_suffix(b"\r").unwrap_or(line);
         let done = match line.get(..3) {
             Some(b"NWR" | b"REV") => work_of(line).map(|work| {
-                registrations += 1;
-                works.insert(work, Vec::new());
+                found.registrations += 1;
+                found.in_force.insert(work, Filed { line: n + 1, parties: Vec::new() });
                 open = Some(work);
             }),
             Some(kind @ (b"SPT" | b"SWT")) => match open {
                 Some(work) => {
-                    let parties = works.get_mut(work).unwrap();
+                    let parties = &mut found.in_force.get_mut(work).unwrap().parties;
                     let shares = if kind == b"SPT" { 34 } else { 28 };
                     party_of(line, shares, parties.len()).map(|party| {
                         parties.push(party);
-                        territories.push((n + 1, code(&line[shares + 16..shares + 20]).unwrap()));
+                        let land = code(&line[shares + 16..shares + 20]).unwrap();
+                        found.territories.push((n + 1, land));
                     })
                 }
                 None => Ok(()),
@@ -242,26 +291,30 @@ fn registrations<'a>(sheet: &mut Sheet, bytes: &'a [u8], payees: &Payees, all: b
             sheet.fault(Some(n + 1), wrong);
         }
     }
-    let parties: BTreeSet<&[u8]> = works.values().flatten().copied().collect();
+    found
+}
+
+/// What is told of the file's registrations, whose parties are answered. `payees` are those of the sound rows; the accounts are
+/// told where all rows are sound.
+fn parties<'a>(sheet: &mut Sheet, found: &Found<'a>, payees: &Payees, all: bool) -> BTreeSet<&'a [u8]> {
+    let parties: BTreeSet<&[u8]> = found.in_force.values().flat_map(|filed| &filed.parties).copied().collect();
     let accounts: BTreeSet<&[u8]> =
         parties.iter().map(|&party| payees.get(party).map_or(party, |payee| payee)).collect();
     if accounts.len() > 16_383 {
         sheet.fault(None, (8, "the parties in force have more than 16383 payees".into()));
     }
-    sheet.fact("works with a registration in force", works.len());
-    sheet.fact("registrations replaced by later ones", registrations - works.len());
+    sheet.fact("works with a registration in force", found.in_force.len());
+    sheet.fact("registrations replaced by later ones", found.replaced());
     sheet.fact("parties in force", parties.len());
     if all {
         sheet.fact("accounts, the residue's included", accounts.len() + 1);
     }
-    if registrations == 0 {
-        sheet.remark("no line is an NWR or REV");
-    }
-    Found { territories, parties }
+    found.remark(sheet);
+    parties
 }
 
 /// A remark on lines or rows of a kind, by their numbers, where there are any.
-fn remark_on(path: &str, what: &str, kind: &str, numbers: impl Iterator<Item = usize>) -> String {
+pub fn remark_on(path: &str, what: &str, kind: &str, numbers: impl Iterator<Item = usize>) -> String {
     let numbers: Vec<String> = numbers.map(|number| number.to_string()).collect();
     if numbers.is_empty() {
         return String::new();
@@ -271,7 +324,7 @@ fn remark_on(path: &str, what: &str, kind: &str, numbers: impl Iterator<Item = u
     format!("{path}: remark: {what}: {}, in {kind} {named}{others}\n", numbers.len())
 }
 
-fn usage(sheet: &mut Sheet, bytes: &[u8]) {
+pub fn usage(sheet: &mut Sheet, bytes: &[u8]) {
     let header = ["usage", "work", "territory", "right", "amount"];
     let many = (6, "there are more than 1000000 usage lines".into());
     let text = |field: &[u8]| {
@@ -303,13 +356,13 @@ fn usage(sheet: &mut Sheet, bytes: &[u8]) {
 
 /// How many usage lines there are of a kind, and what their amounts come to.
 #[derive(Clone, Copy, Default)]
-struct Tally {
+pub struct Tally {
     lines: usize,
     amount: i64,
 }
 
 impl Tally {
-    fn add(&mut self, amount: i64) {
+    pub fn add(&mut self, amount: i64) {
         self.lines += 1;
         self.amount += amount;
     }
@@ -322,7 +375,7 @@ impl fmt::Display for Tally {
 }
 
 /// Those whose amounts come to most, either way; of as much, first the lowest.
-fn greatest<K: Ord>(tallies: BTreeMap<K, Tally>) -> Vec<(K, Tally)> {
+pub fn greatest<K: Ord>(tallies: BTreeMap<K, Tally>) -> Vec<(K, Tally)> {
     let mut list: Vec<(K, Tally)> = tallies.into_iter().collect();
     // Those of the same size stay in order.
     list.sort_by_key(|(_, tally)| Reverse(tally.amount.abs()));
@@ -330,31 +383,36 @@ fn greatest<K: Ord>(tallies: BTreeMap<K, Tally>) -> Vec<(K, Tally)> {
     list
 }
 
-/// What a run makes of the usage lines of files that have no fault.
-fn summary(tis_file: File, payees: &Payees, cwr_file: File, usage_file: File) -> String {
-    let tis = Tis::read(&mut tis_file.1.to_vec()).unwrap();
-    let registry = Registry::read(cwr_file.1, &tis, payees, ACCOUNTS).unwrap();
-    let usage = Usage::read(usage_file.1.to_vec(), crate::LARGEST_LIST.lines).unwrap();
-    let input = Input { tis: &tis, registry: &registry, usage: &usage };
-
-    let lines = &usage.lines;
-    let reasons: Vec<AtomicU8> = lines.iter().map(|_| AtomicU8::new(WORK)).collect();
-    let mut residue = vec![0; lines.len()];
+/// The reason of each usage line, and what goes to the residue of it.
+pub fn divided(input: &Input) -> (Vec<u8>, Vec<i64>) {
+    let lines = input.usage.lines.len();
+    let reasons: Vec<AtomicU8> = (0..lines).map(|_| AtomicU8::new(WORK)).collect();
+    let mut residue = vec![0; lines];
     let mut scratch = Scratch::new();
-    for block in 0..lines.len().div_ceil(BLOCK) {
+    for block in 0..lines.div_ceil(BLOCK) {
         input.block(block, &reasons, &mut scratch, |account, line, portion| {
             if account == 0 {
                 residue[line as usize] = portion;
             }
         });
     }
+    (reasons.iter().map(|reason| reason.load(Relaxed)).collect(), residue)
+}
 
+/// What a run makes of the usage lines of files that have no fault. The paths are those of the territories, of what says which
+/// works there are, and of the usage list.
+pub fn summary(
+    [tis_path, works_path, usage_path]: [&str; 3],
+    input: &Input,
+    (reasons, residue): &(Vec<u8>, Vec<i64>),
+) -> String {
+    let (tis, usage) = (input.tis, input.usage);
+    let lines = &usage.lines;
     let mut by_reason = [Tally::default(); 4];
     let mut to_the_residue = 0;
     let mut works: BTreeMap<&[u8], Tally> = BTreeMap::new();
     let mut lands: BTreeMap<u16, Tally> = BTreeMap::new();
-    for ((line, reason), portion) in lines.iter().zip(&reasons).zip(residue) {
-        let reason = reason.load(Relaxed);
+    for ((line, &reason), portion) in lines.iter().zip(reasons).zip(residue) {
         by_reason[reason as usize].add(line.amount);
         match reason {
             WORK => works.entry(usage.work(line)).or_default().add(line.amount),
@@ -377,18 +435,39 @@ fn summary(tis_file: File, payees: &Payees, cwr_file: File, usage_file: File) ->
     for (land, tally) in greatest(lands) {
         told.push(format!("territory {land} is not in the table: {tally}"));
     }
-    let mut text: String = told.iter().map(|line| format!("{}: {line}\n", usage_file.0)).collect();
+    let mut text: String = told.iter().map(|line| format!("{usage_path}: {line}\n")).collect();
     if !lines.is_empty() && of(WORK).lines == lines.len() {
-        text += &format!("{}: remark: it has the work of no usage line\n", cwr_file.0);
+        text += &format!("{works_path}: remark: it has the work of no usage line\n");
     }
     if !lines.is_empty() && lines.iter().all(|line| tis.row(line.territory) == NONE) {
-        text += &format!("{}: remark: it has the territory of no usage line\n", tis_file.0);
+        text += &format!("{tis_path}: remark: it has the territory of no usage line\n");
     }
     text
 }
 
 /// A file: its path and its bytes.
 pub type File<'a> = (&'a str, &'a [u8]);
+
+/// The faults of files, and what is in those that have none; and whether none has one.
+pub fn told(sheets: &[Sheet]) -> (String, bool) {
+    let mut text = String::new();
+    for sheet in sheets {
+        text += &sheet.told;
+        if sheet.faults > TOLD {
+            text += &format!("{}: further faults: {}\n", sheet.path, sheet.faults - TOLD);
+        }
+    }
+    for sheet in sheets.iter().filter(|sheet| sheet.is_sound()) {
+        text += &sheet.facts;
+    }
+    (text, sheets.iter().all(Sheet::is_sound))
+}
+
+/// The remark on share lines whose territory is not in the table.
+pub fn unknown_territories(path: &str, lines: Vec<usize>) -> String {
+    let what = "share lines whose territory is not in the table";
+    remark_on(path, what, "line", lines.into_iter())
+}
 
 /// The report, and whether no file has a fault.
 pub fn check(tis: File, payees_file: Option<File>, cwr: File, usage_file: File) -> (String, bool) {
@@ -398,39 +477,33 @@ pub fn check(tis: File, payees_file: Option<File>, cwr: File, usage_file: File) 
     if let Some((path, bytes)) = payees_file {
         let mut sheet = Sheet::new(path, "row");
         (table, paid) = payees(&mut sheet, bytes);
-        all = sheet.faults == 0;
+        all = sheet.is_sound();
         sheets.push(sheet);
     }
     let mut sheet = Sheet::new(cwr.0, "line");
-    let found = registrations(&mut sheet, cwr.1, &table, all);
-    let registered = sheet.faults == 0;
+    let found = registrations(&mut sheet, cwr.1);
+    let in_force = parties(&mut sheet, &found, &table, all);
+    let registered = sheet.is_sound();
     sheets.push(sheet);
     let mut sheet = Sheet::new(usage_file.0, "row");
     usage(&mut sheet, usage_file.1);
     sheets.push(sheet);
 
-    let mut text = String::new();
-    for sheet in &sheets {
-        text += &sheet.told;
-        if sheet.faults > TOLD {
-            text += &format!("{}: further faults: {}\n", sheet.path, sheet.faults - TOLD);
-        }
-    }
-    for sheet in sheets.iter().filter(|sheet| sheet.faults == 0) {
-        text += &sheet.facts;
-    }
-    if registered && sheets[0].faults == 0 {
-        let unknown = found.territories.iter().filter(|(_, land)| !known.contains(land)).map(|line| line.0);
-        text += &remark_on(cwr.0, "share lines whose territory is not in the table", "line", unknown);
+    let (mut text, sound) = told(&sheets);
+    if registered && sheets[0].is_sound() {
+        text += &unknown_territories(cwr.0, found.unknown(&known));
     }
     if let (Some((path, _)), true) = (payees_file, registered && all) {
-        let unused = paid.iter().enumerate().filter(|(_, party)| !found.parties.contains(&party[..]));
+        let unused = paid.iter().enumerate().filter(|(_, party)| !in_force.contains(&party[..]));
         let numbers = unused.map(|(n, _)| n + 1);
         text += &remark_on(path, "rows whose party no registration in force has", "row", numbers);
     }
-    let sound = sheets.iter().all(|sheet| sheet.faults == 0);
     if sound {
-        text += &summary(tis, &table, cwr, usage_file);
+        let tis_table = Tis::read(&mut tis.1.to_vec()).unwrap();
+        let registry = Registry::read(cwr.1, &tis_table, &table, ACCOUNTS).unwrap();
+        let usage = Usage::read(usage_file.1.to_vec(), crate::LARGEST_LIST.lines).unwrap();
+        let input = Input { tis: &tis_table, registry: &registry, usage: &usage };
+        text += &summary([tis.0, cwr.0, usage_file.0], &input, &divided(&input));
     }
     (text, sound)
 }

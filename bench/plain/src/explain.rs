@@ -3,8 +3,10 @@
 use crate::cwr::{Registry, name};
 use crate::payees::Payees;
 use crate::rows::{Field, MOST, Rows, code};
-use crate::usage::{TEXT, Usage};
-use std::collections::{BTreeMap, HashMap};
+use crate::submitters::Submitters;
+use crate::usage::{Line, TEXT, Usage};
+use crate::works::Works;
+use std::collections::{BTreeMap, HashMap, HashSet};
 
 /// A share line of the registration in force.
 struct Share {
@@ -46,30 +48,40 @@ fn digits(t: &[u8]) -> u64 {
     t.iter().fold(0, |n, b| if b.is_ascii_digit() { n * 10 + (b - b'0') as u64 } else { n })
 }
 
-/// The last registration of a work: the number of its first line, and its share lines.
-fn in_force(cwr: &[u8], work: &[u8], right: usize, payees: &Payees) -> Option<(usize, Vec<Share>)> {
-    let (mut found, mut open, mut interest) = (None, false, 0);
+/// A registration in force: the number of its first line, and its share lines.
+struct Filed {
+    line: usize,
+    shares: Vec<Share>,
+}
+
+/// The last registration of each number that is asked for, with the shares for a right.
+fn in_force(
+    cwr: &[u8],
+    right: usize,
+    is_asked: impl Fn(&[u8]) -> bool,
+    payee: impl Fn(&[u8]) -> Vec<u8>,
+) -> HashMap<&[u8], Filed> {
+    let (mut found, mut open, mut interest) = (HashMap::new(), None, 0);
     for (n, line) in cwr.split(|&b| b == b'\n').enumerate() {
         let line = line.strip_suffix(b"\r").unwrap_or(line);
-        match line.get(..3) {
-            Some(b"NWR" | b"REV") => {
-                open = name(&line[81..line.len().min(95)]) == Some(work);
+        match (line.get(..3), open) {
+            (Some(b"NWR" | b"REV"), _) => {
+                open = name(&line[81..line.len().min(95)]).filter(|number| is_asked(number));
                 interest = 0;
-                if open {
-                    found = Some((n + 1, Vec::new()));
+                if let Some(number) = open {
+                    found.insert(number, Filed { line: n + 1, shares: Vec::new() });
                 }
             }
-            Some(b"HDR" | b"GRH" | b"GRT" | b"TRL" | b"AGR" | b"ACK" | b"ISW" | b"EXC") => open = false,
-            Some(b"SPU" | b"SWR") => interest += 1,
-            Some(kind @ (b"SPT" | b"SWT")) if open => {
+            (Some(b"HDR" | b"GRH" | b"GRT" | b"TRL" | b"AGR" | b"ACK" | b"ISW" | b"EXC"), _) => open = None,
+            (Some(b"SPU" | b"SWR"), _) => interest += 1,
+            (Some(kind @ (b"SPT" | b"SWT")), Some(number)) => {
                 let f = &line[if kind == b"SPT" { 34 } else { 28 }..];
-                let party = name(&line[19..28]).unwrap().to_vec();
-                let shares: &mut Vec<Share> = &mut found.as_mut().unwrap().1;
-                shares.push(Share {
+                let party = name(&line[19..28]).unwrap();
+                found.get_mut(number).unwrap().shares.push(Share {
                     line: n + 1,
                     interest,
-                    payee: payees.get(&party).unwrap_or(&party).clone(),
-                    party,
+                    party: party.to_vec(),
+                    payee: payee(party),
                     share: digits(&f[5 * right..5 * right + 5]),
                     includes: f[15] != b'E',
                     code: digits(&f[16..20]) as u16,
@@ -128,6 +140,97 @@ impl Text for bool {
     }
 }
 
+/// A usage line that is explained.
+struct Explained<'a> {
+    line: &'a Line,
+    work: &'a [u8],
+    groups: &'a Groups,
+    registry: &'a Registry,
+    /// What the accounts of the share lines that decide claim.
+    claims: BTreeMap<Vec<u8>, u64>,
+}
+
+impl Explained<'_> {
+    fn right(&self) -> usize {
+        self.line.right as usize
+    }
+
+    /// The row of the usage line.
+    fn usage(&self, out: &mut Vec<u8>, usage: &Usage, number: usize) {
+        let (line, work) = (self.line, self.work.to_vec());
+        let called = usage.padded(line)[..usage.usage_len(line).min(TEXT)].to_vec();
+        let right = ["P", "M", "S"][self.right()];
+        row(out, fields!["U", number, called, work, line.territory, right, line.amount]);
+    }
+
+    /// The rows of the share lines of a registration, each behind these fields; and adds up the claims.
+    fn shares(&mut self, out: &mut Vec<u8>, first: &[Vec<u8>], shares: &[Share]) {
+        let land = self.line.territory;
+        let covers: Vec<bool> = shares.iter().map(|s| self.groups.contains(s.code, land)).collect();
+        for (n, s) in shares.iter().enumerate() {
+            let alike = |m: usize| shares[m].interest == s.interest && shares[m].party == s.party;
+            let decides = covers[n] && !(n + 1..shares.len()).any(|m| alike(m) && covers[m]);
+            if decides && s.includes && s.share > 0 {
+                *self.claims.entry(s.payee.clone()).or_default() += s.share;
+            }
+            let mark = if s.includes { "I" } else { "E" };
+            let fields = fields![s.line, s.interest, s.party, s.payee, s.share, mark, s.code, covers[n], decides];
+            row(out, &[first, fields].concat());
+        }
+    }
+
+    /// Why no claim counts, or nothing.
+    fn reason(&self, is_registered: bool) -> &'static str {
+        let land = self.line.territory;
+        match is_registered {
+            false => "WORK",
+            true if !self.groups.contains(land, land) => "LAND",
+            true if self.claims.values().sum::<u64>() > 10_006 => "OVER",
+            true => "",
+        }
+    }
+
+    /// The rows of the accounts that claim and of the participants. `counts` says whether claims do.
+    fn division(&self, out: &mut Vec<u8>, counts: bool) {
+        let account = |payee| self.registry.parties[1..].iter().position(|p| p == payee).unwrap() + 1;
+        let mut participants: Vec<(usize, Vec<u8>, u64)> = Vec::new();
+        for (payee, &claim) in &self.claims {
+            let account = account(payee);
+            row(out, fields!["A", account, payee.clone(), claim]);
+            if counts {
+                participants.push((account, payee.clone(), claim));
+            }
+        }
+        let counted: u64 = participants.iter().map(|p| p.2).sum();
+        let base = counted.max(10_000);
+        participants.push((0, Vec::new(), base - counted));
+        let size = self.line.amount.unsigned_abs();
+        let quota = |p: &(usize, Vec<u8>, u64)| size * p.2 / base;
+        let rest = |p: &(usize, Vec<u8>, u64)| size * p.2 % base;
+        let left = size - participants.iter().map(quota).sum::<u64>();
+        row(out, fields!["B", base, base - counted, left]);
+        let mut ranked: Vec<usize> = (0..participants.len()).collect();
+        ranked.sort_by_key(|&n| std::cmp::Reverse(rest(&participants[n])));
+        for (n, p) in participants.iter().enumerate() {
+            let rank = ranked.iter().position(|&m| m == n).unwrap();
+            let portion = (quota(p) + u64::from((rank as u64) < left)) as i64 * self.line.amount.signum();
+            row(out, fields!["P", p.0, p.1, p.2, quota(p), rest(p), rank + 1, portion]);
+        }
+    }
+}
+
+/// The line in a row, from 1, before its claims are added up; none where there is no such row.
+fn explained<'a>(
+    groups: &'a Groups,
+    registry: &'a Registry,
+    usage: &'a Usage,
+    number: usize,
+) -> Option<Explained<'a>> {
+    let line = usage.lines.get(number.checked_sub(1)?)?;
+    let work = usage.work(line);
+    Some(Explained { line, work, groups, registry, claims: BTreeMap::new() })
+}
+
 /// The explanation of the line in a row, from 1; none where there is no such row.
 pub fn explain(
     groups: &Groups,
@@ -137,69 +240,63 @@ pub fn explain(
     usage: &Usage,
     number: usize,
 ) -> Option<Vec<u8>> {
-    let line = usage.lines.get(number.checked_sub(1)?)?;
+    let mut it = explained(groups, registry, usage, number)?;
     let mut out = Vec::new();
-    let work = usage.work(line).to_vec();
-    let called = usage.padded(line)[..usage.usage_len(line).min(TEXT)].to_vec();
-    let right = ["P", "M", "S"][line.right as usize];
-    row(&mut out, fields!["U", number, called, work, line.territory, right, line.amount]);
+    it.usage(&mut out, usage, number);
+    let payee = |party: &[u8]| payees.get(party).map_or(party, |payee| payee).to_vec();
+    let found = in_force(cwr, it.right(), |number| number == it.work, payee).remove(it.work);
+    let (first, shares) = found.map_or_else(Default::default, |filed| (filed.line.text(), filed.shares));
+    let mut lines = Vec::new();
+    it.shares(&mut lines, fields!["C"], &shares);
+    let reason = it.reason(!first.is_empty());
+    row(&mut out, fields!["N", first, reason]);
+    out.append(&mut lines);
+    it.division(&mut out, reason.is_empty());
+    Some(out)
+}
 
-    let found = in_force(cwr, &work, line.right as usize, payees);
-    let land = line.territory;
-    let shares = found.as_ref().map_or(&[][..], |f| &f.1);
-    let covers: Vec<bool> = shares.iter().map(|s| groups.contains(s.code, land)).collect();
-    let decides: Vec<bool> = (0..shares.len())
-        .map(|n| {
-            let alike = |m: usize| shares[m].interest == shares[n].interest && shares[m].party == shares[n].party;
-            covers[n] && !(n + 1..shares.len()).any(|m| alike(m) && covers[m])
+/// The same over the files of several submitters. `payees` and `texts` are those of each of them.
+pub fn explain_submitted(
+    groups: &Groups,
+    (submitters, payees, texts): (&Submitters, &[Payees], &[Vec<u8>]),
+    works: &Works,
+    registry: &Registry,
+    usage: &Usage,
+    number: usize,
+) -> Option<Vec<u8>> {
+    let mut it = explained(groups, registry, usage, number)?;
+    let mut out = Vec::new();
+    it.usage(&mut out, usage, number);
+
+    let all = works.registrations();
+    let rows: Vec<_> = works.rows_of(it.work).into_iter().map(|row| &all[row]).collect();
+    let mut asked: BTreeMap<usize, HashSet<&[u8]>> = BTreeMap::new();
+    for (place, number) in &rows {
+        asked.entry(*place).or_default().insert(number);
+    }
+    let right = it.right();
+    let filed: HashMap<usize, HashMap<&[u8], Filed>> = asked
+        .iter()
+        .map(|(&place, numbers)| {
+            let payee = |party: &[u8]| submitters.at(place).payee(party.to_vec(), &payees[place]);
+            (place, in_force(&texts[place], right, |number| numbers.contains(number), payee))
         })
         .collect();
-    let mut by_payee: BTreeMap<&Vec<u8>, u64> = BTreeMap::new();
-    for (n, s) in shares.iter().enumerate() {
-        if decides[n] && s.includes {
-            *by_payee.entry(&s.payee).or_default() += s.share;
+
+    let (mut lines, mut is_registered) = (Vec::new(), false);
+    for (place, number) in rows {
+        let name = submitters.at(*place).name.clone().into_bytes();
+        let found = filed[place].get(&number[..]);
+        let first = found.map_or(Vec::new(), |filed| filed.line.text());
+        row(&mut lines, fields!["W", name, *number, first]);
+        if let Some(filed) = found {
+            is_registered = true;
+            it.shares(&mut lines, fields!["C", name], &filed.shares);
         }
     }
-    let claims: Vec<(usize, &Vec<u8>, u64)> = by_payee
-        .into_iter()
-        .filter(|c| c.1 > 0)
-        .map(|(payee, claim)| (registry.parties[1..].iter().position(|p| p == payee).unwrap() + 1, payee, claim))
-        .collect();
-    let total: u64 = claims.iter().map(|c| c.2).sum();
-    let reason = match &found {
-        None => "WORK",
-        Some(_) if !groups.contains(land, land) => "LAND",
-        Some(_) if total > 10_006 => "OVER",
-        Some(_) => "",
-    };
-    let first = found.as_ref().map_or(Vec::new(), |f| f.0.text());
-    row(&mut out, fields!["N", first, reason]);
-    for (n, s) in shares.iter().enumerate() {
-        let mark = if s.includes { "I" } else { "E" };
-        row(&mut out, fields!["C", s.line, s.interest, s.party, s.payee, s.share, mark, s.code, covers[n], decides[n]]);
-    }
-    for (account, payee, claim) in &claims {
-        row(&mut out, fields!["A", *account, (*payee).clone(), *claim]);
-    }
-
-    let mut participants: Vec<(usize, Vec<u8>, u64)> = Vec::new();
-    if reason.is_empty() {
-        participants.extend(claims.iter().map(|c| (c.0, c.1.clone(), c.2)));
-    }
-    let counted: u64 = participants.iter().map(|p| p.2).sum();
-    let base = counted.max(10_000);
-    participants.push((0, Vec::new(), base - counted));
-    let size = line.amount.unsigned_abs();
-    let quota = |p: &(usize, Vec<u8>, u64)| size * p.2 / base;
-    let rest = |p: &(usize, Vec<u8>, u64)| size * p.2 % base;
-    let left = size - participants.iter().map(quota).sum::<u64>();
-    row(&mut out, fields!["B", base, base - counted, left]);
-    let mut ranked: Vec<usize> = (0..participants.len()).collect();
-    ranked.sort_by_key(|&n| std::cmp::Reverse(rest(&participants[n])));
-    for (n, p) in participants.iter().enumerate() {
-        let rank = ranked.iter().position(|&m| m == n).unwrap();
-        let portion = (quota(p) + u64::from((rank as u64) < left)) as i64 * line.amount.signum();
-        row(&mut out, fields!["P", p.0, p.1, p.2, quota(p), rest(p), rank + 1, portion]);
-    }
+    let reason = it.reason(is_registered);
+    row(&mut out, fields!["R", reason]);
+    out.append(&mut lines);
+    it.division(&mut out, reason.is_empty());
     Some(out)
 }

@@ -1,13 +1,14 @@
 //! `royalty_run run`, `explain` and `check` once more, as one would write them by hand in Rust, with no proofs. The words and the
 //! text that comes out are the same. And `merge`, with the paths of statement texts behind it, merges them, as
-//! `merge_statements` does. A run with `--works` is over the files of several submitters, for which `works` and `parties` print
-//! tables to begin with; `explain` and `check` do not take them. `--mode` says how the book is filled: one (where there is no
-//! such word), threads, channels, batches, linked, pool, rings or parked. With `--times` it says how long each phase took. With
-//! `--whole` the usage list may have any number of lines, and 4,294,967,295 bytes.
+//! `merge_statements` does. With `--works` the three are over the files of several submitters, for which `works` and `parties`
+//! print tables to begin with. `--mode` says how the book is filled: one (where there is no such word), threads, channels,
+//! batches, linked, pool, rings or parked. With `--times` it says how long each phase took. With `--whole` the usage list may
+//! have any number of lines, and 4,294,967,295 bytes.
 
 mod arguments;
 mod book;
 mod check;
+mod check_submitted;
 mod cwr;
 mod explain;
 mod linked;
@@ -49,20 +50,54 @@ const LARGEST_LIST: Most = Most { bytes: LARGEST_FILE, lines: 1_000_000 };
 /// The list of a month: places in it are kept in 32 bits.
 const WHOLE_LIST: Most = Most { bytes: u32::MAX as u64, lines: u64::MAX };
 
-/// Where the registrations of a run come from.
-enum Registrations {
-    /// The path of one file.
-    File(String),
-    /// The path of a table of works, and the submitters whose files it links.
-    Linked(String, Submitters),
+/// The files of several submitters, and the paths of the tables that they are taken with.
+struct Several {
+    tis: String,
+    payees: Option<String>,
+    works: String,
+    submitters: Submitters,
+    usage: String,
+}
+
+impl Several {
+    fn of(options: &Options) -> Option<Several> {
+        Some(Several {
+            tis: options.one("tis")?,
+            payees: options.at_most_one("payees")?,
+            works: options.one("works")?,
+            submitters: options.submitters()?,
+            usage: options.one("usage")?,
+        })
+    }
+
+    /// Reads the tables whole, in this order.
+    fn load(&self, largest_list: u64) -> Result<Tables, ExitCode> {
+        Ok(Tables {
+            tis: load(&self.tis, LARGEST_FILE)?,
+            payees: self.payees.as_ref().map(|path| load(path, LARGEST_FILE)).transpose()?,
+            works: load(&self.works, LARGEST_FILE)?,
+            usage: load(&self.usage, largest_list)?,
+        })
+    }
+}
+
+/// The bytes of the tables of several submitters, and of the usage list.
+struct Tables {
+    tis: Vec<u8>,
+    payees: Option<Vec<u8>>,
+    works: Vec<u8>,
+    usage: Vec<u8>,
+}
+
+/// What a run is over.
+enum Paths {
+    One { tis: String, payees: Option<String>, cwr: String, usage: String },
+    Several(Several),
 }
 
 /// What the words of a run say.
 struct Words {
-    tis: String,
-    payees: Option<String>,
-    registrations: Registrations,
-    usage: String,
+    paths: Paths,
     /// Workers, readers and nodes.
     plan: [String; 3],
     times: bool,
@@ -96,10 +131,7 @@ fn words() -> Option<Words> {
     }
     let [tis, cwr, usage, workers, readers, nodes, payees] = values;
     Some(Words {
-        tis: tis?,
-        payees,
-        registrations: Registrations::File(cwr?),
-        usage: usage?,
+        paths: Paths::One { tis: tis?, payees, cwr: cwr?, usage: usage? },
         plan: [workers?, readers?, nodes?],
         times,
         mode,
@@ -113,10 +145,7 @@ fn words_of_several() -> Option<Words> {
     let options = Options::of(std::env::args().skip(2), &names, &["times", "whole"])?;
     let mode = options.at_most_one("mode")?;
     Some(Words {
-        tis: options.one("tis")?,
-        payees: options.at_most_one("payees")?,
-        registrations: Registrations::Linked(options.one("works")?, options.submitters()?),
-        usage: options.one("usage")?,
+        paths: Paths::Several(Several::of(&options)?),
         plan: [options.one("workers")?, options.one("readers")?, options.one("nodes")?],
         times: options.has("times"),
         mode: mode.map_or(Some(Mode::One), |mode| Mode::of(&mode))?,
@@ -133,8 +162,26 @@ fn explain_words() -> Option<(Vec<String>, Option<String>, usize)> {
         values[names.iter().position(|n| *n == name)?] = Some(args.next()?);
     }
     let payees = values.pop()?;
-    let row = values.pop()??.parse().ok().filter(|n| (1..=1_000_000).contains(n))?;
+    let row = row_of(&values.pop()??)?;
     Some((values.into_iter().collect::<Option<_>>()?, payees, row))
+}
+
+/// The number of a row of a usage list.
+fn row_of(word: &str) -> Option<usize> {
+    word.parse().ok().filter(|n| (1..=1_000_000).contains(n))
+}
+
+/// `explain` over the files of several submitters: the files, and the row.
+fn explain_words_of_several() -> Option<(Several, usize)> {
+    let names = ["tis", "payees", "works", "cwr", "usage", "row"];
+    let options = Options::of(std::env::args().skip(2), &names, &[])?;
+    Some((Several::of(&options)?, row_of(&options.one("row")?)?))
+}
+
+/// `check` over the files of several submitters.
+fn check_words_of_several() -> Option<Several> {
+    let names = ["tis", "payees", "works", "cwr", "usage"];
+    Several::of(&Options::of(std::env::args().skip(2), &names, &[])?)
 }
 
 /// `check`: the values of the options that have to be there, and the path of the payees.
@@ -199,11 +246,34 @@ fn explain_main() -> Result<ExitCode, ExitCode> {
     let registry = sound("cwr", cwr::Registry::read(&files.cwr, &tis, &payees, ACCOUNTS))?;
     let usage = sound("usage", usage::Usage::read(files.usage, LARGEST_LIST.lines))?;
     let groups = explain::Groups::read(&mut table);
-    match explain::explain(&groups, &payees, &files.cwr, &registry, &usage, row) {
+    print_explanation(explain::explain(&groups, &payees, &files.cwr, &registry, &usage, row), row)
+}
+
+/// Prints the explanation of a row, if the usage list has it.
+fn print_explanation(text: Option<Vec<u8>>, row: usize) -> Result<ExitCode, ExitCode> {
+    match text {
         Some(text) if std::io::stdout().write_all(&text).is_ok() => Ok(ExitCode::SUCCESS),
         Some(_) => Err(fail(4, "cannot write".into())),
         None => Err(fail(2, format!("the usage list has no row {row}"))),
     }
+}
+
+/// Prints the explanation of a usage line over the files of several submitters.
+fn explain_several_main() -> Result<ExitCode, ExitCode> {
+    let Some((files, row)) = explain_words_of_several() else {
+        let words = "explain --tis F --works F [--payees F] --cwr NAME=F.. --usage F --row N";
+        return Err(fail(2, words.into()));
+    };
+    let (submitters, tables) = (&files.submitters, files.load(LARGEST_FILE)?);
+    let mut table = tables.tis.clone();
+    let read = Read::of(tables.tis, tables.payees, tables.works, submitters)?;
+    let mut texts = Vec::new();
+    let registry = read.registry(submitters, |text| texts.push(text))?;
+    let usage = sound("usage", usage::Usage::read(tables.usage, LARGEST_LIST.lines))?;
+    let groups = explain::Groups::read(&mut table);
+    let filed = (submitters, &read.payees[..], &texts[..]);
+    let text = explain::explain_submitted(&groups, filed, &read.works, &registry, &usage, row);
+    print_explanation(text, row)
 }
 
 /// Prints the report on the files.
@@ -215,10 +285,25 @@ fn check_main() -> Result<ExitCode, ExitCode> {
     let table = payees.as_deref().zip(files.payees.as_deref());
     let (text, sound) =
         check::check((&words[0], &files.tis), table, (&words[1], &files.cwr), (&words[2], &files.usage));
+    print_report(&text, sound)
+}
+
+/// Prints a report, which says whether no file has a fault.
+fn print_report(text: &str, sound: bool) -> Result<ExitCode, ExitCode> {
     match std::io::stdout().write_all(text.as_bytes()) {
         Ok(()) => Ok(ExitCode::from(!sound as u8)),
         Err(_) => Err(fail(4, "cannot write".into())),
     }
+}
+
+/// Prints the report on the files of several submitters.
+fn check_several_main() -> Result<ExitCode, ExitCode> {
+    let Some(files) = check_words_of_several() else {
+        let words = "check --tis F --works F [--payees F] --cwr NAME=F.. --usage F";
+        return Err(fail(2, words.into()));
+    };
+    let (text, sound) = check_submitted::check(&files, &files.load(LARGEST_FILE)?)?;
+    print_report(&text, sound)
 }
 
 /// Prints the statements of several texts together.
@@ -274,9 +359,8 @@ fn table_main(make: fn(&Submitters) -> Result<Vec<u8>, ExitCode>) -> Result<Exit
 
 fn main() -> ExitCode {
     let done = match std::env::args().nth(1).as_deref() {
-        Some("explain" | "check") if arguments::name_works() => {
-            Err(fail(2, "explain and check have no --works here".into()))
-        }
+        Some("explain") if arguments::name_works() => explain_several_main(),
+        Some("check") if arguments::name_works() => check_several_main(),
         Some("explain") => explain_main(),
         Some("check") => check_main(),
         Some("merge") => merge_main(),
@@ -290,45 +374,67 @@ fn main() -> ExitCode {
 /// What a run is over.
 type Inputs = (tis::Tis, cwr::Registry, usage::Usage);
 
-/// The inputs of a run over one file. `lap` is told what ends.
-fn read_one(words: &Words, cwr: &String, lap: &mut impl FnMut(&'static str)) -> Result<Inputs, ExitCode> {
-    let mut files = Files::load([&words.tis, cwr, &words.usage], &words.payees, words.most.bytes)?;
-    lap("load files");
-    let tis = sound("tis", tis::Tis::read(&mut files.tis))?;
-    drop(files.tis);
-    lap("read tis");
-    let payees = payees_of(files.payees)?;
-    let registry = sound("cwr", cwr::Registry::read(&files.cwr, &tis, &payees, ACCOUNTS))?;
-    drop(files.cwr);
-    lap("read cwr");
-    let usage = sound("usage", usage::Usage::read(files.usage, words.most.lines))?;
-    lap("read usage");
-    Ok((tis, registry, usage))
+/// What the tables of several submitters say that stand before their files.
+struct Read {
+    tis: tis::Tis,
+    /// The payees of the parties of each submitter.
+    payees: Vec<payees::Payees>,
+    works: works::Works,
 }
 
-/// The inputs of a run over the files of several submitters. The tables and the usage list are read whole first. CWR files are
-/// read and parsed one by one, once the tables have been.
-fn read_several(
-    words: &Words,
-    works: &str,
-    submitters: &Submitters,
-    lap: &mut impl FnMut(&'static str),
-) -> Result<Inputs, ExitCode> {
-    let mut tis = load(&words.tis, LARGEST_FILE)?;
-    let payees = words.payees.as_ref().map(|path| load(path, LARGEST_FILE)).transpose()?;
-    let mut works = load(works, LARGEST_FILE)?;
-    let usage = load(&words.usage, words.most.bytes)?;
-    lap("load files");
-    let tis = sound("tis", tis::Tis::read(&mut tis))?;
-    let payees = match payees {
-        Some(mut bytes) => sound("payee", payees::read_of(&mut bytes, submitters))?,
-        None => submitters.iter().map(|_| payees::Payees::new()).collect(),
+impl Read {
+    fn of(
+        mut tis: Vec<u8>,
+        payees: Option<Vec<u8>>,
+        mut works: Vec<u8>,
+        submitters: &Submitters,
+    ) -> Result<Read, ExitCode> {
+        Ok(Read {
+            tis: sound("tis", tis::Tis::read(&mut tis))?,
+            payees: match payees {
+                Some(mut bytes) => sound("payee", payees::read_of(&mut bytes, submitters))?,
+                None => submitters.iter().map(|_| payees::Payees::new()).collect(),
+            },
+            works: sound("works", works::Works::read(&mut works, submitters))?,
+        })
+    }
+
+    /// The registrations of all files, whose texts are given to `keep`.
+    fn registry(
+        &self,
+        submitters: &Submitters,
+        keep: impl FnMut(Vec<u8>),
+    ) -> Result<cwr::Registry, ExitCode> {
+        submitters::registry(submitters, &self.tis, &self.payees, &self.works, keep)
+    }
+}
+
+/// The inputs of a run over one file, or over the files of several submitters. `lap` is told what ends. Of several, the tables
+/// and the usage list are read whole first, and CWR files one by one, once the tables have been parsed.
+fn read_inputs(words: &Words, lap: &mut impl FnMut(&'static str)) -> Result<Inputs, ExitCode> {
+    let most = &words.most;
+    let (tis, registry, usage) = match &words.paths {
+        Paths::One { tis, payees, cwr, usage } => {
+            let mut files = Files::load([tis, cwr, usage], payees, most.bytes)?;
+            lap("load files");
+            let tis = sound("tis", tis::Tis::read(&mut files.tis))?;
+            drop(files.tis);
+            lap("read tis");
+            let payees = payees_of(files.payees)?;
+            let registry = sound("cwr", cwr::Registry::read(&files.cwr, &tis, &payees, ACCOUNTS))?;
+            (tis, registry, files.usage)
+        }
+        Paths::Several(files) => {
+            let tables = files.load(most.bytes)?;
+            lap("load files");
+            let read = Read::of(tables.tis, tables.payees, tables.works, &files.submitters)?;
+            lap("tables");
+            let registry = read.registry(&files.submitters, drop)?;
+            (read.tis, registry, tables.usage)
+        }
     };
-    let works = sound("works", works::Works::read(&mut works, submitters))?;
-    lap("tables");
-    let registry = submitters::registry(submitters, &tis, &payees, &works)?;
     lap("read cwr");
-    let usage = sound("usage", usage::Usage::read(usage, words.most.lines))?;
+    let usage = sound("usage", usage::Usage::read(usage, most.lines))?;
     lap("read usage");
     Ok((tis, registry, usage))
 }
@@ -361,10 +467,7 @@ fn run_main() -> Result<ExitCode, ExitCode> {
         last = now;
     };
 
-    let (tis, registry, usage) = match &words.registrations {
-        Registrations::File(cwr) => read_one(&words, cwr, &mut lap)?,
-        Registrations::Linked(works, submitters) => read_several(&words, works, submitters, &mut lap)?,
-    };
+    let (tis, registry, usage) = read_inputs(&words, &mut lap)?;
     let reasons: Vec<_> = usage.lines.iter().map(|_| AtomicU8::new(0)).collect();
     let input = split::Input { tis: &tis, registry: &registry, usage: &usage };
     let job = Job { input: &input, reasons: &reasons };

@@ -57,7 +57,7 @@ impl Submitter {
     }
 
     /// Who is paid what a party claims: one without a row of its own has the account NAME:PARTY.
-    fn payee(&self, party: Vec<u8>, payees: &Payees) -> Vec<u8> {
+    pub fn payee(&self, party: Vec<u8>, payees: &Payees) -> Vec<u8> {
         match payees.get(&party) {
             Some(payee) => payee.clone(),
             None => [self.name.as_bytes(), b":", &party].concat(),
@@ -88,6 +88,11 @@ impl Submitters {
         self.list.iter()
     }
 
+    /// The submitter in a place.
+    pub fn at(&self, place: usize) -> &Submitter {
+        &self.list[place]
+    }
+
     /// Where the submitter of a name stands.
     pub fn place(&self, name: &[u8]) -> Option<usize> {
         self.places.get(name).copied()
@@ -95,7 +100,7 @@ impl Submitters {
 }
 
 /// What the registrations have that are in force and linked.
-struct Linked<'a> {
+pub struct Linked<'a> {
     works: &'a Works,
     /// The share lines of all files, with parties and interests of all of them.
     lines: Vec<Raw>,
@@ -106,8 +111,18 @@ struct Linked<'a> {
     interests: u32,
 }
 
+/// The accounts of linked registrations.
+pub struct Accounts {
+    /// The payees in rising order, behind an empty one for the residue.
+    pub payees: Vec<Vec<u8>>,
+    /// Where the payee of each party stands among these.
+    of: Vec<u32>,
+    /// The rows of the table of works, those of a work one after the other.
+    rows: Vec<u32>,
+}
+
 impl<'a> Linked<'a> {
-    fn new(works: &'a Works) -> Linked<'a> {
+    pub fn new(works: &'a Works) -> Linked<'a> {
         Linked {
             works,
             lines: Vec::new(),
@@ -118,7 +133,7 @@ impl<'a> Linked<'a> {
     }
 
     /// Takes in what the file of the submitter in a place registers, so far as it is linked.
-    fn add(&mut self, place: usize, submitter: &Submitter, filing: &Filing, payees: &Payees) {
+    pub fn add(&mut self, place: usize, submitter: &Submitter, filing: &Filing, payees: &Payees) {
         let numbers = &self.works.numbers[place];
         let mut parties = vec![UNKNOWN; filing.parties.len()];
         for (number, lines) in filing.in_force() {
@@ -172,21 +187,38 @@ impl<'a> Linked<'a> {
         first
     }
 
-    /// The registry of the works that have a registration in force. `names` are those of all works.
-    fn compiled(mut self, names: &[&[u8]], tis: &Tis) -> Result<Registry, Fault> {
+    /// How many parties the share lines have.
+    pub fn parties(&self) -> usize {
+        self.payees.len()
+    }
+
+    /// The share lines of a row's registration, where it is in force.
+    pub fn lines_of(&self, row: usize) -> Option<&[Raw]> {
+        let range = self.ranges[row].clone()?;
+        Some(&self.lines[range.start as usize..range.end as usize])
+    }
+
+    /// The accounts, or the fault that there are too many. The payees of parties are gone then.
+    pub fn accounts(&mut self) -> Result<Accounts, Fault> {
         let count = self.payees.len();
-        let (parties, accounts) = ranked(std::mem::take(&mut self.payees), count);
+        let (payees, of) = ranked(std::mem::take(&mut self.payees), count);
         let rows = self.works.by_work();
-        if let Some(row) = self.first_of_many(&rows, &accounts, parties.len()) {
+        if let Some(row) = self.first_of_many(&rows, &of, payees.len()) {
             return Err(Fault(7, Some(u64::from(row) + 1)));
         }
-        if parties.len() > ACCOUNTS {
+        if payees.len() > ACCOUNTS {
             return Err(Fault(8, None));
         }
-        let mut compiler = Compiler::new(tis, &accounts, &self.lines);
+        Ok(Accounts { payees, of, rows })
+    }
+
+    /// The registry of the works that have a registration in force.
+    pub fn registry(&self, accounts: Accounts, tis: &Tis) -> Registry {
+        let mut compiler = Compiler::new(tis, &accounts.of, &self.lines);
         let (mut works, mut ranges) = (Places::default(), Vec::new());
+        let names = self.works.names();
         let work = |row: u32| self.works.rows[row as usize];
-        for rows in rows.chunk_by(|&a, &b| work(a) == work(b)) {
+        for rows in accounts.rows.chunk_by(|&a, &b| work(a) == work(b)) {
             let linked = || {
                 rows.iter()
                     .filter_map(|&row| self.ranges[row as usize].clone())
@@ -197,33 +229,31 @@ impl<'a> Linked<'a> {
             }
         }
         let shares = compiler.shares;
-        Ok(Registry {
-            parties,
+        Registry {
+            parties: accounts.payees,
             works,
             ranges,
             shares,
-        })
+        }
     }
 }
 
 /// The registrations of all files, each of the works that its row of the table says. One file is
-/// read and parsed after the other, and only the text of one is held.
+/// read and parsed after the other, and `keep` is given its text.
 pub fn registry(
     submitters: &Submitters,
     tis: &Tis,
     payees: &[Payees],
     works: &Works,
+    mut keep: impl FnMut(Vec<u8>),
 ) -> Result<Registry, ExitCode> {
     let mut linked = Linked::new(works);
     for (place, submitter) in submitters.iter().enumerate() {
-        let (_, filing) = submitter.read()?;
+        let (text, filing) = submitter.read()?;
+        keep(text);
         linked.add(place, submitter, &filing, &payees[place]);
     }
-    let mut names: Vec<&[u8]> = vec![&[]; works.places.len()];
-    for (work, &place) in &works.places {
-        names[place as usize] = work;
-    }
-    linked
-        .compiled(&names, tis)
-        .map_err(|fault| refused("works", fault))
+    let accounts = linked.accounts();
+    let accounts = accounts.map_err(|fault| refused("works", fault))?;
+    Ok(linked.registry(accounts, tis))
 }

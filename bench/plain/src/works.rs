@@ -1,6 +1,6 @@
 //! The table of works: which registrations, of which submitters, are of which work.
 
-use crate::cwr::{Map, SHORT, key, name};
+use crate::cwr::{Map, SHORT, key, name, text_of};
 use crate::rows::{Fault, Field, MOST, Rows};
 use crate::submitters::{MOST_ROWS, Submitters};
 use std::collections::HashMap;
@@ -18,7 +18,7 @@ pub struct Works {
 }
 
 /// Whether a field is the name of a work, as usage lines have it.
-fn is_work(field: &[u8]) -> bool {
+pub fn is_work(field: &[u8]) -> bool {
     (1..=LONGEST).contains(&field.len()) && field.iter().all(|b| (b' '..=b'~').contains(b))
 }
 
@@ -69,6 +69,35 @@ impl Works {
                 fresh
             }
         }
+    }
+
+    /// The names of all works, by their places.
+    pub fn names(&self) -> Vec<&[u8]> {
+        let mut names: Vec<&[u8]> = vec![&[]; self.places.len()];
+        for (work, &place) in &self.places {
+            names[place as usize] = work;
+        }
+        names
+    }
+
+    /// The rows of a work, in the order of the table.
+    pub fn rows_of(&self, work: &[u8]) -> Vec<usize> {
+        let place = self.places.get(work);
+        let rows = self.rows.iter().enumerate();
+        rows.filter(|(_, of)| place == Some(*of))
+            .map(|(row, _)| row)
+            .collect()
+    }
+
+    /// Of each row, the place of the submitter, and the submitter work number.
+    pub fn registrations(&self) -> Vec<(usize, Vec<u8>)> {
+        let mut all = vec![(0, Vec::new()); self.rows.len()];
+        for (submitter, numbers) in self.numbers.iter().enumerate() {
+            for (&number, &row) in numbers {
+                all[row as usize] = (submitter, text_of(number));
+            }
+        }
+        all
     }
 
     /// The rows, those of a work one after the other and in the order of the table.
