@@ -224,6 +224,39 @@ check 'files in another order, a name with =, and another plan' 0 "$statements\n
     "$program" run --cwr NORTH=north.cwr --workers=8 --cwr=MOON=moon=light.cwr --readers 8 "${tables[@]}" --cwr HARBOR=./harbor.cwr --nodes 1
 check 'a run over three files into a file' 0 '' '' "$program" run "${tables[@]}" "${cwr[@]}" "${plan[@]}" --output MOON=moon.cwr
 holds 'a run over three files into a file' MOON=moon.cwr "$several/statements.csv"
+explained='U,7,RADIO-NO-0007,T9104182072,578,P,48213
+R,
+W,MOON,ML0003,22
+C,MOON,24,1,MOON,00000000407,2500,I,2136,yes,yes
+C,MOON,25,1,MOON,00000000407,0,E,2101,no,no
+C,MOON,27,2,TINKITE,00341900277,2500,I,2101,no,no
+C,MOON,30,3,WRENFELD,00611204430,2500,I,2136,yes,yes
+W,HARBOR,1003,20
+C,HARBOR,22,1,P001,00000000512,2500,I,2136,yes,yes
+C,HARBOR,23,1,P001,00000000512,2500,E,2101,no,no
+C,HARBOR,24,1,P001,00000000512,2500,I,124,no,no
+C,HARBOR,26,2,P004,00341900277,2500,I,2101,no,no
+C,HARBOR,27,2,P004,00341900277,2500,E,124,no,no
+C,HARBOR,30,3,W001,00702265514,2500,I,2136,yes,yes
+A,1,00000000407,2500
+A,2,00000000512,2500
+A,9,00611204430,2500
+A,13,00702265514,2500
+B,10000,0,1
+P,1,00000000407,2500,12053,2500,1,12054
+P,2,00000000512,2500,12053,2500,2,12053
+P,9,00611204430,2500,12053,2500,3,12053
+P,13,00702265514,2500,12053,2500,4,12053
+P,0,,0,0,0,5,0
+'
+check 'an explanation over three files' 0 "$explained" '' "$program" explain "${tables[@]}" "${cwr[@]}" --row 7
+check 'an explanation over files in another order' 0 "$explained" '' \
+    "$program" explain --row=7 --cwr NORTH=north.cwr --cwr=MOON=moon.cwr "${tables[@]}" --cwr HARBOR=harbor.cwr
+check 'a row of three files that there is none of' 2 '' 'royalty_run: the usage list has no row 201\n' "$program" explain "${tables[@]}" "${cwr[@]}" --row 201
+check 'an explanation with two files of one submitter' 2 '' '*' "$program" explain "${tables[@]}" "${cwr[@]}" --cwr MOON=north.cwr --row 7
+sed 's/^T9104182072,MOON,ML0003,/T9104182072,MOON,ML9999,/' works.csv >other.csv
+check 'an explanation of a registration that is not in force' 0 'W,MOON,ML9999,\nW,HARBOR,1003,20\n' '' \
+    bash -c '"$0" "$@" | grep ^W' "$program" explain "${tables[@]/works.csv/other.csv}" "${cwr[@]}" --row 7
 check 'a table of works' 0 "$(cat "$several/works.printed.csv")\n" '' "$program" works "${cwr[@]}"
 check 'a table of payees' 0 "$(cat "$several/payees.printed.csv")\n" '' "$program" parties "${cwr[@]}"
 check 'a run over tables as they were printed' 0 '*' '' \
@@ -236,6 +269,7 @@ line=$(grep -n -m 1 '^SPT.*J2136' wrong.cwr | cut -d : -f 1)
 wrong=(--cwr MOON=moon.cwr --cwr NORTH=./wrong.cwr --cwr HARBOR=absent)
 fault="royalty_run: cwr fault 3 at line $line of ./wrong.cwr\n"
 check 'a run over a file with a fault' 1 '' "$fault" "$program" run "${tables[@]}" "${wrong[@]}" "${plan[@]}"
+check 'an explanation over a file with a fault' 1 '' "$fault" "$program" explain "${tables[@]}" "${wrong[@]}" --row 7
 for command in works parties; do
     check "$command over a file with a fault" 1 '' "$fault" "$program" "$command" "${wrong[@]}"
 done

@@ -1,17 +1,22 @@
 -- What share lines come to, line by line.
-use Rattle.std.proofs.Common.{◌≡◌, ◌+◌, ◌==◌, ◌<◌, ◌≤◌, ◌++◌, ◌∷◌, ◌∙◌, ◌&&◌, ◌⊎◌, [], ℕ, suc, Bool, Bor, inl, inr, true, false, List, ap, arith, cond, drop, filter, get_or, length, map, nat_eq, not, refl, sum_by, sym, take, zero-add}
+use Rattle.std.proofs.Common.{◌≡◌, ◌+◌, ◌==◌, ◌<◌, ◌≤◌, ◌++◌, ◌∷◌, ◌∙◌, ◌&&◌, ◌⊎◌, [], ℕ, suc, Bool, Bor, inl, inr, true, false, List, None, Some, ap, arith, cond, drop, filter, get_or, length, map, nat_eq, not, refl, sum_by, sym, take, zero-add}
 use Rattle.std.specs.List.{enumerate_from}
 use Rattle.std.specs.Cmp.Lexicographic.{pointwise}
 use Rattle.std.proofs.Math.Seq.{drop-cons}
-use Rattle.std.proofs.lemmas.Bool.{false≢true, ne_eqb}
+use Rattle.std.specs.Prelude.{nat_le}
+use Rattle.std.proofs.lemmas.Bool.{cases_Bool, false≢true, ne_eqb}
 use Rattle.std.proofs.lemmas.List.{append-nil, drop_all, get_or-map}
 use Rattle.std.proofs.lemmas.List.Elements.{filter-append}
 use Rattle.std.proofs.lemmas.List.Sums.{sum_by-cons}
 use Rattle.line_split.proofs.Enumerated.{enumerated_from_more}
 use Rattle.line_split.specs.declared.usage.Right.{Right}
-use Rattle.cwr_share.proofs.ClaimLemmas.{no_line}
-use Rattle.cwr_share.specs.ClaimsOn.{claim_of, claims_among, deciding, share_for}
-use Rattle.cwr_share.specs.Registrations.{ShareLine}
+use Rattle.cwr_share.proofs.ClaimLemmas.{against_land, against_nothing, against_over, no_line}
+use Rattle.cwr_share.specs.ClaimsOn.{claim_of, claims_among, claims_by, claims_on, deciding, is_known, reason_against, share_for}
+use Rattle.cwr_share.specs.Registered.{Registered}
+use Rattle.cwr_share.specs.Registrations.{ShareLine, find_work}
+use Rattle.line_split.specs.Claims.{total_of}
+use Rattle.line_split.specs.UsageLine.{UsageLine}
+use Rattle.line_split.specs.declared.TheConstants.{MOST_CLAIMED}
 use Rattle.explain_line.specs.Claimed.{claimed_by}
 use Rattle.explain_line.specs.Explanation.{decides}
 
@@ -104,3 +109,14 @@ claimed_no table land right pay payee share later = by (pointwise nat_eq (pay sh
     by true false e = refl
     by true true (inl e) = absurd (false≢true (sym e))
     by true true (inr e) = absurd (false≢true (sym e))
+
+-- where nothing stands against the claims by share lines, they are the claims on the line
+pub divided : (table : List (ℕ × List ℕ)) (registered : Registered) (line : UsageLine) (shares : List ShareLine) → find_work line.work registered.works ≡ Some shares → reason_against table registered line ≡ None
+    → claims_by table registered line shares ≡ claims_on table registered line
+divided table registered line shares found free = elim (cases_Bool (is_known table line.territory)) [
+  | inl known ↦ elim (cases_Bool (nat_le (total_of (claims_by table registered line shares)) MOST_CLAIMED)) [
+    | inl within ↦ sym (against_nothing table registered line shares found known within).1
+    | inr over ↦ let reason = (against_over table registered line shares found known over).0 in cc
+  ]
+  | inr unknown ↦ let reason = (against_land table registered line shares found unknown).0 in cc
+]

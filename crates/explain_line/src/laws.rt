@@ -2,7 +2,7 @@
 
 ghost use Rattle.std.specs.List.{enumerate_from};
 ghost use Rattle.std.specs.Prelude.{ℕ, ℤ, ◌≡◌, ◌<◌, ◌+◌, ◌==◌, [], List};
-ghost use Rattle.std.specs.Prelude.{None, Some, drop, filter, length, map, slice_index_or};
+ghost use Rattle.std.specs.Prelude.{None, Some, drop, filter, length, map, slice_index_or, unwrap_or, zip};
 ghost use Rattle.cwr_share.specs.ClaimsOn.{claims_by, claims_on, deciding, reason_against};
 ghost use Rattle.cwr_share.specs.Filed.{last_opening, numbers_from, shares_from};
 ghost use Rattle.cwr_share.specs.Lines.{lines_of};
@@ -10,10 +10,13 @@ ghost use Rattle.cwr_share.specs.Registrations.{ShareLine};
 ghost use Rattle.explain_line.specs.Explanation.{IsExplanationOf, IsRow, decides, portions_shown};
 ghost use Rattle.line_split.specs.Signs.{signed_portions_of};
 ghost use Rattle.line_split.specs.UsageLine.{UsageLine};
+ghost use Rattle.linked_works.specs.Linked.{finds_in, shares_linked};
 ghost use Rattle.payee_book.specs.Run.{IsBookOf, portion_for, posting_of};
 ghost use Rattle.run_inputs.specs.Inputs.{IsReading};
 ghost use Rattle.run_inputs.specs.declared.inputs.Inputs.{Inputs};
 ghost use Rattle.run_inputs.specs.declared.inputs.Tables.{Tables};
+ghost use Rattle.submitted_inputs.specs.Submitted as submitted;
+ghost use Rattle.submitted_inputs.specs.declared.inputs.SubmittedTables.{SubmittedTables};
 
 /// The portions that an explanation shows are the postings of its line in the statements of a run over the same files, those that
 /// are not 0: the statement of each account has this posting of the line, and no other. The run may have read the files by itself.
@@ -38,6 +41,17 @@ pub fn law_the_claims_shown_are_those_divided()
         × (claims_by tables.territories tables.registry line (shares_from (lines_of files.registrations) number)
         ≡ claims_on tables.territories tables.registry line) }
     ensures numbers { (file : List (List ℕ)) (number : ℕ) → length (numbers_from file number) ≡ length (shares_from file number) }
+{}
+
+/// In a run over the files of several submitters too the claims that an explanation shows are those that the line is divided by,
+/// where no reason stands against them: those of all linked registrations in force together.
+pub fn law_the_claims_shown_of_submitters_are_those_divided()
+    ensures { (names : List (List ℕ)) (holds : ℕ → List ℕ → Type 0) (inputs : SubmittedTables (List ℕ)) (tables : Tables)
+        (line : UsageLine) (read : submitted.IsReading names holds inputs tables)
+        → reason_against tables.territories tables.registry line ≡ None
+        → claims_by tables.territories tables.registry line
+        (unwrap_or (shares_linked (finds_in (zip names (map lines_of read.files))) read.links line.work) [])
+        ≡ claims_on tables.territories tables.registry line }
 {}
 
 /// A row of the usage list has one explanation: whoever works it out by the definitions comes to the same bytes.

@@ -2,31 +2,18 @@ use Rattle.std.proofs.Common.{◌≡◌, ◌∙◌, ◌+◌, ◌++◌, ◌⊎◌
 use Rattle.std.specs.Option.{option_map}
 use Rattle.std.proofs.lemmas.Bool.{cases_Bool}
 use Rattle.std.proofs.lemmas.List.{append-nil, length_push}
-use Rattle.cwr_share.proofs.ClaimLemmas.{against_land, against_nothing, against_over, against_work}
+use Rattle.cwr_share.proofs.ClaimLemmas.{against_work}
 use Rattle.cwr_share.proofs.FileLemmas.{by_pushes, count_by_no, count_by_yes, length_share_lines}
 use Rattle.cwr_share.proofs.FiledLemmas.{in_force_is, share_numbers_push}
-use Rattle.cwr_share.specs.ClaimsOn.{claims_by, claims_on, is_known, reason_against}
+use Rattle.cwr_share.specs.ClaimsOn.{claims_by, claims_on, reason_against}
 use Rattle.cwr_share.specs.Filed.{body_of, last_opening, share_numbers, shares_from}
 use Rattle.cwr_share.specs.Lines.{lines_of}
 use Rattle.cwr_share.specs.Records.{is_share_line}
 use Rattle.cwr_share.specs.Registered.{Registered}
-use Rattle.cwr_share.specs.Registrations.{ShareLine, find_work}
-use Rattle.line_split.specs.Claims.{total_of}
+use Rattle.cwr_share.specs.Registrations.{find_work}
 use Rattle.line_split.specs.UsageLine.{UsageLine}
-use Rattle.line_split.specs.declared.TheConstants.{MOST_CLAIMED}
-use Rattle.std.specs.Prelude.{nat_le}
+use Rattle.explain_line.proofs.ClaimedLemmas.{divided}
 use Rattle.explain_line.proofs.laws.law_the_claims_shown_are_those_divided.Goals as goal
-
--- where nothing stands against the claims by share lines, they are the claims on the line
-divided : (table : List (ℕ × List ℕ)) (registered : Registered) (line : UsageLine) (shares : List ShareLine) → find_work line.work registered.works ≡ Some shares → reason_against table registered line ≡ None
-    → claims_by table registered line shares ≡ claims_on table registered line
-divided table registered line shares found free = elim (cases_Bool (is_known table line.territory)) [
-  | inl known ↦ elim (cases_Bool (nat_le (total_of (claims_by table registered line shares)) MOST_CLAIMED)) [
-    | inl within ↦ sym (against_nothing table registered line shares found known within).1
-    | inr over ↦ let reason = (against_over table registered line shares found known over).0 in cc
-  ]
-  | inr unknown ↦ let reason = (against_land table registered line shares found unknown).0 in cc
-]
 
 -- a registration in force begins in a line of its file
 opened : (table : List (ℕ × List ℕ)) (registered : Registered) (line : UsageLine) (file : List (List ℕ)) → find_work line.work registered.works ≡ option_map (shares_from file) (last_opening file line.work)
