@@ -18,6 +18,8 @@ ghost use Rattle.run_inputs.specs.declared.inputs.Tables.{Tables};
 ghost use Rattle.submitted_inputs.specs.Submitted as submitted;
 ghost use Rattle.submitted_inputs.specs.declared.inputs.SubmittedTables.{SubmittedTables};
 
+use submitted_inputs::SubmitterFiles;
+
 /// The portions that an explanation shows are the postings of its line in the statements of a run over the same files, those that
 /// are not 0: the statement of each account has this posting of the line, and no other. The run may have read the files by itself.
 pub fn law_explained_portions_are_posted()
@@ -45,9 +47,9 @@ pub fn law_the_claims_shown_are_those_divided()
 
 /// In a run over the files of several submitters too the claims that an explanation shows are those that the line is divided by,
 /// where no reason stands against them: those of all linked registrations in force together.
-pub fn law_the_claims_shown_of_submitters_are_those_divided()
-    ensures { (names : List (List ℕ)) (holds : ℕ → List ℕ → Type 0) (inputs : SubmittedTables (List ℕ)) (tables : Tables)
-        (line : UsageLine) (read : submitted.IsReading names holds inputs tables)
+pub fn law_the_claims_shown_of_submitters_are_those_divided<F: SubmitterFiles>(files: &F)
+    ensures { (names : List (List ℕ)) (inputs : SubmittedTables (List ℕ)) (tables : Tables)
+        (line : UsageLine) (read : submitted.IsReading names (F.holds files.now) inputs tables)
         → reason_against tables.territories tables.registry line ≡ None
         → claims_by tables.territories tables.registry line
         (unwrap_or (shares_linked (finds_in (zip names (map lines_of read.files))) read.links line.work) [])

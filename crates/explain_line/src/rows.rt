@@ -177,7 +177,7 @@ fn write_share(
 pub(crate) struct Shown<'a> {
     /// The number of its line in the file.
     pub(crate) number: u64,
-    /// Its interest, from 0 in each registration.
+    /// Its interest: how many SPU and SWR records stand before it in its registration.
     pub(crate) interest: usize,
     /// Its party.
     pub(crate) party: &'a [u8],

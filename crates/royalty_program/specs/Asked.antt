@@ -84,7 +84,7 @@ plan_given app words = record {
   nodes = number_given app (codes "nodes") words;
 }
 
--- A word is `--works`, or that with its value behind a `=`. Words of a run that have one after the first are of a run over the files of several submitters, and are read by another
+-- A word is `--works`, or that with its value behind a `=`. Words of a run, or of an explanation, that have one after the first are of a run over the files of several submitters, and are read by another
 -- grammar: it has `--cwr NAME=F` as often as there are submitters.
 abbrev pub is_works_word : List ℕ → Bool
 is_works_word word = pointwise nat_eq word (codes "--works") || starts_with nat_eq word (codes "--works=")

@@ -1,4 +1,4 @@
--- What a run over the files of several submitters answers over files. `holds path bytes` says that the file of a path has these bytes, and `refuses path kind` that it
+-- What a run, and an explanation, over the files of several submitters answers over files. `holds path bytes` says that the file of a path has these bytes, and `refuses path kind` that it
 -- is refused with an error of this kind.
 use Rattle.std.specs.Prelude.{ℕ, ◌≤◌, ◌<◌, ◌⊎◌, All, IfSome, List, length, map, string_bytes, ⊤}
 use Rattle.std.specs.declared.io.ErrorKind.{ErrorKind}

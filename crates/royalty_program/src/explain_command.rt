@@ -37,13 +37,13 @@ The answer is CSV, in this order:
   P,account,payee,share,quota,remainder,rank,portion
                                                    each participant, the residue last
 
-With `--works F` it is a line of a run over the files of several submitters, and in place of N and C:
-  R,reason                                         why no claim counts
+With `--works F` the line is one of a run over the files of several submitters. In place of N and C
+stand:
+  R,reason                                         why no claim counts, or nothing
   W,submitter,number,line                          each row of the table of works that has the work, and
-                                                   the line of its registration in force; none is in
-                                                   force where that is empty
+                                                   the line of its registration in force, or nothing
   C,submitter,line,..                              behind it each of the share lines, as above; interests
-                                                   count from 0 in each registration
+                                                   are counted anew in each registration
 The claims are those of all these registrations together.
 
 Shares are in hundredths of a per cent. Each of the first ranks has one of the units left. Where

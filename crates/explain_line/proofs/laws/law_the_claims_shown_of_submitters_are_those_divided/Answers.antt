@@ -15,5 +15,5 @@ of_shares table registered line None found free = let reason = (against_work tab
 of_shares table registered line (Some shares) found free = divided table registered line shares found free
 
 pub returns : goal.returns
-returns c = λ names holds inputs tables line read free.
+returns g c = λ names inputs tables line read free.
     of_shares tables.territories tables.registry line _ (read.registrations.0.in_force line.work) free
