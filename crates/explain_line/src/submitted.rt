@@ -48,15 +48,7 @@ pub fn explain_submitted<I: Input, F: SubmitterFiles>(
 {
     let territories = read_territories(alloc, &inputs.territories)?;
     let payees = read_payees_if_given(alloc, submitters, &inputs.payees)?;
-    explain_linked(
-        alloc,
-        submitters,
-        inputs,
-        files,
-        row,
-        &territories,
-        &payees,
-    )
+    explain_linked(alloc, submitters, inputs, files, row, &territories, &payees)
 }
 
 /// The same, where the tables of territories and of payees were read.
@@ -181,7 +173,16 @@ fn submitted_explanation(
     let mut out = RowWriter::new(alloc);
     write_line(&mut out, row, line)?;
     write_reason(&mut out, reason)?;
-    write_linked(alloc, &mut out, tis, registry, land, line.right, rows, found.filed.as_slice())?;
+    write_linked(
+        alloc,
+        &mut out,
+        tis,
+        registry,
+        land,
+        line.right,
+        rows,
+        found.filed.as_slice(),
+    )?;
     let shares = shares_of(found, line.work);
     write_claims(alloc, &mut out, tis, registry, land, line.right, shares)?;
     write_division(&mut out, registry, line.amount, &claims)?;

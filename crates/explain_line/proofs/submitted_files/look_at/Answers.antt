@@ -26,4 +26,3 @@ loop-at-preserved c =
           subst (λ (items : List Found). SoFar place lines rows (at + 1) old items) (sym (ap (λ (v : _). v.items) w.filed-is))
           (other_row place lines rows at row old mid within here c.loop-at.invariant w.if-rows-at.false)
     ]
-

@@ -36,7 +36,7 @@ use Rattle.royalty_program.specs.declared.starting_command.StartingWords.{Starti
 use Rattle.starting_files.specs.Tables.{IsTableOf}
 use Rattle.starting_files.specs.declared.making.StartingTable.{StartingTable}
 use Rattle.royalty_program.proofs.OutputLemmas.{delivered_merge, delivered_out, delivered_run, left_merge, left_run, no_explain_help_given, no_files_help_given, no_merge_help_given, no_output, no_run_help_given, not_accepted_explain, not_accepted_files, not_accepted_run, unmerged_words, unused_merge, unused_run}
-use Rattle.royalty_program.proofs.OverLemmas.{explained_given, fails_given, merged_given, no_table_given, over_given, over_in_order, over_submitted, reported_given, table_given}
+use Rattle.royalty_program.proofs.OverLemmas.{explained_given, fails_given, merged_given, no_table_given, over_given, over_in_order, over_submitted, reported_given, table_given, unexplained_given}
 use Rattle.royalty_program.proofs.OptionLemmas.{accepted_is_memory, no_help_given}
 use Rattle.royalty_program.proofs.RunWalked.{no_help}
 use Rattle.royalty_program.proofs.answering.answer.Goals as goal
@@ -406,6 +406,16 @@ returns-in_err-settle_out-in-Ok-Run-clause-run g c command =
     let exit = err_from_is_err_and c.from_residual.result c.from_residual.ensures.1 in
     rw (exit.1, exit.2)
     (fails_given (g.S.Source.holds c.args.files.now) (g.S.Source.refuses c.args.files.now) (drop 1 words) asked read failed.field-0.0 failed.ensures.files)
+
+pub returns-in_err-text-in-Ok-Explanation-clause-explanation : goal.returns-in_err-text-in-Ok-Explanation-clause-explanation
+returns-in_err-text-in-Ok-Explanation-clause-explanation g c command =
+    let words = map string_bytes c.args.words.now in
+    let asked = c.in-Ok-Explanation.asked in
+    let failed = c.in_err-text-in-Ok-Explanation in
+    let read : AreExplainedFrom (drop 1 words) asked = rw (c.in-Ok-Explanation.is, c.in-Ok-Explanation.field-0-is) at (c.read_words.ensures.explanation command) in
+    let exit = err_from_is_err_and c.from_residual-in_err-text-in-Ok-Explanation.result c.from_residual-in_err-text-in-Ok-Explanation.ensures.1 in
+    rw (exit.1, exit.2)
+    (unexplained_given (g.S.Source.holds c.args.files.now) (g.S.Source.refuses c.args.files.now) (drop 1 words) asked read failed.field-0.0 failed.ensures.files)
 
 pub returns-in_err-text-in-Ok-Starting-clause-table : goal.returns-in_err-text-in-Ok-Starting-clause-table
 returns-in_err-text-in-Ok-Starting-clause-table g c table named =

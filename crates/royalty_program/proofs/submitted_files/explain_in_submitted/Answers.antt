@@ -15,11 +15,14 @@ returns-in-Ok-Some-clause-explanation g c = record {
 }
 
 pub returns-in-Ok-None-clause-files : goal.returns-in-Ok-None-clause-files
-returns-in-Ok-None-clause-files g c = (refl, record {
-  tables = _;
-  read = c.in_ok-tables.ensures.read;
-  beyond = rw (c.as_slice.ensures.value, c.in-Ok-None.field-0-is) at c.in-Ok-None.ensures.none;
-})
+returns-in-Ok-None-clause-files g c = (
+  refl,
+  record {
+    tables = _;
+    read = c.in_ok-tables.ensures.read;
+    beyond = rw (c.as_slice.ensures.value, c.in-Ok-None.field-0-is) at c.in-Ok-None.ensures.none;
+  },
+)
 
 pub returns-clause-files : goal.returns-clause-files
 returns-clause-files g c =
