@@ -3,6 +3,7 @@ pub mod ClaimLemmas
 pub mod InForceLemmas
 pub mod CompiledLemmas
 pub mod CwrReadings
+pub mod Decided
 pub mod FieldLemmas
 pub mod Groups
 pub mod FileLemmas

@@ -156,7 +156,7 @@ module _ (works : List WorkName) (lists : List (Vec ShareLine Global)) (paired :
   beside_items : length (numbers_of works) ≡ length (items_of lists)
   beside_items = length-map works (λ (work : WorkName). work.items) ∙ paired ∙ sym (length-map lists (λ (lines : Vec ShareLine Global). lines.items))
 
-  once_works : AllPairs (λ entry later. ¬ (entry.0 ≡ later.0)) (works_of works lists)
+  pub once_works : AllPairs (λ entry later. ¬ (entry.0 ≡ later.0)) (works_of works lists)
   once_works = subst (AllPairs (λ entry later. ¬ (entry.0 ≡ later.0))) (sym zipped) (zip_once (numbers_of works) (items_of lists) beside_items (once_texts (λ (work : WorkName). work.items) works once))
 
   each_work : (P : List ShareLine → Type 0) → All (λ lines. P lines.items) lists → All (λ entry. P entry.1) (works_of works lists)

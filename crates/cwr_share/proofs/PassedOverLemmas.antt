@@ -132,15 +132,15 @@ no_row_found payees party none =
 -- Tallies
 
 -- of the first so many numbers, one more where there is room for it
-pub first_more : (most : ℕ) (numbers first : List ℕ) (number : ℕ) → first ≡ take most numbers → length first < most → first ++ number ∷ [] ≡ take most (numbers ++ number ∷ [])
+pub first_more : {X : Type 0} (most : ℕ) (numbers first : List X) (number : X) → first ≡ take most numbers → length first < most → first ++ number ∷ [] ≡ take most (numbers ++ number ∷ [])
 first_more most numbers first number is room =
     let few : length numbers < most = omega (arith, ap length is, length-take most numbers, room) in
     let all : take most numbers ≡ numbers = take_all most numbers (omega (arith, few)) in
     let more : take most (numbers ++ number ∷ []) ≡ numbers ++ number ∷ [] = take_all most (numbers ++ number ∷ []) (omega (arith, few, length_push numbers number)) in
-    ap (λ (l : List ℕ). l ++ number ∷ []) (is ∙ all) ∙ sym more
+    ap (λ l. l ++ number ∷ []) (is ∙ all) ∙ sym more
 
 -- and the same as before where there is none
-pub first_full : (most : ℕ) (numbers first : List ℕ) (number : ℕ) → first ≡ take most numbers → most ≤ length first → first ≡ take most (numbers ++ number ∷ [])
+pub first_full : {X : Type 0} (most : ℕ) (numbers first : List X) (number : X) → first ≡ take most numbers → most ≤ length first → first ≡ take most (numbers ++ number ∷ [])
 first_full most numbers first number is full =
     is ∙ sym (take-append-le most numbers (number ∷ []) (omega (arith, ap length is, length-take most numbers, full)))
 

@@ -37,13 +37,18 @@ abbrev pub share_in : List (ℕ × List ℕ) → (land : ℕ) → Right → List
 share_in table land right lines interest party = option_map_or (share_for right)
     (find (λ line. (line.interest == interest) && pointwise nat_eq line.party party && covers table land line) (reverse lines)) 0
 
--- the lines that decide: each covers the land, and no later line of its interest and party does
+-- a share line decides what its interest and party have in a land: its territory contains the land, and that of no later line of theirs does
+abbrev pub decides : List (ℕ × List ℕ) → (land : ℕ) → ShareLine → (later : List ShareLine) → Bool
+decides table land share later = covers table land share && not (list_any (λ other. is_alike share other && covers table land other) later)
+
+-- the lines that decide
 unfoldable pub deciding : List (ℕ × List ℕ) → (land : ℕ) → List ShareLine → List ShareLine
 deciding table land [] = []
-deciding table land (line ∷ later) =
-    if covers table land line && not (list_any (λ other. is_alike line other && covers table land other) later)
-    then line ∷ deciding table land later
-    else deciding table land later
+deciding table land (line ∷ later) = if decides table land line later then line ∷ deciding table land later else deciding table land later
+
+-- what the share lines of a registration claim in a land, whoever is paid it
+abbrev pub claimed_in : List (ℕ × List ℕ) → (land : ℕ) → Right → List ShareLine → ℕ
+claimed_in table land right lines = sum_by (share_for right) (deciding table land lines)
 
 -- a payee's claim: the shares of the lines that decide, of the parties that are paid to it, one for each interest and party
 abbrev pub claim_of : List (ℕ × List ℕ) → (land : ℕ) → Right → (pay : List ℕ → List ℕ) → List ShareLine → (payee : List ℕ) → ℕ

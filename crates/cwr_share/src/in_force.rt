@@ -1,6 +1,6 @@
 //! Works with the share lines that are in force, before their parties have accounts.
 
-ghost use Rattle.std.specs.Prelude.{◌≡◌, ◌≤◌, ◌<◌, ◌⊎◌, ◌∷◌, ◌++◌, [], ℕ, List, All, IfErr, IfNone, IfOk, IfSome, None, OnOk, Some, false, if◌then◌else◌, length, nat_eq, slice_index_or, unwrap_or};
+ghost use Rattle.std.specs.Prelude.{◌≡◌, ◌≤◌, ◌<◌, ◌⊎◌, ◌∷◌, ◌++◌, [], ℕ, List, All, AllPairs, IfErr, IfNone, IfOk, IfSome, None, OnOk, Some, false, if◌then◌else◌, length, nat_eq, slice_index_or, unwrap_or};
 ghost use Rattle.std.specs.Cmp.Lexicographic.{pointwise};
 ghost use Rattle.cwr_share.specs.InForce.{AreShareLines};
 ghost use Rattle.cwr_share.specs.Joined.{followed_by, interests_in as interests};
@@ -57,11 +57,12 @@ impl InForce {
         }
     }
 
-    /// How many works there are.
+    /// How many works there are, each once.
     pub fn len(&self) -> usize
-        ensures { result ≡ length self.now }
+        ensures len { result ≡ length self.now }
+        ensures once { AllPairs (λ entry later. ¬ (entry.0 ≡ later.0)) self.now }
     {
-        self.lists.len()
+        self.works.len()
     }
 
     /// The share lines of the work at a place.

@@ -10,6 +10,7 @@
 mod claim_line;
 mod cwr_fault;
 mod cwr_reader;
+mod deciding;
 pub mod fields;
 mod filed;
 mod in_force;
@@ -31,6 +32,7 @@ mod share_line;
 pub use csv_table::FileFault;
 pub use cwr_fault::CwrFault;
 pub use cwr_reader::CwrReader;
+pub use deciding::{claimed_in, covers_land, decides};
 pub use filed::{FiledRegistration, count_registrations, filed_registration};
 pub use in_force::InForce;
 pub use lines::Lines;

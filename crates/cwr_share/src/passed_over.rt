@@ -61,7 +61,7 @@ pub fn unused_payees(payees: &Payees, registry: &Registry) -> Tally
 
 impl Tally {
     /// None so far.
-    fn none() -> Tally
+    pub fn none() -> Tally
         ensures { IsTallyOf [] result }
     {
         Tally {
@@ -71,7 +71,7 @@ impl Tally {
     }
 
     /// Adds the next, which has this number.
-    fn add(&mut self, number: u64)
+    pub fn add(&mut self, number: u64)
         requires { self.old.count + 1 < 2 ^ 64 }
         ensures { (numbers : List ℕ) → IsTallyOf numbers self.old → IsTallyOf (numbers ++ number ∷ []) self.new }
     {

@@ -11,14 +11,13 @@ use Rattle.std.proofs.lemmas.List.Sums.{sum_by-cons}
 use Rattle.line_split.proofs.Enumerated.{enumerated_from_more}
 use Rattle.line_split.specs.declared.usage.Right.{Right}
 use Rattle.cwr_share.proofs.ClaimLemmas.{against_land, against_nothing, against_over, no_line}
-use Rattle.cwr_share.specs.ClaimsOn.{claim_of, claims_among, claims_by, claims_on, deciding, is_known, reason_against, share_for}
+use Rattle.cwr_share.specs.ClaimsOn.{claim_of, claims_among, claims_by, claims_on, decides, deciding, is_known, reason_against, share_for}
 use Rattle.cwr_share.specs.Registered.{Registered}
 use Rattle.cwr_share.specs.Registrations.{ShareLine, find_work}
 use Rattle.line_split.specs.Claims.{total_of}
 use Rattle.line_split.specs.UsageLine.{UsageLine}
 use Rattle.line_split.specs.declared.TheConstants.{MOST_CLAIMED}
 use Rattle.explain_line.specs.Claimed.{claimed_by}
-use Rattle.explain_line.specs.Explanation.{decides}
 
 claim_cons : (table : List (ℕ × List ℕ)) (land : ℕ) (right : Right) (pay : List ℕ → List ℕ) (payee : List ℕ) (share : ShareLine) (later : List ShareLine)
     → claim_of table land right pay (share ∷ later) payee ≡ claimed_by table land right pay payee share later + claim_of table land right pay later payee

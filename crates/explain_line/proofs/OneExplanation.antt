@@ -7,7 +7,7 @@ use Rattle.std.proofs.Math.Path.{fun_ext}
 use Rattle.csv_table.specs.Table.{rows_of}
 use Rattle.cwr_share.proofs.LawLemmas.{of_no_other_work}
 use Rattle.cwr_share.proofs.OneRegistry.{one_parties, one_payees, one_works}
-use Rattle.cwr_share.specs.ClaimsOn.{claims_among, claims_on, covers, reason_against}
+use Rattle.cwr_share.specs.ClaimsOn.{claims_among, claims_on, covers, decides, reason_against}
 use Rattle.cwr_share.specs.CwrFile.{IsFileOf}
 use Rattle.cwr_share.specs.Filed.{last_opening, numbers_from, recorded_share, shares_from}
 use Rattle.cwr_share.specs.Lines.{lines_of}
@@ -25,7 +25,7 @@ use Rattle.run_inputs.specs.Inputs.{IsReading}
 use Rattle.run_inputs.specs.declared.inputs.Inputs.{Inputs}
 use Rattle.run_inputs.specs.declared.inputs.Tables.{Tables}
 use Rattle.tis_tree.specs.TisRows.{territory_rules}
-use Rattle.explain_line.specs.Explanation.{base_row, claim_row, decides, explanation_rows, line_row, mark_text, participant_row, registration_row, yes_or_no}
+use Rattle.explain_line.specs.Explanation.{base_row, claim_row, explanation_rows, line_row, mark_text, participant_row, registration_row, yes_or_no}
 
 -- two readings say the same
 pub record AreAlike (tables others : Tables) : Type 0 where

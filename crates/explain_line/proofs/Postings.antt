@@ -6,9 +6,8 @@ use Rattle.std.proofs.lemmas.Bool.{cond-false, cond-true, ne_eqb}
 use Rattle.std.proofs.lemmas.List.{length_push}
 use Rattle.line_split.specs.Signs.{is_not_zero}
 use Rattle.line_split.specs.UsageLine.{UsageLine}
-use Rattle.cwr_share.specs.ClaimsOn.{deciding}
+use Rattle.cwr_share.specs.ClaimsOn.{decides, deciding}
 use Rattle.cwr_share.specs.Registrations.{ShareLine}
-use Rattle.explain_line.specs.Explanation.{decides}
 
 -- Of numbered lines, those that stand at a place
 

@@ -1,10 +1,9 @@
 -- What one share line adds to a claim.
 use Rattle.std.specs.Prelude.{ℕ, ◌≡◌, ◌&&◌, List, if◌then◌else◌, map, nat_eq}
 use Rattle.std.specs.Cmp.Lexicographic.{pointwise}
-use Rattle.cwr_share.specs.ClaimsOn.{share_for}
+use Rattle.cwr_share.specs.ClaimsOn.{decides, share_for}
 use Rattle.cwr_share.specs.Registrations.{ShareLine}
 use Rattle.line_split.specs.declared.usage.Right.{Right}
-use Rattle.explain_line.specs.Explanation.{decides}
 
 -- these are the payees of the share lines
 abbrev pub ArePayeesOf : (pay : List ℕ → List ℕ) → (payees : List (List ℕ)) → (shares : List ShareLine) → Type 0

@@ -1,10 +1,10 @@
 -- The explanation of a usage line: each term by which it is divided, as a row.
-use Rattle.std.specs.Prelude.{ℕ, ℤ, ◌≡◌, ◌<◌, ◌+◌, ◌⊎◌, ◌&&◌, ◌++◌, ◌∷◌, [], Bool, List, codes, decimal, drop, if◌then◌else◌, length, map, not, slice_index, slice_index_or, unsigned_abs, Option}
+use Rattle.std.specs.Prelude.{ℕ, ℤ, ◌≡◌, ◌<◌, ◌+◌, ◌⊎◌, ◌++◌, ◌∷◌, [], Bool, List, codes, decimal, drop, if◌then◌else◌, length, map, slice_index, slice_index_or, unsigned_abs, Option}
 use Rattle.std.specs.Fmt.{signed_decimal}
-use Rattle.std.specs.List.{enumerate_from, list_any}
+use Rattle.std.specs.List.{enumerate_from}
 use Rattle.std.specs.Option.{option_map_or}
 use Rattle.csv_table.specs.Written.{text_of, text_of_row}
-use Rattle.cwr_share.specs.ClaimsOn.{claims_by, claims_on, covers, is_alike, reason_against}
+use Rattle.cwr_share.specs.ClaimsOn.{claims_by, claims_on, covers, decides, reason_against}
 use Rattle.cwr_share.specs.Filed.{last_opening, numbers_from, recorded_share, shares_from}
 use Rattle.cwr_share.specs.Lines.{lines_of}
 use Rattle.cwr_share.specs.Payees.{payee_of}
@@ -50,10 +50,6 @@ line_row row line =
 -- the registration in force, by the number of its first line, and why no claim counts
 abbrev pub registration_row : Option ℕ → Option Reason → List (List ℕ)
 registration_row line reason = codes "N" ∷ option_map_or decimal line [] ∷ option_map_or reason_text reason [] ∷ []
-
--- a share line decides what its interest and party have in a land: its territory contains the land, and that of no later line of theirs does
-abbrev pub decides : List (ℕ × List ℕ) → (land : ℕ) → ShareLine → (later : List ShareLine) → Bool
-decides table land share later = covers table land share && not (list_any (λ other. is_alike share other && covers table land other) later)
 
 -- What a row says of a share line: the number of its line, its interest, party and payee, its share, whether it includes, its territory, and
 -- whether that contains the land and the line decides.

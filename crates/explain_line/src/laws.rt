@@ -3,11 +3,11 @@
 ghost use Rattle.std.specs.List.{enumerate_from};
 ghost use Rattle.std.specs.Prelude.{ℕ, ℤ, ◌≡◌, ◌<◌, ◌+◌, ◌==◌, [], List};
 ghost use Rattle.std.specs.Prelude.{None, Some, drop, filter, length, map, slice_index_or, unwrap_or, zip};
-ghost use Rattle.cwr_share.specs.ClaimsOn.{claims_by, claims_on, deciding, reason_against};
+ghost use Rattle.cwr_share.specs.ClaimsOn.{claims_by, claims_on, decides, deciding, reason_against};
 ghost use Rattle.cwr_share.specs.Filed.{last_opening, numbers_from, shares_from};
 ghost use Rattle.cwr_share.specs.Lines.{lines_of};
 ghost use Rattle.cwr_share.specs.Registrations.{ShareLine};
-ghost use Rattle.explain_line.specs.Explanation.{IsExplanationOf, IsRow, decides, portions_shown};
+ghost use Rattle.explain_line.specs.Explanation.{IsExplanationOf, IsRow, portions_shown};
 ghost use Rattle.line_split.specs.Signs.{signed_portions_of};
 ghost use Rattle.line_split.specs.UsageLine.{UsageLine};
 ghost use Rattle.linked_works.specs.Linked.{finds_in, shares_linked};

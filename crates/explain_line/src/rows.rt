@@ -18,9 +18,9 @@ ghost use Rattle.line_split.specs.Signs.{with_sign_of};
 ghost use Rattle.line_split.specs.UsageLine.{usage_line_of};
 ghost use Rattle.line_split.specs.declared.TheConstants.{MOST_AMOUNT};
 
-use crate::claimed::{claim_of, covers_land, decides, payee_by, payees_by};
+use crate::claimed::{claim_of, payee_by, payees_by};
 use csv_table::RowWriter;
-use cwr_share::{FiledRegistration, Registry, ShareRecord};
+use cwr_share::{FiledRegistration, Registry, ShareRecord, covers_land, decides};
 use itoa::Buffer;
 use line_split::{
     Account, Claims, Line, RESIDUE, Reason, Right, Working, base_for, units_left_of, working_of,

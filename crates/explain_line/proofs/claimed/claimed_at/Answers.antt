@@ -1,8 +1,7 @@
 use Rattle.std.proofs.Common.{◌≡◌, ◌+◌, ◌∙◌, ◌⊎◌, [], ℕ, List, ap, drop, false, get_or, inl, inr, nat_eq, sym, true}
 use Rattle.std.specs.Cmp.Lexicographic.{pointwise}
 use Rattle.std.proofs.lemmas.List.{get_or_default}
-use Rattle.cwr_share.specs.ClaimsOn.{share_for}
-use Rattle.explain_line.specs.Explanation.{decides}
+use Rattle.cwr_share.specs.ClaimsOn.{decides, share_for}
 use Rattle.explain_line.proofs.ClaimedLemmas.{claimed_no, claimed_yes, paid_at}
 use Rattle.explain_line.proofs.claimed.claimed_at.Goals.{else-eq-via-then-eq+else-decides, else-eq-via-else-eq}
 use Rattle.explain_line.proofs.claimed.claimed_at.Goals as goal

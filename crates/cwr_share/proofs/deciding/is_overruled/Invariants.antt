@@ -1,7 +1,7 @@
 use Rattle.std.proofs.Common.{◌≡◌, ◌&&◌, false, take}
 use Rattle.std.specs.List.{list_any}
 use Rattle.cwr_share.specs.ClaimsOn.{covers, is_alike}
-use Rattle.explain_line.proofs.claimed.is_overruled.Given as goal
+use Rattle.cwr_share.proofs.deciding.is_overruled.Given as goal
 
 -- none of the lines so far
 abbrev pub invariant-loop-other : goal.invariant-loop-other
