@@ -1,5 +1,5 @@
 -- The first row with which a work has too many payees.
-use Rattle.std.proofs.Common.{◌≡◌, ◌∙◌, ◌<◌, ◌≤◌, ◌+◌, ◌∷◌, ◌++◌, [], ℕ, Bool, true, false, List, All, None, Option, Some, ap, arith, drop, get_or, inl, inr, length, map, nat_eq, refl, subst, sym, take, zero, suc}
+use Rattle.std.proofs.Common.{◌≡◌, ◌∙◌, ◌<◌, ◌+◌, ◌∷◌, ◌++◌, [], ℕ, false, List, All, None, Option, Some, ap, arith, drop, get_or, inl, inr, length, map, nat_eq, refl, subst, sym, take, suc}
 use Rattle.std.specs.Cmp.Lexicographic.{pointwise}
 use Rattle.std.specs.Prelude.{Any, IfSome}
 use Rattle.std.proofs.lemmas.Bool.{cases_Bool}
@@ -7,9 +7,8 @@ use Rattle.std.proofs.lemmas.List.{get_or-map, length-map, length-take, map-appe
 use Rattle.std.proofs.Math.Seq.{drop-cons}
 use Rattle.std.proofs.lemmas.Option.{none-some}
 use Rattle.std.proofs.lemmas.Slice.Eq.{bytes_eq-Decides}
-use Rattle.cwr_share.specs.Payees.{payee_of}
 use Rattle.cwr_share.specs.Registered.{HasFewPayees, Registered}
-use Rattle.cwr_share.specs.RegistryOf.{HasTooManyPayees, IsPayeeAmong, IsRegistryOf}
+use Rattle.cwr_share.specs.RegistryOf.{HasTooManyPayees, IsRegistryOf}
 use Rattle.cwr_share.specs.Registrations.{ShareLine, find_work}
 use Rattle.linked_works.specs.Linked as linked
 use Rattle.linked_works.specs.Linked.{Finds, shares_linked}

@@ -3,3 +3,4 @@ pub mod FirstLemmas
 pub mod LinkedLemmas
 pub mod LinkRows
 pub mod NameLemmas
+pub mod PassingOver

@@ -3,4 +3,5 @@ pub mod Linked
 pub mod WorksTable
 pub mod SubmitterPayees
 pub mod ManyPayees
+pub mod PassedOver
 pub mod Rows

@@ -4,13 +4,14 @@
 pub mod laws;
 mod linking;
 mod many_payees;
+mod passed_over;
 mod payee_rows;
 mod submitters;
 mod works;
 mod works_fault;
 
 pub use csv_table::FileFault;
-pub use payee_rows::{MOST_SUBMITTER_PAYEES, read_payees};
+pub use payee_rows::{MOST_SUBMITTER_PAYEES, SubmitterPayees, read_payees};
 pub use submitters::{Submitters, is_submitter};
 pub use works::{Works, WorksRow};
 pub use works_fault::WorksFault;

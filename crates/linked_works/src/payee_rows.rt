@@ -1,6 +1,6 @@
 //! The table of payees of several submitters: who is paid what a party of a submitter claims.
 
-ghost use Rattle.std.specs.Prelude.{IfErr, IfOk};
+ghost use Rattle.std.specs.Prelude.{◌≡◌, [], IfErr, IfOk, length};
 ghost use Rattle.csv_table.specs.Table.{rows_of};
 ghost use Rattle.linked_works.specs.SubmitterPayees.{IsFaultOf, IsTableOf};
 
@@ -15,14 +15,14 @@ use std::marker::Model;
 /// The most rows that a table of several submitters' payees has below its header.
 pub const MOST_SUBMITTER_PAYEES: usize = 1_048_576;
 
-/// The payees of parties of several submitters, as they are read.
+/// The payees of parties of several submitters, over the names of these.
 #[derive(Drop)]
-struct PayeeRows<'a> {
+pub struct SubmitterPayees<'a> {
     names: &'a [Vec<u8>],
     payees: Payees,
 }
 
-impl<'a> Model for PayeeRows<'a> {
+impl<'a> Model for SubmitterPayees<'a> {
     ghost use Rattle.std.specs.Prelude.{All};
     ghost use Rattle.linked_works.specs.Rows.{PayeesBy, names_by};
     ghost use Rattle.linked_works.specs.Submitters.{IsSubmitter};
@@ -34,7 +34,7 @@ impl<'a> Model for PayeeRows<'a> {
     ghost invariant = { λ p. All IsSubmitter (names_by p.names.now) };
 }
 
-impl<'a> RowTable for PayeeRows<'a> {
+impl<'a> RowTable for SubmitterPayees<'a> {
     ghost use Rattle.std.specs.Prelude.{◌≡◌, ℕ, List};
     ghost use Rattle.linked_works.specs.SubmitterPayees.{payee_rules};
 
@@ -98,6 +98,34 @@ impl<'a> RowTable for PayeeRows<'a> {
     }
 }
 
+impl<'a> SubmitterPayees<'a> {
+    /// A table without rows.
+    pub fn none(alloc: Global, submitters: &'a Submitters) -> SubmitterPayees<'a>
+        ensures names { result.names ≡ submitters.entry.now }
+        ensures rows { result.rows ≡ [] }
+    {
+        SubmitterPayees {
+            names: submitters.as_slice(),
+            payees: Payees::none(alloc),
+        }
+    }
+
+    /// How many rows there are.
+    pub fn len(&self) -> usize
+        ensures { result ≡ length self.now.rows }
+    {
+        self.payees.len()
+    }
+
+    /// The payees, each party behind its submitter's name and a colon.
+    pub fn into_payees(self) -> Payees
+        ensures { result ≡ self.entry.rows }
+    {
+        let SubmitterPayees { names: _, payees } = self;
+        payees
+    }
+}
+
 /// Reads a table of payees: CSV with the header `submitter,party,payee,name`. Each submitter is one of these, and a
 /// party stands in it behind its submitter's name and a colon. The spaces at the ends of a party and of a payee do not
 /// count.
@@ -109,11 +137,6 @@ pub fn read_payees(
     ensures payees { IfOk result (IsTableOf submitters.now (rows_of bytes.now)) }
     ensures fault { IfErr result (IsFaultOf submitters.now (rows_of bytes.now)) }
 {
-    let rows = PayeeRows {
-        names: submitters.as_slice(),
-        payees: Payees::none(alloc),
-    };
-    let table = read_table(alloc, bytes, rows)?;
-    let PayeeRows { names: _, payees } = table;
-    Ok(payees)
+    let table = read_table(alloc, bytes, SubmitterPayees::none(alloc, submitters))?;
+    Ok(table.into_payees())
 }

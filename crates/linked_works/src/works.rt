@@ -5,14 +5,18 @@ ghost use Rattle.std.specs.Cmp.Lexicographic.{pointwise};
 ghost use Rattle.csv_table.specs.Table.{rows_of};
 ghost use Rattle.cwr_share.specs.InForce.{IsOneRegistration};
 ghost use Rattle.cwr_share.specs.Joined.{qualified as qualified_text};
+ghost use Rattle.cwr_share.specs.PassedOver.{IsTallyOf};
 ghost use Rattle.cwr_share.specs.Payees.{payee_of};
 ghost use Rattle.cwr_share.specs.Registered.{IsRegistered};
 ghost use Rattle.cwr_share.specs.RegistryOf.{IsRegistryOf};
 ghost use Rattle.cwr_share.specs.Registrations.{ShareLine, find_work};
 ghost use Rattle.cwr_share.specs.declared.TheConstants.{MOST_LINES};
 ghost use Rattle.cwr_share.specs.declared.numbers.TheConstants.{MOST_SUBMITTER_BYTES, MOST_WORK_BYTES, MOST_WORK_NAME_BYTES};
+ghost use Rattle.cwr_share.specs.declared.payees.TheConstants.{MOST_NAME_BYTES};
+ghost use Rattle.linked_works.specs.Linked as linked;
 ghost use Rattle.linked_works.specs.Linked.{finds_among, shares_linked};
 ghost use Rattle.linked_works.specs.ManyPayees.{IsFaultOfLinks};
+ghost use Rattle.linked_works.specs.PassedOver.{is_linked as has_link, rows_not_in_force};
 ghost use Rattle.linked_works.specs.Rows.{IsKnownRow, key_of, link_by, link_shown, names_by};
 ghost use Rattle.linked_works.specs.declared.TheConstants.{MOST_LINKS};
 ghost use Rattle.linked_works.specs.Submitters.{IsSubmitter};
@@ -20,13 +24,14 @@ ghost use Rattle.linked_works.specs.WorksTable.{IsFaultOf, IsTableOf};
 
 use crate::linking::{Link, link_all};
 use crate::many_payees::{first_many, have_few_payees};
+use crate::passed_over::{is_linked, not_in_force};
 use crate::submitters::{place_of, qualified};
 use crate::{MOST_LINKS, Submitters, WorksFault};
 use csv_table::forms::is_printable;
 use csv_table::{RowTable, Rows, read_table};
 use cwr_share::{
     CwrFault, InForce, MOST_WORK_BYTES, MOST_WORK_NAME_BYTES, Name, Payees, Registry, Sought,
-    trimmed,
+    Tally, trimmed,
 };
 use indexmap::IndexSet;
 use std::alloc::{AllocError, Global};
@@ -148,15 +153,19 @@ impl<'a> Works<'a> {
         ensures names { IfOk result (λ works. works.names ≡ submitters.entry.now) }
         ensures fault { IfErr result (IsFaultOf submitters.entry.now (rows_of bytes.now)) }
     {
-        read_table(
-            alloc,
-            bytes,
-            Works {
-                names: submitters.as_slice(),
-                links: Vec::new(alloc),
-                seen: IndexSet::new(alloc),
-            },
-        )
+        read_table(alloc, bytes, Works::none(alloc, submitters))
+    }
+
+    /// A table without rows.
+    pub fn none(alloc: Global, submitters: &'a Submitters) -> Works<'a>
+        ensures names { result.names ≡ submitters.entry.now }
+        ensures links { result.links ≡ [] }
+    {
+        Works {
+            names: submitters.as_slice(),
+            links: Vec::new(alloc),
+            seen: IndexSet::new(alloc),
+        }
     }
 
     /// Adds a link, whose registration has this key and no link.
@@ -223,11 +232,37 @@ impl<'a> Works<'a> {
         }
     }
 
+    /// The rows, from 1, whose registration is not in force, by what the submitters have in force.
+    pub fn not_in_force(&self, files: &[InForce]) -> Tally
+        requires { length files.now ≡ length self.now.names }
+        ensures { IsTallyOf (rows_not_in_force (finds_among (zip self.now.names files.now)) self.now.links) result }
+    {
+        not_in_force(self.names, files, self.links.as_slice())
+    }
+
+    /// Whether a row links what the submitter at a place has under a number.
+    pub fn is_linked(&self, submitter: usize, number: &[u8]) -> bool
+        requires known { submitter < length self.now.names }
+        requires number { length number.now ≤ MOST_NAME_BYTES }
+        ensures { result ≡ has_link self.now.links (slice_index_or self.now.names submitter []) number.now }
+    {
+        is_linked(self.names, submitter, number, &self.seen)
+    }
+
+    /// The name of the work of the row at a place.
+    pub fn work_at(&self, place: usize) -> &[u8]
+        requires { place < length self.now.links }
+        ensures { (d : linked.Link) → result.now ≡ (slice_index_or self.now.links place d).work }
+    {
+        self.links[place].work.as_slice()
+    }
+
     /// The rows of a work, in their order.
     pub fn of_work(&self, alloc: Global, work: &[u8]) -> Result<Vec<WorksRow<'_>>, AllocError>
         ensures rows { IfOk result (λ rows. map link_shown rows.items
             ≡ filter (λ link. pointwise nat_eq link.work work.now) self.now.links) }
         ensures known { IfOk result (λ rows. All (IsKnownRow self.now.names) rows.items) }
+        ensures few { IfOk result (λ rows. length rows.items ≤ MOST_LINKS) }
     {
         let mut rows = Vec::new(alloc);
         for link in &self.links {

@@ -1,3 +1,4 @@
+pub mod NumberLemmas
 pub mod InForceLemmas
 pub mod LawLemmas
 pub mod NameLemmas

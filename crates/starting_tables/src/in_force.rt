@@ -1,7 +1,8 @@
 //! The registrations in force of a file, as they stand in it.
 
-ghost use Rattle.std.specs.Prelude.{◌≡◌, ◌++◌, ◌∷◌, [], IfOk, OnOk, if◌then◌else◌};
+ghost use Rattle.std.specs.Prelude.{◌≡◌, ◌≤◌, ◌++◌, ◌∷◌, [], IfOk, OnOk, if◌then◌else◌, length};
 ghost use Rattle.cwr_share.specs.Lines.{lines_of};
+ghost use Rattle.cwr_share.specs.declared.numbers.TheConstants.{MOST_WORK_BYTES};
 ghost use Rattle.starting_tables.specs.InForce.{number_of, registrations_filed, registrations_in_force as in_force};
 ghost use Rattle.starting_tables.specs.Works.{iswc_of, title_of};
 
@@ -14,7 +15,7 @@ use std::marker::Model;
 
 /// A registration: its NWR or REV record, and the text after that line.
 #[derive(Drop)]
-pub(crate) struct FiledLines<'a> {
+pub struct FiledLines<'a> {
     pub(crate) opening: &'a [u8],
     pub(crate) after: &'a [u8],
 }
@@ -22,6 +23,7 @@ pub(crate) struct FiledLines<'a> {
 impl<'a> Model for FiledLines<'a> {
     ghost use Rattle.cwr_share.specs.Filed.{body_of};
     ghost use Rattle.cwr_share.specs.Lines.{lines_of};
+    ghost use Rattle.cwr_share.specs.declared.numbers.TheConstants.{MOST_WORK_BYTES};
     ghost use Rattle.starting_tables.specs.InForce.{Registration};
 
     ghost Value = { Registration };
@@ -31,8 +33,9 @@ impl<'a> Model for FiledLines<'a> {
 
 impl<'a> FiledLines<'a> {
     /// Its submitter work number, without the spaces at its ends.
-    pub(crate) fn number(&self) -> &'a [u8]
-        ensures { result.now ≡ number_of self.now }
+    pub fn number(&self) -> &'a [u8]
+        ensures number { result.now ≡ number_of self.now }
+        ensures short { length result.now ≤ MOST_WORK_BYTES }
     {
         trimmed(WORK.of(self.opening))
     }
@@ -53,10 +56,7 @@ impl<'a> FiledLines<'a> {
 }
 
 /// The registrations in force of a file, in the order in which their NWR or REV records stand.
-pub(crate) fn registrations_in_force(
-    alloc: Global,
-    file: &[u8],
-) -> Result<Vec<FiledLines<'_>>, AllocError>
+pub fn registrations_in_force(alloc: Global, file: &[u8]) -> Result<Vec<FiledLines<'_>>, AllocError>
     ensures { IfOk result (λ registrations. registrations.items ≡ in_force (lines_of file.now)) }
 {
     let mut filed = all_registrations(alloc, file)?;

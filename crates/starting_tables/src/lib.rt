@@ -2,7 +2,7 @@
 //! hand.
 //!
 //! `add_works` adds a row for each registration in force of a file to a table of works, and `add_parties` a row for
-//! each party of these to a table of payees.
+//! each party of these to a table of payees. `registrations_in_force` has the registrations in force as they stand.
 #![tactic(auto)]
 
 pub mod fields;
@@ -13,5 +13,6 @@ mod parties;
 mod party_records;
 mod works;
 
+pub use in_force::{FiledLines, registrations_in_force};
 pub use parties::{add_parties, parties_header};
 pub use works::{add_works, works_header};

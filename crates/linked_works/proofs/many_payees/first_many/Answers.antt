@@ -1,4 +1,4 @@
-use Rattle.std.proofs.Common.{◌≡◌, ◌+◌, ◌<◌, List, arith, length, subst, sym, take, zip}
+use Rattle.std.proofs.Common.{◌≡◌, ◌+◌, ◌<◌, List, arith, length, subst, sym, zip}
 use Rattle.std.proofs.lemmas.List.{take_all}
 use Rattle.std.proofs.lemmas.Option.{none-some}
 use Rattle.cwr_share.specs.Payees.{payee_of}

@@ -1,4 +1,4 @@
-use Rattle.std.proofs.Common.{◌≡◌, ◌∙◌, ◌+◌, ◌≤◌, List, ℕ, ap, arith, length, subst, sym, take}
+use Rattle.std.proofs.Common.{◌≡◌, ◌∙◌, ◌+◌, List, ap, arith, subst, sym, take}
 use Rattle.std.proofs.lemmas.List.{take_all}
 use Rattle.cwr_share.specs.Payees.{payee_of}
 use Rattle.cwr_share.specs.Registrations.{ShareLine}

@@ -1,4 +1,4 @@
-use Rattle.std.proofs.Common.{◌≡◌, Bool, IsTrue, zip}
+use Rattle.std.proofs.Common.{Bool, IsTrue, zip}
 use Rattle.std.proofs.lemmas.Result.{IfOk-weaker}
 use Rattle.std.specs.Prelude.{All, IfSome}
 use Rattle.cwr_share.specs.Payees.{payee_of}

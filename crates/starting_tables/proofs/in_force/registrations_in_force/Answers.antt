@@ -11,7 +11,7 @@ pub loop-registration-preserved : goal.loop-registration-preserved
 loop-registration-preserved c =
     rw c.in_ok-add_if_last.ensures
     (kept_next c.in_ok-filed.filed.items c.pop.new.self.items c.loop-registration.kept.items c.loop-registration.seen.keys c.insert.new.self.keys c.in-Some.registration
-    c.in_ok-number.number c.in_ok-is_last.is_last (c.in_ok-number.ensures ∙ c.number.ensures) (rw c.in-Some.ensures.items at c.loop-registration.invariant)
+    c.in_ok-number.number c.in_ok-is_last.is_last (c.in_ok-number.ensures ∙ c.number.ensures.number) (rw c.in-Some.ensures.items at c.loop-registration.invariant)
     c.in_ok-is_last.ensures.updates.0 c.in_ok-is_last.ensures.added)
 
 pub returns : goal.returns

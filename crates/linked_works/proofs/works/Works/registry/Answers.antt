@@ -1,7 +1,7 @@
-use Rattle.std.proofs.Common.{◌≡◌, ◌∙◌, List, ℕ, Some, inl, inr, subst, sym, zip}
+use Rattle.std.proofs.Common.{◌≡◌, ◌∙◌, List, ℕ, inl, inr, subst, sym, zip}
 use Rattle.cwr_share.specs.Payees.{payee_of}
-use Rattle.cwr_share.specs.Registrations.{ShareLine, find_work}
-use Rattle.linked_works.specs.Linked.{Finds, finds_among, shares_linked}
+use Rattle.cwr_share.specs.Registrations.{find_work}
+use Rattle.linked_works.specs.Linked.{finds_among, shares_linked}
 use Rattle.linked_works.specs.ManyPayees.{HaveFewPayees}
 use Rattle.linked_works.specs.Rows.{Table, links_by, names_by}
 use Rattle.linked_works.proofs.FirstLemmas.{as_too_many, few_in_links, many_in_links}
