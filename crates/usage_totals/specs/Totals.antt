@@ -56,5 +56,7 @@ pub record AreTotalsOf (table : List (ℕ × List ℕ)) (registered : Registered
   -- the ten works that nobody has registered, and the ten territories that the table has not, with most money
   pub works : AreGreatest (pointwise nat_eq) (slice_cmp nat_cmp) 10 (amounts_by_work (lines_for table registered Work lines)) totals.works.items
   pub territories : AreGreatest nat_eq nat_cmp 10 (amounts_by_territory (lines_for table registered Land lines)) totals.territories.items
+  -- the ten works with most money of the lines that are claimed over
+  pub over : AreGreatest (pointwise nat_eq) (slice_cmp nat_cmp) 10 (amounts_by_work (lines_for table registered Over lines)) totals.over.items
   -- whether the table has the territory of some line
   pub knows_a_territory : totals.knows_a_territory ≡ list_any (λ line. is_known table line.territory) lines

@@ -7,7 +7,7 @@ ghost use Rattle.cwr_share.specs.Registered.{Registered};
 ghost use Rattle.line_split.specs.Signs.{signed_portions_of};
 ghost use Rattle.line_split.specs.UsageLine.{UsageLine};
 ghost use Rattle.line_split.specs.declared.TheConstants.{RESIDUE};
-ghost use Rattle.line_split.specs.declared.reason.Reason.TheVariants.{Land, Work};
+ghost use Rattle.line_split.specs.declared.reason.Reason.TheVariants.{Land, Over, Work};
 ghost use Rattle.payee_book.specs.Run.{IsBookOf};
 ghost use Rattle.payee_book.specs.Statement.{total_of};
 ghost use Rattle.usage_totals.specs.Greatest.{HaveMostMoney};
@@ -32,12 +32,15 @@ pub fn law_the_rest_is_the_residues()
 
 /// Of the works that nobody has registered, ten at most are shown, each once and with what all its
 /// lines come to. None that is left out has more money than one that is shown, and where fewer than
-/// ten are shown, none is left out. So it is with the territories that the table has not.
+/// ten are shown, none is left out. So it is with the territories that the table has not, and with
+/// the works of the lines that are claimed over.
 pub fn law_those_shown_have_most_money()
     ensures works { (table : List (ℕ × List ℕ)) (registered : Registered) (lines : List UsageLine) (totals : Totals) → AreTotalsOf table registered lines totals
         → HaveMostMoney (pointwise nat_eq) 10 (amounts_by_work (lines_for table registered Work lines)) totals.works.items }
     ensures territories { (table : List (ℕ × List ℕ)) (registered : Registered) (lines : List UsageLine) (totals : Totals) → AreTotalsOf table registered lines totals
         → HaveMostMoney nat_eq 10 (amounts_by_territory (lines_for table registered Land lines)) totals.territories.items }
+    ensures over { (table : List (ℕ × List ℕ)) (registered : Registered) (lines : List UsageLine) (totals : Totals) → AreTotalsOf table registered lines totals
+        → HaveMostMoney (pointwise nat_eq) 10 (amounts_by_work (lines_for table registered Over lines)) totals.over.items }
 {}
 
 /// The works and the territories that are shown are determined, with their order: by the same
@@ -49,4 +52,7 @@ pub fn law_those_shown_are_determined()
     ensures territories { (table : List (ℕ × List ℕ)) (registered : Registered) (lines : List UsageLine) (totals other : Totals)
         → AreTotalsOf table registered lines totals → AreTotalsOf table registered lines other
         → totals.territories.items ≡ other.territories.items }
+    ensures over { (table : List (ℕ × List ℕ)) (registered : Registered) (lines : List UsageLine) (totals other : Totals)
+        → AreTotalsOf table registered lines totals → AreTotalsOf table registered lines other
+        → totals.over.items ≡ other.over.items }
 {}

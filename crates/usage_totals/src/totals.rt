@@ -33,6 +33,8 @@ pub struct Totals<'a> {
     pub works: Vec<(Name<'a>, Total)>,
     /// The unknown territories with most money, the most first: ten at most.
     pub territories: Vec<(u16, Total)>,
+    /// The works with most money of the lines that are claimed over, the most first: ten at most.
+    pub over: Vec<(Name<'a>, Total)>,
     /// The table has the territory of some line.
     pub knows_a_territory: bool,
 }
@@ -56,6 +58,7 @@ pub fn totals_of<'a>(
         claimed_over: total_for(usage, reasons, Reason::Over),
         works: greatest(alloc, usage, reasons, Reason::Work, MOST_KEYS)?,
         territories: greatest(alloc, usage, reasons, Reason::Land, MOST_KEYS)?,
+        over: greatest(alloc, usage, reasons, Reason::Over, MOST_KEYS)?,
         knows_a_territory: knows_a_territory(tis, usage),
     })
 }
