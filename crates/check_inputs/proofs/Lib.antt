@@ -1,4 +1,9 @@
 pub mod GoingOn
+pub mod Naming
 pub mod Reporting
+pub mod FilesRead
 pub mod Tallied
 pub mod Telling
+pub mod SubmittedReporting
+pub mod SubmittedWhole
+pub mod Overclaims

@@ -49,7 +49,7 @@ pub put_together : (paths files : Inputs (List ℕ)) (found : Found) (none one t
     → GoesOn three four (length found.of_usage) (fault_lines (usage_line paths.usage) paths.usage found.of_usage) (usage_facts paths.usage (length found.of_usage) found.lines)
     → Adds four five (territories_remark paths.registrations files.registrations (length found.of_registrations) (length found.of_territories) found.table)
     → Adds five six (payees_remark (payees_path paths) (length found.of_payees) (length found.of_registrations) found.rows found.registered)
-    → Adds six seven (option_map_or (totals_text paths (length found.lines)) found.totals [])
+    → Adds six seven (option_map_or (totals_text paths.usage paths.registrations paths.territories (length found.lines)) found.totals [])
     → IsFoundIn files found → (text ≡ seven.faults.items ++ seven.facts.items) × (sound ≡ seven.is_sound) → IsReportOn paths files text sound
 put_together paths files found none one two three four five six seven text sound begun first second third fourth fifth sixth last is (written, told) = record {
   found = found;

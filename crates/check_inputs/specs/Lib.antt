@@ -3,3 +3,11 @@ pub mod Found
 pub mod Messages
 pub mod Report
 pub mod SoFar
+pub mod SubmittedFound
+pub mod SubmittedMessages
+pub mod SubmittedReport
+pub mod SubmittedChecked
+pub mod LinksSoFar
+pub mod SubmittedOver
+pub mod OverSoFar
+pub mod SubmittedSoFar

@@ -47,10 +47,15 @@ tis_message row (tis.Group n) = around (codes "groups '") (at row 1) (codes "' a
 tis_message row tis.Rows = codes "there are more than 2048 rows"
 tis_message row tis.Memory = []
 
+-- a party and a payee, of which one is no name
+abbrev pub names_message : (party payee : List ℕ) → List ℕ
+names_message party payee' =
+    around (codes "party '") party (codes "' and payee '")
+    ++ around [] payee' (codes "' are not both 1 to 64 printable ASCII characters that are not all spaces")
+
 abbrev pub payee_message : List (List ℕ) → PayeeFault → List ℕ
 payee_message row (payee.Csv n) = if n == 0 then codes "the first row is not party,payee" else fields_message 2 row
-payee_message row (payee.Fields n) =
-    around (codes "party '") (at row 0) (codes "' and payee '") ++ around [] (at row 1) (codes "' are not both 1 to 64 printable ASCII characters that are not all spaces")
+payee_message row (payee.Fields n) = names_message (at row 0) (at row 1)
 payee_message row (payee.Twice n) = around (codes "party '") (at row 0) (codes "' has an earlier row")
 payee_message row payee.Rows = codes "there are more than 65536 rows"
 payee_message row (payee.Submitter n) = around (codes "submitter '") (at row 0) (codes "' is of no file")

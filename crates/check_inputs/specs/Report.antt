@@ -135,16 +135,16 @@ reasons_text path totals =
     ++ total_line path (codes "LAND, territory not in the table") totals.unknown []
     ++ total_line path (codes "OVER, claims over 100.06 per cent") totals.claimed_over []
 
--- what a run makes of so many lines, and what the files have nothing of, where there are lines
-abbrev pub totals_text : (paths : Inputs (List ℕ)) → (lines : ℕ) → Totals → List ℕ
-totals_text paths lines totals =
-    reasons_text paths.usage totals
-    ++ flat_map (work_line paths.usage) totals.works.items
-    ++ flat_map (territory_line paths.usage) totals.territories.items
+-- what a run makes of so many lines, and what the inputs have nothing of, where there are lines
+abbrev pub totals_text : (usage registrations territories : List ℕ) → (lines : ℕ) → Totals → List ℕ
+totals_text usage registrations territories lines totals =
+    reasons_text usage totals
+    ++ flat_map (work_line usage) totals.works.items
+    ++ flat_map (territory_line usage) totals.territories.items
     ++ (if nat_lt 0 lines && (totals.unregistered.lines == lines)
-    then remark_line paths.registrations (codes "it has the work of no usage line") else [])
+    then remark_line registrations (codes "it has the work of no usage line") else [])
     ++ (if nat_lt 0 lines && not totals.knows_a_territory
-    then remark_line paths.territories (codes "it has the territory of no usage line") else [])
+    then remark_line territories (codes "it has the territory of no usage line") else [])
 
 -- what is in the files that have no fault, and what of it a run passes over; nothing is said of a table of payees that is not there
 abbrev pub facts_text : (paths files : Inputs (List ℕ)) → Found → List ℕ
@@ -156,7 +156,7 @@ facts_text paths files found =
     ++ territories_remark paths.registrations files.registrations (length found.of_registrations) (length found.of_territories) found.table
     ++ payees_remark (payees_path paths) (length found.of_payees) (length found.of_registrations)
     found.rows found.registered
-    ++ option_map_or (totals_text paths (length found.lines)) found.totals []
+    ++ option_map_or (totals_text paths.usage paths.registrations paths.territories (length found.lines)) found.totals []
 
 -- the report
 abbrev pub report_of : (paths files : Inputs (List ℕ)) → Found → List ℕ

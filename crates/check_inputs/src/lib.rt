@@ -3,12 +3,21 @@
 #![tactic(auto)]
 
 pub mod laws;
+mod links;
 mod messages;
+mod over;
 mod reading;
 mod remarks;
 mod report;
+mod submitted;
+mod submitted_files;
+mod submitted_messages;
+mod submitted_sources;
+mod submitted_tables;
 mod summary;
 mod told;
+mod unlinked;
 mod words;
 
 pub use report::{Checked, File, check};
+pub use submitted::check_submitted;

@@ -2,33 +2,37 @@
 
 ghost use Rattle.std.specs.Prelude.{◌≡◌, ◌++◌, ℕ, List, OnOk};
 ghost use Rattle.cwr_share.specs.Records.{share_fields};
-ghost use Rattle.check_inputs.specs.Messages.{cwr_message, fields_message, shares_message};
+ghost use Rattle.check_inputs.specs.Messages.{cwr_message, fields_message, names_message, shares_message};
 
 use crate::words::{add, add_around, add_both, add_number};
-use csv_table::{FileFault, Rows};
+use csv_table::{RowTable, Rows};
 use cwr_share::fields::{ShareFields, TYPE, WORK};
-use cwr_share::{CwrFault, PayeeFault, share_fields_of};
-use line_split::LineFault;
+use cwr_share::{CwrFault, PayeeFault, Payees, share_fields_of};
+use line_split::{LineFault, Usage};
 use std::alloc::AllocError;
-use tis_tree::TisFault;
+use tis_tree::{TisFault, TisTable};
 
-/// A fault of a table that can be told.
-pub(crate) trait Worded: FileFault {
+/// A table whose faults can be told.
+pub(crate) trait Worded: RowTable {
     // what is wrong with a row
-    ghost message: { List (List ℕ) → Self → List ℕ };
+    ghost message: { List (List ℕ) → Self.Fault → List ℕ };
 
     /// Adds what is wrong with the row at hand.
-    fn add_message(&self, text: &mut Vec<u8>, row: &Rows<'_>) -> Result<(), AllocError>
-        ensures { OnOk result (text.new.items ≡ text.old.items ++ message row.now.row self.now) };
+    fn add_message(
+        fault: &Self::Fault,
+        text: &mut Vec<u8>,
+        row: &Rows<'_>,
+    ) -> Result<(), AllocError>
+        ensures { OnOk result (text.new.items ≡ text.old.items ++ message row.now.row fault.now) };
 }
 
-impl Worded for TisFault {
+impl Worded for TisTable {
     ghost use Rattle.check_inputs.specs.Messages.{tis_message};
 
     ghost message = { tis_message };
 
-    fn add_message(&self, text: &mut Vec<u8>, row: &Rows<'_>) -> Result<(), AllocError> {
-        match self {
+    fn add_message(fault: &TisFault, text: &mut Vec<u8>, row: &Rows<'_>) -> Result<(), AllocError> {
+        match fault {
             TisFault::Csv(0) => add(text, "the first row is not code,groups"),
             TisFault::Csv(_) => add_fields(text, 2, row),
             TisFault::Code(_) => add_around(
@@ -50,23 +54,20 @@ impl Worded for TisFault {
     }
 }
 
-impl Worded for PayeeFault {
+impl Worded for Payees {
     ghost use Rattle.check_inputs.specs.Messages.{payee_message};
 
     ghost message = { payee_message };
 
-    fn add_message(&self, text: &mut Vec<u8>, row: &Rows<'_>) -> Result<(), AllocError> {
-        match self {
+    fn add_message(
+        fault: &PayeeFault,
+        text: &mut Vec<u8>,
+        row: &Rows<'_>,
+    ) -> Result<(), AllocError> {
+        match fault {
             PayeeFault::Csv(0) => add(text, "the first row is not party,payee"),
             PayeeFault::Csv(_) => add_fields(text, 2, row),
-            PayeeFault::Fields(_) => add_both(
-                text,
-                "party '",
-                row.field(0),
-                "' and payee '",
-                row.field(1),
-                "' are not both 1 to 64 printable ASCII characters that are not all spaces",
-            ),
+            PayeeFault::Fields(_) => add_names(text, row.field(0), row.field(1)),
             PayeeFault::Twice(_) => add_around(
                 text,
                 "party '",
@@ -82,13 +83,17 @@ impl Worded for PayeeFault {
     }
 }
 
-impl Worded for LineFault {
+impl Worded for Usage {
     ghost use Rattle.check_inputs.specs.Messages.{usage_message};
 
     ghost message = { usage_message };
 
-    fn add_message(&self, text: &mut Vec<u8>, row: &Rows<'_>) -> Result<(), AllocError> {
-        match self {
+    fn add_message(
+        fault: &LineFault,
+        text: &mut Vec<u8>,
+        row: &Rows<'_>,
+    ) -> Result<(), AllocError> {
+        match fault {
             LineFault::Csv(0) => add(
                 text,
                 "the first row is not usage,work,territory,right,amount",
@@ -164,8 +169,22 @@ pub(crate) fn add_cwr(text: &mut Vec<u8>, line: &[u8], fault: CwrFault) -> Resul
     }
 }
 
+/// What is wrong with a party and a payee.
+pub(crate) fn add_names(text: &mut Vec<u8>, party: &[u8], payee: &[u8]) -> Result<(), AllocError>
+    ensures { OnOk result (text.new.items ≡ text.old.items ++ names_message party.now payee.now) }
+{
+    add_both(
+        text,
+        "party '",
+        party,
+        "' and payee '",
+        payee,
+        "' are not both 1 to 64 printable ASCII characters that are not all spaces",
+    )
+}
+
 /// What is wrong with a row of another number of fields than it should have.
-fn add_fields(text: &mut Vec<u8>, wanted: u64, row: &Rows<'_>) -> Result<(), AllocError>
+pub(crate) fn add_fields(text: &mut Vec<u8>, wanted: u64, row: &Rows<'_>) -> Result<(), AllocError>
     ensures { OnOk result (text.new.items ≡ text.old.items ++ fields_message wanted row.now.row) }
 {
     add(text, "the number of fields is ")?;

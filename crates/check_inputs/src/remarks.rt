@@ -67,7 +67,7 @@ pub(crate) fn add_payees_remark(
 }
 
 /// Remarks on lines or rows of some kind: how many there are, and the numbers of the first.
-fn add_tally(
+pub(crate) fn add_tally(
     text: &mut Vec<u8>,
     path: &str,
     what: &str,
@@ -116,7 +116,7 @@ fn add_further(text: &mut Vec<u8>, numbers: &[u64]) -> Result<(), AllocError>
 }
 
 /// Says that there are others, where there are more than are named.
-fn add_others(text: &mut Vec<u8>, count: u64) -> Result<(), AllocError>
+pub(crate) fn add_others(text: &mut Vec<u8>, count: u64) -> Result<(), AllocError>
     ensures { OnOk result (text.new.items ≡ text.old.items ++ others_text count) }
 {
     if count > MOST_NAMED as u64 {

@@ -1,7 +1,7 @@
 //! The report on the inputs of a run.
 
 ghost use Rattle.std.specs.Option.{option_map, option_map_or};
-ghost use Rattle.std.specs.Prelude.{◌≡◌, ◌++◌, [], ◌==◌, ◌&&◌, ℕ, List, IfOk, OnOk, Option, codes, length, string_bytes};
+ghost use Rattle.std.specs.Prelude.{◌≡◌, ◌++◌, [], ◌==◌, ◌&&◌, ℕ, List, IfOk, OnOk, Option, codes, length, string_bytes, true};
 ghost use Rattle.csv_table.specs.Table.{rows_of};
 ghost use Rattle.cwr_share.specs.CwrFile.{AreSound};
 ghost use Rattle.cwr_share.specs.Lines.{lines_of};
@@ -68,11 +68,7 @@ pub fn check(alloc: Global, inputs: &Inputs<File>) -> Result<Checked, AllocError
         IsReportOn (map_inputs path_of inputs.now) (map_inputs bytes_of inputs.now)
         checked.text.items checked.is_sound) }
 {
-    let mut sheet = Sheet {
-        faults: Vec::new(alloc),
-        facts: Vec::new(alloc),
-        is_sound: true,
-    };
+    let mut sheet = Sheet::none(alloc);
     let (territories, tis_faults) = sheet.tis(alloc, &inputs.territories)?;
     let (rows, payee_faults) = sheet.payees(alloc, &inputs.payees)?;
     let (registry, cwr_faults) = sheet.cwr(alloc, &inputs.registrations, &rows, payee_faults)?;
@@ -85,18 +81,29 @@ pub fn check(alloc: Global, inputs: &Inputs<File>) -> Result<Checked, AllocError
 
 /// The report so far.
 #[derive(Drop)]
-struct Sheet {
+pub(crate) struct Sheet {
     /// The lines of the faults.
-    faults: Vec<u8>,
+    pub(crate) faults: Vec<u8>,
     /// What is in the files that have no fault, and what a run makes of them.
-    facts: Vec<u8>,
+    pub(crate) facts: Vec<u8>,
     /// No file so far has a fault.
-    is_sound: bool,
+    pub(crate) is_sound: bool,
 }
 
 impl Sheet {
+    /// A report on nothing.
+    pub(crate) fn none(alloc: Global) -> Sheet
+        ensures { (result.faults.items ≡ []) × (result.facts.items ≡ []) × (result.is_sound ≡ true) }
+    {
+        Sheet {
+            faults: Vec::new(alloc),
+            facts: Vec::new(alloc),
+            is_sound: true,
+        }
+    }
+
     /// Adds a table of territories, and answers how many faults it has.
-    fn tis(&mut self, alloc: Global, file: &File) -> Result<(TisTable, u64), AllocError>
+    pub(crate) fn tis(&mut self, alloc: Global, file: &File) -> Result<(TisTable, u64), AllocError>
         ensures { IfOk result (λ read. (out : List (List (List ℕ) × TisFault)) × tis.IsReadWithout (rows_of file.now.bytes.items) out read.0 × (read.1 ≡ length out)
             × GoesOn self.old self.new (length out) (fault_lines (tis_line (string_bytes file.now.path)) (string_bytes file.now.path) out)
             (tis_facts (string_bytes file.now.path) (length out) read.0)) }
@@ -152,7 +159,7 @@ impl Sheet {
     }
 
     /// Adds a usage list.
-    fn usage(&mut self, alloc: Global, file: &File) -> Result<Usage, AllocError>
+    pub(crate) fn usage(&mut self, alloc: Global, file: &File) -> Result<Usage, AllocError>
         ensures { IfOk result (λ lines. (out : List (List (List ℕ) × LineFault)) × usage.IsReadWithout (rows_of file.now.bytes.items) out lines
             × GoesOn self.old self.new (length out) (fault_lines (usage_line (string_bytes file.now.path)) (string_bytes file.now.path) out)
             (usage_facts (string_bytes file.now.path) (length out) lines)) }
@@ -219,7 +226,8 @@ impl Sheet {
     ) -> Result<(), AllocError>
         ensures { OnOk result ((totals : Option Totals) × AreTotalsIfSound self.old.is_sound table.now registry.now lines.now totals
             × Adds self.old self.new
-            (option_map_or (totals_text (map_inputs path_of inputs.now) (length lines.now)) totals [])) }
+            (option_map_or (totals_text (string_bytes inputs.now.usage.path) (string_bytes inputs.now.registrations.path)
+            (string_bytes inputs.now.territories.path) (length lines.now)) totals [])) }
     {
         if !self.is_sound {
             return Ok(());
@@ -228,12 +236,19 @@ impl Sheet {
             return Ok(());
         };
         let totals = totals_of(alloc, table, registry, lines)?;
-        add_totals(&mut self.facts, inputs, lines.len() as u64, &totals)?;
+        add_totals(
+            &mut self.facts,
+            inputs.usage.path.as_str(),
+            inputs.registrations.path.as_str(),
+            inputs.territories.path.as_str(),
+            lines.len() as u64,
+            &totals,
+        )?;
         Ok(())
     }
 
     /// Adds the faults of a file.
-    fn add_faults(&mut self, told: &Told<'_>) -> Result<(), AllocError>
+    pub(crate) fn add_faults(&mut self, told: &Told<'_>) -> Result<(), AllocError>
         ensures told { OnOk result ((self.new.faults.items ≡ self.old.faults.items ++ told.now.text.items) × (self.new.is_sound ≡ (self.old.is_sound && (told.now.count == 0)))) }
         ensures facts { self.new.facts ≡ self.old.facts }
     {
@@ -243,7 +258,7 @@ impl Sheet {
     }
 
     /// Puts the report together.
-    fn finish(self) -> Result<Checked, AllocError>
+    pub(crate) fn finish(self) -> Result<Checked, AllocError>
         ensures { IfOk result (λ checked. (checked.text.items ≡ self.faults.items ++ self.facts.items) × (checked.is_sound ≡ self.is_sound)) }
     {
         let mut text = self.faults;
@@ -256,7 +271,7 @@ impl Sheet {
 }
 
 /// Says how many there are of something in the file of a path, where it has no fault.
-fn add_fact_if_sound(
+pub(crate) fn add_fact_if_sound(
     text: &mut Vec<u8>,
     faults: u64,
     path: &str,
@@ -272,7 +287,7 @@ fn add_fact_if_sound(
 }
 
 /// Remarks that there is none of something in the file of a path, where that is so.
-fn add_remark_if_none(
+pub(crate) fn add_remark_if_none(
     text: &mut Vec<u8>,
     number: u64,
     path: &str,
@@ -307,7 +322,7 @@ fn read_payees_if_given<'a>(
 }
 
 /// The path of a file that need not be there.
-fn path_or_none(file: &Option<File>) -> &str
+pub(crate) fn path_or_none(file: &Option<File>) -> &str
     ensures { result.now ≡ path_if_given file.now }
 {
     match file {
@@ -317,7 +332,7 @@ fn path_or_none(file: &Option<File>) -> &str
 }
 
 /// Adds what is in a table of payees, where there is one that has no fault.
-fn add_payee_facts(
+pub(crate) fn add_payee_facts(
     text: &mut Vec<u8>,
     file: &Option<File>,
     faults: u64,

@@ -2,28 +2,26 @@
 
 ghost use Rattle.std.specs.Prelude.{◌≡◌, ◌++◌, ◌&&◌, [], OnOk, flat_map, if◌then◌else◌, nat_lt};
 ghost use Rattle.std.specs.Fmt.{signed_decimal};
-ghost use Rattle.check_inputs.specs.Checked.{path_of};
 ghost use Rattle.check_inputs.specs.Messages.{remark_line, total_line, total_text};
 ghost use Rattle.check_inputs.specs.Report.{divided_line, reasons_text, territory_line, totals_text, work_line};
-ghost use Rattle.run_inputs.specs.Inputs.{map_inputs};
 
-use crate::report::File;
 use crate::words::{add, add_amount, add_around, add_number, add_path, add_remark};
-use run_inputs::Inputs;
 use std::alloc::AllocError;
 use usage_totals::{Name, Total, Totals};
 
-/// Adds what a run makes of so many lines.
+/// Adds what a run makes of so many lines, where the usage list, what has the registrations and the table of territories have
+/// these paths.
 pub(crate) fn add_totals(
     text: &mut Vec<u8>,
-    inputs: &Inputs<File>,
+    usage: &str,
+    registrations: &str,
+    territories: &str,
     lines: u64,
     totals: &Totals<'_>,
 ) -> Result<(), AllocError>
     ensures { OnOk result (text.new.items
-        ≡ text.old.items ++ totals_text (map_inputs path_of inputs.now) lines totals.now) }
+        ≡ text.old.items ++ totals_text usage.now registrations.now territories.now lines totals.now) }
 {
-    let usage = inputs.usage.path.as_str();
     add_reasons(text, usage, totals)?;
     add_works(text, usage, totals.works.as_slice())?;
     add_territories(text, usage, totals.territories.as_slice())?;
@@ -31,14 +29,14 @@ pub(crate) fn add_totals(
         text,
         lines,
         totals.unregistered.lines == lines,
-        inputs.registrations.path.as_str(),
+        registrations,
         "it has the work of no usage line",
     )?;
     add_remark_if_any(
         text,
         lines,
         !totals.knows_a_territory,
-        inputs.territories.path.as_str(),
+        territories,
         "it has the territory of no usage line",
     )?;
     Ok(())
@@ -166,7 +164,7 @@ fn add_territory(
 }
 
 /// Adds how many usage lines there are, and what they come to.
-fn add_lines(text: &mut Vec<u8>, total: Total) -> Result<(), AllocError>
+pub(crate) fn add_lines(text: &mut Vec<u8>, total: Total) -> Result<(), AllocError>
     ensures { OnOk result (text.new.items ≡ text.old.items ++ total_text total) }
 {
     add(text, ": lines ")?;

@@ -37,12 +37,18 @@ impl<'a> Told<'a> {
     }
 
     /// Tells one more fault of a table.
-    pub(crate) fn row<F: Worded>(&mut self, row: &Rows<'_>, fault: &F) -> Result<(), AllocError>
+    pub(crate) fn row<T: Worded>(
+        &mut self,
+        row: &Rows<'_>,
+        fault: &T::Fault,
+    ) -> Result<(), AllocError>
+    where
+        T::Fault: FileFault,
         requires { self.old.count + 1 < 2 ^ 64 }
-        ensures told { OnOk result ((faults : List (List (List ℕ) × F))
-            → IsTold (row_line F.message F.place_in F.number_in self.old.path.now)
+        ensures told { OnOk result ((faults : List (List (List ℕ) × T.Fault))
+            → IsTold (row_line T.message T.Fault.place_in T.Fault.number_in self.old.path.now)
             self.old.text.items self.old.count faults
-            → IsTold (row_line F.message F.place_in F.number_in self.old.path.now)
+            → IsTold (row_line T.message T.Fault.place_in T.Fault.number_in self.old.path.now)
             self.new.text.items self.new.count (faults ++ (row.now.row, fault.now) ∷ [])) }
         ensures path { self.new.path.now ≡ self.old.path.now }
     {
@@ -51,7 +57,7 @@ impl<'a> Told<'a> {
             return Ok(());
         }
         self.begin("row ", fault.place())?;
-        fault.add_message(&mut self.text, row)?;
+        T::add_message(fault, &mut self.text, row)?;
         self.end(fault.number())?;
         Ok(())
     }

@@ -7,7 +7,7 @@ use Rattle.check_inputs.proofs.reading.read_past_faults.Goals.{then-not-is_heade
 pub loop-reader-init : goal.loop-reader-init
 loop-reader-init g c =
     let table = g.T.RowTable in
-    let line = row_line g.T.Fault.Worded.message g.T.Fault.FileFault.place_in g.T.Fault.FileFault.number_in in
+    let line = row_line g.T.Worded.message g.T.Fault.FileFault.place_in g.T.Fault.FileFault.number_in in
     let none = none_told (line c.none-told.result.path.now) c.none-told.ensures.none in
     let (empty, first, all) = c.in_ok-reader.ensures.begun in
     let kept = ap table.known empty in
@@ -36,9 +36,14 @@ loop-reader-preserved g c =
       c.in_ok-fault.ensures.known ∙ kept,
     )
 
-pub returns : goal.returns
-returns g c =
+pub returns-clause-read : goal.returns-clause-read
+returns-clause-read g c =
     let (goes, path, kept) = c.loop-reader.invariant in
     let on = rw kept at (rw c.in_default.is at c.in_ok-fault.ensures.none) in
     rw c.finish.ensures
     (table_told c.args.path.now goes on c.in_ok-reader.ensures.headed c.in_ok-reader.ensures.headless (rw path at c.in_ok-close.ensures.text) c.close.ensures.count)
+
+pub returns-clause-known : goal.returns-clause-known
+returns-clause-known g c =
+    let (goes, path, kept) = c.loop-reader.invariant in
+    rw c.finish.ensures (c.in_ok-fault.ensures.known ∙ kept)

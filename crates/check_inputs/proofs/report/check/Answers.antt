@@ -1,4 +1,4 @@
-use Rattle.std.proofs.Common.{◌∙◌, refl, subst, sym, true}
+use Rattle.std.proofs.Common.{◌∙◌, subst, sym}
 use Rattle.std.specs.Prelude.{Bool}
 use Rattle.std.proofs.lemmas.Result.{IfOk-weaker}
 use Rattle.run_inputs.specs.Inputs.{map_inputs}
@@ -37,8 +37,8 @@ returns c =
       lines = c.in_ok-lines.lines;
       totals = totals;
     } in
-    let none : Sheet = record { faults = c.new.result; facts = c.new-2.result; is_sound = true } in
-    let so_far = sixth.sound ∙ fifth.sound ∙ sound_of_four found none c.tis.new.self c.payees.new.self c.cwr.new.self c.usage.new.self refl first.sound second.sound third.sound fourth.sound in
+    let none : Sheet = c.none-sheet.result in
+    let so_far = sixth.sound ∙ fifth.sound ∙ sound_of_four found none c.tis.new.self c.payees.new.self c.cwr.new.self c.usage.new.self c.none-sheet.ensures.2 first.sound second.sound third.sound fourth.sound in
     let is : IsFoundIn files found = record {
       territories = is_tis;
       payees = is_payees;
@@ -49,6 +49,6 @@ returns c =
     IfOk-weaker c.finish.result _ (λ (checked : Checked). IsReportOn paths files checked.text.items checked.is_sound)
     (λ checked whole. put_together paths files found none c.tis.new.self c.payees.new.self c.cwr.new.self c.usage.new.self
     c.territories_remark.new.self c.payees_remark.new.self c.totals.new.self checked.text.items
-    checked.is_sound (c.new.ensures.items, c.new-2.ensures.items, refl) first second (rw so_many at third) fourth fifth sixth
+    checked.is_sound c.none-sheet.ensures first second (rw so_many at third) fourth fifth sixth
     last is whole)
     c.finish.ensures

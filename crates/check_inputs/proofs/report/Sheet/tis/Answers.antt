@@ -2,7 +2,7 @@ use Rattle.check_inputs.proofs.report.Sheet.tis.Goals as goal
 
 pub returns : goal.returns
 returns c =
-    let (out, read, text, count) = rw (c.as_str-path.ensures.value, c.as_slice.ensures.value) at c.in_ok-told.ensures in
+    let (out, read, text, count) = rw (c.as_str-path.ensures.value, c.as_slice.ensures.value) at c.in_ok-told.ensures.read in
     let (told, sound) = c.in_ok-add_faults.ensures.told in (
       out,
       read,

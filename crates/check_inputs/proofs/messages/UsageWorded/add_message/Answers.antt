@@ -1,4 +1,4 @@
-use Rattle.check_inputs.proofs.messages.LineFaultWorded.add_message.Goals as goal
+use Rattle.check_inputs.proofs.messages.UsageWorded.add_message.Goals as goal
 
 pub returns-in-Fields : goal.returns-in-Fields
 returns-in-Fields c = rw c.in-Fields.is (rw (c.field.ensures, c.field-in-Fields.ensures) at c.add_both.ensures)

@@ -4,7 +4,7 @@ use Rattle.cwr_share.specs.Lines.{lines_of}
 use Rattle.cwr_share.specs.Reading.{IsReadTo}
 use Rattle.check_inputs.specs.Report.{cwr_line}
 use Rattle.check_inputs.proofs.GoingOn.{Goes}
-use Rattle.check_inputs.proofs.reading.read_cwr.Given as goal
+use Rattle.check_inputs.proofs.reading.read_lines.Given as goal
 
 abbrev pub invariant-loop-reader : goal.invariant-loop-reader
 invariant-loop-reader l =

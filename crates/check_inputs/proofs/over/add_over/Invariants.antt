@@ -1,0 +1,9 @@
+use Rattle.std.proofs.Common.{◌≡◌, ◌++◌, flat_map, take}
+use Rattle.check_inputs.specs.LinksSoFar.{finds_in_force}
+use Rattle.check_inputs.specs.SubmittedOver.{over_line}
+use Rattle.check_inputs.proofs.over.add_over.Given as goal
+
+abbrev pub invariant-loop-place : goal.invariant-loop-place
+invariant-loop-place l = l.text.items
+    ≡ l.initial.text.items
+    ++ flat_map (over_line l.path l.sources.territories l.registry (finds_in_force l.sources) l.sources.works.links l.sources.works.names l.lines) (take l.place l.over)

@@ -1,0 +1,15 @@
+use Rattle.check_inputs.proofs.report.Sheet.works.Goals as goal
+
+pub returns-clause-read : goal.returns-clause-read
+returns-clause-read c =
+    let (out, read, text, count) = rw (c.as_str-path.ensures.value, c.as_slice-bytes.ensures.value, c.none.ensures.names) at c.in_ok-told.ensures.read in
+    let (told, sound) = c.in_ok-add_faults.ensures.told in (
+      out,
+      read,
+      count,
+      record {
+        in_words = rw text at told;
+        in_numbers = rw (c.in_ok-add_faults.ensures.facts, count, c.len.ensures, c.as_str-path.ensures.value) at c.in_ok-add_fact_if_sound.ensures;
+        sound = rw count at sound;
+      },
+    )
