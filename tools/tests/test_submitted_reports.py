@@ -182,8 +182,8 @@ class Reports(Answers):
             "usage: WORK, not registered: lines 0, amount 0",
             "usage: LAND, territory not in the table: lines 0, amount 0",
             "usage: OVER, claims over 100.06 per cent: lines 2, amount -4",
-            "usage: work 'SONG' is claimed over 100.06 per cent: lines 2, amount -4; in row 2 "
-            "A claims 5003, C claims 0, B claims 5004")
+            "usage: work 'SONG' is claimed over 100.06 per cent: lines 2, amount -4; in row 2: "
+            "A claims 5003 of 10000, C claims 0 of 10000, B claims 5004 of 10000")
 
     def test_all_linked_registrations_of_a_submitter_claim_together(self):
         # W1 gives P 4000 in 840, W2 2000 and 3000 to two interests there, where X9 excludes Q:
@@ -195,8 +195,8 @@ class Reports(Answers):
                   "usage": uses("u1 SONG 840 1", "u2 SONG 276 2")}
         printed = self.answer("check", files, tables)[1]
         self.assertTrue(printed.endswith(
-            "usage: work 'SONG' is claimed over 100.06 per cent: lines 1, amount 2; in row 2 "
-            "A claims 7000, B claims 5000\n"))
+            "usage: work 'SONG' is claimed over 100.06 per cent: lines 1, amount 2; in row 2: "
+            "A claims 7000 of 10000, B claims 5000 of 10000\n"))
 
     def test_ten_works_that_are_over_are_told_those_with_most_money_first(self):
         # Works S0 to S11 have lines of 0, 1, -2, 3 and so on; S12 has 11 too, behind S11.
@@ -253,8 +253,8 @@ class Reports(Answers):
             "works: row 2: the number of fields is 5, not 4; the first is '' (fault 1)",
             "works: row 3: work '' is not 1 to 64 printable ASCII characters (fault 2)",
             "works: row 4: submitter ' A' is the name of no file (fault 3)",
-            "works: row 5: number '123456789012345' is not 1 to 14 printable ASCII characters "
-            "(fault 4)",
+            "works: row 5: number '123456789012345' is not 1 to 14 printable ASCII characters, "
+            "spaces at its ends not counted (fault 4)",
             "works: row 7: number '  W1' of submitter 'A' has an earlier row (fault 5)")
 
     def test_faults_of_a_table_of_payees_are_told_of_each_row(self):

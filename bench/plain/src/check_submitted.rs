@@ -65,7 +65,7 @@ fn works_of(sheet: &mut Sheet, submitters: &Submitters, bytes: &[u8]) {
         let submitter = submitter_of(submitters, row[1], 3)?;
         let shown_number = shown(row[2]);
         let Some(number) = name(row[2]).filter(|number| number.len() <= SHORT) else {
-            let text = "is not 1 to 14 printable ASCII characters";
+            let text = "is not 1 to 14 printable ASCII characters, spaces at its ends not counted";
             return Err((4, format!("number {shown_number} {text}")));
         };
         if !seen.insert((submitter, number.to_vec())) {
@@ -240,12 +240,12 @@ fn overclaimed(
             .into_iter()
             .map(|(submitter, claim)| {
                 let name = &submitters.at(submitter).name;
-                format!("{name} claims {claim}")
+                format!("{name} claims {claim} of 10000")
             });
         let (row, claims) = (place + 1, claims.collect::<Vec<_>>().join(", "));
         let work = shown(work);
         text += &format!("{path}: work {work} is claimed over 100.06 per cent: {tally}");
-        text += &format!("; in row {row} {claims}\n");
+        text += &format!("; in row {row}: {claims}\n");
     }
     text
 }

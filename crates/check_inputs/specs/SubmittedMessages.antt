@@ -23,7 +23,7 @@ works_message row (works.Csv n) =
     if n == 0 then codes "the first row is not work,submitter,number,title" else fields_message 4 row
 works_message row (works.Work n) = around (codes "work '") (at row 0) (codes "' is not 1 to 64 printable ASCII characters")
 works_message row (works.Submitter n) = around (codes "submitter '") (at row 1) (codes "' is the name of no file")
-works_message row (works.Number n) = around (codes "number '") (at row 2) (codes "' is not 1 to 14 printable ASCII characters")
+works_message row (works.Number n) = around (codes "number '") (at row 2) (codes "' is not 1 to 14 printable ASCII characters, spaces at its ends not counted")
 works_message row (works.Twice n) =
     around (codes "number '") (at row 2) (codes "' of submitter '") ++ around [] (at row 1) (codes "' has an earlier row")
 works_message row works.Rows = codes "there are more than 1048576 rows"

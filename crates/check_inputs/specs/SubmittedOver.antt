@@ -32,8 +32,9 @@ abbrev pub claims_of_submitters : List (ℕ × List ℕ) → Finds → List Link
 claims_of_submitters table finds links names line =
     filter_map (claim_of_submitter (claims_of table line (linked finds links line.work))) names
 
+-- a submitter and what it claims, in parts of 10000
 abbrev pub claim_text : List ℕ × ℕ → List ℕ
-claim_text claim = claim.0 ++ codes " claims " ++ decimal claim.1
+claim_text claim = claim.0 ++ codes " claims " ++ decimal claim.1 ++ codes " of 10000"
 
 -- the first of a work's lines that is claimed over, with its row
 abbrev pub first_over : List (ℕ × List ℕ) → Registered → List UsageLine → (work : List ℕ) → Option (ℕ × UsageLine)
@@ -42,7 +43,7 @@ first_over table registered lines work =
 
 -- on the line of a row, these submitters claim so much
 abbrev pub row_text : ℕ × UsageLine → List (List ℕ × ℕ) → List ℕ
-row_text e claims = codes "; in row " ++ decimal e.0 ++ codes " " ++ join_by claim_text (codes ", ") claims
+row_text e claims = codes "; in row " ++ decimal e.0 ++ codes ": " ++ join_by claim_text (codes ", ") claims
 
 -- a work whose lines are claimed over, and what each submitter claims on the first of them
 abbrev pub over_line : (path : List ℕ) → List (ℕ × List ℕ) → Registered → Finds → List Link → (names : List (List ℕ))

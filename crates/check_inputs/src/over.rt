@@ -285,7 +285,7 @@ fn add_row(text: &mut Vec<u8>, row: u64, claims: &[Claim<'_>]) -> Result<(), All
 {
     add(text, "; in row ")?;
     add_number(text, row)?;
-    add(text, " ")?;
+    add(text, ": ")?;
     add_claims(text, claims)?;
     Ok(())
 }
@@ -314,11 +314,12 @@ fn add_further(text: &mut Vec<u8>, claims: &[Claim<'_>]) -> Result<(), AllocErro
     Ok(())
 }
 
-/// Adds a claim.
+/// Adds a claim, in parts of 10000.
 fn add_claim(text: &mut Vec<u8>, claim: &Claim<'_>) -> Result<(), AllocError>
     ensures { OnOk result (text.new.items ≡ text.old.items ++ claim_text (claim_shown claim.now)) }
 {
     text.extend_from_slice(claim.submitter)?;
     add(text, " claims ")?;
-    add_number(text, claim.claim)
+    add_number(text, claim.claim)?;
+    add(text, " of 10000")
 }

@@ -76,7 +76,7 @@ impl<'a> Worded for Works<'a> {
                 text,
                 "number '",
                 row.field(2),
-                "' is not 1 to 14 printable ASCII characters",
+                "' is not 1 to 14 printable ASCII characters, spaces at its ends not counted",
             ),
             WorksFault::Twice(_) => add_both(
                 text,
