@@ -1,13 +1,12 @@
 -- What is found in the files of submitters, as they are read one after another.
-use Rattle.std.proofs.Common.{◌≡◌, ◌≢◌, ◌∙◌, ◌⊎◌, ◌+◌, ◌<◌, ◌≤◌, ◌∷◌, ◌++◌, [], ℕ, All, AllPairs, List, Option, Some, ap, arith, get_or, inl, inr, length, map, refl, set, subst, sym, take}
+use Rattle.std.proofs.Common.{◌≡◌, ◌≢◌, ◌∙◌, ◌⊎◌, ◌+◌, ◌<◌, ◌≤◌, ◌∷◌, ◌++◌, [], ℕ, All, AllPairs, List, Option, Some, ap, arith, get_or, inl, inr, length, map, set, subst, sym, take}
 use Rattle.std.specs.Prelude.{slice_get, unwrap_or}
 use Rattle.std.proofs.lemmas.Bool.{cases_lt}
 use Rattle.std.proofs.lemmas.List.{get_or-map, get_or-set_other, get_or-set_same, get_or-take, get_or_append_left, get_or_push, length-map, length-set, length-take-le, length_push}
 use Rattle.std.proofs.lemmas.Option.{get_or_from_slice_get, slice_get-get_or, slice_get_within}
 use Rattle.cwr_share.specs.Filed.{IsFiled}
-use Rattle.cwr_share.specs.InForce.{IsOneRegistration}
 use Rattle.cwr_share.specs.Lines.{lines_of}
-use Rattle.cwr_share.specs.Registrations.{ShareLine, find_work}
+use Rattle.cwr_share.specs.Registrations.{find_work}
 use Rattle.cwr_share.specs.declared.filed.FiledRegistration.{FiledRegistration}
 use Rattle.cwr_share.specs.declared.in_force.InForce.{InForce}
 use Rattle.linked_works.proofs.LinkedLemmas.{find_named}
@@ -129,17 +128,6 @@ read_more holds place rows read old new bytes in_force so_far text found =
       ];
     }
 
--- before any file is read
-pub none_read : (holds : ℕ → List ℕ → Type 0) (rows : List WorksRow) (filed : List Found) → length filed ≡ length rows → AreLookedAt holds 0 rows [] filed
-none_read holds rows filed room = record {
-  files = [];
-  all = refl;
-  whole = refl;
-  each = λ k d low. absurd (omega (arith, low));
-  room = room;
-  shown = λ k row d there low. absurd (omega (arith, low));
-}
-
 -- the files that were looked at, as those that a registry is made of are
 abbrev pub held_by : (holds : ℕ → List ℕ → Type 0) (count : ℕ) (rows : List WorksRow) (read : List InForce) (filed : List Found) → AreLookedAt holds count rows read filed → Held holds count read
 held_by holds count rows read filed looked = record {
@@ -147,11 +135,6 @@ held_by holds count rows read filed looked = record {
   all = looked.all;
   each = λ place d low. let text = looked.each place d low in (text.held, text.sound, text.registrations);
 }
-
--- and a registration is no longer than one is
-pub one_each : (holds : ℕ → List ℕ → Type 0) (count : ℕ) (rows : List WorksRow) (read : List InForce) (filed : List Found) → AreLookedAt holds count rows read filed
-    → All (λ works. (number : List ℕ) (shares : List ShareLine) → find_work number works ≡ Some shares → IsOneRegistration shares) read
-one_each holds count rows read filed looked k d within number shares is = (looked.each k d (omega (arith, within, looked.whole))).registrations.each number shares is
 
 -- the registration of each row is found by the name of its submitter
 pub filed_by : (holds : ℕ → List ℕ → Type 0) (names : List (List ℕ)) (rows : List WorksRow) (read : List InForce) (filed : List Found)

@@ -17,18 +17,18 @@ use Rattle.submitted_laws.specs.SubmittedStatements.{AreStatementsOf}
 use Rattle.submitted_laws.proofs.Alike.{one_territories, one_usage}
 
 -- an input has one list of payees
-one_list : (names : List (List ℕ)) (file : Option (List ℕ)) (rows other : List (List ℕ × List ℕ)) → ArePayees names file rows → ArePayees names file other → rows ≡ other
+pub one_list : (names : List (List ℕ)) (file : Option (List ℕ)) (rows other : List (List ℕ × List ℕ)) → ArePayees names file rows → ArePayees names file other → rows ≡ other
 one_list names None rows other is of = is ∙ sym of
 one_list names (Some file) rows other is of = one_table (payee_rules names) (rows_of file) rows other is of
 
 -- the files are the same, where each has one text
-same_files : (holds : ℕ → List ℕ → Type 0) (count : ℕ) (files others : List (List ℕ)) → HoldsOneText holds → AreFiles holds count files → AreFiles holds count others → files ≡ others
+pub same_files : (holds : ℕ → List ℕ → Type 0) (count : ℕ) (files others : List (List ℕ)) → HoldsOneText holds → AreFiles holds count files → AreFiles holds count others → files ≡ others
 same_files holds count files others one is of = ext_get_or [] files others (is.all ∙ sym of.all)
     (λ place low. let within : place < count = omega (arith, is.all, low) in one.same place _ _ (is.held place within) (of.held place within))
 
 module _ (names : List (List ℕ)) (holds : ℕ → List ℕ → Type 0) (inputs : SubmittedTables (List ℕ)) (one : HoldsOneText holds) where
   -- so two readings answer alike
-  read_alike : (tables others : Tables) → IsReading names holds inputs tables → IsReading names holds inputs others → ReadAlike tables others
+  pub read_alike : (tables others : Tables) → IsReading names holds inputs tables → IsReading names holds inputs others → ReadAlike tables others
   read_alike tables others is of =
       let rows : of.rows ≡ is.rows = one_list names inputs.payees of.rows is.rows of.payees_are is.payees_are in
       let links : of.links ≡ is.links = one_table (works_rules names) (rows_of inputs.works) of.links is.links of.works_are is.works_are in

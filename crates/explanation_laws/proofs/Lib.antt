@@ -1,0 +1,4 @@
+pub mod Parts
+pub mod OneReading
+pub mod Submitters
+pub mod Accounts

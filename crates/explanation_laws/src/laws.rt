@@ -1,0 +1,58 @@
+//! What explanations and reports over the files of several submitters keep to. A law has an empty body: its contract is
+//! the law.
+
+ghost use Rattle.std.specs.Prelude.{ℕ, ℤ, ◌≡◌, ◌<◌, ◌+◌, ◌==◌, [], All, AllPairs, Contains, List, Some};
+ghost use Rattle.std.specs.Prelude.{filter, length, slice_index_or, sum_by, unwrap_or};
+ghost use Rattle.check_inputs.specs.SubmittedOver.{claims_of_submitters};
+ghost use Rattle.cwr_share.specs.ClaimsOn.{claimed_in, claims_by, claims_on};
+ghost use Rattle.cwr_share.specs.Registered.{IsRegistered, Registered};
+ghost use Rattle.cwr_share.specs.Registrations.{ShareLine, find_work};
+ghost use Rattle.explain_line.specs.Explanation.{IsRow, portions_shown};
+ghost use Rattle.explain_line.specs.Submitted.{IsSubmittedExplanationOf};
+ghost use Rattle.line_split.specs.Claims.{total_of};
+ghost use Rattle.line_split.specs.Signs.{signed_portions_of};
+ghost use Rattle.line_split.specs.UsageLine.{UsageLine};
+ghost use Rattle.linked_works.specs.Linked.{Finds, Link, shares_linked};
+ghost use Rattle.payee_book.specs.Run.{IsBookOf, portion_for, posting_of};
+ghost use Rattle.run_inputs.specs.declared.inputs.Tables.{Tables};
+ghost use Rattle.submitted_inputs.specs.Submitted.{IsReading};
+ghost use Rattle.submitted_inputs.specs.declared.inputs.SubmittedTables.{SubmittedTables};
+ghost use Rattle.submitted_laws.specs.Alike.{HoldsOneText};
+
+use submitted_inputs::SubmitterFiles;
+
+/// A row of the usage list has one explanation, where each file has one text: whoever works it out by the definitions
+/// comes to the same bytes.
+pub fn law_a_row_has_one_explanation<F: SubmitterFiles>(files: &F)
+    ensures { (names : List (List ℕ)) (inputs : SubmittedTables (List ℕ)) (row : ℕ) (text other : List ℕ)
+        → HoldsOneText (F.holds files.now) → IsSubmittedExplanationOf names (F.holds files.now) inputs row text
+        → IsSubmittedExplanationOf names (F.holds files.now) inputs row other → text ≡ other }
+{}
+
+/// The portions that an explanation shows are the postings of its line in the statements of a run over the same files,
+/// those that are not 0: the statement of each account has this posting of the line, and no other.
+pub fn law_explained_portions_are_posted<F: SubmitterFiles>(files: &F)
+    ensures { (names : List (List ℕ)) (inputs : SubmittedTables (List ℕ)) (tables of_run : Tables)
+        (statements : List (List (ℕ × ℤ))) (place : ℕ) (line : UsageLine) (account : ℕ)
+        → HoldsOneText (F.holds files.now) → IsReading names (F.holds files.now) inputs tables
+        → IsReading names (F.holds files.now) inputs of_run
+        → IsBookOf (λ other. signed_portions_of other.amount (claims_on of_run.territories of_run.registry other))
+        of_run.usage (length of_run.registry.accounts) statements
+        → IsRow tables.usage (place + 1) line → account < length tables.registry.accounts
+        → filter (λ posting. posting.0 == place) (slice_index_or statements account [])
+        ≡ posting_of place
+        (portion_for account (portions_shown line.amount (claims_on tables.territories tables.registry line))) }
+{}
+
+/// What a report says that each submitter claims on a line comes to what all its linked registrations claim together,
+/// and that to what the accounts claim, which is what the line is divided by or refused for.
+pub fn law_claims_of_submitters_add_up()
+    ensures submitters { (table : List (ℕ × List ℕ)) (finds : Finds) (links : List Link) (names : List (List ℕ))
+        (line : UsageLine) → AllPairs (λ name later. ¬ (name ≡ later)) names
+        → All (λ link. Contains names link.submitter) links
+        → sum_by (λ claim. claim.1) (claims_of_submitters table finds links names line)
+        ≡ claimed_in table line.territory line.right (unwrap_or (shares_linked finds links line.work) []) }
+    ensures accounts { (table : List (ℕ × List ℕ)) (registered : Registered) (line : UsageLine)
+        (shares : List ShareLine) → IsRegistered registered → find_work line.work registered.works ≡ Some shares
+        → total_of (claims_by table registered line shares) ≡ claimed_in table line.territory line.right shares }
+{}
