@@ -15,10 +15,12 @@ What a run is refused for has to be the first fault of the report, and where a r
 the report has no fault.
 
 With --submitters each case has the files of one to five submitters, and a third of the cases have a
-table, a file or the names of submitters damaged. Compared are a run, explanations as above, the
-tables that `works` and `parties` print, and a run over these tables, which may not be refused for
-them. Reports are compared once the proved program has them. In some cases all values stand behind a
-`=`. Where both programs refuse the words (status 2), their messages may differ.
+table, a file or the names of submitters damaged. Compared are a run, explanations and reports as
+above, the tables that `works` and `parties` print, and a run over these tables, which may not be
+refused for them. Half of the reports are over files that were spoilt further, and a quarter over
+usage lists with many lines of unknown works and territories, for half of which the registrations
+are linked to other works. In some cases all values stand behind a `=`. Where both programs refuse
+the words (status 2), their messages may differ.
 """
 import os
 import random
@@ -213,8 +215,7 @@ def main():
     with tempfile.TemporaryDirectory() as folder:
         for number in range(a.cases):
             if a.submitters:
-                # The proved program has no reports on several submitters yet.
-                comparison.compare_submitters(number, folder, a.explained, 0)
+                comparison.compare_submitters(number, folder, a.explained, a.checked)
             else:
                 comparison.compare_case(number, folder, a.explained, a.checked)
     print(comparison.summary(a.cases))

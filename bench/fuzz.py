@@ -10,9 +10,9 @@ times each: cut off, or with bytes, fields or lines left out, doubled, swapped, 
 from elsewhere or from another file.
 
 With --submitters each case has the files of one to five submitters, which are damaged in the same
-way. Beside a run, the tables that `works` and `parties` print are compared, and the explanations of
-three usage lines, at times one past the last. Of words that are refused (status 2) only the status
-is compared.
+way. Beside a run, the tables that `works` and `parties` print are compared, the explanations of
+three usage lines, at times one past the last, and a report of `check`. Of words that are refused
+(status 2) only the status is compared.
 
 The same seed and number give the same case, so a case that differs can be run again alone: its
 files are left in a folder of their own below FOLDER, and the two commands are printed. A run that
@@ -89,7 +89,8 @@ def commands(a, number, room, folder):
         lines = max(1, submitted.tables["usage"].count(b"\n") - 1)
         explained = [("explain", [*inputs, ("row", rng.randint(1, lines + 1))])
                      for _ in range(EXPLAINED)]
-        return [("run", options), ("works", files), ("parties", files), *explained]
+        return [("run", options), ("works", files), ("parties", files), *explained,
+                ("check", inputs)]
     files, plan = case(a.seed, number, room)
     paths = written(folder, dict(zip(NAMES, files)))
     return [("run", run_options(paths, plan))]

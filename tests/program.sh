@@ -31,6 +31,12 @@ is_text() {
     if [ "$1" = '*' ]; then [ -s "$2" ]; else printf '%b' "$1" | cmp -s - "$2"; fi
 }
 
+# twice USAGE: what a command with this usage says of a submitter that is given two files.
+twice() {
+    echo "error: the submitter 'MOON' has a file already\n\nUsage: royalty_run $1\n\nFor more information, try '--help'.\n"
+}
+several_files='--tis <F> --works <F> --cwr <NAME=F> --usage <F>'
+
 plan=(--workers 2 --readers 1 --nodes 16)
 files=(--tis territories.csv --cwr works.cwr --usage usage.csv)
 
@@ -253,10 +259,49 @@ check 'an explanation over three files' 0 "$explained" '' "$program" explain "${
 check 'an explanation over files in another order' 0 "$explained" '' \
     "$program" explain --row=7 --cwr NORTH=north.cwr --cwr=MOON=moon.cwr "${tables[@]}" --cwr HARBOR=harbor.cwr
 check 'a row of three files that there is none of' 2 '' 'royalty_run: the usage list has no row 201\n' "$program" explain "${tables[@]}" "${cwr[@]}" --row 201
-check 'an explanation with two files of one submitter' 2 '' '*' "$program" explain "${tables[@]}" "${cwr[@]}" --cwr MOON=north.cwr --row 7
+check 'an explanation with two files of one submitter' 2 '' "$(twice "explain [OPTIONS] $several_files --row <n>")" \
+    "$program" explain "${tables[@]}" "${cwr[@]}" --cwr MOON=north.cwr --row 7
 sed 's/^T9104182072,MOON,ML0003,/T9104182072,MOON,ML9999,/' works.csv >other.csv
 check 'an explanation of a registration that is not in force' 0 'W,MOON,ML9999,\nW,HARBOR,1003,20\n' '' \
     bash -c '"$0" "$@" | grep ^W' "$program" explain "${tables[@]/works.csv/other.csv}" "${cwr[@]}" --row 7
+facts='territories.csv: territories: 41
+payees.csv: parties with a payee: 31
+works.csv: registrations linked: 51
+moon.cwr: registrations in force: 19
+moon.cwr: registrations replaced by later ones: 0
+harbor.cwr: registrations in force: 16
+harbor.cwr: registrations replaced by later ones: 1
+north.cwr: registrations in force: 16
+north.cwr: registrations replaced by later ones: 0
+'
+reported="${facts}works.csv: works with a registration in force: 40
+works.csv: parties in force: 31
+works.csv: accounts, the residue's included: 26
+usage.csv: usage lines: 200
+payees.csv: remark: rows whose party no registration that is linked has: 1, in row 5
+works.csv: remark: rows whose registration is not in force: 1, in row 51
+moon.cwr: remark: registrations in force that no row links: 1, 'ML0112'
+usage.csv: divided: lines 187, amount 5967308, to the residue 264245
+usage.csv: WORK, not registered: lines 8, amount 8677
+usage.csv: LAND, territory not in the table: lines 2, amount 3550
+usage.csv: OVER, claims over 100.06 per cent: lines 3, amount 71800
+usage.csv: work 'MOON:ML0112' is not registered: lines 3, amount 5166
+usage.csv: work 'T9135551234' is not registered: lines 5, amount 3511
+usage.csv: territory 566 is not in the table: lines 2, amount 3550
+usage.csv: work 'T9110773814' is claimed over 100.06 per cent: lines 3, amount 71800; in row 12: HARBOR claims 6000 of 10000, NORTH claims 5000 of 10000
+"
+check 'a check of three files' 0 "$reported" '' "$program" check "${tables[@]}" "${cwr[@]}"
+sed '4s/MOON/LUNA/' works.csv >luna.csv
+check 'a check of three files that tells of a fault' 1 "luna.csv: row 3: submitter 'LUNA' is the name of no file (fault 3)
+$(grep -v '^works' <<< "$facts")
+usage.csv: usage lines: 200
+" '' "$program" check "${tables[@]/works.csv/luna.csv}" "${cwr[@]}"
+check 'a check of three files, of which one is not there' 4 '' 'royalty_run: cannot read absent\n' \
+    "$program" check "${tables[@]/works.csv/luna.csv}" "${cwr[@]}" --cwr LUNA=absent
+check 'a check with two files of one submitter' 2 '' "$(twice "check [OPTIONS] $several_files")" \
+    "$program" check "${tables[@]}" "${cwr[@]}" --cwr MOON=north.cwr
+check 'help with a check of several files' 0 "Usage: royalty_run check [OPTIONS] $several_files\n" '' \
+    bash -c '"$0" "$@" | grep ^Usage' "$program" check --works works.csv --help
 check 'a table of works' 0 "$(cat "$several/works.printed.csv")\n" '' "$program" works "${cwr[@]}"
 check 'a table of payees' 0 "$(cat "$several/payees.printed.csv")\n" '' "$program" parties "${cwr[@]}"
 check 'a run over tables as they were printed' 0 '*' '' \
@@ -276,7 +321,8 @@ done
 check 'a file of a submitter that is not there' 4 '' 'royalty_run: cannot read absent\n' "$program" parties --cwr HARBOR=absent --cwr NORTH=./wrong.cwr
 check 'a table that is not there, and one with a fault' 4 '' 'royalty_run: cannot read absent\n' \
     "$program" run --tis usage.csv --works works.csv --usage absent "${cwr[@]}" "${plan[@]}"
-check 'two files of one submitter' 2 '' '*' "$program" run "${tables[@]}" "${cwr[@]}" --cwr MOON=soft.cwr "${plan[@]}"
+check 'two files of one submitter' 2 '' "$(twice "run [OPTIONS] $several_files --workers <n> --readers <n> --nodes <n>")" \
+    "$program" run "${tables[@]}" "${cwr[@]}" --cwr MOON=soft.cwr "${plan[@]}"
 check 'a file without a submitter' 2 '' '*' "$program" works --cwr moon.cwr
 check 'a table to begin with into a file' 2 '' '*' "$program" works "${cwr[@]}" --output kept.csv
 ln works.csv hard.csv

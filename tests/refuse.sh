@@ -2,8 +2,8 @@
 # Runs a program with what it asks of the system refused: each allocation, each thread, each read
 # and write, and each file that is opened, given permissions, brought to the disk or renamed, in
 # turn; and with reads and writes that are cut short or interrupted. It divides one amount, checks
-# the examples, explains a line of them, makes the tables to begin with over three submitters' files
-# and explains a line of these, runs on the examples with several plans, and into an output file
+# the examples, explains a line of them, makes the tables to begin with over three submitters' files,
+# checks these and explains a line of them, runs on the examples with several plans, and into an output file
 # over one submitter's file and over three, merges statements, to standard output and into a file,
 # and runs on 2,000 usage lines, whose rows are written by four threads.
 #
@@ -160,11 +160,14 @@ for table in works parties; do
     "$program" "${words[@]}" > "$whole"
     sweep_all 0
 done
-words=(explain --tis "$several/territories.csv" --works "$several/works.csv" "${cwr[@]}"
-    --payees "$several/payees.csv" --usage "$several/usage.csv" --row 7)
-name='an explanation over three files' whole=$room/whole
-"$program" "${words[@]}" > "$whole"
-sweep_all 0
+for words_of in 'check' 'explain --row 7'; do
+    read -ra begin <<< "$words_of"
+    words=("${begin[@]}" --tis "$several/territories.csv" --works "$several/works.csv" "${cwr[@]}"
+        --payees "$several/payees.csv" --usage "$several/usage.csv")
+    name="$words_of over three files" whole=$room/whole
+    "$program" "${words[@]}" > "$whole"
+    sweep_all 0
+done
 
 whole=$examples/statements.csv
 for plan in "${plans[@]}"; do

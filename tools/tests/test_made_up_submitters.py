@@ -128,7 +128,7 @@ class MadeUp(unittest.TestCase):
             first = [fuzz.commands(words, number, room, folder) for number in (7, 8, 7)]
         self.assertEqual(first[0], first[2])
         self.assertEqual([command for command, _ in first[0]],
-                         ["run", "works", "parties", *["explain"] * 3])
+                         ["run", "works", "parties", *["explain"] * 3, "check"])
         self.assertEqual({name for name, _ in first[0][1][1]}, {"cwr"})
 
     def test_options_name_tables_and_files(self):

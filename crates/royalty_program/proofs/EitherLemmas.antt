@@ -17,14 +17,6 @@ pub of_several : (several : Bool) (One Many : Type 0) → several ≡ true → E
 of_several false One Many is one = cc
 of_several true One Many is many = many
 
-pub to_one_file : (several : Bool) (One Many : Type 0) → several ≡ false → One → EitherRun several One Many
-to_one_file false One Many is one = one
-to_one_file true One Many is one = cc
-
-pub to_several : (several : Bool) (One Many : Type 0) → several ≡ true → Many → EitherRun several One Many
-to_several false One Many is many = cc
-to_several true One Many is many = many
-
 -- what holds of the inputs holds of the paths that they are
 pub by_inputs : (One : Inputs (List ℕ) → Type 0) (Many : SubmittedPaths → Type 0) (several : Bool) (paths : Inputs (List ℕ)) (all : SubmittedPaths) (inputs : RunInputs)
     → EitherRun several (AreOneFile paths inputs) (AreSubmitted all inputs) → EitherInputs One Many inputs → EitherRun several (One paths) (Many all)

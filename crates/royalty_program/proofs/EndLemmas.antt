@@ -1,9 +1,14 @@
 -- How the program ends, by what its words were answered with.
 use Rattle.std.proofs.Common.{◌≡◌, ◌≢◌, ◌⊎◌, ◌∙◌, ◌≤◌, ℕ, List, arith, Bool, true, false, Err, Ok, Result, Option, Some, None, inl, inr, sym}
-use Rattle.std.specs.Prelude.{if◌then◌else◌}
+use Rattle.std.specs.Prelude.{String, if◌then◌else◌}
+use Rattle.std.specs.declared.alloc.Global.{Global}
 use Rattle.std.specs.Io.KnownBytes.{Appends, Keeps}
 use Rattle.std.specs.Result.{IfErr, IfOk, IsOk, OnErr, OnOk}
-use Rattle.royalty_program.specs.Status.{IsOfCheck, status_of}
+use Rattle.royalty_program.specs.Asked.{EitherRun, name_works, submitted_given}
+use Rattle.royalty_program.specs.Status.{IsOfCheck, IsSubmittedUnchecked, status_of}
+use Rattle.royalty_program.specs.SubmittedCommand.{submitted_check_app}
+use Rattle.royalty_program.specs.SubmittedFiles.{SubmittedPaths}
+use Rattle.royalty_program.proofs.SubmittedFileLemmas.{unread_or_room}
 use Rattle.std.specs.declared.io.ErrorKind.{ErrorKind}
 use Rattle.royalty_program.specs.declared.failure.Failure.{Failure}
 use Rattle.royalty_program.specs.declared.failure.Failure.TheVariants.{Words, NotText, Pairs, Input, Works, Registrations, Row, Room, File, Output, Target, Statement, Many, Changed, Replaces}
@@ -26,21 +31,31 @@ fails_with Many is = cc is
 fails_with (Changed path) is = cc is
 fails_with (Replaces path) is = cc is
 
+-- what neither comes to does not come
+neither : (several : Bool) (One All : Type 0) → ¬ One → ¬ All → ¬ EitherRun several One All
+neither false One All not_one not_all is = not_one is
+neither true One All not_one not_all is = not_all is
+
+-- so a check of several files fails for none of their faults
+no_fault : (holds : List ℕ → List ℕ → Type 0) (refuses : List ℕ → ErrorKind → Type 0) (paths : SubmittedPaths) (failure : Failure)
+    → failure ≢ Room → ((name : String Global) → failure ≢ File name) → ¬ IsSubmittedUnchecked holds refuses paths failure
+no_fault holds refuses paths failure no_room no_file is = elim (unread_or_room holds refuses paths failure is) [ inl room ↦ no_room room | inr (name, file) ↦ no_file name file ]
+
 -- and that of a check no status of a report
 pub check_fails_with : (holds : List ℕ → List ℕ → Type 0) (refuses : List ℕ → ErrorKind → Type 0) (words : List (List ℕ)) (failure : Failure) → IsOfCheck holds refuses words failure → status_of failure ≢ 1
 check_fails_with holds refuses words (Words error) is = λ same. cc same
 check_fails_with holds refuses words NotText is = λ same. cc same
 check_fails_with holds refuses words (Pairs fault) is = λ same. cc same
-check_fails_with holds refuses words (Input fault) is = λ same. is.1
-check_fails_with holds refuses words (Works fault) is = λ same. is.0
-check_fails_with holds refuses words (Registrations fault path) is = λ same. is.0
+check_fails_with holds refuses words (Input fault) is = λ same. neither (name_works words) _ _ (λ one. one.1) (no_fault holds refuses (submitted_given submitted_check_app words) (Input fault) (λ room. cc) (λ name file. cc)) is
+check_fails_with holds refuses words (Works fault) is = λ same. neither (name_works words) _ _ (λ one. one.0) (no_fault holds refuses (submitted_given submitted_check_app words) (Works fault) (λ room. cc) (λ name file. cc)) is
+check_fails_with holds refuses words (Registrations fault path) is = λ same. neither (name_works words) _ _ (λ one. one.0) (no_fault holds refuses (submitted_given submitted_check_app words) (Registrations fault path) (λ room. cc) (λ name file. cc)) is
 check_fails_with holds refuses words (Row row) is = λ same. cc same
 check_fails_with holds refuses words Room is = λ same. cc same
 check_fails_with holds refuses words (File path) is = λ same. cc same
 check_fails_with holds refuses words Output is = λ same. cc same
 check_fails_with holds refuses words (Target path) is = λ same. cc same
-check_fails_with holds refuses words (Statement fault path) is = λ same. is.0
-check_fails_with holds refuses words Many is = λ same. is.0
+check_fails_with holds refuses words (Statement fault path) is = λ same. neither (name_works words) _ _ (λ one. one.0) (no_fault holds refuses (submitted_given submitted_check_app words) (Statement fault path) (λ room. cc) (λ name file. cc)) is
+check_fails_with holds refuses words Many is = λ same. neither (name_works words) _ _ (λ one. one.0) (no_fault holds refuses (submitted_given submitted_check_app words) Many (λ room. cc) (λ name file. cc)) is
 check_fails_with holds refuses words (Changed path) is = λ same. cc same
 check_fails_with holds refuses words (Replaces path) is = λ same. cc same
 

@@ -17,9 +17,10 @@ use Rattle.royalty_program.specs.SubmittedFiles.{IsNoneOf}
 use Rattle.royalty_program.specs.declared.inputs.RunInputs.{RunInputs}
 use Rattle.royalty_program.proofs.EitherLemmas.{by_inputs, of_one_file, of_several}
 use Rattle.clap.specs.Words.{App}
-use Rattle.royalty_program.specs.Asked.{AreAccepted, AreExplainAccepted, AreFilesAccepted, AreRunAccepted, IsRunError, explain_grammar}
+use Rattle.royalty_program.specs.Asked.{AreAccepted, AreCheckAccepted, AreExplainAccepted, AreFilesAccepted, AreRunAccepted, IsCheckError, IsRunError, check_grammar, explain_grammar}
+use Rattle.royalty_program.specs.CheckCommand.{check_app}
 use Rattle.royalty_program.specs.ExplainCommand.{explain_app}
-use Rattle.royalty_program.specs.SubmittedCommand.{submitted_app, submitted_explain_app}
+use Rattle.royalty_program.specs.SubmittedCommand.{submitted_app, submitted_check_app, submitted_explain_app}
 use Rattle.royalty_program.specs.MergeCommand.{merge_app}
 use Rattle.royalty_program.specs.RunCommand.{run_app}
 use Rattle.royalty_program.specs.Status.{IsOfMerge}
@@ -84,6 +85,24 @@ no_explain_help_given words error = by (name_works words)
     by false is none = no_help_given explain_app words error is none
     by true is none = no_files_help_given submitted_explain_app words error is none
 
+-- so with a check
+pub not_accepted_check : (words : List (List ℕ)) (error : Error) → kind_of error ≢ kinds.OutOfMemory → IsCheckError words error → ¬ AreCheckAccepted words
+not_accepted_check words error not_memory = by (name_works words)
+  where
+    by : (several : Bool) → EitherRun several (IsErrorOf check_app words error) (IsSubmittedError submitted_check_app words error)
+        → ¬ EitherRun several (AreAccepted check_app words) (AreFilesAccepted submitted_check_app words)
+    by false is accepted = not_memory (accepted_is_memory check_app words error is accepted)
+    by true is accepted = not_accepted_files submitted_check_app words error not_memory is accepted
+
+pub no_check_help_given : (words : List (List ℕ)) (error : Error) → IsCheckError words error → ¬ AskForHelp (check_grammar words) words
+    → (kind_of error ≢ kinds.DisplayHelp) × (kind_of error ≢ kinds.DisplayVersion)
+no_check_help_given words error = by (name_works words)
+  where
+    by : (several : Bool) → EitherRun several (IsErrorOf check_app words error) (IsSubmittedError submitted_check_app words error)
+        → ¬ AskForHelp (cond several submitted_check_app check_app) words → (kind_of error ≢ kinds.DisplayHelp) × (kind_of error ≢ kinds.DisplayVersion)
+    by false is none = no_help_given check_app words error is none
+    by true is none = no_files_help_given submitted_check_app words error is none
+
 -- and so do those that ask for a run
 pub no_run_help_given : (words : List (List ℕ)) (error : Error) → (word_at words 1 ≡ codes "run" → IsRunError (drop 1 words) error) → AskForRun words ⊎ AskForSubmittedRun words
     → (kind_of error ≢ kinds.DisplayHelp) × (kind_of error ≢ kinds.DisplayVersion)
@@ -132,12 +151,6 @@ module _ (keeps : List ℕ → Option (List ℕ) → Type 0) (words : List (List
   no_output no_run no_merge path asks = elim asks [
     | inl (run, named) ↦ no_run (of_run words run)
     | inr (merge, named) ↦ no_merge merge.command
-  ]
-
-  pub no_name : ¬ (word_at words 1 ≡ codes "run") → ¬ (word_at words 1 ≡ codes "merge") → (path : List ℕ) → ¬ NameOutput words path
-  no_name no_run no_merge path named = elim named [
-    | inl (run, is) ↦ no_run run
-    | inr (merge, is) ↦ no_merge merge
   ]
 
   -- a run goes where its option says

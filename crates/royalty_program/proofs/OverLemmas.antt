@@ -1,13 +1,13 @@
 -- The statements of the files that a run names, by the words that name them.
-use Rattle.std.proofs.Common.{◌≡◌, ◌≢◌, ◌∙◌, ◌⊎◌, ℕ, List, Bool, true, false, Option, Err, Ok, Result, ap, codes, drop, inl, inr, map, refl, subst, sym}
+use Rattle.std.proofs.Common.{◌≡◌, ◌≢◌, ◌∙◌, ◌⊎◌, ℕ, List, Bool, true, false, Option, Err, Ok, Result, ap, arith, codes, drop, inl, inr, length, map, refl, subst, sym}
+use Rattle.std.proofs.lemmas.List.{length-map}
 use Rattle.std.specs.Option.{option_map}
 use Rattle.std.specs.Result.{IfErr, IfOk}
-use Rattle.std.specs.Prelude.{String, string_bytes}
-use Rattle.std.specs.declared.alloc.Global.{Global}
+use Rattle.std.specs.Prelude.{string_bytes}
 use Rattle.std.specs.declared.io.ErrorKind.{ErrorKind}
 use Rattle.pair_split.specs.Pair.{word_at}
 use Rattle.royalty_program.specs.RunCommand.{run_app}
-use Rattle.royalty_program.specs.Answered.{AreCheckedFrom, AreExplainedFrom, AreMergeFrom, AreReadFrom, AreStarting}
+use Rattle.royalty_program.specs.Answered.{AreCheckedFrom, AreExplainedFrom, AreMergeFrom, AreOneFile, AreReadFrom, AreStarting, AreSubmitted}
 use Rattle.royalty_program.specs.MergeCommand.{merge_app}
 use Rattle.royalty_program.specs.MergeFiles.{IsMergeOver}
 use Rattle.royalty_program.specs.declared.merge_command.MergeWords.{MergeWords}
@@ -15,19 +15,19 @@ use Rattle.royalty_program.specs.Asked.{AreRunWords, EitherRun, IsDivision, file
 use Rattle.royalty_program.specs.CheckCommand.{check_app}
 use Rattle.royalty_program.specs.ExplainCommand.{explain_app}
 use Rattle.royalty_program.specs.Files.{AreStatementsOver, IsExplanationOver, IsReportOver}
-use Rattle.royalty_program.specs.Status.{FailFor, IsOfCheck, IsOfDivision, IsOfExplanation, IsOfMerge, IsOfNoInput, IsOfOutput, IsOfPaths, IsOfRunOutput, IsOfFiles, IsOfSubmitted, IsOfTable, IsOfTexts, IsOfRun, IsRefusal, IsSaidOf, IsSubmittedUnexplained, IsUnexplained, status_of}
+use Rattle.royalty_program.specs.Status.{FailFor, IsOfCheck, IsOfDivision, IsOfExplanation, IsOfMerge, IsOfPaths, IsOfRunOutput, IsOfFiles, IsOfSubmitted, IsOfTable, IsOfRun, IsRefusal, IsSaidOf, IsSubmittedUnchecked, IsSubmittedUnexplained, IsUnchecked, IsUnexplained, status_of}
 use Rattle.royalty_program.specs.declared.failure.Failure.{Failure}
 use Rattle.royalty_program.specs.declared.failure.Failure.TheVariants.{Words, NotText, Pairs, Input, Works, Registrations, Row, Room, File, Output, Target, Statement, Many, Changed, Replaces}
-use Rattle.run_inputs.specs.Inputs.{map_inputs}
 use Rattle.run_inputs.specs.declared.inputs.Inputs.{Inputs}
 use Rattle.royalty_program.specs.declared.explain_command.ExplainWords.{ExplainWords}
 use Rattle.royalty_program.specs.declared.run_command.RunWords.{RunWords}
 use Rattle.royalty_program.proofs.EndLemmas.{IsThrough}
 use Rattle.royalty_program.proofs.EitherLemmas.{by_inputs, of_one_file, of_several}
 use Rattle.royalty_program.proofs.RunLemmas.{inputs_in_order, is_of_one_file}
-use Rattle.royalty_program.specs.RunInputs.{AreStatementsFrom, IsExplanationFrom, IsOfInputs, IsUnexplainedFrom}
-use Rattle.royalty_program.specs.SubmittedCommand.{submitted_app, submitted_explain_app}
-use Rattle.royalty_program.specs.SubmittedFiles.{AreSubmittedStatementsOver, IsSubmittedExplanationOver, SubmittedPaths, paths_of}
+use Rattle.royalty_program.proofs.SubmittedFileLemmas.{unread_or_room}
+use Rattle.royalty_program.specs.RunInputs.{AreStatementsFrom, HaveEachAPath, IsExplanationFrom, IsOfInputs, IsReportFrom, IsUncheckedFrom, IsUnexplainedFrom}
+use Rattle.royalty_program.specs.SubmittedCommand.{submitted_app, submitted_check_app, submitted_explain_app}
+use Rattle.royalty_program.specs.SubmittedFiles.{AreSubmittedStatementsOver, IsSubmittedExplanationOver, IsSubmittedReportOver, SubmittedPaths, paths_of}
 use Rattle.royalty_program.specs.declared.inputs.RunInputs.{RunInputs}
 use Rattle.royalty_program.specs.declared.inputs.RunInputs.TheVariants.{OneFile, Submitted}
 use Rattle.submitted_inputs.specs.declared.fault.SubmittedFault.{SubmittedFault}
@@ -123,31 +123,6 @@ fails_given holds refuses words asked read failure is = as_run failure is
     as_run (Changed path) is = given (Changed path) is
     as_run (Replaces path) named = sym read.output ∙ ap (option_map string_bytes) named
 
--- and so does a merge
-pub unmerged_given : (gives : List ℕ → List ℕ → Type 0) (words : List (List ℕ)) (asked : MergeWords) → AreMergeFrom words asked → (failure : Failure)
-    → IsOfOutput asked.output (IsOfTexts gives (map string_bytes asked.statements.items)) failure → IsOfMerge gives words failure
-unmerged_given gives words asked read failure is = as_merge failure is
-  where
-    given : (failure : Failure) → IsOfTexts gives (map string_bytes asked.statements.items) failure → IsOfTexts gives (paths_given merge_app (codes "statements") words) failure
-    given failure is = subst (λ (paths : List (List ℕ)). IsOfTexts gives paths failure) read.statements is
-
-    as_merge : (failure : Failure) → IsOfOutput asked.output (IsOfTexts gives (map string_bytes asked.statements.items)) failure → IsOfMerge gives words failure
-    as_merge (Words error) none = absurd none
-    as_merge NotText none = none
-    as_merge (Pairs fault) none = none
-    as_merge (Row row) none = none
-    as_merge (Input fault) none = none
-    as_merge (Works fault) none = none
-    as_merge (Registrations fault path) none = none
-    as_merge Room any = any
-    as_merge (File name) named = given (File name) named
-    as_merge Output none = none
-    as_merge (Target path) named = sym read.output ∙ ap (option_map string_bytes) named
-    as_merge (Statement fault path) is = given (Statement fault path) is
-    as_merge Many is = given Many is
-    as_merge (Changed path) is = given (Changed path) is
-    as_merge (Replaces path) none = none
-
 -- the merge is that of the paths that the words name
 pub merged_given : (gives : List ℕ → List ℕ → Type 0) (words : List (List ℕ)) (asked : MergeWords) (text : List ℕ) → AreMergeFrom words asked
     → IsMergeOver gives (map string_bytes asked.statements.items) text → IsMergeOver gives (paths_given merge_app (codes "statements") words) text
@@ -236,36 +211,63 @@ unexplained_given holds refuses words asked read failure is = as_asked failure i
     as_asked (Replaces path) is = given (Replaces path) is
 
 -- a check reports on the paths that the options are given
-pub reported_given : (holds : List ℕ → List ℕ → Type 0) (words : List (List ℕ)) (inputs : Inputs (String Global)) (sound : Bool) (text : List ℕ) → AreCheckedFrom words inputs
-    → IsReportOver holds (map_inputs string_bytes inputs) sound text
-    → IsReportOver holds (inputs_given check_app words) sound text
-reported_given holds words inputs sound text read over = subst (λ (paths : Inputs (List ℕ)). IsReportOver holds paths sound text) read over
+pub reported_given : (holds : List ℕ → List ℕ → Type 0) (words : List (List ℕ)) (inputs : RunInputs) (sound : Bool) (text : List ℕ) → AreCheckedFrom words inputs
+    → IsReportFrom holds inputs sound text
+    → EitherRun (name_works words) (IsReportOver holds (inputs_given check_app words) sound text) (IsSubmittedReportOver holds (submitted_given submitted_check_app words) sound text)
+reported_given holds words inputs sound text read over =
+    by_inputs (λ paths. IsReportOver holds paths sound text) (λ paths. IsSubmittedReportOver holds paths sound text) (name_works words) (inputs_given check_app words)
+    (submitted_given submitted_check_app words) inputs read over
 
--- and fails for what is not read of them
-pub unchecked_given : (holds : List ℕ → List ℕ → Type 0) (refuses : List ℕ → ErrorKind → Type 0) (words : List (List ℕ)) (inputs : Inputs (String Global))
-    → AreCheckedFrom words inputs → (failure : Failure)
-    → IsOfPaths holds refuses (map_inputs string_bytes inputs) failure → IsOfNoInput failure → IsOfCheck holds refuses words failure
-unchecked_given holds refuses words inputs read failure is none =
-    as_asked failure (subst (λ (paths : Inputs (List ℕ)). IsOfPaths holds refuses paths failure) read is) none
+-- the words give each submitter a path
+pub each_has_a_path : (words : List (List ℕ)) (inputs : RunInputs) → AreCheckedFrom words inputs → HaveEachAPath inputs
+each_has_a_path words (OneFile inputs) read = tt
+each_has_a_path words (Submitted inputs) read = by (name_works words) read
   where
-    as_asked : (failure : Failure)
-        → IsOfPaths holds refuses (inputs_given check_app words) failure
-        → IsOfNoInput failure → IsOfCheck holds refuses words failure
-    as_asked (Words error) never none = absurd never
-    as_asked NotText is none = (is, none)
-    as_asked (Pairs fault) is none = (is, none)
-    as_asked (Row beyond) is none = (is, none)
-    as_asked (Input fault) is none = (is, none)
-    as_asked (Works fault) is none = (is, none)
-    as_asked (Registrations fault path) is none = (is, none)
-    as_asked Room is none = (is, none)
-    as_asked (File name) is none = (is, none)
-    as_asked Output is none = (is, none)
-    as_asked (Target path) is none = (is, none)
-    as_asked (Statement fault path) is none = (is, none)
-    as_asked Many is none = (is, none)
-    as_asked (Changed path) is none = (is, none)
-    as_asked (Replaces path) is none = (is, none)
+    by : (several : Bool) → EitherRun several (AreOneFile (inputs_given check_app words) (Submitted inputs)) (AreSubmitted (submitted_given submitted_check_app words) (Submitted inputs))
+        → length inputs.files.paths.items ≡ length inputs.files.names
+    by false none = absurd none
+    by true same =
+        let values = files_given submitted_check_app words in
+        omega (
+          arith,
+          ap (λ (paths : SubmittedPaths). length paths.files) same,
+          ap (λ (paths : SubmittedPaths). length paths.names) same,
+          length-map inputs.files.paths.items string_bytes,
+          length-map values name_in,
+          length-map values path_in,
+        )
+
+-- and its words fail for that
+pub unchecked_given : (holds : List ℕ → List ℕ → Type 0) (refuses : List ℕ → ErrorKind → Type 0) (words : List (List ℕ)) (inputs : RunInputs) → AreCheckedFrom words inputs → (failure : Failure)
+    → IsUncheckedFrom holds refuses inputs failure → IsOfCheck holds refuses words failure
+unchecked_given holds refuses words inputs read failure is = as_asked failure is
+  where
+    given : (failure : Failure) → IsUncheckedFrom holds refuses inputs failure
+        → EitherRun (name_works words) (IsUnchecked holds refuses (inputs_given check_app words) failure) (IsSubmittedUnchecked holds refuses (submitted_given submitted_check_app words) failure)
+    given failure is =
+        by_inputs (λ paths. IsUnchecked holds refuses paths failure) (λ paths. IsSubmittedUnchecked holds refuses paths failure) (name_works words) (inputs_given check_app words)
+        (submitted_given submitted_check_app words) inputs read is
+
+    no_words : (inputs : RunInputs) (error : Error) → ¬ IsUncheckedFrom holds refuses inputs (Words error)
+    no_words (OneFile inputs) error is = is.0
+    no_words (Submitted inputs) error is = elim (unread_or_room holds refuses (paths_of inputs) (Words error) is) [ inl room ↦ cc | inr (name, file) ↦ cc ]
+
+    as_asked : (failure : Failure) → IsUncheckedFrom holds refuses inputs failure → IsOfCheck holds refuses words failure
+    as_asked (Words error) is = absurd (no_words inputs error is)
+    as_asked NotText is = given NotText is
+    as_asked (Pairs fault) is = given (Pairs fault) is
+    as_asked (Row beyond) is = given (Row beyond) is
+    as_asked (Input fault) is = given (Input fault) is
+    as_asked (Works fault) is = given (Works fault) is
+    as_asked (Registrations fault path) is = given (Registrations fault path) is
+    as_asked Room is = given Room is
+    as_asked (File name) is = given (File name) is
+    as_asked Output is = given Output is
+    as_asked (Target path) is = given (Target path) is
+    as_asked (Statement fault path) is = given (Statement fault path) is
+    as_asked Many is = given Many is
+    as_asked (Changed path) is = given (Changed path) is
+    as_asked (Replaces path) is = given (Replaces path) is
 
 -- a table to begin with is of the files that the option names
 pub table_given : (holds : List ℕ → List ℕ → Type 0) (words : List (List ℕ)) (table : StartingTable) (asked : StartingWords) (text : List ℕ) → AreStarting table words asked

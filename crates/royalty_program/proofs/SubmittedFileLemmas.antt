@@ -6,9 +6,10 @@ use Rattle.std.specs.declared.alloc.Global.{Global}
 use Rattle.std.specs.declared.io.ErrorKind.{ErrorKind}
 use Rattle.std.specs.declared.io.ErrorKind.TheVariants.{OutOfMemory}
 use Rattle.std.proofs.lemmas.Bool.{cases_lt}
+use Rattle.check_inputs.specs.SubmittedChecked as checked
 use Rattle.royalty_program.specs.Files.{HoldsIfGiven}
-use Rattle.royalty_program.specs.Status.{IsFirstTable, IsOfFile, IsOfFiles, IsOfSubmitted, IsOfTables, IsSaidOf, failure_of_file}
-use Rattle.royalty_program.specs.SubmittedFiles.{HoldsAt, IsSubmittedFaultOver, IsWithin, RefusesAt, SubmittedPaths}
+use Rattle.royalty_program.specs.Status.{IsFirstTable, IsOfFile, IsOfFiles, IsOfSubmitted, IsOfTables, IsSaidOf, IsSubmittedUnchecked, failure_of_file}
+use Rattle.royalty_program.specs.SubmittedFiles.{AreTablesRead, HoldsAt, IsSubmittedFaultOver, IsWithin, RefusesAt, SubmittedPaths}
 use Rattle.royalty_program.specs.declared.failure.Failure.{Failure}
 use Rattle.royalty_program.specs.declared.failure.Failure.TheVariants as failures
 use Rattle.submitted_inputs.specs.Files.{IsFaultOfFiles}
@@ -33,6 +34,21 @@ module _ (holds : List ℕ → List ℕ → Type 0) (refuses : List ℕ → Erro
   pub of_inputs : (paths : SubmittedPaths) → paths.files ≡ files → IsSubmittedFaultOver holds refuses paths fault → IsOfSubmitted holds refuses paths failure
   of_inputs paths same over = elim (within_or_not (length files) fault) [
     | inl within ↦ inr (inr (fault, over, subst (λ (all : List (List ℕ)). IsSaidOf all fault failure) (sym same) (said within)))
+    | inr not_within ↦ inl (beyond not_within)
+  ]
+
+  -- one that cannot be read is why there is no report
+  pub of_unread : (paths : SubmittedPaths) (tables : SubmittedTables (List ℕ)) → paths.files ≡ files → AreTablesRead holds paths.tables tables
+      → (fault ≡ Room) ⊎ checked.IsFirstUnread (HoldsAt holds files) (RefusesAt refuses files) (length paths.names) fault → IsSubmittedUnchecked holds refuses paths failure
+  of_unread paths tables same read (inl room) = inl (subst (λ (f : SubmittedFault). IsSaidOf files f failure) room (said (subst (IsWithin (length files)) (sym room) tt)))
+  of_unread paths tables same read (inr first) = elim (within_or_not (length files) fault) [
+    | inl within ↦ inr (inr (record {
+      tables = tables;
+      read = read;
+      fault = fault;
+      first = subst (λ (all : List (List ℕ)). checked.IsFirstUnread (HoldsAt holds all) (RefusesAt refuses all) (length paths.names) fault) (sym same) first;
+      said = subst (λ (all : List (List ℕ)). IsSaidOf all fault failure) (sym same) (said within);
+    }))
     | inr not_within ↦ inl (beyond not_within)
   ]
 
@@ -79,6 +95,37 @@ module _ (holds : List ℕ → List ℕ → Type 0) (refuses : List ℕ → Erro
       pub usage_unread : (works : List ℕ) → holds paths.works works → IsOfFile refuses tables.usage failure → IsOfTablesOrRoom holds refuses paths failure
       usage_unread works linked fails =
           of_file holds refuses paths tables.usage failure (inr (territories, read, inr (payees, paid, inr (works, linked, refl)))) fails
+
+-- of the files of several submitters a check fails for one that cannot be read alone, or for lack of memory
+pub unread_or_room : (holds : List ℕ → List ℕ → Type 0) (refuses : List ℕ → ErrorKind → Type 0) (submitted : SubmittedPaths) (failure : Failure)
+    → IsSubmittedUnchecked holds refuses submitted failure → (failure ≡ failures.Room) ⊎ ((name : String Global) × (failure ≡ failures.File name))
+unread_or_room holds refuses submitted failure (inl room) = inl room
+unread_or_room holds refuses submitted (failures.File name) (inr (inl table)) = inr (name, refl)
+unread_or_room holds refuses submitted (failures.Words error) (inr (inl none)) = absurd none
+unread_or_room holds refuses submitted failures.NotText (inr (inl none)) = absurd none
+unread_or_room holds refuses submitted (failures.Pairs fault) (inr (inl none)) = absurd none
+unread_or_room holds refuses submitted (failures.Row row) (inr (inl none)) = absurd none
+unread_or_room holds refuses submitted (failures.Input fault) (inr (inl none)) = absurd none
+unread_or_room holds refuses submitted (failures.Works fault) (inr (inl none)) = absurd none
+unread_or_room holds refuses submitted (failures.Registrations fault path) (inr (inl none)) = absurd none
+unread_or_room holds refuses submitted failures.Room (inr (inl none)) = absurd none
+unread_or_room holds refuses submitted failures.Output (inr (inl none)) = absurd none
+unread_or_room holds refuses submitted (failures.Target path) (inr (inl none)) = absurd none
+unread_or_room holds refuses submitted (failures.Statement fault path) (inr (inl none)) = absurd none
+unread_or_room holds refuses submitted failures.Many (inr (inl none)) = absurd none
+unread_or_room holds refuses submitted (failures.Changed path) (inr (inl none)) = absurd none
+unread_or_room holds refuses submitted (failures.Replaces path) (inr (inl none)) = absurd none
+unread_or_room holds refuses submitted failure (inr (inr is)) = by is.fault is.first is.said
+  where
+    by : (fault : SubmittedFault) → checked.IsFirstUnread (HoldsAt holds submitted.files) (RefusesAt refuses submitted.files) (length submitted.names) fault → IsSaidOf submitted.files fault failure
+        → (failure ≡ failures.Room) ⊎ ((name : String Global) × (failure ≡ failures.File name))
+    by (Unreadable place) first (name, same, at) = inr (name, same)
+    by (Tis fault) none said = absurd none
+    by (Payee fault) none said = absurd none
+    by (Works fault) none said = absurd none
+    by (Cwr place fault) none said = absurd none
+    by (Usage fault) none said = absurd none
+    by Room none said = absurd none
 
 -- tables are the same one by one
 abbrev pub tables_of : (territories : List ℕ) (payees : Option (List ℕ)) (works usage : List ℕ) → SubmittedTables (List ℕ)

@@ -1,9 +1,8 @@
 -- What a parse of the words of a run over the files of several submitters gives.
 use Rattle.std.proofs.Common.{◌≡◌, ◌++◌, ◌∙◌, ℕ, List, [], ◌∷◌, Option, Some, true, refl, arith, codes, inl, inr, subst, ap}
-use Rattle.std.specs.Option.{IsSome, option_map}
 use Rattle.std.specs.Result.{IfErr, IsErrAnd}
 use Rattle.std.specs.Prelude.{Result, Ok, Err}
-use Rattle.clap.specs.Words.{AddsArg, App, HasMatchesOf, IsParsedFrom, Rule, Text, app_of, fault_of, found_of, is_simple, is_simple_and_free, kind_of, matched_of, matches_of, new_app, raw_values, rows_of, rule_of, with_rule}
+use Rattle.clap.specs.Words.{AddsArg, App, HasMatchesOf, IsParsedFrom, Rule, Text, app_of, fault_of, found_of, is_simple, is_simple_and_free, kind_of, matches_of, new_app, rows_of, rule_of, with_rule}
 use Rattle.clap.specs.declared.builder.arg.Arg.{Arg}
 use Rattle.clap.specs.declared.builder.command.Command.{Command}
 use Rattle.clap.specs.declared.builder.value_parser.ValueParser.TheVariants as vp
@@ -20,7 +19,7 @@ use Rattle.royalty_program.specs.declared.named_files.NamedFiles.{NamedFiles}
 use Rattle.royalty_program.specs.SubmittedFiles.{SubmittedPaths}
 use Rattle.submitted_inputs.specs.declared.inputs.SubmittedTables.{SubmittedTables}
 use Rattle.royalty_program.specs.PlanWords.{FindsNumber, FindsPlan}
-use Rattle.royalty_program.specs.SubmittedCommand.{FindsTables, HasSubmittedArgs, IsSubmittedCommand, IsSubmittedExplainCommand, files_rule, submitted_app, submitted_explain_app, with_submitted}
+use Rattle.royalty_program.specs.SubmittedCommand.{FindsTables, HasSubmittedArgs, IsSubmittedCheckCommand, IsSubmittedCommand, IsSubmittedExplainCommand, files_rule, submitted_app, submitted_check_app, submitted_explain_app, with_submitted}
 use Rattle.royalty_program.proofs.OptionLemmas.{HasOptions, IsNumberOf, IsUpTo, as_optional, finds_number, has_entry, has_more, has_value, number_is, number_read, optional_same, options_of, rows_are}
 use Rattle.royalty_program.proofs.SplitLemmas.{required_same}
 
@@ -119,6 +118,12 @@ submitted_explain_simple = refl
 pub submitted_explain_free : is_simple_and_free submitted_explain_app ≡ true
 submitted_explain_free = refl
 
+pub submitted_check_simple : is_simple submitted_check_app ≡ true
+submitted_check_simple = refl
+
+pub submitted_check_free : is_simple_and_free submitted_check_app ≡ true
+submitted_check_free = refl
+
 -- the names of the options
 abbrev pub names_before : (more : List Text) → List Text
 names_before more = codes "tis" ∷ codes "payees" ∷ codes "works" ∷ codes "cwr" ∷ codes "usage" ∷ more
@@ -128,6 +133,9 @@ submitted_names = names_before (codes "workers" ∷ codes "readers" ∷ codes "n
 
 abbrev pub submitted_explain_names : List Text
 submitted_explain_names = names_before (codes "row" ∷ [])
+
+abbrev pub submitted_check_names : List Text
+submitted_check_names = names_before []
 
 pub submitted_options : (c : Command) → IsSubmittedCommand c → HasOptions c submitted_names submitted_app
 submitted_options c s =
@@ -160,6 +168,17 @@ pub rows_of_submitted_explain : (c : Command) (m : ArgMatches) (words : List Tex
     → rows_of (found_of m) ≡ matches_of submitted_explain_app words
 rows_of_submitted_explain c m words s found =
     rows_are c submitted_explain_names submitted_explain_app m words (submitted_explain_options c s) submitted_explain_simple found
+
+-- so has that of a check
+pub submitted_check_options : (c : Command) → IsSubmittedCheckCommand c → HasOptions c submitted_check_names submitted_check_app
+submitted_check_options c i =
+    options_of c (i.tis ∷ i.payees ∷ i.works ∷ i.cwr ∷ i.usage ∷ []) submitted_check_names submitted_check_app i.has
+    (rw (i.needs_tis.id, i.may_have_payees.id, i.needs_works.id, i.has_cwr.id, i.needs_usage.id) refl) refl
+
+pub rows_of_submitted_check : (c : Command) (m : ArgMatches) (words : List Text) → IsSubmittedCheckCommand c → HasMatchesOf (app_of c) words m
+    → rows_of (found_of m) ≡ matches_of submitted_check_app words
+rows_of_submitted_check c m words s found =
+    rows_are c submitted_check_names submitted_check_app m words (submitted_check_options c s) submitted_check_simple found
 
 -- a parse finds the tables and the files
 pub finds_tables : (c : Command) (m : ArgMatches) (more : List Arg) (names : List Text) (app : App) → HasSubmittedArgs c more app

@@ -1,13 +1,12 @@
 -- What is read of a command line, and what answers it.
 use Rattle.std.specs.Prelude.{ℕ, ◌≡◌, ◌<◌, ◌≤◌, ◌⊎◌, Bool, true, List, None}
-use Rattle.std.specs.Prelude.{IfSome, Option, Some, String, codes, drop, length, map, string_bytes, ⊤}
+use Rattle.std.specs.Prelude.{IfSome, Option, Some, codes, drop, length, map, string_bytes, ⊤}
 use Rattle.std.specs.Option.{option_map}
 use Rattle.std.specs.Io.KnownBytes.{Appends, Keeps}
 use Rattle.line_split.specs.declared.TheConstants.{MOST_AMOUNT}
 use Rattle.royalty_program.specs.RunCommand.{run_app}
 use Rattle.royalty_program.specs.Asked.{AreRunWords, AreAccepted, AskForCheck, AskForExplanation, AskForMerge, AskForRun, AskForSubmittedRun, AskForTable, EitherRun, IsDivision, IsRun}
 use Rattle.royalty_program.specs.Asked.{amount_of, files_given, inputs_given, name_works, number_in, pairs_of, path_if_given, paths_given, paths_in_order, plan_given, row_given, run_grammar, run_output, submitted_given}
-use Rattle.std.specs.declared.alloc.Global.{Global}
 use Rattle.run_inputs.specs.Inputs.{map_inputs}
 use Rattle.run_inputs.specs.declared.inputs.Inputs.{Inputs}
 use Rattle.pair_split.specs.PairFault.{AreSound}
@@ -21,8 +20,9 @@ use Rattle.royalty_program.specs.OutputPath.{IsNoInput}
 use Rattle.royalty_program.specs.Files.{AreStatementsOver, IsExplanationOver, IsReportOver}
 use Rattle.royalty_program.specs.NamedFiles.{AreNamedBy}
 use Rattle.royalty_program.specs.StartingCommand.{starting_app, starting_name}
-use Rattle.royalty_program.specs.SubmittedCommand.{submitted_app, submitted_explain_app}
-use Rattle.royalty_program.specs.SubmittedFiles.{AreSubmittedStatementsOver, IsNoneOf, IsSubmittedExplanationOver, IsTableOver, SubmittedPaths, paths_of}
+use Rattle.royalty_program.specs.SubmittedCommand.{submitted_app, submitted_check_app, submitted_explain_app}
+use Rattle.royalty_program.specs.SubmittedFiles.{AreSubmittedStatementsOver, IsNoneOf, IsSubmittedExplanationOver}
+use Rattle.royalty_program.specs.SubmittedFiles.{IsSubmittedReportOver, IsTableOver, SubmittedPaths, paths_of}
 use Rattle.royalty_program.specs.declared.starting_command.StartingWords.{StartingWords}
 use Rattle.starting_files.specs.declared.making.StartingTable.{StartingTable}
 use Rattle.royalty_program.specs.declared.inputs.RunInputs.{RunInputs}
@@ -97,8 +97,9 @@ IsExplanationAsked words (Explanation asked) = AreExplainedFrom (drop 1 words) a
 IsExplanationAsked words _ = ⊥
 
 -- the paths are those that the options of a check are given
-abbrev pub AreCheckedFrom : List (List ℕ) → Inputs (String Global) → Type 0
-AreCheckedFrom words inputs = map_inputs string_bytes inputs ≡ inputs_given check_app words
+abbrev pub AreCheckedFrom : List (List ℕ) → RunInputs → Type 0
+AreCheckedFrom words inputs = EitherRun (name_works words) (AreOneFile (inputs_given check_app words) inputs)
+    (AreSubmitted (submitted_given submitted_check_app words) inputs)
 
 abbrev pub IsCheckAsked : List (List ℕ) → Asked → Type 0
 IsCheckAsked words (Check inputs) = AreCheckedFrom (drop 1 words) inputs
@@ -142,8 +143,9 @@ pub record IsAnswered (holds gives : List ℕ → List ℕ → Type 0) (words : 
   pub explained : AskForExplanation words → EitherRun (name_works (drop 1 words))
       (IsExplanationOver holds (inputs_given explain_app (drop 1 words)) (row_given (drop 1 words)) text)
       (IsSubmittedExplanationOver holds (submitted_given submitted_explain_app (drop 1 words)) (row_given (drop 1 words)) text)
-  pub checked : AskForCheck words
-      → IsReportOver holds (inputs_given check_app (drop 1 words)) sound text
+  pub checked : AskForCheck words → EitherRun (name_works (drop 1 words))
+      (IsReportOver holds (inputs_given check_app (drop 1 words)) sound text)
+      (IsSubmittedReportOver holds (submitted_given submitted_check_app (drop 1 words)) sound text)
   pub merged : AskForMerge words → IsMergeOver gives (paths_given merge_app (codes "statements") (drop 1 words)) text
   pub table : (table : StartingTable) → AskForTable table words → IsTableOver holds table (files_given (starting_app table) (drop 1 words)) text
   pub others : ¬ (word_at words 1 ≡ codes "check") → sound ≡ true

@@ -14,7 +14,7 @@ use Rattle.royalty_program.specs.MergeCommand.{AreWrongPaths, merge_app}
 use Rattle.royalty_program.specs.NamedFiles.{AreNamed, name_in, path_in}
 use Rattle.royalty_program.specs.RunCommand.{run_app}
 use Rattle.royalty_program.specs.StartingCommand.{starting_app, starting_name}
-use Rattle.royalty_program.specs.SubmittedCommand.{submitted_app, submitted_explain_app}
+use Rattle.royalty_program.specs.SubmittedCommand.{submitted_app, submitted_check_app, submitted_explain_app}
 use Rattle.starting_files.specs.declared.making.StartingTable.{StartingTable}
 use Rattle.royalty_program.specs.SubmittedFiles.{SubmittedPaths}
 use Rattle.split_run.specs.Plans.{Planned}
@@ -84,8 +84,9 @@ plan_given app words = record {
   nodes = number_given app (codes "nodes") words;
 }
 
--- A word is `--works`, or that with its value behind a `=`. Words of a run, or of an explanation, that have one after the first are of a run over the files of several submitters, and are read by another
--- grammar: it has `--cwr NAME=F` as often as there are submitters.
+-- A word is `--works`, or that with its value behind a `=`. Words of a run, of an explanation or of a check that have
+-- one after the first are of a run over the files of several submitters, and are read by another grammar: it has `--cwr
+-- NAME=F` as often as there are submitters.
 abbrev pub is_works_word : List ℕ → Bool
 is_works_word word = pointwise nat_eq word (codes "--works") || starts_with nat_eq word (codes "--works=")
 
@@ -122,6 +123,10 @@ run_grammar words = if name_works words then submitted_app else run_app
 abbrev pub explain_grammar : List (List ℕ) → App
 explain_grammar words = if name_works words then submitted_explain_app else explain_app
 
+-- and of a check
+abbrev pub check_grammar : List (List ℕ) → App
+check_grammar words = if name_works words then submitted_check_app else check_app
+
 -- the row that is explained
 abbrev pub row_given : List (List ℕ) → ℕ
 row_given words = number_given (explain_grammar words) (codes "row") words
@@ -155,6 +160,11 @@ abbrev pub AreExplainAccepted : List (List ℕ) → Type 0
 AreExplainAccepted words =
     EitherRun (name_works words) (AreAccepted explain_app words) (AreFilesAccepted submitted_explain_app words)
 
+-- and those of a check
+abbrev pub AreCheckAccepted : List (List ℕ) → Type 0
+AreCheckAccepted words =
+    EitherRun (name_works words) (AreAccepted check_app words) (AreFilesAccepted submitted_check_app words)
+
 -- They are a run that is accepted.
 pub record AreRun (words : List (List ℕ)) : Type 0 where
   pub command : word_at words 1 ≡ codes "run"
@@ -178,15 +188,20 @@ abbrev pub IsExplainError : List (List ℕ) → Error → Type 0
 IsExplainError words error =
     EitherRun (name_works words) (IsErrorOf explain_app words error) (IsSubmittedError submitted_explain_app words error)
 
+abbrev pub IsCheckError : List (List ℕ) → Error → Type 0
+IsCheckError words error =
+    EitherRun (name_works words) (IsErrorOf check_app words error) (IsSubmittedError submitted_check_app words error)
+
 -- The words of a command line ask for the explanation of a line, in a run over one file or over those of several submitters, and for no help.
 pub record AskForExplanation (words : List (List ℕ)) : Type 0 where
   pub command : word_at words 1 ≡ codes "explain"
   pub no_help : ¬ AskForHelp (explain_grammar (drop 1 words)) (drop 1 words)
 
--- The words of a command line ask for a check of the files, and for no help.
+-- The words of a command line ask for a check of the files, of a run over one file or over those of several submitters,
+-- and for no help.
 pub record AskForCheck (words : List (List ℕ)) : Type 0 where
   pub command : word_at words 1 ≡ codes "check"
-  pub no_help : ¬ AskForHelp check_app (drop 1 words)
+  pub no_help : ¬ AskForHelp (check_grammar (drop 1 words)) (drop 1 words)
 
 -- The words of a command line ask for a table to begin with, and for no help.
 pub record AskForTable (table : StartingTable) (words : List (List ℕ)) : Type 0 where

@@ -1,5 +1,5 @@
 -- The path of an output, beside those of the inputs of a run.
-use Rattle.std.specs.Prelude.{◌≢◌, IfSome, List, Option, ℕ}
+use Rattle.std.specs.Prelude.{◌≢◌, List, ℕ}
 use Rattle.run_inputs.specs.Inputs.{HoldsOfEach}
 use Rattle.run_inputs.specs.declared.inputs.Inputs.{Inputs}
 
@@ -10,7 +10,3 @@ IsOther path other = path ≢ other
 -- it is the path of no input
 abbrev pub IsNoInput : (paths : Inputs (List ℕ)) → (path : List ℕ) → Type 0
 IsNoInput paths path = HoldsOfEach (IsOther path) paths
-
--- nor is that of an output, where one is named
-abbrev pub IsApart : (paths : Inputs (List ℕ)) → (output : Option (List ℕ)) → Type 0
-IsApart paths output = IfSome output (IsNoInput paths)

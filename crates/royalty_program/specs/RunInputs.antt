@@ -1,12 +1,14 @@
 -- The inputs of a run: over one CWR file, or over those of several submitters.
-use Rattle.std.specs.Prelude.{ℕ, List, string_bytes}
+use Rattle.std.specs.Prelude.{ℕ, ◌≡◌, Bool, List, length, string_bytes, ⊤}
 use Rattle.std.specs.declared.io.ErrorKind.{ErrorKind}
 use Rattle.run_inputs.specs.Inputs.{map_inputs}
 use Rattle.run_inputs.specs.declared.inputs.Inputs.{Inputs}
-use Rattle.royalty_program.specs.Files.{AreStatementsOver, IsExplanationOver}
+use Rattle.royalty_program.specs.Files.{AreStatementsOver, IsExplanationOver, IsReportOver}
 use Rattle.royalty_program.specs.OutputPath.{IsNoInput}
-use Rattle.royalty_program.specs.SubmittedFiles.{AreSubmittedStatementsOver, IsNoneOf, IsSubmittedExplanationOver, SubmittedPaths, paths_of}
-use Rattle.royalty_program.specs.Status.{IsOfPaths, IsOfSubmitted, IsSubmittedUnexplained, IsUnexplained}
+use Rattle.royalty_program.specs.SubmittedFiles.{AreSubmittedStatementsOver, IsNoneOf, IsSubmittedExplanationOver}
+use Rattle.royalty_program.specs.SubmittedFiles.{IsSubmittedReportOver, SubmittedPaths, paths_of}
+use Rattle.royalty_program.specs.Status.{IsOfPaths, IsOfSubmitted, IsSubmittedUnchecked, IsSubmittedUnexplained}
+use Rattle.royalty_program.specs.Status.{IsUnchecked, IsUnexplained}
 use Rattle.royalty_program.specs.declared.failure.Failure.{Failure}
 use Rattle.royalty_program.specs.declared.inputs.RunInputs.{RunInputs}
 use Rattle.royalty_program.specs.declared.inputs.RunInputs.TheVariants.{OneFile, Submitted}
@@ -41,3 +43,21 @@ abbrev pub IsUnexplainedFrom : (holds : List ℕ → List ℕ → Type 0) → (r
     → Failure → Type 0
 IsUnexplainedFrom holds refuses inputs row failure =
     EitherInputs (λ paths. IsUnexplained holds refuses paths row failure) (λ paths. IsSubmittedUnexplained holds refuses paths row failure) inputs
+
+-- each submitter has the path of a file
+abbrev pub HaveEachAPath : RunInputs → Type 0
+HaveEachAPath (OneFile inputs) = ⊤
+HaveEachAPath (Submitted inputs) = length inputs.files.paths.items ≡ length inputs.files.names
+
+-- the text is the report on them, and tells whether they are sound
+abbrev pub IsReportFrom : (holds : List ℕ → List ℕ → Type 0) → RunInputs → (sound : Bool) → List ℕ → Type 0
+IsReportFrom holds inputs sound text =
+    EitherInputs (λ paths. IsReportOver holds paths sound text)
+    (λ paths. IsSubmittedReportOver holds paths sound text) inputs
+
+-- there is no report on them for this
+abbrev pub IsUncheckedFrom : (holds : List ℕ → List ℕ → Type 0) → (refuses : List ℕ → ErrorKind → Type 0) → RunInputs
+    → Failure → Type 0
+IsUncheckedFrom holds refuses inputs failure =
+    EitherInputs (λ paths. IsUnchecked holds refuses paths failure)
+    (λ paths. IsSubmittedUnchecked holds refuses paths failure) inputs

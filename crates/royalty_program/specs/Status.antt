@@ -6,10 +6,12 @@ use Rattle.clap.specs.declared.error.kind.ErrorKind.TheVariants as kinds
 use Rattle.std.specs.declared.io.ErrorKind as io
 use Rattle.std.specs.declared.io.ErrorKind.TheVariants as io_kind
 use Rattle.pair_split.specs.Pair.{word_at}
-use Rattle.royalty_program.specs.Asked.{AreAccepted, AreExplainAccepted, AreFilesAccepted, AreRunAccepted, EitherRun, IsDivision, NameWrongPaths}
+use Rattle.royalty_program.specs.Asked.{AreAccepted, AreCheckAccepted, AreExplainAccepted, AreFilesAccepted}
+use Rattle.royalty_program.specs.Asked.{AreRunAccepted, EitherRun, IsDivision, NameWrongPaths}
 use Rattle.royalty_program.specs.Asked.{files_given, inputs_given, name_works, pairs_of, path_if_given, paths_given, row_given, run_output, submitted_given}
 use Rattle.pair_split.specs.PairFault.{IsFaultOf}
 use Rattle.pair_split.specs.PairFault as pair
+use Rattle.check_inputs.specs.SubmittedChecked as checked
 use Rattle.tis_tree.specs.TisRows as tis
 use Rattle.cwr_share.specs.CwrFile as cwr
 use Rattle.cwr_share.specs.PayeeTable as payees
@@ -31,8 +33,9 @@ use Rattle.royalty_program.specs.RunCommand.{run_app}
 use Rattle.royalty_program.specs.SplitCommand.{split_app}
 use Rattle.royalty_program.specs.NamedFiles.{name_in, path_in}
 use Rattle.royalty_program.specs.StartingCommand.{starting_app, starting_name}
-use Rattle.royalty_program.specs.SubmittedCommand.{submitted_app, submitted_explain_app}
-use Rattle.royalty_program.specs.SubmittedFiles.{HoldsAt, IsSubmittedFaultOver, RefusesAt, SubmittedHaveNoRowOver, SubmittedPaths}
+use Rattle.royalty_program.specs.SubmittedCommand.{submitted_app, submitted_check_app, submitted_explain_app}
+use Rattle.royalty_program.specs.SubmittedFiles.{AreTablesRead, HoldsAt, IsSubmittedFaultOver, RefusesAt}
+use Rattle.royalty_program.specs.SubmittedFiles.{SubmittedHaveNoRowOver, SubmittedPaths}
 use Rattle.starting_files.specs.declared.making.StartingTable.{StartingTable}
 use Rattle.submitted_inputs.specs.Files.{IsFaultOfFiles}
 use Rattle.royalty_program.specs.MergeFiles.{AreTooMany, GivesFault, HasChanged, HoldsOf, IsFaultAt, IsFirstRefused}
@@ -315,12 +318,33 @@ IsOfNoInput (Works fault) = ⊥
 IsOfNoInput (Registrations fault path) = ⊥
 IsOfNoInput _ = ⊤
 
--- the words of a check fail for lack of memory, for the first file that cannot be read, or for themselves where clap does not accept them
+-- a check of the files of these paths fails for lack of memory, or for the first that cannot be read
+abbrev pub IsUnchecked : (holds : List ℕ → List ℕ → Type 0) (refuses : List ℕ → io.ErrorKind → Type 0)
+    (paths : Inputs (List ℕ)) → Failure → Type 0
+IsUnchecked holds refuses paths failure = IsOfPaths holds refuses paths failure × IsOfNoInput failure
+
+-- the first of the files of submitters that cannot be read, where the tables were
+pub record IsFirstFileUnread (holds : List ℕ → List ℕ → Type 0) (refuses : List ℕ → io.ErrorKind → Type 0)
+    (paths : SubmittedPaths) (failure : Failure) : Type 0 where
+  pub tables : SubmittedTables (List ℕ)
+  pub read : AreTablesRead holds paths.tables tables
+  pub fault : SubmittedFault
+  pub first : checked.IsFirstUnread (HoldsAt holds paths.files) (RefusesAt refuses paths.files) (length paths.names)
+      fault
+  pub said : IsSaidOf paths.files fault failure
+
+-- so does one of the files of several submitters, whose tables are read first
+abbrev pub IsSubmittedUnchecked : (holds : List ℕ → List ℕ → Type 0) (refuses : List ℕ → io.ErrorKind → Type 0)
+    (paths : SubmittedPaths) → Failure → Type 0
+IsSubmittedUnchecked holds refuses paths failure =
+    (failure ≡ Room) ⊎ IsOfTables holds refuses paths.tables failure ⊎ IsFirstFileUnread holds refuses paths failure
+
+-- the words of a check fail for that, or for themselves where they are not accepted
 abbrev pub IsOfCheck : (holds : List ℕ → List ℕ → Type 0) (refuses : List ℕ → io.ErrorKind → Type 0) → List (List ℕ) → Failure → Type 0
-IsOfCheck holds refuses words (Words error) = ¬ AreAccepted check_app words
+IsOfCheck holds refuses words (Words error) = ¬ AreCheckAccepted words
 IsOfCheck holds refuses words failure =
-    IsOfPaths holds refuses (inputs_given check_app words) failure
-    × IsOfNoInput failure
+    EitherRun (name_works words) (IsUnchecked holds refuses (inputs_given check_app words) failure)
+    (IsSubmittedUnchecked holds refuses (submitted_given submitted_check_app words) failure)
 
 -- a division fails for its pairs, which then have that fault, for its words where clap does not accept them, or for lack of memory
 abbrev pub IsOfDivision : List (List ℕ) → Failure → Type 0

@@ -1,4 +1,5 @@
--- What the commands of a run over the files of several submitters, and of an explanation of one, ask of their words.
+-- What the commands of a run over the files of several submitters, and of an explanation and a check of one, ask of
+-- their words.
 use Rattle.std.specs.Prelude.{◌≡◌, ◌∷◌, List, [], Some, codes, true, is_some, ℕ}
 use Rattle.clap.specs.Words.{App, Rule, first_value, found_of, matched_of, new_app, with_rule}
 use Rattle.clap.specs.declared.builder.action.ArgAction.TheVariants.{Append}
@@ -31,6 +32,10 @@ submitted_app = with_rule (with_plan (with_submitted (new_app (codes "run")))) (
 -- and of that of an explanation
 abbrev pub submitted_explain_app : App
 submitted_explain_app = with_rule (with_submitted (new_app (codes "explain"))) (number_rule (codes "row") MOST_LINES)
+
+-- and of that of a check
+abbrev pub submitted_check_app : App
+submitted_check_app = with_submitted (new_app (codes "check"))
 
 -- the command has these options, of which the table of payees need not be there, and more arguments behind them
 pub record HasSubmittedArgs (c : Command) (more : List Arg) (app : App) : Type 0 where
@@ -75,3 +80,7 @@ pub record IsSubmittedExplainCommand (c : Command) : Type 0 where
   pub needs_row : IsRequiredArg (codes "row") row
   pub few_rows : row.value_parser ≡ Some (vp.Unsigned 1 MOST_LINES)
   pub inputs : HasSubmittedArgs c (row ∷ []) submitted_explain_app
+
+-- that of such a check has the five
+abbrev pub IsSubmittedCheckCommand : Command → Type 0
+IsSubmittedCheckCommand c = HasSubmittedArgs c [] submitted_check_app

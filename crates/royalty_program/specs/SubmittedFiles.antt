@@ -1,8 +1,10 @@
--- What a run, and an explanation, over the files of several submitters answers over files. `holds path bytes` says that the file of a path has these bytes, and `refuses path kind` that it
--- is refused with an error of this kind.
-use Rattle.std.specs.Prelude.{ℕ, ◌≤◌, ◌<◌, ◌⊎◌, All, IfSome, List, length, map, string_bytes, ⊤}
+-- What a run over the files of several submitters answers over files, and an explanation and a check of one. `holds
+-- path bytes` says that the file of a path has these bytes, and `refuses path kind` that it is refused with an error of
+-- this kind.
+use Rattle.std.specs.Prelude.{ℕ, ◌≤◌, ◌<◌, ◌⊎◌, All, Bool, IfSome, List, length, map, string_bytes, ⊤}
 use Rattle.std.specs.declared.io.ErrorKind.{ErrorKind}
 use Rattle.std.specs.declared.io.ErrorKind.TheVariants.{OutOfMemory}
+use Rattle.check_inputs.specs.SubmittedChecked.{IsSubmittedReportOn}
 use Rattle.explain_line.specs.Submitted.{IsSubmittedExplanationOf, SubmittedHaveNoRow}
 use Rattle.pair_split.specs.Pair.{word_at}
 use Rattle.royalty_program.specs.Files.{HoldsIfGiven, IsUnread}
@@ -62,6 +64,13 @@ pub record IsSubmittedExplanationOver (holds : List ℕ → List ℕ → Type 0)
   pub tables : SubmittedTables (List ℕ)
   pub read : AreTablesRead holds paths.tables tables
   pub explanation : IsSubmittedExplanationOf paths.names (HoldsAt holds paths.files) tables row text
+
+-- the text is the report on the tables and files of these paths, and tells whether they are sound
+pub record IsSubmittedReportOver (holds : List ℕ → List ℕ → Type 0) (paths : SubmittedPaths) (sound : Bool)
+    (text : List ℕ) : Type 0 where
+  pub tables : SubmittedTables (List ℕ)
+  pub read : AreTablesRead holds paths.tables tables
+  pub report : IsSubmittedReportOn paths.names paths.files (HoldsAt holds paths.files) paths.tables tables text sound
 
 -- these are sound, and the usage list has no such row
 pub record SubmittedHaveNoRowOver (holds : List ℕ → List ℕ → Type 0) (paths : SubmittedPaths) (row : ℕ) : Type 0 where

@@ -3,8 +3,8 @@
 ghost use Rattle.std.specs.Prelude.{◌≡◌, ◌≢◌, IfOk, IfErr, codes, drop, map, string_bytes};
 ghost use Rattle.clap.specs.Words.{kind_of};
 ghost use Rattle.clap.specs.declared.error.kind.ErrorKind.TheVariants as kinds;
-ghost use Rattle.royalty_program.specs.Asked.{IsDivision, IsErrorOf, IsExplainError, IsMergeError, IsRun, IsRunError, IsSubmittedError};
-ghost use Rattle.royalty_program.specs.CheckCommand.{check_app};
+ghost use Rattle.royalty_program.specs.Asked.{IsCheckError, IsDivision, IsErrorOf, IsExplainError, IsMergeError, IsRun};
+ghost use Rattle.royalty_program.specs.Asked.{IsRunError, IsSubmittedError};
 ghost use Rattle.royalty_program.specs.SplitCommand.{split_app};
 ghost use Rattle.royalty_program.specs.StartingCommand.{starting_app, starting_name};
 ghost use Rattle.starting_files.specs.declared.making.StartingTable.{StartingTable};
@@ -13,6 +13,7 @@ ghost use Rattle.pair_split.specs.Pair.{word_at};
 
 use crate::check_command::{check_command, read_check};
 use crate::explain_command::{ExplainWords, explain_command, read_explain};
+use crate::inputs::RunInputs;
 use crate::merge_command::{MergeWords, merge_command, read_merge};
 use crate::run_command::{RunWords, read_run, run_command};
 use crate::split_command::{SplitWords, read_split, split_command};
@@ -20,7 +21,6 @@ use crate::starting_command::{StartingWords, read_starting, starting_command};
 use clap::error::ErrorKind;
 use clap::{Command, Error};
 use pair_split::word;
-use run_inputs::Inputs;
 use starting_files::StartingTable;
 use std::alloc::{AllocError, Global};
 
@@ -56,7 +56,7 @@ pub enum Asked {
     /// The explanation of a usage line.
     Explanation(ExplainWords),
     /// A report on the files of a run.
-    Check(Inputs<String>),
+    Check(RunInputs),
     /// The statements of several runs in one text.
     Merge(MergeWords),
     /// A table to begin with.
@@ -72,7 +72,7 @@ pub fn read_words(alloc: Global, words: &[String]) -> Result<Asked, Error>
     ensures explanation { word_at (map string_bytes words.now) 1 ≡ codes "explain" → IfOk result (IsExplanationAsked (map string_bytes words.now)) }
     ensures unexplained { word_at (map string_bytes words.now) 1 ≡ codes "explain" → IfErr result (IsExplainError (drop 1 (map string_bytes words.now))) }
     ensures checked { word_at (map string_bytes words.now) 1 ≡ codes "check" → IfOk result (IsCheckAsked (map string_bytes words.now)) }
-    ensures unchecked { word_at (map string_bytes words.now) 1 ≡ codes "check" → IfErr result (IsErrorOf check_app (drop 1 (map string_bytes words.now))) }
+    ensures unchecked { word_at (map string_bytes words.now) 1 ≡ codes "check" → IfErr result (IsCheckError (drop 1 (map string_bytes words.now))) }
     ensures merged { word_at (map string_bytes words.now) 1 ≡ codes "merge" → IfOk result (IsMergeAsked (map string_bytes words.now)) }
     ensures unmerged { word_at (map string_bytes words.now) 1 ≡ codes "merge" → IfErr result (IsMergeError (drop 1 (map string_bytes words.now))) }
     ensures table { (table : StartingTable) → word_at (map string_bytes words.now) 1 ≡ starting_name table → IfOk result (IsTableAsked table (map string_bytes words.now)) }

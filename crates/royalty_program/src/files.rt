@@ -9,8 +9,10 @@ ghost use Rattle.run_inputs.specs.Inputs.{map_inputs};
 ghost use Rattle.royalty_program.specs.Files.{AreRead, AreStatementsOver, HaveNoFaultOver};
 ghost use Rattle.royalty_program.specs.Files.{HoldsIfGiven, IsExplanationOver, IsReportOver};
 ghost use Rattle.royalty_program.specs.OutputPath.{IsNoInput};
-ghost use Rattle.royalty_program.specs.RunInputs.{AreStatementsFrom, IsExplanationFrom, IsNoInputOf, IsOfInputs, IsUnexplainedFrom};
-ghost use Rattle.royalty_program.specs.Status.{IsOfFile, IsOfNoInput, IsOfPaths, IsOfRunOutput, IsRefusal, IsUnexplained};
+ghost use Rattle.royalty_program.specs.RunInputs.{AreStatementsFrom, HaveEachAPath, IsExplanationFrom, IsNoInputOf};
+ghost use Rattle.royalty_program.specs.RunInputs.{IsOfInputs, IsReportFrom, IsUncheckedFrom, IsUnexplainedFrom};
+ghost use Rattle.royalty_program.specs.Status.{IsOfFile, IsOfNoInput, IsOfPaths, IsOfRunOutput, IsRefusal, IsUnchecked};
+ghost use Rattle.royalty_program.specs.Status.{IsUnexplained};
 ghost use Rattle.royalty_program.specs.Targets.{IsLeftOrHas, IsPut};
 
 use crate::explain_command::ExplainWords;
@@ -18,7 +20,9 @@ use crate::failure::Failure;
 use crate::inputs::RunInputs;
 use crate::run_command::RunWords;
 use crate::sources::{Source, unread};
-use crate::submitted_files::{explain_in_submitted, is_submitted, settle_submitted};
+use crate::submitted_files::{
+    check_in_submitted, explain_in_submitted, is_submitted, settle_submitted,
+};
 use crate::targets::{Target, finish, unkept};
 use check_inputs::{Checked, File, check};
 use explain_line::explain;
@@ -201,9 +205,26 @@ fn explain_one_file<S: Source>(
     }
 }
 
-/// The report on the files of a run. All are read, in the order of `Inputs`, before any is
-/// parsed.
+/// The report on the files of a run.
 pub fn check_files<S: Source>(
+    alloc: Global,
+    files: &S,
+    inputs: RunInputs,
+) -> Result<Checked, Failure>
+    requires { HaveEachAPath inputs }
+    ensures report { IfOk result (λ checked.
+        IsReportFrom (S.holds files.now) inputs checked.is_sound checked.text.items) }
+    ensures failure { IfErr result IsRefusal }
+    ensures files { IfErr result (IsUncheckedFrom (S.holds files.now) (S.refuses files.now) inputs) }
+{
+    match inputs {
+        RunInputs::OneFile(inputs) => check_one_file(alloc, files, inputs),
+        RunInputs::Submitted(inputs) => check_in_submitted(alloc, files, inputs),
+    }
+}
+
+/// The same of a run over one CWR file. All inputs are read, in the order of `Inputs`, before any is parsed.
+fn check_one_file<S: Source>(
     alloc: Global,
     files: &S,
     inputs: Inputs<String>,
@@ -212,8 +233,7 @@ pub fn check_files<S: Source>(
         IsReportOver (S.holds files.now) (map_inputs string_bytes inputs) checked.is_sound checked.text.items) }
     ensures failure { IfErr result IsRefusal }
     ensures files { IfErr result
-        (IsOfPaths (S.holds files.now) (S.refuses files.now) (map_inputs string_bytes inputs)) }
-    ensures no_input { IfErr result IsOfNoInput }
+        (IsUnchecked (S.holds files.now) (S.refuses files.now) (map_inputs string_bytes inputs)) }
 {
     let inputs = read_all(files, alloc, inputs)?;
     match check(alloc, &inputs) {

@@ -1,4 +1,5 @@
-//! The grammar of the commands `run` and `explain` over the files of several submitters, and what their words ask for.
+//! The grammar of the commands `run`, `explain` and `check` over the files of several submitters, and what their words
+//! ask for.
 
 ghost use Rattle.std.specs.List.{list_any};
 ghost use Rattle.std.specs.Option.{option_map};
@@ -9,11 +10,14 @@ ghost use Rattle.royalty_program.specs.Asked.{IsSubmittedError, files_given, is_
 ghost use Rattle.royalty_program.specs.Asked.{path_if_given, plan_given, submitted_given};
 ghost use Rattle.royalty_program.specs.Answered.{AreSubmitted};
 ghost use Rattle.royalty_program.specs.NamedFiles.{AreNamed};
-ghost use Rattle.royalty_program.specs.SubmittedCommand.{FindsTables, HasSubmittedArgs, IsSubmittedCommand, IsSubmittedExplainCommand};
-ghost use Rattle.royalty_program.specs.SubmittedCommand.{submitted_app, submitted_explain_app, with_submitted};
+ghost use Rattle.royalty_program.specs.SubmittedCommand.{FindsTables, HasSubmittedArgs, IsSubmittedCheckCommand};
+ghost use Rattle.royalty_program.specs.SubmittedCommand.{IsSubmittedCommand, IsSubmittedExplainCommand};
+ghost use Rattle.royalty_program.specs.SubmittedCommand.{submitted_app, submitted_check_app, submitted_explain_app};
+ghost use Rattle.royalty_program.specs.SubmittedCommand.{with_submitted};
 ghost use Rattle.royalty_program.specs.SubmittedFiles.{paths_of};
 ghost use Rattle.submitted_inputs.specs.Submitted.{map_tables};
 
+use crate::check_command::{CHECK_ABOUT, CHECK_HELP};
 use crate::explain_command::{EXPLAIN_ABOUT, EXPLAIN_HELP, ExplainWords, row_arg};
 use crate::inputs::{RunInputs, SubmittedInputs};
 use crate::named_files::named_files;
@@ -91,6 +95,20 @@ pub(crate) fn read_submitted_explain(alloc: Global, words: &[String]) -> Result<
     }
 }
 
+/// Reads the words of a check of a run over the files of several submitters. Values of `--cwr` that do not name the
+/// files of 1 to 256 submitters are refused.
+pub(crate) fn read_submitted_check(alloc: Global, words: &[String]) -> Result<RunInputs, Error>
+    ensures inputs { IfOk result (AreSubmitted (submitted_given submitted_check_app (map string_bytes words.now))) }
+    ensures error { IfErr result (IsSubmittedError submitted_check_app (map string_bytes words.now)) }
+{
+    let matches = submitted_check_command(alloc)?.try_get_matches_from(words)?;
+    let inputs = read_submitted_inputs(alloc, &matches)?;
+    match inputs {
+        Ok(inputs) => Ok(RunInputs::Submitted(inputs)),
+        Err(message) => Err(wrong_files(submitted_check_command(alloc)?, message.as_str())?),
+    }
+}
+
 /// The error of words that a command accepts, but whose values of `--cwr` do not name the files of submitters.
 pub(crate) fn wrong_files(mut command: Command<'_>, message: &str) -> Result<Error, AllocError>
     ensures { IfOk result (λ error. kind_of error ≡ kinds.ValueValidation) }
@@ -162,6 +180,13 @@ fn submitted_explain_command<'a>(alloc: Global) -> Result<Command<'a>, AllocErro
         EXPLAIN_HELP,
     )?
     .arg(row_arg(alloc))
+}
+
+/// The command of a check of one.
+fn submitted_check_command<'a>(alloc: Global) -> Result<Command<'a>, AllocError>
+    ensures { IfOk result IsSubmittedCheckCommand }
+{
+    submitted_input_command(alloc, "check", "royalty_run check", CHECK_ABOUT, CHECK_HELP)
 }
 
 /// A command with the options that name the tables, and the files of several submitters.

@@ -1,10 +1,14 @@
-//! A run over the files of several submitters.
+//! A run over the files of several submitters, and an explanation and a check of one.
 
 ghost use Rattle.std.specs.Io.KnownBytes.{Appends};
 ghost use Rattle.std.specs.Prelude.{◌≡◌, ◌⊎◌, ℕ, All, List, false, IfErr, IfOk, OnOk, length, map, string_bytes};
+ghost use Rattle.check_inputs.specs.Checked.{bytes_of, path_of};
 ghost use Rattle.royalty_program.specs.OutputPath.{IsOther};
-ghost use Rattle.royalty_program.specs.Status.{IsOfFiles, IsOfSubmitted, IsOfTables, IsRefusal, IsSaidOf, IsSubmittedUnexplained};
-ghost use Rattle.royalty_program.specs.SubmittedFiles.{AreSubmittedStatementsOver, AreTablesRead, HoldsAt, IsNoneOf, IsSubmittedExplanationOver, IsWithin, paths_of};
+ghost use Rattle.royalty_program.specs.Status.{IsOfFiles, IsOfSubmitted, IsOfTables, IsRefusal, IsSaidOf};
+ghost use Rattle.royalty_program.specs.Status.{IsSubmittedUnchecked, IsSubmittedUnexplained};
+ghost use Rattle.royalty_program.specs.SubmittedFiles.{AreSubmittedStatementsOver, AreTablesRead, HoldsAt, IsNoneOf};
+ghost use Rattle.royalty_program.specs.SubmittedFiles.{IsSubmittedExplanationOver, IsSubmittedReportOver, IsWithin};
+ghost use Rattle.royalty_program.specs.SubmittedFiles.{paths_of};
 ghost use Rattle.starting_files.specs.Tables.{IsTableOf};
 ghost use Rattle.submitted_inputs.specs.Submitted.{map_tables};
 ghost use Rattle.royalty_program.specs.declared.failure.Failure.TheVariants.{Room};
@@ -15,6 +19,7 @@ use crate::inputs::SubmittedInputs;
 use crate::sources::Source;
 use crate::starting_command::StartingWords;
 use crate::targets::Target;
+use check_inputs::{Checked, File, check_submitted};
 use explain_line::explain_submitted;
 use pair_split::word;
 use run_inputs::Fault;
@@ -143,6 +148,32 @@ pub(crate) fn starting_table<S: Source + Sync>(
     }
 }
 
+/// The report on the files of such a run. The tables and the usage list are read whole before any is parsed; the files
+/// are read one after another.
+pub(crate) fn check_in_submitted<S: Source>(
+    alloc: Global,
+    files: &S,
+    inputs: SubmittedInputs,
+) -> Result<Checked, Failure>
+    requires { length inputs.files.paths.items ≡ length inputs.files.names }
+    ensures report { IfOk result (λ checked.
+        IsSubmittedReportOver (S.holds files.now) (paths_of inputs) checked.is_sound checked.text.items) }
+    ensures failure { IfErr result IsRefusal }
+    ensures files { IfErr result (IsSubmittedUnchecked (S.holds files.now) (S.refuses files.now) (paths_of inputs)) }
+{
+    let SubmittedInputs {
+        tables,
+        files: named,
+    } = inputs;
+    let tables = read_table_files(files, alloc, tables)?;
+    let paths = named.paths.as_slice();
+    let cwr = CwrFiles { files, paths };
+    match check_submitted(alloc, &named.names, &tables, paths, &cwr) {
+        Ok(checked) => Ok(checked),
+        Err(fault) => Err(what_failed(fault, named.paths)),
+    }
+}
+
 /// What the fault of an input comes to, where the files of the submitters have these paths.
 fn what_failed(fault: SubmittedFault, mut paths: Vec<String>) -> Failure
     ensures said { IsWithin (length (map string_bytes paths.items)) fault → IsSaidOf (map string_bytes paths.items) fault result }
@@ -168,7 +199,7 @@ fn what_failed(fault: SubmittedFault, mut paths: Vec<String>) -> Failure
     }
 }
 
-/// The tables of these paths, read in this order.
+/// The bytes of the tables of these paths, read in this order.
 fn read_tables<S: Source>(
     files: &S,
     alloc: Global,
@@ -180,13 +211,41 @@ fn read_tables<S: Source>(
     ensures files { IfErr result (λ failure. (failure ≡ Room)
         ⊎ IsOfTables (S.holds files.now) (S.refuses files.now) (map_tables string_bytes paths) failure) }
 {
-    let territories = file_of(files, alloc, paths.territories)?.bytes;
-    let payees = match file_if_given(files, alloc, paths.payees)? {
+    let SubmittedTables {
+        territories,
+        payees,
+        works,
+        usage,
+    } = read_table_files(files, alloc, paths)?;
+    let payees = match payees {
         Some(file) => Some(file.bytes),
         None => None,
     };
-    let works = file_of(files, alloc, paths.works)?.bytes;
-    let usage = file_of(files, alloc, paths.usage)?.bytes;
+    Ok(SubmittedTables {
+        territories: territories.bytes,
+        payees,
+        works: works.bytes,
+        usage: usage.bytes,
+    })
+}
+
+/// The tables of these paths, read in this order.
+fn read_table_files<S: Source>(
+    files: &S,
+    alloc: Global,
+    paths: SubmittedTables<String>,
+) -> Result<SubmittedTables<File>, Failure>
+    ensures read { IfOk result (λ read.
+        AreTablesRead (S.holds files.now) (map_tables string_bytes paths) (map_tables bytes_of read)) }
+    ensures paths { IfOk result (λ read. map_tables path_of read ≡ map_tables string_bytes paths) }
+    ensures failure { IfErr result IsRefusal }
+    ensures files { IfErr result (λ failure. (failure ≡ Room)
+        ⊎ IsOfTables (S.holds files.now) (S.refuses files.now) (map_tables string_bytes paths) failure) }
+{
+    let territories = file_of(files, alloc, paths.territories)?;
+    let payees = file_if_given(files, alloc, paths.payees)?;
+    let works = file_of(files, alloc, paths.works)?;
+    let usage = file_of(files, alloc, paths.usage)?;
     Ok(SubmittedTables {
         territories,
         payees,

@@ -1,27 +1,19 @@
 use Rattle.std.proofs.Common.{◌≡◌, ◌≢◌, ◌⊎◌, ◌∙◌, ℕ, List, Bool, refl, drop, inl, inr, map, codes, false, sym, true, rules}
 use Rattle.std.proofs.lemmas.Result.{err_from_is_err_and, on_ok_weaker}
 use Rattle.std.specs.Option.{option_map}
-use Rattle.std.specs.Prelude.{String, string_bytes}
-use Rattle.std.specs.declared.alloc.Global.{Global}
+use Rattle.std.specs.Prelude.{string_bytes}
 use Rattle.clap.specs.Words.{kind_of}
 use Rattle.clap.specs.declared.error.kind.ErrorKind.TheVariants as kinds
 use Rattle.pair_split.specs.Pair.{word_at}
 use Rattle.pair_split.specs.PairFault.{IsFaultOf}
 use Rattle.pair_split.specs.declared.pair_fault.PairFault.{PairFault}
 use Rattle.pair_split.specs.declared.pair_fault.PairFault.TheVariants.{Pair, Name, Share, Many, Memory}
-use Rattle.royalty_program.specs.CheckCommand.{check_app}
 use Rattle.royalty_program.specs.SplitCommand.{split_app}
 use Rattle.royalty_program.specs.Answered.{AreCheckedFrom, AreExplainedFrom, AreMergeFrom, AreReadFrom, AskForOutput, IsAnswerTo, IsAnswered}
-use Rattle.royalty_program.specs.Asked.{AskForHelp, IsDivision, explain_grammar, pairs_of}
-use Rattle.royalty_program.specs.Files.{IsReportOver}
+use Rattle.royalty_program.specs.Asked.{AskForHelp, IsDivision, check_grammar, explain_grammar, pairs_of}
 use Rattle.royalty_program.specs.MergeCommand.{merge_app}
 use Rattle.royalty_program.specs.MergeFiles.{IsMergeOver}
-use Rattle.royalty_program.specs.Status.{IsOfCheck, IsOfDivision, IsOfNoInput, IsOfPaths, failure_of_fault}
-use Rattle.royalty_program.specs.declared.failure.Failure.{Failure}
-use Rattle.royalty_program.specs.declared.failure.Failure.TheVariants as failures
-use Rattle.std.specs.declared.io.ErrorKind.{ErrorKind}
-use Rattle.run_inputs.specs.Inputs.{map_inputs}
-use Rattle.run_inputs.specs.declared.inputs.Inputs.{Inputs}
+use Rattle.royalty_program.specs.Status.{IsOfDivision, failure_of_fault}
 use Rattle.royalty_program.specs.declared.explain_command.ExplainWords.{ExplainWords}
 use Rattle.royalty_program.specs.declared.merge_command.MergeWords.{MergeWords}
 use Rattle.royalty_program.specs.declared.run_command.RunWords.{RunWords}
@@ -29,15 +21,16 @@ use Rattle.royalty_program.proofs.CommandNames.{differ, no_table}
 use Rattle.royalty_program.proofs.RunLemmas.{is_of_one_file}
 use Rattle.royalty_program.specs.Answered.{AreStarting}
 use Rattle.royalty_program.specs.Asked.{AskForRun, AskForSubmittedRun, AskForTable}
-use Rattle.royalty_program.specs.RunInputs.{AreStatementsFrom, IsExplanationFrom}
+use Rattle.royalty_program.specs.RunInputs.{AreStatementsFrom, IsExplanationFrom, IsReportFrom}
 use Rattle.royalty_program.specs.StartingCommand.{starting_app, starting_name}
+use Rattle.royalty_program.specs.declared.inputs.RunInputs.{RunInputs}
 use Rattle.royalty_program.specs.SubmittedFiles.{HoldsAt}
 use Rattle.royalty_program.specs.declared.starting_command.StartingWords.{StartingWords}
 use Rattle.starting_files.specs.Tables.{IsTableOf}
 use Rattle.starting_files.specs.declared.making.StartingTable.{StartingTable}
-use Rattle.royalty_program.proofs.OutputLemmas.{delivered_merge, delivered_out, delivered_run, left_merge, left_run, no_explain_help_given, no_files_help_given, no_merge_help_given, no_output, no_run_help_given, not_accepted_explain, not_accepted_files, not_accepted_run, unmerged_words, unused_merge, unused_run}
-use Rattle.royalty_program.proofs.OverLemmas.{explained_given, fails_given, merged_given, no_table_given, over_given, over_in_order, over_submitted, reported_given, table_given, unexplained_given}
-use Rattle.royalty_program.proofs.OptionLemmas.{accepted_is_memory, no_help_given}
+use Rattle.royalty_program.proofs.OutputLemmas.{delivered_merge, delivered_out, delivered_run, left_merge, left_run, no_check_help_given, no_explain_help_given, no_files_help_given, no_merge_help_given, no_output, no_run_help_given, not_accepted_check, not_accepted_explain, not_accepted_files, not_accepted_run, unmerged_words, unused_merge, unused_run}
+use Rattle.royalty_program.proofs.OverLemmas.{each_has_a_path, explained_given, fails_given, merged_given, no_table_given, over_given, over_in_order, over_submitted, reported_given, table_given, unchecked_given, unexplained_given}
+use Rattle.royalty_program.proofs.OptionLemmas.{accepted_is_memory}
 use Rattle.royalty_program.proofs.RunWalked.{no_help}
 use Rattle.royalty_program.proofs.answering.answer.Goals as goal
 
@@ -116,9 +109,9 @@ answers_explanation holds gives words asked text command read over = record {
 }
 
 -- and those that ask for a check by its report
-answers_check : (holds gives : List ℕ → List ℕ → Type 0) (words : List (List ℕ)) (inputs : Inputs (String Global)) (sound : Bool) (text : List ℕ)
+answers_check : (holds gives : List ℕ → List ℕ → Type 0) (words : List (List ℕ)) (inputs : RunInputs) (sound : Bool) (text : List ℕ)
     → word_at words 1 ≡ codes "check" → AreCheckedFrom (drop 1 words) inputs
-    → IsReportOver holds (map_inputs string_bytes inputs) sound text → IsAnswered holds gives words sound text
+    → IsReportFrom holds inputs sound text → IsAnswered holds gives words sound text
 answers_check holds gives words inputs sound text command read over = record {
   division = λ division. absurd (differ (sym command ∙ division.command) refl);
   run = λ run. absurd (differ (sym command ∙ run.command) refl);
@@ -198,8 +191,8 @@ returns-in-Ok-format-clause-answered g c =
     (no_files_help_given (starting_app table) (drop 1 words) c.in-Err.error (c.in-Err.ensures.no_table table asks.command) asks.no_help) in cc in
     let no_explain_help : word_at words 1 ≡ codes "explain" → ¬ AskForHelp (explain_grammar (drop 1 words)) (drop 1 words) → ⊥ = λ command none.
     let bad : false ≡ true = c.if-use_stderr.ensures.1 (no_explain_help_given (drop 1 words) c.in-Err.error (c.in-Err.ensures.unexplained command) none) in cc in
-    let no_check_help : word_at words 1 ≡ codes "check" → ¬ AskForHelp check_app (drop 1 words) → ⊥ = λ command none.
-    let bad : false ≡ true = c.if-use_stderr.ensures.1 (no_help_given check_app (drop 1 words) c.in-Err.error (c.in-Err.ensures.unchecked command) none) in cc in
+    let no_check_help : word_at words 1 ≡ codes "check" → ¬ AskForHelp (check_grammar (drop 1 words)) (drop 1 words) → ⊥ = λ command none.
+    let bad : false ≡ true = c.if-use_stderr.ensures.1 (no_check_help_given (drop 1 words) c.in-Err.error (c.in-Err.ensures.unchecked command) none) in cc in
     let no_merge_help : word_at words 1 ≡ codes "merge" → ¬ AskForHelp merge_app (drop 1 words) → ⊥ = λ command none.
     let bad : false ≡ true = c.if-use_stderr.ensures.1 (no_merge_help_given (drop 1 words) c.in-Err.error (c.in-Err.ensures.unmerged command) none) in cc in
     let no_file : (path : List ℕ) → ¬ AskForOutput words path = λ path asks. elim asks [
@@ -248,10 +241,10 @@ returns-in-Err-2-clause-pairs g c division accepted =
     not_memory (accepted_is_memory split_app (drop 1 words) c.in-Err-2.error (c.in-Err-2.ensures.undivided division.command) accepted)
 
 pub returns-in-Err-2-clause-checked : goal.returns-in-Err-2-clause-checked
-returns-in-Err-2-clause-checked g c command accepted =
+returns-in-Err-2-clause-checked g c command =
     let words = map string_bytes c.args.words.now in
     let not_memory : kind_of c.in-Err-2.error ≢ kinds.OutOfMemory = search rules in
-    not_memory (accepted_is_memory check_app (drop 1 words) c.in-Err-2.error (c.in-Err-2.ensures.unchecked command) accepted)
+    not_accepted_check (drop 1 words) c.in-Err-2.error not_memory (c.in-Err-2.ensures.unchecked command)
 
 pub returns-in-Err-2-clause-merge : goal.returns-in-Err-2-clause-merge
 returns-in-Err-2-clause-merge g c command =
@@ -291,6 +284,13 @@ returns-in-Ok-Explanation-clause-answered g c =
     let answered : IsAnswered holds gives words true text = answers_explanation holds gives words asked text command read c.in_ok-text-in-Ok-Explanation.ensures.explanation in
     on_ok_weaker c.write_all-in-Ok-Explanation.result (λ wrote. (text, delivered_out (g.T.Target.keeps c.args.target.now) words _ _ text no_file wrote, answered)) (rw c.as_slice-in-Ok-Explanation.ensures.value at c.write_all-in-Ok-Explanation.ensures.bytes)
 
+pub check_files-requires : goal.check_files-requires
+check_files-requires g c =
+    let words = map string_bytes c.args.words.now in
+    let command : word_at words 1 ≡ codes "check" = rw (c.in-Ok-Check.is, c.in-Ok-Check.field-0-is) at c.read_words.ensures.named in
+    let read : AreCheckedFrom (drop 1 words) c.in-Ok-Check.inputs = rw (c.in-Ok-Check.is, c.in-Ok-Check.field-0-is) at (c.read_words.ensures.checked command) in
+    each_has_a_path (drop 1 words) c.in-Ok-Check.inputs read
+
 pub returns-in-Ok-Check-clause-answered : goal.returns-in-Ok-Check-clause-answered
 returns-in-Ok-Check-clause-answered g c =
     let words = map string_bytes c.args.words.now in
@@ -304,25 +304,6 @@ returns-in-Ok-Check-clause-answered g c =
     let answered : IsAnswered holds gives words checked.is_sound checked.text.items = answers_check holds gives words inputs checked.is_sound checked.text.items command read c.in_ok-checked-in-Ok-Check.ensures.report in
     on_ok_weaker c.write_all-in-Ok-Check.result (λ wrote. (checked.text.items, delivered_out (g.T.Target.keeps c.args.target.now) words _ _ checked.text.items no_file wrote, answered)) (rw c.as_slice-in-Ok-Check.ensures.value at c.write_all-in-Ok-Check.ensures.bytes)
 
--- a check that fails for its files fails as its words have it
-of_check : (holds : List ℕ → List ℕ → Type 0) (refuses : List ℕ → ErrorKind → Type 0) (words : List (List ℕ)) (inputs : Inputs (String Global)) (failure : Failure)
-    → AreCheckedFrom words inputs → IsOfPaths holds refuses (map_inputs string_bytes inputs) failure → IsOfNoInput failure → IsOfCheck holds refuses words failure
-of_check holds refuses words inputs (failures.Input fault) read of none = (rw read at of, none)
-of_check holds refuses words inputs failures.Room read of none = (tt, none)
-of_check holds refuses words inputs (failures.File path) read of none = (rw read at of, none)
-of_check holds refuses words inputs (failures.Words error) read of none = absurd of
-of_check holds refuses words inputs failures.NotText read of none = absurd of
-of_check holds refuses words inputs failures.Output read of none = absurd of
-of_check holds refuses words inputs (failures.Pairs fault) read of none = absurd of
-of_check holds refuses words inputs (failures.Row row) read of none = absurd of
-of_check holds refuses words inputs (failures.Target path) read of none = absurd of
-of_check holds refuses words inputs (failures.Statement fault path) read of none = absurd of
-of_check holds refuses words inputs failures.Many read of none = absurd of
-of_check holds refuses words inputs (failures.Changed path) read of none = absurd of
-of_check holds refuses words inputs (failures.Replaces path) read of none = absurd of
-of_check holds refuses words inputs (failures.Works fault) read of none = absurd of
-of_check holds refuses words inputs (failures.Registrations fault path) read of none = absurd of
-
 pub returns-in_err-checked-in-Ok-Check-clause-checked : goal.returns-in_err-checked-in-Ok-Check-clause-checked
 returns-in_err-checked-in-Ok-Check-clause-checked g c command =
     let words = map string_bytes c.args.words.now in
@@ -331,7 +312,7 @@ returns-in_err-checked-in-Ok-Check-clause-checked g c command =
     let read : AreCheckedFrom (drop 1 words) inputs = rw (c.in-Ok-Check.is, c.in-Ok-Check.field-0-is) at (c.read_words.ensures.checked command) in
     let exit = err_from_is_err_and c.from_residual-in_err-checked-in-Ok-Check.result c.from_residual-in_err-checked-in-Ok-Check.ensures.1 in
     rw (exit.1, exit.2)
-    (of_check (g.S.Source.holds c.args.files.now) (g.S.Source.refuses c.args.files.now) (drop 1 words) inputs failed.field-0.0 read failed.ensures.files failed.ensures.no_input)
+    (unchecked_given (g.S.Source.holds c.args.files.now) (g.S.Source.refuses c.args.files.now) (drop 1 words) inputs read failed.field-0.0 failed.ensures.files)
 
 pub returns-in_err-settle_out-in-Ok-Run-clause-left : goal.returns-in_err-settle_out-in-Ok-Run-clause-left
 returns-in_err-settle_out-in-Ok-Run-clause-left g c path named =

@@ -1,4 +1,4 @@
-use Rattle.std.proofs.Common.{◌∙◌, codes, inl, inr, map}
+use Rattle.std.proofs.Common.{inl, inr, map}
 use Rattle.std.specs.Prelude.{string_bytes}
 use Rattle.clap.proofs.TakesLemmas.{passed_up}
 use Rattle.royalty_program.specs.Asked.{IsSubmittedError}

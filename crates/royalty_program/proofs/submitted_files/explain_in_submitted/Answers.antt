@@ -1,7 +1,5 @@
 use Rattle.std.proofs.Common.{map, refl}
 use Rattle.std.specs.Prelude.{string_bytes}
-use Rattle.clap.proofs.TakesLemmas.{passed_up}
-use Rattle.royalty_program.specs.Status.{IsSubmittedUnexplained}
 use Rattle.royalty_program.specs.SubmittedFiles.{paths_of}
 use Rattle.royalty_program.proofs.OverLemmas.{as_submitted_unexplained}
 use Rattle.royalty_program.proofs.SubmittedFileLemmas.{of_inputs}
