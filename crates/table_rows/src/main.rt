@@ -6,6 +6,7 @@
 mod asked;
 mod csv_tables;
 mod division;
+mod documents;
 mod pairs;
 mod payees;
 mod registrations;
@@ -111,6 +112,7 @@ fn add_answer_in(
         "pairs.txt" => pairs::add_answer(alloc, asked, answer),
         "registrations.txt" => registrations::add_answer(alloc, asked, answer),
         "payees.txt" => payees::add_answer(alloc, asked, answer),
+        "documents.txt" => documents::add_answer(alloc, asked, answer),
         _ => asked.add_unknown(answer),
     }
 }

@@ -1,0 +1,4 @@
+pub mod Escaping
+pub mod Figuring
+pub mod Naming
+pub mod Seeing

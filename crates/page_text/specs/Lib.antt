@@ -1,0 +1,5 @@
+pub mod Escaped
+pub mod Figures
+pub mod FileNames
+pub mod Formulas
+pub mod Shown

@@ -1,0 +1,16 @@
+//! How texts and figures of a run stand in documents that people read: in pages of HTML, in CSV that a spreadsheet
+//! opens, and in names of files.
+#![tactic(auto)]
+
+mod escaped;
+mod figures;
+mod file_names;
+mod formulas;
+pub mod laws;
+mod shown;
+
+pub use escaped::add_escaped;
+pub use figures::{MOST_DECIMALS, add_amount, add_count, add_last_digits};
+pub use file_names::add_file_name;
+pub use formulas::add_guarded;
+pub use shown::add_shown;
