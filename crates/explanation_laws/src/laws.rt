@@ -23,7 +23,7 @@ use submitted_inputs::SubmitterFiles;
 
 /// A row of the usage list has one explanation, where each file has one text: whoever works it out by the definitions
 /// comes to the same bytes.
-pub fn law_a_row_has_one_explanation<F: SubmitterFiles>(files: &F)
+pub fn law_a_row_of_submitters_has_one_explanation<F: SubmitterFiles>(files: &F)
     ensures { (names : List (List ℕ)) (inputs : SubmittedTables (List ℕ)) (row : ℕ) (text other : List ℕ)
         → HoldsOneText (F.holds files.now) → IsSubmittedExplanationOf names (F.holds files.now) inputs row text
         → IsSubmittedExplanationOf names (F.holds files.now) inputs row other → text ≡ other }
@@ -31,7 +31,7 @@ pub fn law_a_row_has_one_explanation<F: SubmitterFiles>(files: &F)
 
 /// The portions that an explanation shows are the postings of its line in the statements of a run over the same files,
 /// those that are not 0: the statement of each account has this posting of the line, and no other.
-pub fn law_explained_portions_are_posted<F: SubmitterFiles>(files: &F)
+pub fn law_explained_portions_of_submitters_are_posted<F: SubmitterFiles>(files: &F)
     ensures { (names : List (List ℕ)) (inputs : SubmittedTables (List ℕ)) (tables of_run : Tables)
         (statements : List (List (ℕ × ℤ))) (place : ℕ) (line : UsageLine) (account : ℕ)
         → HoldsOneText (F.holds files.now) → IsReading names (F.holds files.now) inputs tables

@@ -16,7 +16,7 @@ grouped [] = []
 grouped (digit ∷ rest) =
     (if (length rest % 3 == 0) && nat_lt 0 (length rest) then digit ∷ narrow_space else digit ∷ []) ++ grouped rest
 
--- the last digits of a number, so many of them
+-- the last digits of a number, as many as are counted
 unfoldable pub last_digits : ℕ → ℕ → List ℕ
 last_digits zero n = []
 last_digits (suc count) n = last_digits count (n / 10) ++ (48 + n % 10) ∷ []

@@ -31,7 +31,7 @@ slug name = by (without_dash (take 40 (squeezed 45 (map plain_or_dash name))))
     by [] = codes "payee"
     by (byte ∷ rest) = byte ∷ rest
 
--- the number of an account by so many digits, which keeps it apart from others, and its name
+-- the number of an account, by as many digits as `width`, which keeps it apart from others, and its name
 abbrev pub file_name : (width : ℕ) → (number : ℕ) → (name : List ℕ) → List ℕ
 file_name width number name = last_digits width number ++ 45 ∷ slug name
 

@@ -10,7 +10,7 @@ use std::alloc::AllocError;
 pub const MOST_DECIMALS: u32 = 9;
 
 /// Adds an amount of minor units, of which a unit has ten to the power of `decimals`: with a minus sign where it is
-/// below 0, groups of three digits, and exactly so many decimal places.
+/// below 0, groups of three digits, and as many decimal places.
 pub fn add_amount(text: &mut Vec<u8>, decimals: u32, amount: i64) -> Result<(), AllocError>
     requires { decimals ≤ MOST_DECIMALS }
     ensures { OnOk result (text.new.items ≡ text.old.items ++ amount_text decimals amount) }
