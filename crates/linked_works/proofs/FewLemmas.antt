@@ -60,13 +60,6 @@ module _ (pay : List ℕ → List ℕ) where
     pub among : All (Contains (map payee_by lines)) found
     pub apart : AllPairs (λ text later. ¬ (text ≡ later)) found
 
-  pub none_counted : AreCounted [] []
-  none_counted = record {
-    each = λ k d within. absurd (omega (arith, within));
-    among = λ k d within. absurd (omega (arith, within));
-    apart = λ i j d before within. absurd (omega (arith, within));
-  }
-
   -- one share line more
   pub counted_next : (lines : List ShareLine) (k : ℕ) (line : ShareLine) (found : List (List ℕ)) → k < length lines → line ≡ get_or lines k line
       → AreCounted (take k lines) found → AreCounted (take (k + 1) lines) (with_text found (payee_by line))
@@ -79,7 +72,8 @@ module _ (pay : List ℕ → List ℕ) where
             (All-push (λ (line : ShareLine). Contains (with_text found text) (payee_by line)) (take k lines) line
             (λ i d inside. still_there found text (payee_by (get_or (take k lines) i d)) (counted.each i d inside)) (now_there found text));
         among = all_with (Contains (map payee_by (take (k + 1) lines))) found text
-            (λ i d inside. subst (λ (texts : List (List ℕ)). Contains texts (get_or found i d)) payees (Contains-append_left (map payee_by (take k lines)) (text ∷ []) (get_or found i d) (counted.among i d inside)))
+            (λ i d inside.
+            subst (λ (texts : List (List ℕ)). Contains texts (get_or found i d)) payees (Contains-append_left (map payee_by (take k lines)) (text ∷ []) (get_or found i d) (counted.among i d inside)))
             (subst (λ (texts : List (List ℕ)). Contains texts text) payees (Contains-push (map payee_by (take k lines)) text));
         apart = still_apart found text counted.apart;
       }

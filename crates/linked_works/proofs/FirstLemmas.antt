@@ -7,22 +7,18 @@ use Rattle.std.proofs.lemmas.List.{get_or-map, length-map, length-take, map-appe
 use Rattle.std.proofs.Math.Seq.{drop-cons}
 use Rattle.std.proofs.lemmas.Option.{none-some}
 use Rattle.std.proofs.lemmas.Slice.Eq.{bytes_eq-Decides}
-use Rattle.cwr_share.specs.Registered.{HasFewPayees, Registered}
-use Rattle.cwr_share.specs.RegistryOf.{HasTooManyPayees, IsRegistryOf}
+use Rattle.cwr_share.specs.Registered.{HasFewPayees}
+use Rattle.cwr_share.specs.RegistryOf.{HasTooManyPayees}
 use Rattle.cwr_share.specs.Registrations.{ShareLine, find_work}
 use Rattle.linked_works.specs.Linked as linked
 use Rattle.linked_works.specs.Linked.{Finds, shares_linked}
 use Rattle.linked_works.specs.ManyPayees.{HasManyPayees, HaveFewPayees, IsFirstMany, SomeHasMany}
-use Rattle.linked_works.specs.Rows.{links_by, with_registration}
+use Rattle.linked_works.specs.Rows.{link_by, links_by, with_registration}
 use Rattle.linked_works.specs.declared.linking.Link.{Link}
 use Rattle.linked_works.proofs.FewLemmas.{not_few_and_many}
 use Rattle.linked_works.proofs.LinkedLemmas.{linked_push}
 
 module _ (finds : Finds) where
-  -- no links name no work
-  pub none_linked : (work : List ℕ) (shares : List ShareLine) → ¬ (shares_linked finds [] work ≡ Some shares)
-  none_linked work shares is = none-some shares is
-
   -- a work that has share lines is that of a link
   pub named_by : (links : List linked.Link) (work : List ℕ) (shares : List ShareLine) → shares_linked finds links work ≡ Some shares → Any (λ link. link.work ≡ work) links
   named_by [] work shares is = absurd (none-some shares is)
@@ -39,10 +35,6 @@ unchanged : (found : Option (List ShareLine)) (its_work submitter : List ℕ) (b
 unchanged None its_work submitter before work other = refl
 unchanged (Some shares) its_work submitter before work other = rw other refl
 
--- a link as a row of a table
-abbrev row : List (List ℕ) → Link → linked.Link
-row names link = record { work = link.work; submitter = get_or names link.submitter []; number = link.number }
-
 no_link : Link
 no_link = record { work = []; submitter = 0; number = [] }
 
@@ -52,8 +44,8 @@ module _ (pay : List ℕ → List ℕ) (finds : Finds) (names : List (List ℕ))
       → All (λ link. IfSome (find_work link.work joined) (HasFewPayees pay)) links → HaveFewPayees pay finds (links_by names links)
   few_in_links joined works few work shares is =
       let (k, d, within, at, its) = named_by finds (links_by names links) work shares is in
-      let inside : k < length links = omega (arith, within, length-map links (row names)) in
-      let same : (get_or links k no_link).work ≡ work = ap (λ (link : linked.Link). link.work) (sym (get_or-map (row names) links k no_link d inside) ∙ at) ∙ its in
+      let inside : k < length links = omega (arith, within, length-map links (link_by names)) in
+      let same : (get_or links k no_link).work ≡ work = ap (λ (link : linked.Link). link.work) (sym (get_or-map (link_by names) links k no_link d inside) ∙ at) ∙ its in
       let found : find_work (get_or links k no_link).work joined ≡ Some shares = ap (λ (name : List ℕ). find_work name joined) same ∙ (works work ∙ is) in
       subst (λ (found : Option (List ShareLine)). IfSome found (HasFewPayees pay)) found (few k no_link inside)
 
@@ -65,7 +57,7 @@ module _ (pay : List ℕ → List ℕ) (finds : Finds) (names : List (List ℕ))
   -- where one of them has many there is a link
   pub some_links : SomeHasMany pay finds (links_by names links) → 0 < length links
   some_links (work, shares, are, many) =
-      let (k, d, within, at, its) = named_by finds (links_by names links) work shares are in omega (arith, within, length-map links (row names))
+      let (k, d, within, at, its) = named_by finds (links_by names links) work shares are in omega (arith, within, length-map links (link_by names))
 
   -- the first with which a work has too many payees
   pub first_at : (k : ℕ) → k < length links → HaveFewPayees pay finds (links_by names (take k links)) → SomeHasMany pay finds (links_by names (take (k + 1) links))
@@ -73,8 +65,8 @@ module _ (pay : List ℕ → List ℕ) (finds : Finds) (names : List (List ℕ))
   first_at k within few (work, shares, are, many) =
       let link = get_or links k no_link in
       let before = links_by names (take k links) in
-      let its = row names link in
-      let next : links_by names (take (k + 1) links) ≡ before ++ its ∷ [] = ap (links_by names) (take_more links k no_link within) ∙ map_push (row names) (take k links) link in
+      let its = link_by names link in
+      let next : links_by names (take (k + 1) links) ≡ before ++ its ∷ [] = ap (links_by names) (take_more links k no_link within) ∙ map_push (link_by names) (take k links) link in
       let pushed : shares_linked finds (before ++ its ∷ []) work ≡ Some shares = sym (ap (λ (l : List linked.Link). shares_linked finds l work) next) ∙ are in
       elim (cases_Bool (pointwise nat_eq its.work work)) [
         | inl same ↦ record {
@@ -82,8 +74,8 @@ module _ (pay : List ℕ → List ℕ) (finds : Finds) (names : List (List ℕ))
           link = its;
           after = links_by names (drop (suc k) links);
           split = ap (links_by names) (sym (take-append-drop k links))
-              ∙ (map-append (row names) (take k links) (drop k links) ∙ ap (λ (l : List Link). before ++ map (row names) l) (drop-cons links k no_link within));
-          place_of = omega (arith, within, length-map (take k links) (row names), length-take k links);
+              ∙ (map-append (link_by names) (take k links) (drop k links) ∙ ap (λ (l : List Link). before ++ map (link_by names) l) (drop-cons links k no_link within));
+          place_of = omega (arith, within, length-map (take k links) (link_by names), length-take k links);
           few = few;
           shares = shares;
           are = subst (λ (name : List ℕ). shares_linked finds (before ++ its ∷ []) name ≡ Some shares) (sym ((bytes_eq-Decides its.work work).0 same)) pushed;
@@ -95,11 +87,8 @@ module _ (pay : List ℕ → List ℕ) (finds : Finds) (names : List (List ℕ))
             absurd (not_few_and_many pay shares (few work shares still) many)
       ]
 
--- share lines that are found alike make the same registry, or are of too many payees alike
+-- share lines that are found alike are of too many payees alike
 module _ (rows : List (List ℕ × List ℕ)) (shares_of others_of : List ℕ → Option (List ShareLine)) (same : (work : List ℕ) → shares_of work ≡ others_of work) where
-  pub as_registry : (registered : Registered) → IsRegistryOf rows shares_of registered → IsRegistryOf rows others_of registered
-  as_registry registered is = record { in_force = λ work. is.in_force work ∙ same work; paid = is.paid }
-
   pub as_too_many : HasTooManyPayees rows shares_of → HasTooManyPayees rows others_of
   as_too_many many = record {
     payees = many.payees;

@@ -10,7 +10,7 @@ use Rattle.cwr_share.specs.Joined.{qualified}
 use Rattle.cwr_share.specs.declared.numbers.TheConstants.{MOST_WORK_NAME_BYTES}
 use Rattle.cwr_share.proofs.PartyLemmas.{contains_cases, contains_later}
 use Rattle.linked_works.specs.Linked as linked
-use Rattle.linked_works.specs.Rows.{AreLinks, key_of, links_by}
+use Rattle.linked_works.specs.Rows.{AreLinks, key_of, link_by, links_by}
 use Rattle.linked_works.specs.Submitters.{IsNameByte, IsSubmitter}
 use Rattle.linked_works.specs.WorksTable.{IsFaultOfRow, IsLinked, IsWorksRow}
 use Rattle.linked_works.specs.declared.works_fault.WorksFault.{WorksFault}
@@ -26,8 +26,8 @@ fresh_key (first ∷ keys) key new =
     (fresh_key keys key (λ later. new (contains_later first keys key later)))
 
 -- one more link
-pub links_added : (names : List (List ℕ)) (links : List Link) (keys : List (List ℕ)) (link : Link) (key : List ℕ) → AreLinks names links keys → length links < MOST_LINKS → link.submitter < length names
-    → length link.work ≤ MOST_WORK_NAME_BYTES → key ≡ qualified (get_or names link.submitter []) link.number → AreLinks names (links ++ link ∷ []) (keys ++ key ∷ [])
+pub links_added : (names : List (List ℕ)) (links : List Link) (keys : List (List ℕ)) (link : Link) (key : List ℕ) → AreLinks names links keys → length links < MOST_LINKS
+    → link.submitter < length names → length link.work ≤ MOST_WORK_NAME_BYTES → key ≡ qualified (get_or names link.submitter []) link.number → AreLinks names (links ++ link ∷ []) (keys ++ key ∷ [])
 links_added names links keys link key are room known work is = record {
   submitters = are.submitters;
   once = are.once;
@@ -37,7 +37,7 @@ links_added names links keys link key are room known work is = record {
   keys_of =
       ap (λ (keys : List (List ℕ)). keys ++ key ∷ []) are.keys_of
       ∙ (ap (λ (text : List ℕ). map key_of (links_by names links) ++ text ∷ []) is
-      ∙ sym (ap (map key_of) (map_push (λ (link : Link). record { work = link.work; submitter = get_or names link.submitter []; number = link.number }) links link) ∙ map_push key_of (links_by names links) (record { work = link.work; submitter = get_or names link.submitter []; number = link.number })));
+      ∙ sym (ap (map key_of) (map_push (link_by names) links link) ∙ map_push key_of (links_by names links) (link_by names link)));
 }
 
 -- a text that is found among keys is one of them
@@ -87,7 +87,8 @@ pub of_one_submitter : (name other number text : List ℕ) → IsSubmitter name 
 of_one_submitter name other number text is also = one_registration name other number text (no_colon name is) (no_colon other also)
 
 -- no row that is a link is refused
-pub not_refused : (names : List (List ℕ)) (earlier : List linked.Link) (number : ℕ) (row : List (List ℕ)) (fault : WorksFault) → IsWorksRow names earlier row → ¬ IsFaultOfRow names earlier number row fault
+pub not_refused : (names : List (List ℕ)) (earlier : List linked.Link) (number : ℕ) (row : List (List ℕ)) (fault : WorksFault)
+    → IsWorksRow names earlier row → ¬ IsFaultOfRow names earlier number row fault
 not_refused names earlier number row (Csv n) good refused = refused.1 good.whole
 not_refused names earlier number row (Work n) good refused = refused.2 good.work
 not_refused names earlier number row (Submitter n) good refused = refused.3 good.submitter
@@ -109,7 +110,7 @@ module _ (names : List (List ℕ)) (links : List Link) (keys : List (List ℕ)) 
   -- each link is of a submitter
   of_submitters : All (λ link. IsSubmitter link.submitter) rows
   of_submitters =
-      All-map (λ link. IsSubmitter link.submitter) (λ (link : Link). record { work = link.work; submitter = get_or names link.submitter []; number = link.number }) links
+      All-map (λ link. IsSubmitter link.submitter) (link_by names) links
       (λ k d within. are.submitters (get_or links k d).submitter [] (are.known k d within))
 
   pub linked_key : Contains keys (qualified name number) → IsLinked rows name number

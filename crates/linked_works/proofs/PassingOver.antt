@@ -1,5 +1,5 @@
 -- Rows that link nothing, and registrations that no row links, one after another.
-use Rattle.std.proofs.Common.{◌≡◌, ◌∙◌, ◌⊎◌, ◌<◌, ◌+◌, ◌∷◌, ◌++◌, [], ℕ, Bool, true, false, List, Contains, ap, arith, cond, filter, get_or, inl, inr, is_some, length, map, nat_eq, not, refl, subst, sym, take, append-nil}
+use Rattle.std.proofs.Common.{◌≡◌, ◌∙◌, ◌⊎◌, ◌<◌, ◌+◌, ◌∷◌, ◌++◌, [], ℕ, Bool, true, false, List, Contains, ap, arith, get_or, inl, inr, is_some, length, nat_eq, not, refl, subst, sym, take}
 use Rattle.std.specs.Prelude.{◌&&◌}
 use Rattle.std.specs.Cmp.Lexicographic.{pointwise}
 use Rattle.std.specs.List.{list_any}
@@ -7,18 +7,16 @@ use Rattle.std.proofs.lemmas.Bool.{and_parts, cases_Bool, false_from_ne_true, tr
 use Rattle.std.proofs.lemmas.Cmp.{nat_list_eq_equiv}
 use Rattle.std.proofs.lemmas.Map.Views.{list_any-from_Contains}
 use Rattle.std.proofs.lemmas.List.{length-map, length-take-le, map_push, take_more}
-use Rattle.std.proofs.lemmas.List.Elements.{filter-append}
 use Rattle.std.proofs.lemmas.List.Folds.{Any-from_list_any, list_any-from_Any}
 use Rattle.std.proofs.lemmas.Slice.Eq.{bytes_eq-Decides}
 use Rattle.cwr_share.specs.Joined.{qualified}
 use Rattle.cwr_share.specs.PassedOver.{IsTallyOf}
-use Rattle.cwr_share.specs.Registrations.{ShareLine}
 use Rattle.cwr_share.specs.declared.passed_over.Tally.{Tally}
 use Rattle.cwr_share.proofs.PassedOverLemmas.{numbers_no, numbers_yes}
 use Rattle.linked_works.specs.Linked as linked
 use Rattle.linked_works.specs.Linked.{Finds}
 use Rattle.linked_works.specs.PassedOver.{is_linked, rows_not_in_force}
-use Rattle.linked_works.specs.Rows.{AreLinks, links_by}
+use Rattle.linked_works.specs.Rows.{AreLinks, link_by, links_by}
 use Rattle.linked_works.specs.declared.linking.Link.{Link}
 use Rattle.linked_works.proofs.LinkRows.{found_key, key_of_linked, linked_key}
 
@@ -36,7 +34,7 @@ tally_next finds names links place link in_force tally next within at is so_far 
     subst (λ (l : List linked.Link). IsTallyOf (rows_not_in_force finds l) next) (sym more) (by how)
   where
     row : linked.Link
-    row = record { work = link.work; submitter = get_or names link.submitter []; number = link.number }
+    row = link_by names link
 
     before : List linked.Link
     before = links_by names (take place links)
@@ -44,10 +42,10 @@ tally_next finds names links place link in_force tally next within at is so_far 
     more : links_by names (take (place + 1) links) ≡ before ++ row ∷ []
     more =
         ap (links_by names) (take_more links place link within ∙ ap (λ (next : Link). take place links ++ next ∷ []) (sym at))
-        ∙ map_push (λ (link : Link). record { work = link.work; submitter = get_or names link.submitter []; number = link.number }) (take place links) link
+        ∙ map_push (link_by names) (take place links) link
 
     long : length before ≡ place
-    long = length-map (take place links) (λ (link : Link). record { work = link.work; submitter = get_or names link.submitter []; number = link.number }) ∙ length-take-le place links (omega (arith, within))
+    long = length-map (take place links) (link_by names) ∙ length-take-le place links (omega (arith, within))
 
     by : ((in_force ≡ false) × ((numbers : List ℕ) → IsTallyOf numbers tally → IsTallyOf (numbers ++ (place + 1) ∷ []) next)) ⊎ ((in_force ≡ true) × (next ≡ tally))
         → IsTallyOf (rows_not_in_force finds (before ++ row ∷ [])) next

@@ -23,9 +23,11 @@ HaveFewPayees pay finds links =
 -- those of some work have more
 abbrev pub SomeHasMany : (pay : List ℕ → List ℕ) → Finds → List Link → Type 0
 SomeHasMany pay finds links =
-    (work : List ℕ) × (shares : List ShareLine) × (shares_linked finds links work ≡ Some shares) × HasManyPayees pay shares
+    (work : List ℕ) × (shares : List ShareLine) × (shares_linked finds links work ≡ Some shares)
+    × HasManyPayees pay shares
 
--- With the link at a place the parties of its work have more than 256 payees; with those before it those of no work have.
+-- With the link at a place the parties of its work have more than 256 payees; with those before it those of no work
+-- have.
 pub record IsFirstMany (pay : List ℕ → List ℕ) (finds : Finds) (links : List Link) (place : ℕ) : Type 0 where
   pub before : List Link
   pub link : Link
@@ -37,11 +39,12 @@ pub record IsFirstMany (pay : List ℕ → List ℕ) (finds : Finds) (links : Li
   pub are : shares_linked finds (before ++ link ∷ []) link.work ≡ Some shares
   pub many : HasManyPayees pay shares
 
--- What a table of works is refused for by the registrations in force, with the rows of a table of payees: the first row,
--- which count from 1, with which a work has too many payees; or else too many payees of all works. Memory may run out at
--- any time.
+-- What a table of works is refused for by the registrations in force, with the rows of a table of payees: the first
+-- row, which count from 1, with which a work has too many payees; or else too many payees of all works. Memory may run
+-- out at any time.
 abbrev pub IsFaultOfLinks : (rows : List (List ℕ × List ℕ)) → Finds → List Link → WorksFault → Type 0
-IsFaultOfLinks rows finds links (Many row) = (place : ℕ) × (row ≡ place + 1) × IsFirstMany (payee_of rows) finds links place
+IsFaultOfLinks rows finds links (Many row) =
+    (place : ℕ) × (row ≡ place + 1) × IsFirstMany (payee_of rows) finds links place
 IsFaultOfLinks rows finds links Accounts =
     HaveFewPayees (payee_of rows) finds links × HasTooManyPayees rows (shares_linked finds links)
 IsFaultOfLinks rows finds links Memory = ⊤

@@ -1,4 +1,5 @@
--- What a run over several files passes over without a word: rows that link nothing, and registrations that no row links.
+-- What a run over several files passes over without a word: rows that link nothing, and registrations that no row
+-- links.
 use Rattle.std.specs.Prelude.{ℕ, ◌&&◌, Bool, List, filter, is_some, nat_eq, not}
 use Rattle.std.specs.List.{list_any}
 use Rattle.std.specs.Cmp.Lexicographic.{pointwise}

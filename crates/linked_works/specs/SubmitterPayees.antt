@@ -1,5 +1,5 @@
--- The table of payees of several submitters as CSV: a header, and a row for each party of a submitter that is paid to another
--- account. Rows count from 0, the header's.
+-- The table of payees of several submitters as CSV: a header, and a row for each party of a submitter that is paid to
+-- another account. Rows count from 0, the header's.
 use Rattle.std.specs.Prelude.{ℕ, ◌≡◌, ◌∷◌, [], List, Contains, length, codes, slice_index_or}
 use Rattle.csv_table.specs.Forms.{IsPrintable}
 use Rattle.csv_table.specs.RowTable as tables

@@ -1,4 +1,5 @@
--- The table of works as CSV: a header, and a row for each registration that is of a work. Rows count from 0, the header's.
+-- The table of works as CSV: a header, and a row for each registration that is of a work. Rows count from 0, the
+-- header's.
 use Rattle.std.specs.Prelude.{ℕ, ◌≡◌, ◌∷◌, [], List, Any, Contains, length, codes, slice_index_or, Option, Some, None}
 use Rattle.csv_table.specs.Forms.{IsPrintable}
 use Rattle.csv_table.specs.RowTable as tables
@@ -11,7 +12,8 @@ use Rattle.linked_works.specs.declared.works_fault.WorksFault.TheVariants.{Csv, 
 abbrev pub header : List (List ℕ)
 header = codes "work" ∷ codes "submitter" ∷ codes "number" ∷ codes "title" ∷ []
 
--- the work and the submitter of a row as they stand, and its number without the spaces at its ends; a title is for people
+-- the work and the submitter of a row as they stand, and its number without the spaces at its ends; a title is for
+-- people
 abbrev pub work_field : List (List ℕ) → List ℕ
 work_field row = slice_index_or row 0 []
 

@@ -11,8 +11,8 @@ ghost use Rattle.linked_works.specs.declared.payee_rows.TheConstants.{MOST_SUBMI
 ghost use Rattle.linked_works.specs.declared.works_fault.WorksFault.{WorksFault};
 ghost use Rattle.linked_works.specs.declared.works_fault.WorksFault.TheVariants as works_fault;
 
-/// What stands behind the names of different submitters is never the same, nor are different texts behind one name: so parties
-/// of different submitters are different parties, and so are their registrations.
+/// What stands behind the names of different submitters is never the same, nor are different texts behind one name: so
+/// parties of different submitters are different parties, and so are their registrations.
 pub fn law_submitters_share_no_party()
     ensures { (name other text it : List ℕ) → IsSubmitter name → IsSubmitter other
         → qualified name text ≡ qualified other it → (name ≡ other) × (text ≡ it) }

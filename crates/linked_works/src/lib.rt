@@ -1,4 +1,5 @@
-//! Works that several submitters have registered: which registrations are of which work, and what they come to together.
+//! Works that several submitters have registered: which registrations are of which work, and what they come to
+//! together.
 #![tactic(auto)]
 
 pub mod laws;

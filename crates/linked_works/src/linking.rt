@@ -1,12 +1,12 @@
 //! The registrations of each work, put together from the files of all submitters.
 
-ghost use Rattle.std.specs.Prelude.{◌≡◌, ◌≤◌, ◌<◌, ◌*◌, ℕ, List, All, AllPairs, IfOk, OnOk, Some, length, zip};
+ghost use Rattle.std.specs.Prelude.{◌≡◌, ◌≤◌, ◌*◌, ℕ, List, IfOk, OnOk, Some, length, zip};
 ghost use Rattle.cwr_share.specs.InForce.{IsOneRegistration};
 ghost use Rattle.cwr_share.specs.Registrations.{ShareLine, find_work};
 ghost use Rattle.cwr_share.specs.declared.TheConstants.{MOST_SHARES};
 ghost use Rattle.cwr_share.specs.declared.numbers.TheConstants.{MOST_WORK_NAME_BYTES};
 ghost use Rattle.linked_works.specs.Linked.{finds_among, shares_linked};
-ghost use Rattle.linked_works.specs.Rows.{links_by, names_by, with_registration};
+ghost use Rattle.linked_works.specs.Rows.{CanBeLinked, links_by, names_by, with_registration};
 ghost use Rattle.linked_works.specs.Submitters.{IsSubmitter};
 
 use cwr_share::{InForce, Name};
@@ -23,25 +23,20 @@ pub(crate) struct Link {
     pub(crate) number: Name,
 }
 
-/// The works that links name, each with its registrations in force, one behind the other in the order of the links, by what
-/// the submitters of these names have in force.
+/// The works that links name, each with its registrations in force, one behind the other in the order of the links, by
+/// what the submitters of these names have in force.
 pub(crate) fn link_all(
     alloc: Global,
     names: &[Vec<u8>],
     files: &[InForce],
     links: &[Link],
 ) -> Result<InForce, AllocError>
-    requires files { length files.now ≡ length names.now }
-    requires known { All (λ link. link.submitter < length names.now) links.now }
-    requires works { All (λ link. length link.work ≤ MOST_WORK_NAME_BYTES) links.now }
-    requires submitters { All IsSubmitter (names_by names.now) }
-    requires once { AllPairs (λ name later. ¬ (name ≡ later)) (names_by names.now) }
-    requires registrations { All (λ works. (number : List ℕ) (shares : List ShareLine)
-        → find_work number works ≡ Some shares → IsOneRegistration shares) files.now }
+    requires { CanBeLinked names.now files.now links.now }
     ensures works { IfOk result (λ joined. (work : List ℕ) → find_work work joined
-        ≡ shares_linked (finds_among (zip (names_by names.now) files.now)) (links_by (names_by names.now) links.now) work) }
-    ensures lines { IfOk result (λ joined. (work : List ℕ) (shares : List ShareLine) → find_work work joined ≡ Some shares
-        → length shares ≤ MOST_SHARES * length links.now) }
+        ≡ shares_linked (finds_among (zip (names_by names.now) files.now))
+        (links_by (names_by names.now) links.now) work) }
+    ensures lines { IfOk result (λ joined. (work : List ℕ) (shares : List ShareLine)
+        → find_work work joined ≡ Some shares → length shares ≤ MOST_SHARES * length links.now) }
 {
     let mut joined = InForce::none(alloc);
     for link in links {
@@ -64,7 +59,8 @@ fn add_link(
     requires registrations { (number : List ℕ) (shares : List ShareLine) → find_work number file.now ≡ Some shares
         → IsOneRegistration shares }
     ensures works { OnOk result ((work : List ℕ) → find_work work joined.new
-        ≡ with_registration (find_work link.now.number file.now) link.now.work name.now (find_work work joined.old) work) }
+        ≡ with_registration (find_work link.now.number file.now) link.now.work name.now
+        (find_work work joined.old) work) }
 {
     match file.find(link.number.as_slice()) {
         Some(shares) => joined.append(alloc, link.work.as_slice(), name, shares),

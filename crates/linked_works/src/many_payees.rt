@@ -1,15 +1,12 @@
 //! Works whose parties are paid to too many payees.
 
-ghost use Rattle.std.specs.Prelude.{◌≡◌, ◌≤◌, ◌<◌, ℕ, List, All, AllPairs, IfOk, IfSome, IsTrue, Some, false, length, zip};
-ghost use Rattle.cwr_share.specs.InForce.{IsOneRegistration};
+ghost use Rattle.std.specs.Prelude.{◌≡◌, ◌<◌, ℕ, List, All, IfOk, IfSome, IsTrue, Some, false, length, zip};
 ghost use Rattle.cwr_share.specs.Payees.{payee_of};
 ghost use Rattle.cwr_share.specs.Registered.{HasFewPayees};
 ghost use Rattle.cwr_share.specs.Registrations.{ShareLine, find_work};
-ghost use Rattle.cwr_share.specs.declared.numbers.TheConstants.{MOST_WORK_NAME_BYTES};
-ghost use Rattle.linked_works.specs.Linked.{finds_among, shares_linked};
+ghost use Rattle.linked_works.specs.Linked.{finds_among};
 ghost use Rattle.linked_works.specs.ManyPayees.{HasManyPayees, HaveFewPayees, IsFirstMany, SomeHasMany};
-ghost use Rattle.linked_works.specs.Rows.{links_by, names_by};
-ghost use Rattle.linked_works.specs.Submitters.{IsSubmitter};
+ghost use Rattle.linked_works.specs.Rows.{CanBeLinked, links_by, names_by};
 
 use crate::linking::{Link, link_all};
 use cwr_share::{InForce, Name, Payees, ShareRecord, Sought};
@@ -47,7 +44,8 @@ pub(crate) fn have_few_payees(
     links: &[Link],
     payees: &Payees,
 ) -> Result<bool, AllocError>
-    ensures few { IfOk result (λ few. IsTrue few → All (λ link. IfSome (find_work link.work works.now) (HasFewPayees (payee_of payees.now))) links.now) }
+    ensures few { IfOk result (λ few. IsTrue few
+        → All (λ link. IfSome (find_work link.work works.now) (HasFewPayees (payee_of payees.now))) links.now) }
     ensures many { IfOk result (λ few. few ≡ false → (work : List ℕ) × (shares : List ShareLine)
         × (find_work work works.now ≡ Some shares) × HasManyPayees (payee_of payees.now) shares) }
 {
@@ -72,7 +70,8 @@ fn work_has_few_payees(
     work: &[u8],
     payees: &Payees,
 ) -> Result<bool, AllocError>
-    ensures few { IfOk result (λ few. IsTrue few → IfSome (find_work work.now works.now) (HasFewPayees (payee_of payees.now))) }
+    ensures few { IfOk result (λ few. IsTrue few
+        → IfSome (find_work work.now works.now) (HasFewPayees (payee_of payees.now))) }
     ensures many { IfOk result (λ few. few ≡ false → (shares : List ShareLine)
         × (find_work work.now works.now ≡ Some shares) × HasManyPayees (payee_of payees.now) shares) }
 {
@@ -82,8 +81,8 @@ fn work_has_few_payees(
     }
 }
 
-/// The place of the first link with which the parties of its work have too many payees, where with all of them those of some
-/// work have.
+/// The place of the first link with which the parties of its work have too many payees, where with all of them those of
+/// some work have.
 pub(crate) fn first_many(
     alloc: Global,
     names: &[Vec<u8>],
@@ -91,16 +90,12 @@ pub(crate) fn first_many(
     links: &[Link],
     payees: &Payees,
 ) -> Result<usize, AllocError>
-    requires files { length files.now ≡ length names.now }
-    requires known { All (λ link. link.submitter < length names.now) links.now }
-    requires works { All (λ link. length link.work ≤ MOST_WORK_NAME_BYTES) links.now }
-    requires submitters { All IsSubmitter (names_by names.now) }
-    requires once { AllPairs (λ name later. ¬ (name ≡ later)) (names_by names.now) }
-    requires registrations { All (λ works. (number : List ℕ) (shares : List ShareLine)
-        → find_work number works ≡ Some shares → IsOneRegistration shares) files.now }
-    requires many { SomeHasMany (payee_of payees.now) (finds_among (zip (names_by names.now) files.now)) (links_by (names_by names.now) links.now) }
+    requires linkable { CanBeLinked names.now files.now links.now }
+    requires many { SomeHasMany (payee_of payees.now) (finds_among (zip (names_by names.now) files.now))
+        (links_by (names_by names.now) links.now) }
     ensures within { IfOk result (λ place. place < length links.now) }
-    ensures first { IfOk result (IsFirstMany (payee_of payees.now) (finds_among (zip (names_by names.now) files.now)) (links_by (names_by names.now) links.now)) }
+    ensures first { IfOk result (IsFirstMany (payee_of payees.now) (finds_among (zip (names_by names.now) files.now))
+        (links_by (names_by names.now) links.now)) }
 {
     let mut few = 0;
     let mut many = links.len();
@@ -123,15 +118,13 @@ fn linked_have_few_payees(
     links: &[Link],
     payees: &Payees,
 ) -> Result<bool, AllocError>
-    requires files { length files.now ≡ length names.now }
-    requires known { All (λ link. link.submitter < length names.now) links.now }
-    requires works { All (λ link. length link.work ≤ MOST_WORK_NAME_BYTES) links.now }
-    requires submitters { All IsSubmitter (names_by names.now) }
-    requires once { AllPairs (λ name later. ¬ (name ≡ later)) (names_by names.now) }
-    requires registrations { All (λ works. (number : List ℕ) (shares : List ShareLine)
-        → find_work number works ≡ Some shares → IsOneRegistration shares) files.now }
-    ensures few { IfOk result (λ few. IsTrue few → HaveFewPayees (payee_of payees.now) (finds_among (zip (names_by names.now) files.now)) (links_by (names_by names.now) links.now)) }
-    ensures many { IfOk result (λ few. few ≡ false → SomeHasMany (payee_of payees.now) (finds_among (zip (names_by names.now) files.now)) (links_by (names_by names.now) links.now)) }
+    requires { CanBeLinked names.now files.now links.now }
+    ensures few { IfOk result (λ few. IsTrue few
+        → HaveFewPayees (payee_of payees.now) (finds_among (zip (names_by names.now) files.now))
+        (links_by (names_by names.now) links.now)) }
+    ensures many { IfOk result (λ few. few ≡ false
+        → SomeHasMany (payee_of payees.now) (finds_among (zip (names_by names.now) files.now))
+        (links_by (names_by names.now) links.now)) }
 {
     let works = link_all(alloc, names, files, links)?;
     have_few_payees(alloc, &works, links, payees)

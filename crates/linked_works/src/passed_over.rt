@@ -1,4 +1,5 @@
-//! What a run over several files passes over without a word: rows that link nothing, and registrations that no row links.
+//! What a run over several files passes over without a word: rows that link nothing, and registrations that no row
+//! links.
 
 ghost use Rattle.std.specs.Prelude.{◌≡◌, ◌≤◌, ◌<◌, [], All, AllPairs, is_some, length, nat_eq, slice_index_or, zip};
 ghost use Rattle.std.specs.Cmp.Lexicographic.{pointwise};
@@ -29,7 +30,8 @@ pub(crate) fn is_linked(
     requires known { submitter < length names.now }
     requires submitters { All IsSubmitter (names_by names.now) }
     requires number { length number.now ≤ MOST_NAME_BYTES }
-    ensures { result ≡ list_any (pointwise nat_eq (qualified_text (slice_index_or (names_by names.now) submitter []) number.now)) keys.now.keys }
+    ensures { result ≡ list_any (pointwise nat_eq (qualified_text
+        (slice_index_or (names_by names.now) submitter []) number.now)) keys.now.keys }
 {
     has_key(names[submitter].as_slice(), number, keys)
 }
@@ -49,7 +51,8 @@ pub(crate) fn not_in_force(names: &[Vec<u8>], files: &[InForce], links: &[Link])
     requires known { All (λ link. link.submitter < length names.now) links.now }
     requires few { length links.now ≤ MOST_LINKS }
     requires once { AllPairs (λ name later. ¬ (name ≡ later)) (names_by names.now) }
-    ensures { IsTallyOf (rows_not_in_force (finds_among (zip (names_by names.now) files.now)) (links_by (names_by names.now) links.now)) result }
+    ensures { IsTallyOf (rows_not_in_force (finds_among (zip (names_by names.now) files.now))
+        (links_by (names_by names.now) links.now)) result }
 {
     let mut tally = Tally::none();
     for place in 0..links.len() {

@@ -22,7 +22,7 @@ pub struct Submitters {
 }
 
 impl Model for Submitters {
-    ghost use Rattle.std.specs.Prelude.{◌≡◌, ℕ, List, All, AllPairs};
+    ghost use Rattle.std.specs.Prelude.{ℕ, List};
     ghost use Rattle.linked_works.specs.Rows.{names_by};
     ghost use Rattle.linked_works.specs.Submitters.{AreSubmitters};
 
@@ -88,8 +88,10 @@ fn is_name_byte(byte: u8) -> bool
 
 /// The place of a name.
 pub(crate) fn place_of(names: &[Vec<u8>], name: &[u8]) -> Option<usize>
-    ensures some { IfSome result (λ place. (place < length names.now) × (slice_index_or (names_by names.now) place [] ≡ name.now)) }
-    ensures none { IfNone result ((place : ℕ) → place < length names.now → ¬ (slice_index_or (names_by names.now) place [] ≡ name.now)) }
+    ensures some { IfSome result (λ place. (place < length names.now)
+        × (slice_index_or (names_by names.now) place [] ≡ name.now)) }
+    ensures none { IfNone result ((place : ℕ) → place < length names.now
+        → ¬ (slice_index_or (names_by names.now) place [] ≡ name.now)) }
 {
     for place in 0..names.len() {
         if names[place].as_slice() == name {

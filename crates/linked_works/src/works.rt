@@ -1,12 +1,11 @@
 //! The table of works: which registrations are of which work.
 
-ghost use Rattle.std.specs.Prelude.{◌≡◌, ◌≤◌, ◌<◌, ◌∷◌, ◌++◌, ℕ, List, [], AllPairs, All, Contains, IfErr, IfOk, OnOk, Some, filter, length, map, nat_eq, slice_index_or, zip};
+ghost use Rattle.std.specs.Prelude.{◌≡◌, ◌≤◌, ◌<◌, ◌∷◌, ◌++◌, ℕ, List, [], All, Contains, IfErr, IfOk, OnOk, Some, filter, length, map, nat_eq, slice_index_or, zip};
 ghost use Rattle.std.specs.Cmp.Lexicographic.{pointwise};
 ghost use Rattle.csv_table.specs.Table.{rows_of};
 ghost use Rattle.cwr_share.specs.InForce.{IsOneRegistration};
 ghost use Rattle.cwr_share.specs.Joined.{qualified as qualified_text};
 ghost use Rattle.cwr_share.specs.PassedOver.{IsTallyOf};
-ghost use Rattle.cwr_share.specs.Payees.{payee_of};
 ghost use Rattle.cwr_share.specs.Registered.{IsRegistered};
 ghost use Rattle.cwr_share.specs.RegistryOf.{IsRegistryOf};
 ghost use Rattle.cwr_share.specs.Registrations.{ShareLine, find_work};
@@ -19,7 +18,6 @@ ghost use Rattle.linked_works.specs.ManyPayees.{IsFaultOfLinks};
 ghost use Rattle.linked_works.specs.PassedOver.{is_linked as has_link, rows_not_in_force};
 ghost use Rattle.linked_works.specs.Rows.{IsKnownRow, key_of, link_by, link_shown, names_by};
 ghost use Rattle.linked_works.specs.declared.TheConstants.{MOST_LINKS};
-ghost use Rattle.linked_works.specs.Submitters.{IsSubmitter};
 ghost use Rattle.linked_works.specs.WorksTable.{IsFaultOf, IsTableOf};
 
 use crate::linking::{Link, link_all};
@@ -51,7 +49,10 @@ impl<'a> Model for Works<'a> {
 
     ghost Value = { Table };
 
-    ghost view = { λ w. record { names = names_by w.names.now; links = links_by (names_by w.names.now) w.links.items } };
+    ghost view = { λ w. record {
+      names = names_by w.names.now;
+      links = links_by (names_by w.names.now) w.links.items;
+    } };
 
     ghost invariant = { λ w. AreLinks (names_by w.names.now) w.links.items w.seen.keys };
 }
@@ -176,7 +177,7 @@ impl<'a> Works<'a> {
         requires key { key ≡ qualified_text (slice_index_or self.old.names link.submitter []) link.number }
         requires new { ¬ Contains (map key_of self.old.links) key }
         ensures names { self.new.names ≡ self.old.names }
-        ensures links { OnOk result (self.new.links ≡ self.old.links ++ (record { work = link.work; submitter = slice_index_or self.old.names link.submitter []; number = link.number }) ∷ []) }
+        ensures links { OnOk result (self.new.links ≡ self.old.links ++ link_by self.old.names link ∷ []) }
     {
         self.links.push(link)?;
         match self.seen.insert(key) {
@@ -188,16 +189,16 @@ impl<'a> Works<'a> {
         }
     }
 
-    /// The works that the rows name, each with its registrations in force, one behind the other in the order of the rows,
-    /// by what the submitters have in force. A work without one is not among them.
+    /// The works that the rows name, each with its registrations in force, one behind the other in the order of the
+    /// rows, by what the submitters have in force. A work without one is not among them.
     pub fn link(&self, alloc: Global, files: &[InForce]) -> Result<InForce, AllocError>
         requires files { length files.now ≡ length self.now.names }
         requires registrations { All (λ works. (number : List ℕ) (shares : List ShareLine)
             → find_work number works ≡ Some shares → IsOneRegistration shares) files.now }
         ensures works { IfOk result (λ joined. (work : List ℕ) → find_work work joined
             ≡ shares_linked (finds_among (zip self.now.names files.now)) self.now.links work) }
-        ensures lines { IfOk result (λ joined. (work : List ℕ) (shares : List ShareLine) → find_work work joined ≡ Some shares
-            → length shares ≤ MOST_LINES) }
+        ensures lines { IfOk result (λ joined. (work : List ℕ) (shares : List ShareLine)
+            → find_work work joined ≡ Some shares → length shares ≤ MOST_LINES) }
     {
         link_all(alloc, self.names, files, self.links.as_slice())
     }
@@ -216,7 +217,8 @@ impl<'a> Works<'a> {
         ensures registry { IfOk result (IsRegistryOf payees.now
             (shares_linked (finds_among (zip self.now.names files.now)) self.now.links)) }
         ensures sound { IfOk result IsRegistered }
-        ensures fault { IfErr result (IsFaultOfLinks payees.now (finds_among (zip self.now.names files.now)) self.now.links) }
+        ensures fault { IfErr result (IsFaultOfLinks payees.now
+            (finds_among (zip self.now.names files.now)) self.now.links) }
     {
         let joined = self.link(alloc, files)?;
         let links = self.links.as_slice();

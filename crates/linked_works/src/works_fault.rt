@@ -25,10 +25,10 @@ pub enum WorksFault {
     /// There are more than 1,048,576 rows.
     #[error("there are more than 1048576 rows")]
     Rows,
-    /// With this row, what is claimed of its work is paid to more than 256 payees.
+    /// With this row, the parties of the registrations in force of its work have more than 256 payees.
     #[error("with row {0} its work has more than 256 payees")]
     Many(u64),
-    /// What is claimed of all works is paid to more than 16,383 payees.
+    /// The parties of all linked registrations in force have more than 16,383 payees.
     #[error("there are more than 16383 payees")]
     Accounts,
     /// A growth of memory was refused.

@@ -1,15 +1,14 @@
 -- Files that were read: their bytes, and what is found in them.
-use Rattle.std.proofs.Common.{◌≡◌, ◌∙◌, ◌<◌, ◌≤◌, ◌+◌, ◌⊎◌, ◌∷◌, ◌++◌, [], ℕ, zero, suc, All, AllPairs, List, Option, None, Some, ap, arith, get_or, inl, inr, length, length-append, map, nat_eq, refl, subst, sym, zip}
-use Rattle.std.specs.Prelude.{option_and_then}
+use Rattle.std.proofs.Common.{◌≡◌, ◌∙◌, ◌<◌, ◌≤◌, ◌+◌, ◌∷◌, ◌++◌, [], ℕ, zero, suc, All, List, Some, ap, arith, get_or, inl, inr, length, nat_eq, refl, subst, sym, zip}
 use Rattle.std.specs.Cmp.Lexicographic.{pointwise}
 use Rattle.std.proofs.lemmas.Bool.{cases_Bool, cases_lt}
 use Rattle.std.proofs.lemmas.List.{get_or_append_left, get_or_default, get_or_push, length_push}
 use Rattle.cwr_share.specs.CwrFile.{AreSound}
 use Rattle.cwr_share.specs.InForce.{HasInForce, IsOneRegistration}
 use Rattle.cwr_share.specs.Lines.{lines_of}
-use Rattle.cwr_share.specs.Registrations.{ShareLine, find_work, shares_in_force}
+use Rattle.cwr_share.specs.Registrations.{ShareLine, find_work}
 use Rattle.cwr_share.specs.declared.in_force.InForce.{InForce}
-use Rattle.linked_works.specs.Linked.{Finds, finds_among}
+use Rattle.linked_works.specs.Linked.{finds_among}
 use Rattle.submitted_inputs.specs.Files.{AreFilesRead, IsFileRead}
 use Rattle.submitted_inputs.specs.Submitted.{AreFiles, finds_by}
 

@@ -1,9 +1,9 @@
 -- What became of files, where each was read or refused.
-use Rattle.std.proofs.Common.{◌≡◌, ◌∙◌, ◌+◌, ◌<◌, ◌≤◌, ◌⊎◌, ◌∷◌, ◌++◌, [], ℕ, List, Option, Some, Ok, Err, Result, add-zero, ap, arith, get_or, inl, inr, length, length-append, map, refl, subst, sym}
+use Rattle.std.proofs.Common.{◌≡◌, ◌∙◌, ◌+◌, ◌<◌, ◌⊎◌, ◌∷◌, ◌++◌, [], ℕ, List, Option, Some, Err, Result, add-zero, ap, arith, get_or, inl, inr, length, length-append, map, subst, sym}
 use Rattle.std.proofs.lemmas.List.{get_or-map, get_or_append_left, length-map}
 use Rattle.std.proofs.Math.Seq.{get_or-append-add}
 use Rattle.cwr_share.specs.declared.in_force.InForce.{InForce}
-use Rattle.submitted_inputs.specs.Files.{AreFilesRead, IsFaultOfFile, IsFaultOfFiles, IsFileRead, IsSoundFile}
+use Rattle.submitted_inputs.specs.Files.{AreFilesRead, IsFaultOfFile, IsFaultOfFiles, IsSoundFile}
 use Rattle.submitted_inputs.specs.Outcomes.{AreOutcomes, IsFirstRefused, IsOutcomeOf, read_as}
 use Rattle.submitted_inputs.specs.declared.fault.SubmittedFault.{SubmittedFault}
 use Rattle.submitted_inputs.specs.declared.fault.SubmittedFault.TheVariants.{Room}
@@ -20,7 +20,8 @@ module _ (holds : ℕ → List ℕ → Type 0) (refuses : ℕ → Type 0) (outco
         all = count;
         each = λ place d within.
             let inside : place < length read = omega (arith, within, count) in
-            let at : get_or outcomes place (read_as d) ≡ read_as (get_or read place d) = ap (λ (l : List Outcome). get_or l place (read_as d)) is ∙ get_or-map read_as read place d (read_as d) inside in
+            let at : get_or outcomes place (read_as d) ≡ read_as (get_or read place d) =
+            ap (λ (l : List Outcome). get_or l place (read_as d)) is ∙ get_or-map read_as read place d (read_as d) inside in
             subst (IsOutcomeOf holds refuses place) at (are place (read_as d) within);
       }
 

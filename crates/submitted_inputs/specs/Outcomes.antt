@@ -15,15 +15,16 @@ IsOutcomeOf holds refuses place (Some (Err fault)) = (fault ≡ Room) ⊎ IsFaul
 -- so is each
 abbrev pub AreOutcomes : (holds : ℕ → List ℕ → Type 0) → (refuses : ℕ → Type 0)
     → List (Option (Result InForce SubmittedFault)) → Type 0
-AreOutcomes holds refuses outcomes = (place : ℕ) (d : Option (Result InForce SubmittedFault)) → place < length outcomes
-    → IsOutcomeOf holds refuses place (slice_index_or outcomes place d)
+AreOutcomes holds refuses outcomes = (place : ℕ) (d : Option (Result InForce SubmittedFault))
+    → place < length outcomes → IsOutcomeOf holds refuses place (slice_index_or outcomes place d)
 
 -- a file was read
 abbrev pub read_as : InForce → Option (Result InForce SubmittedFault)
 read_as in_force = Some (Ok in_force)
 
 -- those before one were read, and this one is refused
-pub record IsFirstRefused (outcomes : List (Option (Result InForce SubmittedFault))) (fault : SubmittedFault) : Type 0 where
+pub record IsFirstRefused (outcomes : List (Option (Result InForce SubmittedFault))) (fault : SubmittedFault)
+    : Type 0 where
   pub read : List InForce
   pub later : List (Option (Result InForce SubmittedFault))
   pub split : outcomes ≡ map read_as read ++ Some (Err fault) ∷ later

@@ -1,5 +1,5 @@
 -- The inputs of a run over the files of several submitters: what they are read as, and what they are refused for.
-use Rattle.std.specs.Prelude.{ℕ, ◌≡◌, ◌≤◌, ◌<◌, ◌⊎◌, All, AllPairs, List, [], Option, Some, None, length, map, slice_index_or, zip}
+use Rattle.std.specs.Prelude.{ℕ, ◌≡◌, ◌<◌, ◌⊎◌, All, List, [], Option, Some, None, length, map, slice_index_or, zip}
 use Rattle.std.specs.Option.{option_map}
 use Rattle.csv_table.specs.Table.{rows_of}
 use Rattle.cwr_share.specs.CwrFile.{AreSound}
@@ -40,7 +40,7 @@ abbrev pub IsFaultOfPayees : (names : List (List ℕ)) → Option (List ℕ) →
 IsFaultOfPayees names None fault = ⊥
 IsFaultOfPayees names (Some file) fault = payees.IsFaultOf names (rows_of file) fault
 
--- the files of so many submitters hold these bytes, in their order, which are sound CWR
+-- the files of `count` submitters hold these bytes, in their order, which are sound CWR
 pub record AreFiles (holds : ℕ → List ℕ → Type 0) (count : ℕ) (files : List (List ℕ)) : Type 0 where
   pub all : length files ≡ count
   pub held : (place : ℕ) → place < count → holds place (slice_index_or files place [])
@@ -76,7 +76,8 @@ pub record IsReading (names : List (List ℕ)) (holds : ℕ → List ℕ → Typ
   pub uses : usage.IsTableOf (rows_of inputs.usage) tables.usage
 
 -- a fault of the run that is one of an input's own
-abbrev pub IsFaultAs : {F : Type 0} → (as_fault : F → SubmittedFault) → (IsOwnFault : F → Type 0) → SubmittedFault → Type 0
+abbrev pub IsFaultAs : {F : Type 0} → (as_fault : F → SubmittedFault) → (IsOwnFault : F → Type 0) → SubmittedFault
+    → Type 0
 IsFaultAs {F} as_fault IsOwnFault fault = (own : F) × IsOwnFault own × (fault ≡ as_fault own)
 
 -- there are no such registrations: memory was refused, or a file is, or what the links come to with all files
@@ -88,17 +89,19 @@ IsFaultOfRegistrations names holds refuses rows links fault =
     ⊎ ((files : List (List ℕ)) × AreFiles holds (length names) files
     × IsFaultAs fault_of_works (IsFaultOfLinks rows (finds_by names files) links) fault)
 
--- What a run is refused for: the first input that is refused, for its first fault; those before it were read. They come in
--- this order: territories, payees, the table of works by itself, the files of the submitters, what the table of works comes
--- to by their registrations, and the usage lines. Or it is refused for lack of memory, which is no fault of an input.
+-- What a run is refused for: the first input that is refused, for its first fault; those before it were read. They come
+-- in this order: territories, payees, the table of works by itself, the files of the submitters, what the table of
+-- works comes to by their registrations, and the usage lines. Or it is refused for lack of memory, which is no fault of
+-- an input.
 abbrev pub IsFaultOf : (names : List (List ℕ)) → (holds : ℕ → List ℕ → Type 0) → (refuses : ℕ → Type 0)
     → (inputs : SubmittedTables (List ℕ)) → SubmittedFault → Type 0
 IsFaultOf names holds refuses inputs fault =
     let territories = rows_of inputs.territories in
+    let payees_in = inputs.payees in
     let links_in = rows_of inputs.works in
     (fault ≡ Room)
     ⊎ ThisOrLater (IsFaultAs fault_of_tis (tis.IsFaultOf territories)) (tis.IsTableOf territories) (λ _.
-    ThisOrLater (IsFaultAs fault_of_payees (IsFaultOfPayees names inputs.payees)) (ArePayees names inputs.payees) (λ rows.
+    ThisOrLater (IsFaultAs fault_of_payees (IsFaultOfPayees names payees_in)) (ArePayees names payees_in) (λ rows.
     ThisOrLater (IsFaultAs fault_of_works (works.IsFaultOf names links_in)) (works.IsTableOf names links_in) (λ links.
     ThisOrLater (IsFaultOfFiles holds refuses (length names)) (AreFiles holds (length names)) (λ files.
     ThisOrLater (IsFaultAs fault_of_works (IsFaultOfLinks rows (finds_by names files) links))

@@ -7,8 +7,8 @@ use std::alloc::AllocError;
 use thiserror::Error;
 use tis_tree::TisFault;
 
-/// Why a run over several files has no statements: an input is refused, or memory was. A submitter goes by its place among the
-/// names, from 0.
+/// Why a run over several files has no statements: an input is refused, or memory was. A submitter goes by its place
+/// among the names, from 0.
 #[derive(Clone, Copy, Debug, PartialEq, Eq, Error)]
 pub enum SubmittedFault {
     /// The table of territories is refused.

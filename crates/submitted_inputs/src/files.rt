@@ -34,7 +34,8 @@ pub fn read_with_text<F: SubmitterFiles>(
     place: usize,
 ) -> Result<(Vec<u8>, InForce), SubmittedFault>
     ensures read { IfOk result (λ read. IsTextRead (F.holds files.now) place read.0.items read.1) }
-    ensures fault { IfErr result (λ fault. (fault ≡ Room) ⊎ IsFaultOfFile (F.holds files.now) (F.refuses files.now) place fault) }
+    ensures fault { IfErr result (λ fault. (fault ≡ Room)
+        ⊎ IsFaultOfFile (F.holds files.now) (F.refuses files.now) place fault) }
 {
     let Some(bytes) = files.read(alloc, place)? else {
         return Err(SubmittedFault::Unreadable(place));
@@ -53,7 +54,8 @@ fn read_file<F: SubmitterFiles>(
     place: usize,
 ) -> Result<InForce, SubmittedFault>
     ensures read { IfOk result (IsFileRead (F.holds files.now) place) }
-    ensures fault { IfErr result (λ fault. (fault ≡ Room) ⊎ IsFaultOfFile (F.holds files.now) (F.refuses files.now) place fault) }
+    ensures fault { IfErr result (λ fault. (fault ≡ Room)
+        ⊎ IsFaultOfFile (F.holds files.now) (F.refuses files.now) place fault) }
 {
     let (_, in_force) = read_with_text(alloc, files, place)?;
     Ok(in_force)
@@ -62,8 +64,8 @@ fn read_file<F: SubmitterFiles>(
 /// What became of a file: its registrations in force, or why there are none. Nothing, before it is read.
 type Outcome = Option<Result<InForce, SubmittedFault>>;
 
-/// The registrations in force of the files of so many submitters, which are read side by side by so many threads. The fault of
-/// the first that has one is the answer. A thread that the system refuses costs time alone.
+/// The registrations in force of the files of `count` submitters, read side by side by up to `threads` threads. The fault
+/// of the first that has one is the answer. A thread that the system refuses costs time alone.
 pub(crate) fn read_files<R: Threads + Sync, F: SubmitterFiles + Sync>(
     rt: &R,
     alloc: Global,
@@ -72,14 +74,15 @@ pub(crate) fn read_files<R: Threads + Sync, F: SubmitterFiles + Sync>(
     threads: usize,
 ) -> Result<Vec<InForce>, SubmittedFault>
     ensures read { IfOk result (λ read. AreFilesRead (F.holds files.now) count read.items) }
-    ensures fault { IfErr result (λ fault. (fault ≡ Room) ⊎ IsFaultOfFiles (F.holds files.now) (F.refuses files.now) count fault) }
+    ensures fault { IfErr result (λ fault. (fault ≡ Room)
+        ⊎ IsFaultOfFiles (F.holds files.now) (F.refuses files.now) count fault) }
 {
     let mut outcomes = none_yet(alloc, count)?;
     read_each(rt, alloc, files, outcomes.as_mut_slice(), threads.max(1));
     in_order(alloc, outcomes)
 }
 
-/// Reads the file of each place, by so many threads.
+/// Reads the file of each place, by up to `threads` threads.
 fn read_each<R: Threads + Sync, F: SubmitterFiles + Sync>(
     rt: &R,
     alloc: Global,
@@ -100,7 +103,7 @@ fn read_each<R: Threads + Sync, F: SubmitterFiles + Sync>(
     );
 }
 
-/// So many files that are to be read.
+/// No outcome yet, for each of `count` files.
 fn none_yet(alloc: Global, count: usize) -> Result<Vec<Outcome>, AllocError>
     ensures { IfOk result (λ outcomes. length outcomes.items ≡ count) }
 {

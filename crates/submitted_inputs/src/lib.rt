@@ -1,5 +1,5 @@
-//! The inputs of a distribution run over the files of several submitters: tables of territories, of payees, of works and of
-//! usage lines, and a CWR file of each submitter; and what they are refused for.
+//! The inputs of a distribution run over the files of several submitters: tables of territories, of payees, of works
+//! and of usage lines, and a CWR file of each submitter; and what they are refused for.
 #![tactic(auto)]
 
 mod fault;

@@ -14,9 +14,9 @@ use run_inputs::{Input, Tables, read_territories, read_usage};
 use std::alloc::Global;
 use std::thread::Threads;
 
-/// Reads the inputs of a run over the files of several submitters, in order: the tables of territories, of payees and of works,
-/// the files, side by side in so many threads, and then the usage lines, in parts by as many. The fault of the first input that
-/// has one is the answer. A thread that the system refuses costs time alone.
+/// Reads the inputs of a run over the files of several submitters, in order: the tables of territories, of payees and of
+/// works, the files, side by side by up to `threads` threads, and then the usage lines, in parts by as many. The fault of
+/// the first input that has one is the answer. A thread that the system refuses costs time alone.
 pub fn read_submitted<R: Threads + Sync, I: Input + Drop, F: SubmitterFiles + Sync>(
     rt: &R,
     alloc: Global,
@@ -26,7 +26,8 @@ pub fn read_submitted<R: Threads + Sync, I: Input + Drop, F: SubmitterFiles + Sy
     threads: u64,
 ) -> Result<Tables, SubmittedFault>
     ensures read { IfOk result (IsReading submitters.now (F.holds files.now) (map_tables I.bytes tables)) }
-    ensures fault { IfErr result (IsFaultOf submitters.now (F.holds files.now) (F.refuses files.now) (map_tables I.bytes tables)) }
+    ensures fault { IfErr result (IsFaultOf submitters.now (F.holds files.now) (F.refuses files.now)
+        (map_tables I.bytes tables)) }
 {
     let territories = read_territories(alloc, tables.territories)?;
     let payees = payees_of(alloc, submitters, tables.payees)?;
@@ -51,7 +52,8 @@ fn registry_of<R: Threads + Sync, F: SubmitterFiles + Sync>(
     threads: usize,
 ) -> Result<Registry, SubmittedFault>
     ensures registry { IfOk result (AreFoundIn works.now.names (F.holds files.now) payees.now works.now.links) }
-    ensures fault { IfErr result (IsFaultOfRegistrations works.now.names (F.holds files.now) (F.refuses files.now) payees.now works.now.links) }
+    ensures fault { IfErr result (IsFaultOfRegistrations works.now.names (F.holds files.now) (F.refuses files.now)
+        payees.now works.now.links) }
 {
     let read = read_files(rt, alloc, files, works.submitters(), threads)?;
     Ok(works.registry(alloc, read.as_slice(), payees)?)
@@ -63,7 +65,8 @@ fn works_of<'a, I: Input + Drop>(
     submitters: &'a Submitters,
     file: I,
 ) -> Result<Works<'a>, WorksFault>
-    ensures works { IfOk result (λ works. works_table.IsTableOf submitters.entry.now (rows_of (I.bytes file)) works.links) }
+    ensures works { IfOk result (λ works.
+        works_table.IsTableOf submitters.entry.now (rows_of (I.bytes file)) works.links) }
     ensures names { IfOk result (λ works. works.names ≡ submitters.entry.now) }
     ensures fault { IfErr result (works_table.IsFaultOf submitters.entry.now (rows_of (I.bytes file))) }
 {

@@ -4,20 +4,24 @@ use Rattle.std.proofs.lemmas.List.{get_or-map, length-map, map_push, take_more}
 use Rattle.cwr_share.specs.Registrations.{ShareLine, find_work}
 use Rattle.cwr_share.specs.declared.TheConstants.{MOST_SHARES}
 use Rattle.linked_works.specs.Linked as linked
-use Rattle.linked_works.specs.Linked.{Finds, finds_among, shares_linked}
-use Rattle.linked_works.specs.Rows.{links_by, names_by, with_registration}
+use Rattle.linked_works.specs.Linked.{finds_among, shares_linked}
+use Rattle.linked_works.specs.Rows.{link_by, links_by, names_by, with_registration}
 use Rattle.linked_works.specs.Submitters.{IsSubmitter}
 use Rattle.linked_works.specs.declared.linking.Link.{Link}
 use Rattle.linked_works.proofs.LinkedLemmas.{few_with, find_named, linked_push}
 use Rattle.linked_works.proofs.linking.link_all.Goals as goal
+
+abbrev items_of : Vec ℕ Global → List ℕ
+items_of name = name.items
 
 pub add_link-requires-clause-name : goal.add_link-requires-clause-name
 add_link-requires-clause-name c =
     let place = c.link-item.result.submitter in
     let in_links : place < length c.args.names.now = rw (sym c.link-item.is) at (c.requires.known c.loop-link.link-index c.link-item.result c.loop-link-test.true) in
     let same : c.as_slice-name.result.now ≡ get_or (names_by c.args.names.now) place [] =
-    c.as_slice-name.ensures.value ∙ (ap (λ (name : Vec ℕ Global). name.items) c.index-names-link.is ∙ sym (get_or-map (λ (name : Vec ℕ Global). name.items) c.args.names.now place c.index-names-link.result [] in_links)) in
-    subst IsSubmitter (sym same) (c.requires.submitters place [] (omega (arith, in_links, length-map c.args.names.now (λ (name : Vec ℕ Global). name.items))))
+    c.as_slice-name.ensures.value
+    ∙ (ap items_of c.index-names-link.is ∙ sym (get_or-map items_of c.args.names.now place c.index-names-link.result [] in_links)) in
+    subst IsSubmitter (sym same) (c.requires.submitters place [] (omega (arith, in_links, length-map c.args.names.now items_of)))
 
 pub loop-link-preserved : goal.loop-link-preserved
 loop-link-preserved c =
@@ -31,18 +35,20 @@ loop-link-preserved c =
     let name = get_or names place [] in
     let file = c.index-files-link.result in
     let finds = finds_among (zip names files) in
-    let row : linked.Link = record { work = link.work; submitter = name; number = number } in
+    let row = link_by names link in
     let in_links : place < length c.args.names.now = rw (sym c.link-item.is) at (c.requires.known n link c.loop-link-test.true) in
-    let in_names : place < length names = omega (arith, in_links, length-map c.args.names.now (λ (name : Vec ℕ Global). name.items)) in
+    let in_names : place < length names = omega (arith, in_links, length-map c.args.names.now items_of) in
     let in_files : place < length files = omega (arith, in_links, c.requires.files) in
     let same_name : c.as_slice-name.result.now ≡ name =
-    c.as_slice-name.ensures.value ∙ (ap (λ (name : Vec ℕ Global). name.items) c.index-names-link.is ∙ sym (get_or-map (λ (name : Vec ℕ Global). name.items) c.args.names.now place c.index-names-link.result [] in_links)) in
+    c.as_slice-name.ensures.value
+    ∙ (ap items_of c.index-names-link.is ∙ sym (get_or-map items_of c.args.names.now place c.index-names-link.result [] in_links)) in
     let same_file : finds name number ≡ find_work number file =
-    ap (option_and_then (λ (works : List (List ℕ × List ShareLine)). find_work number works)) (find_named names files place file (omega (arith, c.requires.files, length-map c.args.names.now (λ (name : Vec ℕ Global). name.items))) c.requires.once in_names)
+    ap (option_and_then (λ (works : List (List ℕ × List ShareLine)). find_work number works))
+    (find_named names files place file (omega (arith, c.requires.files, length-map c.args.names.now items_of)) c.requires.once in_names)
     ∙ ap (find_work number) (sym c.index-files-link.is) in
     let more : links_by names (take (n + 1) links) ≡ links_by names (take n links) ++ row ∷ [] =
     ap (links_by names) (take_more links n link c.loop-link-test.true ∙ ap (λ (next : Link). take n links ++ next ∷ []) (sym c.link-item.is))
-    ∙ map_push (λ (link : Link). record { work = link.work; submitter = get_or names link.submitter []; number = link.number }) (take n links) link in
+    ∙ map_push (link_by names) (take n links) link in
     record {
       works = λ work.
           let so_far = c.loop-link.invariant.works work in

@@ -4,8 +4,7 @@ use Rattle.std.proofs.lemmas.List.{length-map, length-take-le}
 use Rattle.cwr_share.specs.Registrations.{ShareLine, find_work}
 use Rattle.cwr_share.proofs.PassedOverLemmas.{tally_few}
 use Rattle.linked_works.specs.Linked.{finds_among}
-use Rattle.linked_works.specs.Rows.{links_by, names_by}
-use Rattle.linked_works.specs.declared.linking.Link.{Link}
+use Rattle.linked_works.specs.Rows.{link_by, links_by, names_by}
 use Rattle.linked_works.proofs.LinkedLemmas.{find_named}
 use Rattle.linked_works.proofs.PassingOver.{is_out, tally_next}
 use Rattle.linked_works.proofs.passed_over.not_in_force.Goals.{then-not-is_in_force, else-not-is_in_force}
@@ -17,7 +16,7 @@ add-requires c =
     let links = c.args.links.now in
     let before = take c.loop-place.place links in
     let long : length (links_by names before) ≡ length before =
-    length-map before (λ (link : Link). record { work = link.work; submitter = get_or names link.submitter []; number = link.number }) in
+    length-map before (link_by names) in
     omega (
       arith,
       tally_few (is_out (finds_among (zip names c.args.files.now))) (links_by names before) c.loop-place.tally c.loop-place.invariant,

@@ -1,4 +1,4 @@
-use Rattle.std.proofs.Common.{◌≡◌, ◌∙◌, ◌⊎◌, ◌++◌, ℕ, List, Option, Result, Vec, Global, ap, arith, drop, inl, inr, length, map, subst, sym, take, take_at}
+use Rattle.std.proofs.Common.{◌≡◌, ◌⊎◌, ◌++◌, List, Option, Result, Vec, Global, arith, drop, inl, inr, length, map, subst, take, take_at}
 use Rattle.std.specs.Prelude.{IfErr, IfOk}
 use Rattle.std.proofs.lemmas.Result.{IfErr-weaker, IfOk-weaker}
 use Rattle.cwr_share.specs.declared.in_force.InForce.{InForce}

@@ -17,7 +17,8 @@ returns-in_err-registry-clause-fault g c =
     let refuses = g.F.SubmitterFiles.refuses c.args.files.now in
     let exit = err_from_is_err_and c.from_residual-in_err-registry.result c.from_residual-in_err-registry.ensures.1 in
     let own = c.in_err-registry.field-0.0 in
-    let refused = subst (λ (names : List (List ℕ)). IsFaultOfRegistrations names holds refuses c.in_ok-payees.payees c.in_ok-works.works.links own) c.in_ok-works.ensures.names c.in_err-registry.ensures.fault in
+    let refused =
+    subst (λ (names : List (List ℕ)). IsFaultOfRegistrations names holds refuses c.in_ok-payees.payees c.in_ok-works.works.links own) c.in_ok-works.ensures.names c.in_err-registry.ensures.fault in
     rw (exit.1, exit.2)
     (registrations_fault c.args.submitters.now holds refuses (map_tables g.I.Input.bytes c.args.tables) c.in_ok-territories.territories c.in_ok-territories.ensures.territories
     c.in_ok-payees.payees c.in_ok-payees.ensures.payees c.in_ok-works.works.links c.in_ok-works.ensures.works own refused)

@@ -1,4 +1,4 @@
-use Rattle.std.proofs.Common.{◌≡◌, ◌∙◌, ℕ, List, ap, inr, length, refl, subst, sym, zip}
+use Rattle.std.proofs.Common.{◌≡◌, ◌∙◌, ℕ, List, ap, inr, length, refl, subst, zip}
 use Rattle.std.proofs.lemmas.Result.{err_from_is_err_and}
 use Rattle.cwr_share.specs.RegistryOf.{IsRegistryOf}
 use Rattle.cwr_share.specs.declared.in_force.InForce.{InForce}

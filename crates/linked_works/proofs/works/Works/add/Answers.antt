@@ -1,8 +1,7 @@
-use Rattle.std.proofs.Common.{arith, get_or, length, ◌<◌, ◌≡◌, ◌∙◌, ◌∷◌, ◌++◌, [], ℕ, List, Contains, ap, map, subst, sym}
+use Rattle.std.proofs.Common.{arith, length, ◌<◌, ◌≡◌, ◌∙◌, ◌∷◌, ◌++◌, [], ℕ, List, Contains, ap, map, subst, sym}
 use Rattle.std.proofs.lemmas.List.{length-map}
-use Rattle.linked_works.specs.Rows.{Table, key_of, links_by, names_by}
+use Rattle.linked_works.specs.Rows.{Table, key_of, link_by, links_by, names_by}
 use Rattle.linked_works.specs.declared.TheConstants.{MOST_LINKS}
-use Rattle.linked_works.specs.declared.linking.Link.{Link}
 use Rattle.linked_works.proofs.LinkRows.{fresh_key, links_added}
 use Rattle.linked_works.proofs.works.Works.add.Goals as goal
 
@@ -15,7 +14,7 @@ invariant_of-self-in-Ok c =
     subst (λ (keys : List (List ℕ)). ¬ Contains keys c.args.key) (ap (λ table. map key_of table.links) (sym c.self.view_is) ∙ sym kept.keys_of) c.requires.new in
     let keys : c.insert.new.self.keys ≡ c.self.inside.seen.keys ++ c.args.key ∷ [] = rw (fresh_key c.self.inside.seen.keys c.args.key new) at c.in-Ok.ensures.keys in
     let its : length (links_by names links) ≡ length links =
-    length-map links (λ (link : Link). record { work = link.work; submitter = get_or names link.submitter []; number = link.number }) in
+    length-map links (link_by names) in
     let room : length links < MOST_LINKS =
     omega (arith, its, ap (λ (table : Table). length table.links) c.self.view_is, c.requires.room) in
     rw (keys, c.in_ok-push.ensures.items)

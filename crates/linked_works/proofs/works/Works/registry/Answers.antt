@@ -13,7 +13,8 @@ found : (c : In_ok-have_few_payees) (work : List ℕ) → find_work work c.in_ok
     ≡ shares_linked (finds_among (zip (names_by c.self.inside.names.now) c.args.files.now)) (links_by (names_by c.self.inside.names.now) c.as_slice-links.result.now) work
 found c =
     rw c.as_slice-links.ensures.value
-    (subst (λ (table : Table). (work : List ℕ) → find_work work c.in_ok-joined.joined ≡ shares_linked (finds_among (zip table.names c.args.files.now)) table.links work) (sym c.self.view_is) c.in_ok-joined.ensures.works)
+    (subst (λ (table : Table). (work : List ℕ) → find_work work c.in_ok-joined.joined ≡ shares_linked (finds_among (zip table.names c.args.files.now)) table.links work)
+    (sym c.self.view_is) c.in_ok-joined.ensures.works)
 
 pub first_many-requires-clause-many : goal.first_many-requires-clause-many
 first_many-requires-clause-many c =
@@ -36,7 +37,8 @@ returns-in-Err-Accounts-clause-fault c =
     let names = names_by c.self.inside.names.now in
     let all = found (goal.at.returns-in-Err-Accounts-clause-fault c).In_ok-have_few_payees in
     let here : HaveFewPayees pay (finds_among (zip names files)) (links_by names c.self.inside.links.items) =
-    rw c.as_slice-links.ensures.value at (few_in_links pay (finds_among (zip names files)) names c.as_slice-links.result.now c.in_ok-joined.joined all (c.in_ok-have_few_payees.ensures.few c.if-not-branch.false)) in
+    rw c.as_slice-links.ensures.value at
+    (few_in_links pay (finds_among (zip names files)) names c.as_slice-links.result.now c.in_ok-joined.joined all (c.in_ok-have_few_payees.ensures.few c.if-not-branch.false)) in
     let few = subst (λ (table : Table). HaveFewPayees pay (finds_among (zip table.names files)) table.links) c.self.view_is here in
     elim c.in-Err-Accounts.ensures.fault [
       | inl memory ↦ absurd (cc (memory, c.in-Err-Accounts.field-0-is))

@@ -64,7 +64,8 @@ returns-clause-row c =
     c.in_ok-key.ensures ∙ (ap (λ (text : List ℕ). qualified text c.trimmed-registration.result.now) name
     ∙ ap (qualified (submitter_field row)) (c.trimmed-registration.ensures ∙ ap trimmed c.field-2.ensures)) in
     let missing = missing_key c.self.inside.seen.keys c.as_slice-2.result.now (sym c.contains.ensures ∙ c.if-contains.false) in
-    let none : ¬ Contains c.self.inside.seen.keys (qualified (submitter_field row) (number_field row)) = subst (λ (text : List ℕ). ¬ Contains c.self.inside.seen.keys text) (c.as_slice-2.ensures ∙ key) missing in
+    let none : ¬ Contains c.self.inside.seen.keys (qualified (submitter_field row) (number_field row)) =
+    subst (λ (text : List ℕ). ¬ Contains c.self.inside.seen.keys text) (c.as_slice-2.ensures ∙ key) missing in
     record {
       whole = whole;
       work = work;
