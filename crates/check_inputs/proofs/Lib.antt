@@ -1,8 +1,7 @@
 pub mod GoingOn
-pub mod Naming
 pub mod Reporting
 pub mod FilesRead
-pub mod Tallied
+pub mod Listing
 pub mod Telling
 pub mod SubmittedReporting
 pub mod SubmittedWhole

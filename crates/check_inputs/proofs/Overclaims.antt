@@ -1,5 +1,6 @@
 -- Lines that are claimed over, and what submitters claim on them.
-use Rattle.std.proofs.Common.{◌≡◌, ◌∙◌, ◌<◌, ◌+◌, ◌∷◌, ◌++◌, [], ℕ, zero, suc, Bool, true, false, cond, List, All, AllPairs, None, Option, Some, ap, append-nil, arith, filter, get_or, is_some, length, map, nat_eq, refl, sym, take, zip}
+use Rattle.std.proofs.Common.{◌≡◌, ◌∙◌, ◌<◌, ◌+◌, ◌∷◌, ◌++◌, [], ℕ, zero, suc, Bool, true, false, cond, List, All, AllPairs, None, Option, Some, ap, append-nil, arith, filter, get_or, is_some, length}
+use Rattle.std.proofs.Common.{map, nat_eq, refl, sym, take, zip}
 use Rattle.std.specs.Cmp.Lexicographic.{pointwise}
 use Rattle.std.specs.List.{cons_option, enumerate_from, filter_map, find}
 use Rattle.std.specs.Option.{option_map}

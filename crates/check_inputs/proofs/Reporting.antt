@@ -24,7 +24,8 @@ all_four true false c d = refl
 all_four false b c d = refl
 
 -- seven texts, one after another
-all_in_order : (none a b c d e f g one two three four five six seven : List ℕ) → none ≡ [] → one ≡ none ++ a → two ≡ one ++ b → three ≡ two ++ c → four ≡ three ++ d → five ≡ four ++ e → six ≡ five ++ f
+all_in_order : (none a b c d e f g one two three four five six seven : List ℕ) → none ≡ [] → one ≡ none ++ a → two ≡ one ++ b → three ≡ two ++ c → four ≡ three ++ d → five ≡ four ++ e
+    → six ≡ five ++ f
     → seven ≡ six ++ g → seven ≡ a ++ b ++ c ++ d ++ e ++ f ++ g
 all_in_order none a b c d e f g one two three four five six seven is w x y z v u t = rw (t, u, v, z, y, x, w, is) (simp (append_assoc) refl)
 
@@ -41,7 +42,8 @@ sound_of_four found none one two three four so_far first second third fourth =
 
 pub put_together : (paths files : Inputs (List ℕ)) (found : Found) (none one two three four five six seven : Sheet) (text : List ℕ) (sound : Bool)
     → (none.faults.items ≡ []) × (none.facts.items ≡ []) × (none.is_sound ≡ true)
-    → GoesOn none one (length found.of_territories) (fault_lines (tis_line paths.territories) paths.territories found.of_territories) (tis_facts paths.territories (length found.of_territories) found.table)
+    → GoesOn none one (length found.of_territories) (fault_lines (tis_line paths.territories) paths.territories found.of_territories)
+    (tis_facts paths.territories (length found.of_territories) found.table)
     → GoesOn one two (length found.of_payees) (fault_lines (payee_line (payees_path paths)) (payees_path paths) found.of_payees)
     (option_map_or (λ path. payees_facts path (length found.of_payees) found.rows) paths.payees [])
     → GoesOn two three (length found.of_registrations) (fault_lines (cwr_line paths.registrations) paths.registrations found.of_registrations)
@@ -57,8 +59,10 @@ put_together paths files found none one two three four five six seven text sound
   written =
       written
       ∙ rw (
-        last.in_words ∙ sixth.in_words ∙ fifth.in_words ∙ in_order none.faults.items _ _ _ _ one.faults.items two.faults.items three.faults.items four.faults.items begun.0 first.in_words second.in_words third.in_words fourth.in_words,
-        all_in_order none.facts.items _ _ _ _ _ _ _ one.facts.items two.facts.items three.facts.items four.facts.items five.facts.items six.facts.items seven.facts.items begun.1 first.in_numbers second.in_numbers third.in_numbers
+        last.in_words ∙ sixth.in_words ∙ fifth.in_words ∙ in_order none.faults.items _ _ _ _ one.faults.items two.faults.items three.faults.items four.faults.items begun.0
+            first.in_words second.in_words third.in_words fourth.in_words,
+        all_in_order none.facts.items _ _ _ _ _ _ _ one.facts.items two.facts.items three.facts.items four.facts.items five.facts.items six.facts.items
+            seven.facts.items begun.1 first.in_numbers second.in_numbers third.in_numbers
             fourth.in_numbers fifth.in_numbers sixth.in_numbers last.in_numbers,
       ) refl;
   told = told ∙ last.sound ∙ sixth.sound ∙ fifth.sound ∙ sound_of_four found none one two three four begun.2 first.sound second.sound third.sound fourth.sound;

@@ -90,7 +90,8 @@ module _ (holds : ℕ → List ℕ → Type 0) (paths : List (List ℕ)) (works 
             subst (λ (b : List ℕ). holds place b) (sym bytes) it.held,
             subst (λ (b : List ℕ). AreSound (lines_of b)) (sym bytes) (sound_without (lines_of file.bytes) file.faults file.works it.is_read none),
             subst (λ (b : List ℕ). HasInForce (lines_of b) (get_or in_force place d)) (sym bytes)
-                (subst (λ (w : List (List ℕ × List ShareLine)). HasInForce (lines_of file.bytes) w) (sym (works_at place d e inside)) (whole_file (lines_of file.bytes) file.faults file.works it.is_read none)),
+                (subst (λ (w : List (List ℕ × List ShareLine)). HasInForce (lines_of file.bytes) w) (sym (works_at place d e inside))
+                (whole_file (lines_of file.bytes) file.faults file.works it.is_read none)),
           );
     }
 

@@ -27,7 +27,8 @@ told_over line e text count faults told many = record {
 }
 
 -- the line of a fault, in three parts
-pub told_in_parts : {X : Type 0} (line : X → List ℕ) (e : X) (before begun said after path colon place message open' number close : List ℕ) (count counted : ℕ) (faults : List X) → IsTold line before count faults
+pub told_in_parts : {X : Type 0} (line : X → List ℕ) (e : X) (before begun said after path colon place message open' number close : List ℕ) (count counted : ℕ) (faults : List X)
+    → IsTold line before count faults
     → count < MOST_FAULTS → begun ≡ before ++ (path ++ colon ++ place) → said ≡ begun ++ message → after ≡ said ++ (open' ++ number ++ close) → counted ≡ count + 1
     → line e ≡ path ++ colon ++ place ++ message ++ open' ++ number ++ close → IsTold line after counted (faults ++ e ∷ [])
 told_in_parts line e before begun said after path colon place message open' number close count counted faults told few one two three more is =
@@ -39,14 +40,16 @@ pub told_whole : {X : Type 0} (line : X → List ℕ) (path before after : List 
 told_whole line path before after count faults told wrote = wrote ∙ rw (told.lines, told.all) refl
 
 -- a field that is not long is shown whole
-pub shown_whole : (field before after : List ℕ) (end : ℕ) → length field ≤ MOST_FIELD_BYTES → after ≡ before ++ flat_map shown_byte (take end field) → end ≡ length field → after ≡ before ++ shown field
+pub shown_whole : (field before after : List ℕ) (end : ℕ) → length field ≤ MOST_FIELD_BYTES → after ≡ before ++ flat_map shown_byte (take end field) → end ≡ length field
+    → after ≡ before ++ shown field
 shown_whole field before after end short wrote whole =
     let all : take MOST_FIELD_BYTES field ≡ field = take_all MOST_FIELD_BYTES field short in
     let here : take end field ≡ field = take_all end field (omega (arith, whole)) in
     wrote ∙ rw (here, all, le-ltb MOST_FIELD_BYTES (length field) short) (ap (λ (l : List ℕ). before ++ l) (sym (append-nil (flat_map shown_byte field))))
 
 -- five texts behind another
-pub five_behind : (start one two three four five first second third fourth fifth : List ℕ) → one ≡ start ++ first → two ≡ one ++ second → three ≡ two ++ third → four ≡ three ++ fourth → five ≡ four ++ fifth
+pub five_behind : (start one two three four five first second third fourth fifth : List ℕ) → one ≡ start ++ first → two ≡ one ++ second → three ≡ two ++ third → four ≡ three ++ fourth
+    → five ≡ four ++ fifth
     → five ≡ start ++ (first ++ second ++ third ++ fourth ++ fifth)
 five_behind start one two three four five first second third fourth fifth a b c d e = rw (e, d, c, b, a) (simp (append_assoc) refl)
 

@@ -22,8 +22,10 @@ ArePayeesWithout None out rows = (out ≡ []) × (rows ≡ [])
 ArePayeesWithout (Some file) out rows = payees.IsReadWithout (rows_of file) out rows
 
 -- a CWR file is read without these lines, and what is left has registrations, if not too many payees
-abbrev pub AreRegistrationsWithout : List (List ℕ × List ℕ) → List (List ℕ) → List (List ℕ × CwrFault) → Option Registered → Type 0
-AreRegistrationsWithout rows lines out (Some registered) = cwr.IsReadWithout rows lines out registered × IsRegistered registered
+abbrev pub AreRegistrationsWithout : List (List ℕ × List ℕ) → List (List ℕ) → List (List ℕ × CwrFault)
+    → Option Registered → Type 0
+AreRegistrationsWithout rows lines out (Some registered) =
+    cwr.IsReadWithout rows lines out registered × IsRegistered registered
 AreRegistrationsWithout rows lines out None = cwr.HasTooManyWithout rows lines out
 
 -- the faults of each, and what the rest was read as
@@ -40,7 +42,8 @@ pub record Found : Type 0 where
   pub totals : Option Totals
 
 -- there are totals where there are registrations and no file has a fault
-abbrev pub AreTotalsIfSound : (sound : Bool) → List (ℕ × List ℕ) → Option Registered → List UsageLine → Option Totals → Type 0
+abbrev pub AreTotalsIfSound : (sound : Bool) → List (ℕ × List ℕ) → Option Registered → List UsageLine → Option Totals
+    → Type 0
 AreTotalsIfSound true table (Some registered) lines (Some totals) = AreTotalsOf table registered lines totals
 AreTotalsIfSound true table (Some registered) lines None = ⊥
 AreTotalsIfSound true table None lines totals = totals ≡ None
@@ -48,12 +51,14 @@ AreTotalsIfSound false table registered lines totals = totals ≡ None
 
 -- no file has a fault
 abbrev pub is_sound : Found → Bool
-is_sound found = (length found.of_territories == 0) && (length found.of_payees == 0) && (length found.of_registrations == 0) && (length found.of_usage == 0)
+is_sound found = (length found.of_territories == 0) && (length found.of_payees == 0)
+    && (length found.of_registrations == 0) && (length found.of_usage == 0)
 
 -- Each input is read whatever stands in the others: the payees are those of the rows that were read.
 pub record IsFoundIn (files : Inputs (List ℕ)) (found : Found) : Type 0 where
   pub territories : tis.IsReadWithout (rows_of files.territories) found.of_territories found.table
   pub payees : ArePayeesWithout files.payees found.of_payees found.rows
-  pub registrations : AreRegistrationsWithout found.rows (lines_of files.registrations) found.of_registrations found.registered
+  pub registrations : AreRegistrationsWithout found.rows
+      (lines_of files.registrations) found.of_registrations found.registered
   pub usage : usage.IsReadWithout (rows_of files.usage) found.of_usage found.lines
   pub totals : AreTotalsIfSound (is_sound found) found.table found.registered found.lines found.totals

@@ -1,4 +1,5 @@
--- Claims of submitters as they are kept. Contracts of private functions alone cite it, and no promise rests on it.
+-- Claims of submitters by rows and files as they are read. Contracts of private functions alone cite it, and no promise
+-- rests on it.
 use Rattle.std.specs.Prelude.{ℕ, [], List, Option, slice_index_or}
 use Rattle.std.specs.List.{filter_map}
 use Rattle.std.specs.Option.{option_map}
@@ -7,11 +8,6 @@ use Rattle.cwr_share.specs.Registrations.{ShareLine, find_work}
 use Rattle.line_split.specs.declared.usage.Right.{Right}
 use Rattle.linked_works.specs.Linked.{Finds, Link}
 use Rattle.linked_works.specs.declared.works.WorksRow.{WorksRow}
-use Rattle.check_inputs.specs.declared.over.Claim.{Claim}
-
--- a submitter and what it claims
-abbrev pub claim_shown : Claim → List ℕ × ℕ
-claim_shown claim = (claim.submitter.now, claim.claim)
 
 -- the registration in force that a row links, with its submitter
 abbrev pub registration_of : Finds → Link → Option (List ℕ × List ShareLine)

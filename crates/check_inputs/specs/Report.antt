@@ -21,7 +21,8 @@ use Rattle.tis_tree.specs.declared.tis_fault.TisFault.{TisFault}
 use Rattle.usage_totals.specs.declared.total.Total.{Total}
 use Rattle.usage_totals.specs.declared.totals.Totals.{Totals}
 use Rattle.check_inputs.specs.Found.{Found}
-use Rattle.check_inputs.specs.Messages.{around, cwr_message, fact_line, fault_line, payee_message, remark_line, tis_message, total_line, usage_message}
+use Rattle.check_inputs.specs.Messages.{around, cwr_message, fact_line, fault_line, payee_message, remark_line}
+use Rattle.check_inputs.specs.Messages.{tis_message, total_line, usage_message}
 use Rattle.check_inputs.specs.declared.words.TheConstants.{MOST_FAULTS}
 
 -- where there is no table of payees, a report names none
@@ -30,7 +31,8 @@ payees_path paths = unwrap_or paths.payees []
 
 -- how many more faults there are than the first hundred
 abbrev pub more_line : (path : List ℕ) → (count : ℕ) → List ℕ
-more_line path count = if nat_lt MOST_FAULTS count then fact_line path (codes "further faults") (count - MOST_FAULTS) else []
+more_line path count =
+    if nat_lt MOST_FAULTS count then fact_line path (codes "further faults") (count - MOST_FAULTS) else []
 
 -- the first hundred faults of a file, each as a line, and how many more there are
 abbrev pub fault_lines : {X : Type 0} → (line : X → List ℕ) → (path : List ℕ) → List X → List ℕ
@@ -51,7 +53,8 @@ abbrev pub usage_line : (path : List ℕ) → List (List ℕ) × LineFault → L
 usage_line = row_line usage_message usage.place_of_fault usage.number_of_fault
 
 abbrev pub cwr_line : (path : List ℕ) → List ℕ × CwrFault → List ℕ
-cwr_line path e = fault_line path (codes "line ") (cwr.place_of_fault e.1) (cwr_message e.0 e.1) (cwr.number_of_fault e.1)
+cwr_line path e = fault_line path (codes "line ") (cwr.place_of_fault e.1) (cwr_message e.0 e.1)
+    (cwr.number_of_fault e.1)
 
 -- all faults, in the order in which a run reads the files
 abbrev pub faults_text : (paths : Inputs (List ℕ)) → Found → List ℕ
@@ -71,8 +74,8 @@ tis_facts path faults table = if_none faults (fact_line path (codes "territories
 abbrev pub payees_facts : (path : List ℕ) → (faults : ℕ) → List (List ℕ × List ℕ) → List ℕ
 payees_facts path faults rows = if_none faults (fact_line path (codes "parties with a payee") (length rows))
 
--- Of the registrations that are in the file, those that are not in force were replaced by later ones. The residue's account is one of the accounts, which
--- are told where the payees have no fault.
+-- Of the registrations that are in the file, those that are not in force were replaced by later ones. The residue's
+-- account is one of the accounts, which are told where the payees have no fault.
 abbrev pub cwr_numbers : (path : List ℕ) → (registrations : ℕ) → (payee_faults : ℕ) → Registered → List ℕ
 cwr_numbers path registrations payee_faults registered =
     fact_line path (codes "works with a registration in force") (length registered.works)
@@ -83,24 +86,33 @@ cwr_numbers path registrations payee_faults registered =
 
 abbrev pub cwr_facts : (path bytes : List ℕ) → (faults payee_faults : ℕ) → Option Registered → List ℕ
 cwr_facts path bytes faults payee_faults registered =
-    if_none faults (option_map_or (cwr_numbers path (count_by opens_registration (lines_of bytes)) payee_faults) registered [])
+    if_none faults (option_map_or
+    (cwr_numbers path (count_by opens_registration (lines_of bytes)) payee_faults) registered [])
 
 abbrev pub usage_facts : (path : List ℕ) → (faults : ℕ) → List UsageLine → List ℕ
 usage_facts path faults lines =
-    if_none faults (fact_line path (codes "usage lines") (length lines) ++ if_none (length lines) (remark_line path (codes "there are no usage lines")))
+    if_none faults (fact_line path (codes "usage lines") (length lines)
+    ++ if_none (length lines) (remark_line path (codes "there are no usage lines")))
 
 -- what is said of those behind the first ten
 abbrev pub others_text : (count : ℕ) → List ℕ
 others_text count = if nat_lt 10 count then codes " and others" else []
 
--- how many numbers there are, and the first ten of them
-abbrev pub numbers_text : (kind : List ℕ) → List ℕ → List ℕ
-numbers_text kind numbers = decimal (length numbers) ++ codes ", in " ++ kind ++ join_by decimal (codes ", ") (take 10 numbers) ++ others_text (length numbers)
+-- how many items there are, and the first ten of them
+abbrev pub items_text : {X : Type 0} → (words : X → List ℕ) → (kind : List ℕ) → List X → List ℕ
+items_text words kind items =
+    decimal (length items) ++ codes ", " ++ kind ++ join_by words (codes ", ") (take 10 items)
+    ++ others_text (length items)
 
--- of a kind of lines or rows that a run passes over: how many there are, and the numbers of the first ten
+-- a remark on items that a run passes over, where there are any
+abbrev pub items_line : {X : Type 0} → (words : X → List ℕ) → (path what kind : List ℕ) → List X → List ℕ
+items_line words path what kind [] = []
+items_line words path what kind (first ∷ later) =
+    remark_line path (what ++ codes ": " ++ items_text words kind (first ∷ later))
+
+-- the same of a kind of lines or rows, by their numbers
 abbrev pub tally_line : (path what kind : List ℕ) → List ℕ → List ℕ
-tally_line path what kind [] = []
-tally_line path what kind (first ∷ later) = remark_line path (what ++ codes ": " ++ numbers_text kind (first ∷ later))
+tally_line = items_line decimal
 
 -- a text about two files that have so many faults: there is one where neither has any
 abbrev pub if_neither : (faults others : ℕ) → List ℕ → List ℕ
@@ -109,12 +121,17 @@ if_neither faults others text = if (faults == 0) && (others == 0) then text else
 -- share lines of registrations, replaced ones too, whose territory the table does not have
 abbrev pub territories_remark : (path bytes : List ℕ) → (faults tis_faults : ℕ) → List (ℕ × List ℕ) → List ℕ
 territories_remark path bytes faults tis_faults table =
-    if_neither faults tis_faults (tally_line path (codes "share lines whose territory is not in the table") (codes "line ") (unknown_lines table (lines_of bytes)))
+    if_neither faults tis_faults (tally_line path
+    (codes "share lines whose territory is not in the table") (codes "in line ")
+    (unknown_lines table (lines_of bytes)))
 
 -- rows of a table of payees whose party no registration in force has
-abbrev pub payees_remark : (path : List ℕ) → (faults cwr_faults : ℕ) → List (List ℕ × List ℕ) → Option Registered → List ℕ
+abbrev pub payees_remark : (path : List ℕ) → (faults cwr_faults : ℕ) → List (List ℕ × List ℕ) → Option Registered
+    → List ℕ
 payees_remark path faults cwr_faults rows registered =
-    if_neither faults cwr_faults (option_map_or (λ registered. tally_line path (codes "rows whose party no registration in force has") (codes "row ") (unused_rows registered rows)) registered [])
+    if_neither faults cwr_faults (option_map_or (λ registered. tally_line path
+    (codes "rows whose party no registration in force has") (codes "in row ") (unused_rows registered rows))
+    registered [])
 
 -- a work without a registration, and a territory that the table has not
 abbrev pub work_line : (path : List ℕ) → List ℕ × Total → List ℕ
@@ -125,7 +142,8 @@ territory_line path e = total_line path (codes "territory " ++ decimal e.0 ++ co
 
 -- the lines that are divided, and what of them is the residue's
 abbrev pub divided_line : (path : List ℕ) → Totals → List ℕ
-divided_line path totals = total_line path (codes "divided") totals.divided (codes ", to the residue " ++ signed_decimal totals.residue)
+divided_line path totals = total_line path (codes "divided") totals.divided
+    (codes ", to the residue " ++ signed_decimal totals.residue)
 
 -- the lines of each reason
 abbrev pub reasons_text : (path : List ℕ) → Totals → List ℕ
@@ -146,17 +164,21 @@ totals_text usage registrations territories lines totals =
     ++ (if nat_lt 0 lines && not totals.knows_a_territory
     then remark_line territories (codes "it has the territory of no usage line") else [])
 
--- what is in the files that have no fault, and what of it a run passes over; nothing is said of a table of payees that is not there
+-- what is in the files that have no fault, and what of it a run passes over; nothing is said of a table of payees that
+-- is not there
 abbrev pub facts_text : (paths files : Inputs (List ℕ)) → Found → List ℕ
 facts_text paths files found =
     tis_facts paths.territories (length found.of_territories) found.table
     ++ option_map_or (λ path. payees_facts path (length found.of_payees) found.rows) paths.payees []
-    ++ cwr_facts paths.registrations files.registrations (length found.of_registrations) (length found.of_payees) found.registered
+    ++ cwr_facts paths.registrations files.registrations (length found.of_registrations)
+    (length found.of_payees) found.registered
     ++ usage_facts paths.usage (length found.of_usage) found.lines
-    ++ territories_remark paths.registrations files.registrations (length found.of_registrations) (length found.of_territories) found.table
+    ++ territories_remark paths.registrations files.registrations (length found.of_registrations)
+    (length found.of_territories) found.table
     ++ payees_remark (payees_path paths) (length found.of_payees) (length found.of_registrations)
     found.rows found.registered
-    ++ option_map_or (totals_text paths.usage paths.registrations paths.territories (length found.lines)) found.totals []
+    ++ option_map_or (totals_text paths.usage paths.registrations paths.territories (length found.lines))
+    found.totals []
 
 -- the report
 abbrev pub report_of : (paths files : Inputs (List ℕ)) → Found → List ℕ

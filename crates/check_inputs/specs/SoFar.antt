@@ -23,7 +23,8 @@ pub record IsTold {X : Type 0} (line : X → List ℕ) (text : List ℕ) (count 
   pub all : count ≡ length faults
 
 -- a CWR file is read to its end, and the faults of its lines are told
-pub record HasReadAll (line : List ℕ × CwrFault → List ℕ) (lines : List (List ℕ)) (text : List ℕ) (count : ℕ) (reader : CwrReader)
+pub record HasReadAll (line : List ℕ × CwrFault → List ℕ) (lines : List (List ℕ)) (text : List ℕ) (count : ℕ)
+    (reader : CwrReader)
     : Type 0 where
   pub stands : Stands reader
   pub out : List (List ℕ × CwrFault)
@@ -53,7 +54,8 @@ pub record PagesGoOn (before after : Pages) (faultless : Bool) (told facts remar
   pub sound : after.sheet.is_sound ≡ (before.sheet.is_sound && faultless)
 
 -- so much is known of a file that was read: what is found in it, what is in force, and whether it has no fault
-pub record IsOneRead (path bytes : List ℕ) (file : FileFound) (in_force : List (List ℕ × List ShareLine)) (sound : Bool) : Type 0 where
+pub record IsOneRead (path bytes : List ℕ) (file : FileFound) (in_force : List (List ℕ × List ShareLine))
+    (sound : Bool) : Type 0 where
   pub path_is : file.path ≡ path
   pub bytes_are : file.bytes ≡ bytes
   pub is_read : AreInForceWithout (lines_of bytes) file.faults file.works

@@ -6,7 +6,8 @@ use Rattle.submitted_inputs.specs.declared.inputs.SubmittedTables.{SubmittedTabl
 use Rattle.check_inputs.specs.SubmittedFound.{IsFoundIn, SubmittedFound, is_sound}
 use Rattle.check_inputs.specs.SubmittedReport.{report_of}
 
--- The text is the report, and `sound` says whether no input has a fault. The submitters have these names, and their files these paths.
+-- The text is the report, and `sound` says whether no input has a fault. The submitters have these names, and their
+-- files these paths.
 pub record IsSubmittedReportOn (names file_paths : List (List ℕ)) (holds : ℕ → List ℕ → Type 0)
     (paths tables : SubmittedTables (List ℕ)) (text : List ℕ) (sound : Bool) : Type 0 where
   pub found : SubmittedFound
@@ -15,7 +16,8 @@ pub record IsSubmittedReportOn (names file_paths : List (List ℕ)) (holds : ℕ
   pub told : sound ≡ is_sound found
 
 -- the file at this place cannot be read, and those before it can; there are so many files
-abbrev pub IsFirstUnread : (holds : ℕ → List ℕ → Type 0) → (refuses : ℕ → Type 0) → (count : ℕ) → SubmittedFault → Type 0
+abbrev pub IsFirstUnread : (holds : ℕ → List ℕ → Type 0) → (refuses : ℕ → Type 0) → (count : ℕ) → SubmittedFault
+    → Type 0
 IsFirstUnread holds refuses count (Unreadable place) =
     (place < count) × refuses place × ((earlier : ℕ) → earlier < place → (bytes : List ℕ) × holds earlier bytes)
 IsFirstUnread holds refuses count _ = ⊥

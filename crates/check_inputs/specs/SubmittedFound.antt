@@ -1,5 +1,7 @@
--- What is found in the inputs of a run over the files of several submitters, where reading goes on past what is refused.
-use Rattle.std.specs.Prelude.{ℕ, ◌≡◌, ◌==◌, ◌&&◌, ◌<◌, Bool, true, false, List, [], AllPairs, Option, Some, None, is_some, length, map, not, slice_index_or}
+-- What is found in the inputs of a run over the files of several submitters, where reading goes on past what is
+-- refused.
+use Rattle.std.specs.Prelude.{ℕ, ◌≡◌, ◌==◌, ◌&&◌, ◌<◌, Bool, true, false, List, [], AllPairs, Option, Some, None}
+use Rattle.std.specs.Prelude.{is_some, length, map, not, slice_index_or}
 use Rattle.std.specs.List.{list_all}
 use Rattle.csv_table.specs.ReadOn.{ReadsOn}
 use Rattle.csv_table.specs.RowTable as tables
@@ -28,7 +30,8 @@ use Rattle.usage_totals.specs.declared.totals.Totals.{Totals}
 use Rattle.check_inputs.specs.Found.{AreTotalsIfSound}
 
 -- a table of payees by submitter that need not be there is read without these rows
-abbrev pub ArePayeesWithout : (names : List (List ℕ)) → Option (List ℕ) → List (List (List ℕ) × PayeeFault) → List (List ℕ × List ℕ)
+abbrev pub ArePayeesWithout : (names : List (List ℕ)) → Option (List ℕ) → List (List (List ℕ) × PayeeFault)
+    → List (List ℕ × List ℕ)
     → Type 0
 ArePayeesWithout names None out rows = (out ≡ []) × (rows ≡ [])
 ArePayeesWithout names (Some file) out rows = tables.IsReadWithout (payee_rules names) (rows_of file) out rows
@@ -39,7 +42,8 @@ AreLinksWithout names file out links = tables.IsReadWithout (works_rules names) 
 
 -- The lines that are left out of a CWR file, and the registrations in force of those that are read, each once and in
 -- any order.
-pub record AreInForceWithout (lines : List (List ℕ)) (out : List (List ℕ × CwrFault)) (works : List (List ℕ × List ShareLine))
+pub record AreInForceWithout (lines : List (List ℕ)) (out : List (List ℕ × CwrFault))
+    (works : List (List ℕ × List ShareLine))
     : Type 0 where
   pub kept : List (List ℕ)
   pub end : ℕ
@@ -62,7 +66,8 @@ pub record IsFileFound (holds : List ℕ → Type 0) (file : FileFound) : Type 0
 -- the same of each file; these are the paths in the report
 pub record AreFilesFound (holds : ℕ → List ℕ → Type 0) (paths : List (List ℕ)) (files : List FileFound) : Type 0 where
   pub paths_are : map (λ file. file.path) files ≡ paths
-  pub each : (place : ℕ) (d : FileFound) → place < length files → IsFileFound (holds place) (slice_index_or files place d)
+  pub each : (place : ℕ) (d : FileFound) → place < length files
+      → IsFileFound (holds place) (slice_index_or files place d)
 
 -- what finds the share lines of a registration in force, in these files of submitters with these names
 abbrev pub finds_of : (names : List (List ℕ)) → List FileFound → Finds
@@ -95,10 +100,12 @@ are_linked found = (length found.of_payees == 0) && (length found.of_works == 0)
 -- no input has a fault, and the links are not refused
 abbrev pub is_sound : SubmittedFound → Bool
 is_sound found =
-    (length found.of_territories == 0) && are_linked found && not (is_some found.of_links) && (length found.of_usage == 0)
+    (length found.of_territories == 0) && are_linked found && not (is_some found.of_links)
+    && (length found.of_usage == 0)
 
 -- Where all that links are made of has no fault, they give the registrations of a run, or are refused.
-abbrev pub AreLinked : (linked : Bool) → (rows : List (List ℕ × List ℕ)) → Finds → List Link → Option WorksFault → Option Registered
+abbrev pub AreLinked : (linked : Bool) → (rows : List (List ℕ × List ℕ)) → Finds → List Link → Option WorksFault
+    → Option Registered
     → Type 0
 AreLinked true rows finds links None (Some registered) = AreRegistrations rows finds links registered
 AreLinked true rows finds links None None = ⊥
@@ -113,6 +120,7 @@ pub record IsFoundIn (names paths : List (List ℕ)) (holds : ℕ → List ℕ �
   pub payees : ArePayeesWithout names tables.payees found.of_payees found.rows
   pub works : AreLinksWithout names tables.works found.of_works found.links
   pub files_are : AreFilesFound holds paths found.files
-  pub linked : AreLinked (are_linked found) found.rows (finds_of names found.files) found.links found.of_links found.registered
+  pub linked : AreLinked (are_linked found) found.rows
+      (finds_of names found.files) found.links found.of_links found.registered
   pub usage : usage.IsReadWithout (rows_of tables.usage) found.of_usage found.lines
   pub totals : AreTotalsIfSound (is_sound found) found.table found.registered found.lines found.totals

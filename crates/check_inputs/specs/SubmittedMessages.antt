@@ -11,9 +11,11 @@ abbrev pub submitter_payee_message : List (List ℕ) → PayeeFault → List ℕ
 submitter_payee_message row (payee.Csv n) =
     if n == 0 then codes "the first row is not submitter,party,payee,name" else fields_message 4 row
 submitter_payee_message row (payee.Fields n) = names_message (at row 1) (at row 2)
-submitter_payee_message row (payee.Submitter n) = around (codes "submitter '") (at row 0) (codes "' is the name of no file")
+submitter_payee_message row (payee.Submitter n) =
+    around (codes "submitter '") (at row 0) (codes "' is the name of no file")
 submitter_payee_message row (payee.Twice n) =
-    around (codes "party '") (at row 1) (codes "' of submitter '") ++ around [] (at row 0) (codes "' has an earlier row")
+    around (codes "party '") (at row 1) (codes "' of submitter '")
+    ++ around [] (at row 0) (codes "' has an earlier row")
 submitter_payee_message row payee.Rows = codes "there are more than 1048576 rows"
 submitter_payee_message row payee.Memory = []
 
@@ -21,11 +23,14 @@ submitter_payee_message row payee.Memory = []
 abbrev pub works_message : List (List ℕ) → WorksFault → List ℕ
 works_message row (works.Csv n) =
     if n == 0 then codes "the first row is not work,submitter,number,title" else fields_message 4 row
-works_message row (works.Work n) = around (codes "work '") (at row 0) (codes "' is not 1 to 64 printable ASCII characters")
+works_message row (works.Work n) = around (codes "work '") (at row 0)
+    (codes "' is not 1 to 64 printable ASCII characters")
 works_message row (works.Submitter n) = around (codes "submitter '") (at row 1) (codes "' is the name of no file")
-works_message row (works.Number n) = around (codes "number '") (at row 2) (codes "' is not 1 to 14 printable ASCII characters, spaces at its ends not counted")
+works_message row (works.Number n) = around (codes "number '") (at row 2)
+    (codes "' is not 1 to 14 printable ASCII characters, spaces at its ends not counted")
 works_message row (works.Twice n) =
-    around (codes "number '") (at row 2) (codes "' of submitter '") ++ around [] (at row 1) (codes "' has an earlier row")
+    around (codes "number '") (at row 2) (codes "' of submitter '")
+    ++ around [] (at row 1) (codes "' has an earlier row")
 works_message row works.Rows = codes "there are more than 1048576 rows"
 works_message row _ = []
 
@@ -37,5 +42,6 @@ work_of_row links row = (slice_index_or links (row - 1) (record { work = []; sub
 abbrev pub links_message : List Link → WorksFault → List ℕ
 links_message links (works.Many n) =
     around (codes "with this row the parties of work '") (work_of_row links n) (codes "' have more than 256 payees")
-links_message links works.Accounts = codes "the parties of all registrations that are linked have more than 16383 payees"
+links_message links works.Accounts =
+    codes "the parties of all registrations that are linked have more than 16383 payees"
 links_message links _ = []

@@ -1,5 +1,6 @@
 -- The works of several submitters with most money of the lines that are claimed over, and who claims what.
-use Rattle.std.specs.Prelude.{ℕ, ◌&&◌, ◌++◌, ◌∷◌, [], List, None, Option, Some, codes, decimal, filter, flat_map, map, nat_eq, sum_by}
+use Rattle.std.specs.Prelude.{ℕ, ◌&&◌, ◌++◌, ◌∷◌, [], List, None, Option, Some, codes, decimal, filter, flat_map, map}
+use Rattle.std.specs.Prelude.{nat_eq, sum_by}
 use Rattle.std.specs.Cmp.Lexicographic.{pointwise}
 use Rattle.std.specs.List.{enumerate_from, filter_map, find, join_by}
 use Rattle.std.specs.Option.{option_map_or}
@@ -28,7 +29,8 @@ abbrev pub claim_of_submitter : List (List ℕ × ℕ) → (submitter : List ℕ
 claim_of_submitter claims submitter = together submitter (filter (λ claim. pointwise nat_eq claim.0 submitter) claims)
 
 -- the submitters that have a registration of a line's work in force, each with what it claims on the line
-abbrev pub claims_of_submitters : List (ℕ × List ℕ) → Finds → List Link → (names : List (List ℕ)) → UsageLine → List (List ℕ × ℕ)
+abbrev pub claims_of_submitters : List (ℕ × List ℕ) → Finds → List Link → (names : List (List ℕ)) → UsageLine
+    → List (List ℕ × ℕ)
 claims_of_submitters table finds links names line =
     filter_map (claim_of_submitter (claims_of table line (linked finds links line.work))) names
 
@@ -56,4 +58,5 @@ over_line path table registered finds links names lines e =
 -- such works, each as a line
 abbrev pub over_text : (path : List ℕ) → List (ℕ × List ℕ) → Registered → Finds → List Link → (names : List (List ℕ))
     → List UsageLine → List (List ℕ × Total) → List ℕ
-over_text path table registered finds links names lines over = flat_map (over_line path table registered finds links names lines) over
+over_text path table registered finds links names lines over =
+    flat_map (over_line path table registered finds links names lines) over

@@ -1,6 +1,6 @@
 -- The report on the inputs of a run over the files of several submitters.
-use Rattle.std.specs.Prelude.{ℕ, ◌-◌, ◌++◌, ◌∷◌, [], List, codes, count_by, decimal, flat_map, if◌then◌else◌, length, map, take, unwrap_or, zip}
-use Rattle.std.specs.List.{join_by}
+use Rattle.std.specs.Prelude.{ℕ, ◌-◌, ◌++◌, [], List, codes, count_by, flat_map, if◌then◌else◌, length, map, unwrap_or}
+use Rattle.std.specs.Prelude.{zip}
 use Rattle.std.specs.Option.{option_map_or}
 use Rattle.cwr_share.specs.Lines.{lines_of}
 use Rattle.cwr_share.specs.PassedOver.{unused_rows}
@@ -16,7 +16,8 @@ use Rattle.linked_works.specs.declared.works_fault.WorksFault.{WorksFault}
 use Rattle.submitted_inputs.specs.declared.inputs.SubmittedTables.{SubmittedTables}
 use Rattle.usage_totals.specs.declared.totals.Totals.{Totals}
 use Rattle.check_inputs.specs.Messages.{around, fact_line, fault_line, remark_line}
-use Rattle.check_inputs.specs.Report.{cwr_line, fault_lines, if_none, others_text, payees_facts, row_line, tally_line, territories_remark, tis_facts, tis_line, totals_text, usage_facts, usage_line}
+use Rattle.check_inputs.specs.Report.{cwr_line, fault_lines, if_none, items_line, payees_facts, row_line, tally_line}
+use Rattle.check_inputs.specs.Report.{territories_remark, tis_facts, tis_line, totals_text, usage_facts, usage_line}
 use Rattle.check_inputs.specs.SubmittedFound.{FileFound, SubmittedFound, are_linked, finds_of}
 use Rattle.check_inputs.specs.SubmittedOver.{over_text}
 use Rattle.check_inputs.specs.SubmittedMessages.{links_message, submitter_payee_message, works_message}
@@ -36,7 +37,8 @@ file_faults file = fault_lines (cwr_line file.path) file.path file.faults
 
 abbrev pub links_line : (path : List ℕ) → List Link → WorksFault → List ℕ
 links_line path links fault =
-    fault_line path (codes "row ") (works.place_of_fault fault) (links_message links fault) (works.number_of_fault fault)
+    fault_line path (codes "row ") (works.place_of_fault fault) (links_message links fault)
+    (works.number_of_fault fault)
 
 -- the faults told of each input, in the order in which a run looks for them
 abbrev pub faults_text : (paths : SubmittedTables (List ℕ)) → SubmittedFound → List ℕ
@@ -60,7 +62,8 @@ file_numbers path registrations in_force =
 
 abbrev pub file_facts : FileFound → List ℕ
 file_facts file =
-    if_none (length file.faults) (file_numbers file.path (count_by opens_registration (lines_of file.bytes)) (length file.works))
+    if_none (length file.faults) (file_numbers file.path (count_by opens_registration (lines_of file.bytes))
+    (length file.works))
 
 -- what the links come to; the residue's account is one of the accounts
 abbrev pub linked_facts : (path : List ℕ) → Registered → List ℕ
@@ -87,15 +90,6 @@ file_remark tis_faults table file = territories_remark file.path file.bytes (len
 abbrev pub quoted : List ℕ → List ℕ
 quoted number = around (codes "'") number (codes "'")
 
--- how many numbers there are, and the first ten of them
-abbrev pub names_text : List (List ℕ) → List ℕ
-names_text names = decimal (length names) ++ codes ", " ++ join_by quoted (codes ", ") (take 10 names) ++ others_text (length names)
-
--- of registrations that a run passes over: how many there are, and the numbers of the first ten
-abbrev pub names_line : (path what : List ℕ) → List (List ℕ) → List ℕ
-names_line path what [] = []
-names_line path what (first ∷ later) = remark_line path (what ++ codes ": " ++ names_text (first ∷ later))
-
 -- the numbers of the registrations in force of a file, in the order in which their NWR or REV records stand
 abbrev pub numbers_in_force : (bytes : List ℕ) → List (List ℕ)
 numbers_in_force bytes = map number_of (registrations_in_force (lines_of bytes))
@@ -103,7 +97,8 @@ numbers_in_force bytes = map number_of (registrations_in_force (lines_of bytes))
 -- those of a submitter's file that no row links
 abbrev pub unlinked_remark : List Link → (submitter : List ℕ) → (path bytes : List ℕ) → List ℕ
 unlinked_remark links submitter path bytes =
-    names_line path (codes "registrations in force that no row links") (unlinked_numbers links submitter (numbers_in_force bytes))
+    items_line quoted path (codes "registrations in force that no row links") []
+    (unlinked_numbers links submitter (numbers_in_force bytes))
 
 -- the same for each file, under its submitter's name
 abbrev pub unlinked_remarks : List Link → (names : List (List ℕ)) → List FileFound → List ℕ
@@ -112,19 +107,21 @@ unlinked_remarks links names files = flat_map (λ e. unlinked_remark links e.0 e
 -- rows of payees whose party no registration that is linked has
 abbrev pub payees_remark : (path : List ℕ) → List (List ℕ × List ℕ) → Registered → List ℕ
 payees_remark path rows registered =
-    tally_line path (codes "rows whose party no registration that is linked has") (codes "row ") (unused_rows registered rows)
+    tally_line path (codes "rows whose party no registration that is linked has") (codes "in row ")
+    (unused_rows registered rows)
 
 -- rows that link nothing
 abbrev pub rows_remark : (path : List ℕ) → Finds → List Link → List ℕ
 rows_remark path finds links =
-    tally_line path (codes "rows whose registration is not in force") (codes "row ") (rows_not_in_force finds links)
+    tally_line path (codes "rows whose registration is not in force") (codes "in row ") (rows_not_in_force finds links)
 
 -- and registrations that no row links
 abbrev pub links_remarks : (path : List ℕ) → (names : List (List ℕ)) → List FileFound → List Link → List ℕ
 links_remarks path names files links =
     rows_remark path (finds_of names files) links ++ unlinked_remarks links names files
 
--- what a run passes over; what is said of links is said only where the tables that they are made of and all files have no fault
+-- what a run passes over; what is said of links is said only where the tables that they are made of and all files have
+-- no fault
 abbrev pub remarks_text : (names : List (List ℕ)) → (paths : SubmittedTables (List ℕ)) → SubmittedFound → List ℕ
 remarks_text names paths found =
     flat_map (file_remark (length found.of_territories) found.table) found.files
@@ -137,7 +134,8 @@ over_works names path found registered totals =
     over_text path found.table registered (finds_of names found.files) found.links names found.lines totals.over.items
 
 -- what a run makes of the lines; the table of works takes the place of the CWR file in a run over one file
-abbrev pub run_text : (names : List (List ℕ)) → (paths : SubmittedTables (List ℕ)) → SubmittedFound → Registered → Totals → List ℕ
+abbrev pub run_text : (names : List (List ℕ)) → (paths : SubmittedTables (List ℕ)) → SubmittedFound → Registered
+    → Totals → List ℕ
 run_text names paths found registered totals =
     totals_text paths.usage paths.works paths.territories (length found.lines) totals
     ++ over_works names paths.usage found registered totals
@@ -146,4 +144,5 @@ run_text names paths found registered totals =
 abbrev pub report_of : (names : List (List ℕ)) → (paths : SubmittedTables (List ℕ)) → SubmittedFound → List ℕ
 report_of names paths found =
     faults_text paths found ++ facts_text paths found ++ remarks_text names paths found
-    ++ option_map_or (λ registered. option_map_or (run_text names paths found registered) found.totals []) found.registered []
+    ++ option_map_or (λ registered. option_map_or (run_text names paths found registered) found.totals [])
+    found.registered []

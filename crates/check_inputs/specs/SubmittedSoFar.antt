@@ -1,6 +1,6 @@
--- What is read of several submitters, part by part, and what is said of it. Contracts of private functions alone cite it, and no
--- promise rests on it.
-use Rattle.std.specs.Prelude.{ℕ, ◌≡◌, ◌==◌, ◌&&◌, ◌++◌, Bool, List, [], Option, flat_map, is_some, length, not}
+-- What is read of several submitters, part by part, and what is said of it. Contracts of private functions alone cite
+-- it, and no promise rests on it.
+use Rattle.std.specs.Prelude.{ℕ, ◌≡◌, ◌==◌, ◌&&◌, ◌++◌, List, [], Option, flat_map, length}
 use Rattle.std.specs.Option.{option_map_or}
 use Rattle.csv_table.specs.Table.{rows_of}
 use Rattle.cwr_share.specs.Registered.{Registered}
@@ -17,18 +17,20 @@ use Rattle.tis_tree.specs.declared.tis_fault.TisFault.{TisFault}
 use Rattle.usage_totals.specs.declared.totals.Totals.{Totals}
 use Rattle.check_inputs.specs.Found.{AreTotalsIfSound}
 use Rattle.check_inputs.specs.LinksSoFar.{LinksGoOn, finds_in_force}
-use Rattle.check_inputs.specs.Report.{fault_lines, payees_facts, tis_facts, tis_line, totals_text, usage_facts, usage_line}
+use Rattle.check_inputs.specs.Report.{fault_lines, payees_facts, tis_facts, tis_line, totals_text, usage_facts}
+use Rattle.check_inputs.specs.Report.{usage_line}
 use Rattle.check_inputs.specs.SoFar.{AreAllRead, PagesGoOn}
 use Rattle.check_inputs.specs.SubmittedFound.{AreLinksWithout, ArePayeesWithout, FileFound}
 use Rattle.check_inputs.specs.SubmittedOver.{over_text}
-use Rattle.check_inputs.specs.SubmittedReport.{file_facts, file_faults, file_remark, payees_path, submitter_payee_line, works_facts, works_line}
-use Rattle.check_inputs.specs.declared.submitted_files.FilesRead.{FilesRead}
+use Rattle.check_inputs.specs.SubmittedReport.{file_facts, file_faults, file_remark, payees_path, submitter_payee_line}
+use Rattle.check_inputs.specs.SubmittedReport.{works_facts, works_line}
 use Rattle.check_inputs.specs.declared.submitted_files.Pages.{Pages}
 use Rattle.check_inputs.specs.declared.submitted_sources.Sources.{Sources}
 use Rattle.check_inputs.specs.declared.submitted_sources.TablesRead.{TablesRead}
 
 -- the tables are read, and the report goes on by what is said of each
-pub record AreTablesRead (names : List (List ℕ)) (paths tables : SubmittedTables (List ℕ)) (before after : Pages) (read : TablesRead)
+pub record AreTablesRead (names : List (List ℕ)) (paths tables : SubmittedTables (List ℕ)) (before after : Pages)
+    (read : TablesRead)
     : Type 0 where
   pub of_territories : List (List (List ℕ) × TisFault)
   pub of_payees : List (List (List ℕ) × PayeeFault)
@@ -49,32 +51,28 @@ pub record AreTablesRead (names : List (List ℕ)) (paths tables : SubmittedTabl
       []
 
 -- so are the files
-pub record AreSourcesOf (names file_paths : List (List ℕ)) (holds : ℕ → List ℕ → Type 0) (paths tables : SubmittedTables (List ℕ))
+pub record AreSourcesOf (names file_paths : List (List ℕ)) (holds : ℕ → List ℕ → Type 0)
+    (paths tables : SubmittedTables (List ℕ))
     (before after : Pages) (sources : Sources) : Type 0 where
   pub between : Pages
-  pub of_tables : TablesRead
-  pub tables_read : AreTablesRead names paths tables before between of_tables
+  pub tables_read : AreTablesRead names paths tables before between sources.tables
   pub found : List FileFound
-  pub of_files : FilesRead
-  pub files_read : AreAllRead holds file_paths of_tables.works found of_files
-  pub on : PagesGoOn between after of_files.are_sound (flat_map file_faults found) (flat_map file_facts found)
-      (flat_map (file_remark of_tables.tis_faults of_tables.territories) found)
+  pub files_read : AreAllRead holds file_paths sources.tables.works found sources.files
+  pub on : PagesGoOn between after sources.files.are_sound (flat_map file_faults found) (flat_map file_facts found)
+      (flat_map (file_remark sources.tables.tis_faults sources.tables.territories) found)
   pub names_are : names_by sources.names.now ≡ names
   pub submitters : AreSubmitters names
-  pub from_tables : (sources.territories ≡ of_tables.territories) × (sources.payees ≡ of_tables.payees)
-      × (sources.works ≡ of_tables.works)
-  pub from_files : (sources.files ≡ of_files.in_force) × (sources.unlinked ≡ of_files.unlinked)
-  pub sound_is : sources.are_sound ≡ (of_tables.are_sound && of_files.are_sound)
 
 -- what a run makes of the lines, where links are made of these sources
 abbrev pub sources_text : (paths : SubmittedTables (List ℕ)) → Sources → List UsageLine → Registered → Totals → List ℕ
 sources_text paths sources lines registered totals =
     totals_text paths.usage paths.works paths.territories (length lines) totals
-    ++ over_text paths.usage sources.territories registered (finds_in_force sources) sources.works.links sources.works.names lines
-    totals.over.items
+    ++ over_text paths.usage sources.tables.territories registered (finds_in_force sources) sources.tables.works.links
+    sources.tables.works.names lines totals.over.items
 
 -- the links are looked at, and the usage list is read, and the report goes on by what is said of them
-pub record IsRunTold (paths : SubmittedTables (List ℕ)) (usage_list : List ℕ) (sources : Sources) (before after : Pages) : Type 0 where
+pub record IsRunTold (paths : SubmittedTables (List ℕ)) (usage_list : List ℕ) (sources : Sources)
+    (before after : Pages) : Type 0 where
   pub between : Pages
   pub of_links : Option WorksFault
   pub registered : Option Registered
@@ -83,7 +81,9 @@ pub record IsRunTold (paths : SubmittedTables (List ℕ)) (usage_list : List ℕ
   pub lines : List UsageLine
   pub usage_read : usage.IsReadWithout (rows_of usage_list) of_usage lines
   pub totals : Option Totals
-  pub are_totals : AreTotalsIfSound (between.sheet.is_sound && (length of_usage == 0)) sources.territories registered lines totals
+  pub are_totals : AreTotalsIfSound (between.sheet.is_sound && (length of_usage == 0))
+      sources.tables.territories registered lines totals
   pub on : PagesGoOn between after (length of_usage == 0) (fault_lines (usage_line paths.usage) paths.usage of_usage)
       (usage_facts paths.usage (length of_usage) lines)
-      (option_map_or (λ registered. option_map_or (sources_text paths sources lines registered) totals []) registered [])
+      (option_map_or (λ registered. option_map_or (sources_text paths sources lines registered) totals [])
+      registered [])

@@ -1,9 +1,10 @@
-//! A report on the inputs of a run: every fault of every file, what is in the files that have none, and what a run makes of
-//! the usage lines where none has.
+//! A report on the inputs of a run: every fault of every file, what is in the files that have none, and what a run
+//! makes of the usage lines where none has.
 #![tactic(auto)]
 
 pub mod laws;
 mod links;
+mod lists;
 mod messages;
 mod over;
 mod reading;

@@ -1,13 +1,14 @@
 //! What the links of several submitters come to, in words.
 
-ghost use Rattle.std.specs.Prelude.{◌≡◌, ◌≤◌, ◌<◌, ◌++◌, [], ℕ, IfOk, OnOk, Option, Some, false, is_some, length, not, string_bytes, true, zip};
+ghost use Rattle.std.specs.Prelude.{◌≡◌, ◌≤◌, ◌<◌, ◌++◌, [], ℕ, IfOk, OnOk, Option, Some, false, is_some, length, not};
+ghost use Rattle.std.specs.Prelude.{string_bytes, true, zip};
 ghost use Rattle.std.specs.Option.{option_map_or};
 ghost use Rattle.linked_works.specs.Linked.{finds_among};
 ghost use Rattle.linked_works.specs.declared.works_fault.WorksFault.{WorksFault};
 ghost use Rattle.linked_works.specs.declared.works_fault.WorksFault.TheVariants.{Many};
 ghost use Rattle.check_inputs.specs.Checked.{path_if_given};
 ghost use Rattle.check_inputs.specs.SoFar.{PagesGoOn};
-ghost use Rattle.check_inputs.specs.LinksSoFar.{ArePaired, LinksGoOn};
+ghost use Rattle.check_inputs.specs.LinksSoFar.{ArePaired, LinksGoOn, finds_in_force};
 ghost use Rattle.check_inputs.specs.SubmittedFound.{AreLinked};
 ghost use Rattle.check_inputs.specs.SubmittedReport.{linked_facts, links_line, payees_remark, rows_remark};
 
@@ -37,18 +38,23 @@ pub(crate) fn add_links_if_sound(
         × LinksGoOn sources.now (string_bytes tables.now.works.path) (path_if_given tables.now.payees)
         pages.old pages.new fault registry) }
 {
-    if !sources.are_sound {
+    if !sources.are_sound() {
         return Ok(None);
     }
     let path = tables.works.path.as_str();
     let registry = add_links(alloc, pages, path, sources)?;
     let payees = path_or_none(&tables.payees);
-    add_unused(&mut pages.remarks, payees, &sources.payees, &registry)?;
-    let files = sources.files.as_slice();
-    add_rows_remark(&mut pages.remarks, path, &sources.works, files)?;
+    add_unused(
+        &mut pages.remarks,
+        payees,
+        &sources.tables.payees,
+        &registry,
+    )?;
+    let files = sources.files.in_force.as_slice();
+    add_rows_remark(&mut pages.remarks, path, &sources.tables.works, files)?;
     pages
         .remarks
-        .extend_from_slice(sources.unlinked.as_slice())?;
+        .extend_from_slice(sources.files.unlinked.as_slice())?;
     Ok(registry)
 }
 
@@ -61,24 +67,25 @@ fn add_links(
 ) -> Result<Option<Registry>, AllocError>
     requires { ArePaired sources.now }
     ensures { IfOk result (λ registry. (fault : Option WorksFault)
-        × AreLinked true sources.now.payees (finds_among (zip sources.now.works.names sources.now.files.items))
-        sources.now.works.links fault registry
+        × AreLinked true sources.now.tables.payees
+        (finds_in_force sources.now) sources.now.tables.works.links fault registry
         × PagesGoOn pages.old pages.new (not (is_some fault))
-        (option_map_or (links_line path.now sources.now.works.links) fault [])
+        (option_map_or (links_line path.now sources.now.tables.works.links) fault [])
         (option_map_or (linked_facts path.now) registry []) []) }
 {
-    let files = sources.files.as_slice();
-    match sources.works.registry(alloc, files, &sources.payees) {
+    let works = &sources.tables.works;
+    let files = sources.files.in_force.as_slice();
+    match works.registry(alloc, files, &sources.tables.payees) {
         Ok(registry) => {
             add_linked_facts(&mut pages.sheet.facts, path, &registry)?;
             Ok(Some(registry))
         }
         Err(WorksFault::Many(row)) => {
-            add_refused(pages, path, &sources.works, WorksFault::Many(row))?;
+            add_refused(pages, path, works, WorksFault::Many(row))?;
             Ok(None)
         }
         Err(WorksFault::Accounts) => {
-            add_refused(pages, path, &sources.works, WorksFault::Accounts)?;
+            add_refused(pages, path, works, WorksFault::Accounts)?;
             Ok(None)
         }
         Err(_) => Err(AllocError),
@@ -151,7 +158,7 @@ fn add_unused(
         text,
         path,
         "rows whose party no registration that is linked has",
-        "row ",
+        "in row ",
         &tally,
     )?;
     Ok(())
@@ -173,7 +180,7 @@ fn add_rows_remark(
         text,
         path,
         "rows whose registration is not in force",
-        "row ",
+        "in row ",
         &tally,
     )?;
     Ok(())

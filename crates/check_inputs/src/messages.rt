@@ -76,7 +76,12 @@ impl Worded for Payees {
             ),
             PayeeFault::Rows => add(text, "there are more than 65536 rows"),
             PayeeFault::Submitter(_) => {
-                add_around(text, "submitter '", row.field(0), "' is of no file")
+                add_around(
+                    text,
+                    "submitter '",
+                    row.field(0),
+                    "' is the name of no file",
+                )
             }
             PayeeFault::Memory => Ok(()),
         }

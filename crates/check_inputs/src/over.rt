@@ -1,8 +1,10 @@
 //! The works of several submitters with most money of the lines that are claimed over, and who claims what, in words.
 
-ghost use Rattle.std.specs.Prelude.{◌≡◌, ◌≤◌, ◌<◌, ◌+◌, ◌*◌, ◌^◌, ◌&&◌, ◌++◌, [], ℕ, List, All, AllPairs, IfNone, IfOk, IfSome, None, OnOk, Some, codes, flat_map, if◌then◌else◌, length, map, nat_eq, slice_index_or, unwrap_or, zip};
+ghost use Rattle.std.specs.Prelude.{◌≡◌, ◌≤◌, ◌<◌, ◌+◌, ◌*◌, ◌^◌, ◌&&◌, ◌++◌, [], ℕ, List, All, AllPairs};
+ghost use Rattle.std.specs.Prelude.{IfNone, IfOk, IfSome, None, OnOk, Some, if◌then◌else◌, length, map, nat_eq};
+ghost use Rattle.std.specs.Prelude.{slice_index_or, unwrap_or, zip};
 ghost use Rattle.std.specs.Cmp.Lexicographic.{pointwise};
-ghost use Rattle.std.specs.List.{filter_map, join_by};
+ghost use Rattle.std.specs.List.{filter_map};
 ghost use Rattle.std.specs.Option.{option_map, option_map_or};
 ghost use Rattle.cwr_share.specs.InForce.{IsOneRegistration};
 ghost use Rattle.cwr_share.specs.Registrations.{ShareLine, find_work};
@@ -16,9 +18,11 @@ ghost use Rattle.linked_works.specs.Rows.{IsKnownRow, link_shown, names_by};
 ghost use Rattle.linked_works.specs.declared.TheConstants.{MOST_LINKS};
 ghost use Rattle.usage_totals.specs.Totals.{is_same, reason_of};
 ghost use Rattle.check_inputs.specs.LinksSoFar.{ArePaired, finds_in_force};
-ghost use Rattle.check_inputs.specs.OverSoFar.{claim_by_row, claim_shown, registrations_of};
-ghost use Rattle.check_inputs.specs.SubmittedOver.{claim_of_submitter, claim_text, claims_of, claims_of_submitters, first_over, over_line, over_text, row_text};
+ghost use Rattle.check_inputs.specs.OverSoFar.{claim_by_row, registrations_of};
+ghost use Rattle.check_inputs.specs.SubmittedOver.{claim_of_submitter, claims_of, claims_of_submitters, first_over};
+ghost use Rattle.check_inputs.specs.SubmittedOver.{over_line, over_text, row_text};
 
+use crate::lists::{Listed, add_list};
 use crate::submitted_sources::Sources;
 use crate::summary::add_lines;
 use crate::words::{add, add_around, add_number, add_path};
@@ -26,17 +30,41 @@ use cwr_share::{InForce, Registry, ShareRecord, claimed_in};
 use line_split::{Claims, Line, Reason, Right, Usage};
 use linked_works::WorksRow;
 use std::alloc::{AllocError, Global};
+use std::marker::Model;
 use tis_tree::{Code, TisTable};
 use usage_totals::{Name, Total};
 
 /// A submitter, and what it claims on a usage line, in hundredths of a per cent.
-#[derive(Clone, Copy, Drop)]
+#[derive(Drop)]
 struct Claim<'a> {
     submitter: &'a [u8],
     claim: u64,
 }
 
-/// Adds a line about each of these works: the lines that are claimed over, and what each submitter claims on the first of them.
+impl<'a> Model for Claim<'a> {
+    ghost use Rattle.std.specs.Prelude.{ℕ, List};
+
+    ghost Value = { List ℕ × ℕ };
+
+    ghost view = { λ claim. (claim.submitter.now, claim.claim) };
+}
+
+/// The claim in parts of 10000, behind its submitter.
+impl Listed for Claim<'_> {
+    ghost use Rattle.check_inputs.specs.SubmittedOver.{claim_text};
+
+    ghost words = { claim_text };
+
+    fn add_to(&self, text: &mut Vec<u8>) -> Result<(), AllocError> {
+        text.extend_from_slice(self.submitter)?;
+        add(text, " claims ")?;
+        add_number(text, self.claim)?;
+        add(text, " of 10000")
+    }
+}
+
+/// Adds a line about each of these works: the lines that are claimed over, and what each submitter claims on the first
+/// of them.
 pub(crate) fn add_over(
     alloc: Global,
     text: &mut Vec<u8>,
@@ -47,8 +75,9 @@ pub(crate) fn add_over(
     over: &[(Name<'_>, Total)],
 ) -> Result<(), AllocError>
     requires { ArePaired sources.now }
-    ensures { OnOk result (text.new.items ≡ text.old.items ++ over_text path.now sources.now.territories registry.now
-        (finds_in_force sources.now) sources.now.works.links sources.now.works.names lines.now over.now) }
+    ensures { OnOk result (text.new.items ≡ text.old.items
+        ++ over_text path.now sources.now.tables.territories registry.now
+        (finds_in_force sources.now) sources.now.tables.works.links sources.now.tables.works.names lines.now over.now) }
 {
     for place in 0..over.len() {
         let (work, total) = (over[place].0.as_slice(), over[place].1);
@@ -69,8 +98,10 @@ fn add_over_work(
     total: Total,
 ) -> Result<(), AllocError>
     requires { ArePaired sources.now }
-    ensures { OnOk result (text.new.items ≡ text.old.items ++ over_line path.now sources.now.territories registry.now
-        (finds_in_force sources.now) sources.now.works.links sources.now.works.names lines.now (work.now, total)) }
+    ensures { OnOk result (text.new.items ≡ text.old.items
+        ++ over_line path.now sources.now.tables.territories registry.now
+        (finds_in_force sources.now) sources.now.tables.works.links sources.now.tables.works.names lines.now
+        (work.now, total)) }
 {
     add_path(text, path)?;
     add_around(text, "work '", work, "' is claimed over 100.06 per cent")?;
@@ -91,11 +122,11 @@ fn add_who_claims(
 ) -> Result<(), AllocError>
     requires { ArePaired sources.now }
     ensures { OnOk result (text.new.items ≡ text.old.items ++ option_map_or (λ first. row_text first
-        (claims_of_submitters sources.now.territories (finds_in_force sources.now) sources.now.works.links
-        sources.now.works.names first.1))
-        (first_over sources.now.territories registry.now lines.now work.now) []) }
+        (claims_of_submitters sources.now.tables.territories (finds_in_force sources.now) sources.now.tables.works.links
+        sources.now.tables.works.names first.1))
+        (first_over sources.now.tables.territories registry.now lines.now work.now) []) }
 {
-    let Some(place) = find_over(alloc, &sources.territories, registry, lines, work)? else {
+    let Some(place) = find_over(alloc, &sources.tables.territories, registry, lines, work)? else {
         return Ok(());
     };
     let claims = claims_on(alloc, sources, &lines.line(place))?;
@@ -159,13 +190,20 @@ fn claims_on<'a>(
 ) -> Result<Vec<Claim<'a>>, AllocError>
     requires sources { ArePaired sources.now }
     requires line { IsUsageLine (usage_line_of line.now) }
-    ensures { IfOk result (λ claims. map claim_shown claims.items
-        ≡ claims_of_submitters sources.entry.now.territories (finds_in_force sources.entry.now) sources.entry.now.works.links
-        sources.entry.now.works.names (usage_line_of line.now)) }
+    ensures { IfOk result (λ claims. claims.items
+        ≡ claims_of_submitters sources.entry.now.tables.territories
+        (finds_in_force sources.entry.now) sources.entry.now.tables.works.links
+        sources.entry.now.tables.works.names (usage_line_of line.now)) }
 {
-    let rows = sources.works.of_work(alloc, line.work)?;
-    let files = sources.files.as_slice();
-    let claims = claims_of_rows(alloc, &sources.territories, files, line, rows.as_slice())?;
+    let rows = sources.tables.works.of_work(alloc, line.work)?;
+    let files = sources.files.in_force.as_slice();
+    let claims = claims_of_rows(
+        alloc,
+        &sources.tables.territories,
+        files,
+        line,
+        rows.as_slice(),
+    )?;
     add_up(alloc, sources.names, claims.as_slice())
 }
 
@@ -182,11 +220,12 @@ fn claims_of_rows<'a>(
         → find_work number works ≡ Some shares → IsOneRegistration shares) files.now }
     requires line { IsUsageLine (usage_line_of line.now) }
     ensures claims { IfOk result (λ claims. (names : List (List ℕ))
-        → AllPairs (λ name later. ¬ (name ≡ later)) names → length files.now ≡ length names → All (IsKnownRow names) rows.now
-        → map claim_shown claims.items ≡ claims_of tis.now (usage_line_of line.now)
+        → AllPairs (λ name later. ¬ (name ≡ later)) names → length files.now ≡ length names
+        → All (IsKnownRow names) rows.now
+        → claims.items ≡ claims_of tis.now (usage_line_of line.now)
         (registrations_of (finds_among (zip names files.now)) (map link_shown rows.now))) }
     ensures few { IfOk result (λ claims. length claims.items ≤ length rows.now) }
-    ensures small { IfOk result (λ claims. All (λ claim. claim.claim ≤ u16.MAX * MOST_SHARES) claims.items) }
+    ensures small { IfOk result (λ claims. All (λ claim. claim.1 ≤ u16.MAX * MOST_SHARES) claims.items) }
 {
     let Some(land) = Code::of(line.territory) else {
         unreachable!()
@@ -211,8 +250,8 @@ fn claim_of_row<'a>(
     requires known { row.now.submitter < length files.now }
     requires registrations { All (λ works. (number : List ℕ) (shares : List ShareLine)
         → find_work number works ≡ Some shares → IsOneRegistration shares) files.now }
-    ensures claim { option_map claim_shown result ≡ claim_by_row tis.now files.now land right row.now }
-    ensures small { IfSome result (λ claim. claim.claim ≤ u16.MAX * MOST_SHARES) }
+    ensures claim { result ≡ claim_by_row tis.now files.now land right row.now }
+    ensures small { IfSome result (λ claim. claim.1 ≤ u16.MAX * MOST_SHARES) }
 {
     let shares = shares_of(files, row)?;
     Some(Claim {
@@ -237,9 +276,9 @@ fn add_up<'a>(
     claims: &[Claim<'_>],
 ) -> Result<Vec<Claim<'a>>, AllocError>
     requires few { length claims.now ≤ MOST_LINKS }
-    requires small { All (λ claim. claim.claim ≤ u16.MAX * MOST_SHARES) claims.now }
-    ensures { IfOk result (λ sums. map claim_shown sums.items
-        ≡ filter_map (claim_of_submitter (map claim_shown claims.now)) (names_by names.entry.now)) }
+    requires small { All (λ claim. claim.1 ≤ u16.MAX * MOST_SHARES) claims.now }
+    ensures { IfOk result (λ sums. sums.items
+        ≡ filter_map (claim_of_submitter claims.now) (names_by names.entry.now)) }
 {
     let mut sums = Vec::new(alloc);
     for place in 0..names.len() {
@@ -254,9 +293,9 @@ fn add_up<'a>(
 /// What a submitter claims, where one of these claims is its own.
 fn claim_of(submitter: &[u8], claims: &[Claim<'_>]) -> Option<u64>
     requires few { length claims.now ≤ MOST_LINKS }
-    requires small { All (λ claim. claim.claim ≤ u16.MAX * MOST_SHARES) claims.now }
+    requires small { All (λ claim. claim.1 ≤ u16.MAX * MOST_SHARES) claims.now }
     ensures { option_map (λ claim. (submitter.now, claim)) result
-        ≡ claim_of_submitter (map claim_shown claims.now) submitter.now }
+        ≡ claim_of_submitter claims.now submitter.now }
 {
     let mut sum = None;
     for place in 0..claims.len() {
@@ -267,9 +306,9 @@ fn claim_of(submitter: &[u8], claims: &[Claim<'_>]) -> Option<u64>
 
 /// A submitter's sum, with one claim more if that is its own.
 fn with_claim(sum: Option<u64>, submitter: &[u8], claim: &Claim<'_>) -> Option<u64>
-    requires { unwrap_or sum 0 + claim.now.claim < 2 ^ 64 }
-    ensures { result ≡ (if pointwise nat_eq claim.now.submitter.now submitter.now
-        then Some (unwrap_or sum 0 + claim.now.claim) else sum) }
+    requires { unwrap_or sum 0 + claim.now.1 < 2 ^ 64 }
+    ensures { result ≡ (if pointwise nat_eq claim.now.0 submitter.now
+        then Some (unwrap_or sum 0 + claim.now.1) else sum) }
 {
     if claim.submitter == submitter {
         Some(sum.unwrap_or(0) + claim.claim)
@@ -281,45 +320,10 @@ fn with_claim(sum: Option<u64>, submitter: &[u8], claim: &Claim<'_>) -> Option<u
 /// Adds what submitters claim on the line of a row.
 fn add_row(text: &mut Vec<u8>, row: u64, claims: &[Claim<'_>]) -> Result<(), AllocError>
     ensures { OnOk result ((line : UsageLine)
-        → text.new.items ≡ text.old.items ++ row_text (row, line) (map claim_shown claims.now)) }
+        → text.new.items ≡ text.old.items ++ row_text (row, line) claims.now) }
 {
     add(text, "; in row ")?;
     add_number(text, row)?;
     add(text, ": ")?;
-    add_claims(text, claims)?;
-    Ok(())
-}
-
-/// Adds claims, with commas between them.
-fn add_claims(text: &mut Vec<u8>, claims: &[Claim<'_>]) -> Result<(), AllocError>
-    ensures { OnOk result (text.new.items ≡ text.old.items ++ join_by claim_text (codes ", ") (map claim_shown claims.now)) }
-{
-    let Some((first, later)) = claims.split_first() else {
-        return Ok(());
-    };
-    add_claim(text, first)?;
-    add_further(text, later)?;
-    Ok(())
-}
-
-/// Adds claims, with a comma before each.
-fn add_further(text: &mut Vec<u8>, claims: &[Claim<'_>]) -> Result<(), AllocError>
-    ensures { OnOk result (text.new.items
-        ≡ text.old.items ++ flat_map (λ claim. codes ", " ++ claim_text claim) (map claim_shown claims.now)) }
-{
-    for place in 0..claims.len() {
-        add(text, ", ")?;
-        add_claim(text, &claims[place])?;
-    }
-    Ok(())
-}
-
-/// Adds a claim, in parts of 10000.
-fn add_claim(text: &mut Vec<u8>, claim: &Claim<'_>) -> Result<(), AllocError>
-    ensures { OnOk result (text.new.items ≡ text.old.items ++ claim_text (claim_shown claim.now)) }
-{
-    text.extend_from_slice(claim.submitter)?;
-    add(text, " claims ")?;
-    add_number(text, claim.claim)?;
-    add(text, " of 10000")
+    add_list(text, claims)
 }

@@ -46,15 +46,18 @@ where
     Ok((told, reader.finish()))
 }
 
-/// Reads a CWR file, where what a party claims is paid to its payee. There are no registrations where they have too many payees.
+/// Reads a CWR file, where what a party claims is paid to its payee. There are no registrations where they have too
+/// many payees.
 pub(crate) fn read_cwr<'a>(
     alloc: Global,
     path: &'a str,
     bytes: &[u8],
     payees: &Payees,
 ) -> Result<(Told<'a>, Option<Registry>), AllocError>
-    ensures { IfOk result (λ read. (out : List (List ℕ × CwrFault)) × AreRegistrationsWithout payees.now (lines_of bytes.now) out read.1
-        × (read.0.text.items ≡ fault_lines (cwr_line path.entry.now) path.entry.now out) × (read.0.count ≡ length out)) }
+    ensures { IfOk result (λ read. (out : List (List ℕ × CwrFault))
+        × AreRegistrationsWithout payees.now (lines_of bytes.now) out read.1
+        × (read.0.text.items ≡ fault_lines (cwr_line path.entry.now) path.entry.now out)
+        × (read.0.count ≡ length out)) }
 {
     let (mut told, reader) = read_lines(alloc, path, bytes)?;
     match reader.finish(alloc, payees) {
@@ -78,11 +81,13 @@ pub(crate) fn read_in_force<'a>(
     bytes: &[u8],
 ) -> Result<(Told<'a>, InForce), AllocError>
     ensures { IfOk result (λ read. (out : List (List ℕ × CwrFault)) × AreInForceWithout (lines_of bytes.now) out read.1
-        × (read.0.text.items ≡ fault_lines (cwr_line path.entry.now) path.entry.now out) × (read.0.count ≡ length out)) }
+        × (read.0.text.items ≡ fault_lines (cwr_line path.entry.now) path.entry.now out)
+        × (read.0.count ≡ length out)) }
 {
     let (mut told, reader) = read_lines(alloc, path, bytes)?;
     told.close()?;
     let in_force = reader.in_force()?;
+    // Its contract says that each work stands once.
     let _each_once = in_force.len();
     Ok((told, in_force))
 }
@@ -93,7 +98,8 @@ fn read_lines<'a, 'b>(
     path: &'a str,
     bytes: &'b [u8],
 ) -> Result<(Told<'a>, CwrReader<'b>), AllocError>
-    ensures read { IfOk result (λ read. HasReadAll (cwr_line path.entry.now) (lines_of bytes.entry.now) read.0.text.items read.0.count read.1) }
+    ensures read { IfOk result (λ read. HasReadAll (cwr_line path.entry.now)
+        (lines_of bytes.entry.now) read.0.text.items read.0.count read.1) }
     ensures path { IfOk result (λ read. read.0.path.now ≡ path.entry.now) }
     ensures few { IfOk result (λ read. read.0.count + 1 < 2 ^ 64) }
 {

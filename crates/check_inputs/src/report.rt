@@ -1,7 +1,8 @@
 //! The report on the inputs of a run.
 
 ghost use Rattle.std.specs.Option.{option_map, option_map_or};
-ghost use Rattle.std.specs.Prelude.{◌≡◌, ◌++◌, [], ◌==◌, ◌&&◌, ℕ, List, IfOk, OnOk, Option, codes, length, string_bytes, true};
+ghost use Rattle.std.specs.Prelude.{◌≡◌, ◌++◌, [], ◌==◌, ◌&&◌, ℕ, List, IfOk, OnOk, Option, codes, length};
+ghost use Rattle.std.specs.Prelude.{string_bytes, true};
 ghost use Rattle.csv_table.specs.Table.{rows_of};
 ghost use Rattle.cwr_share.specs.CwrFile.{AreSound};
 ghost use Rattle.cwr_share.specs.Lines.{lines_of};
@@ -17,7 +18,8 @@ ghost use Rattle.check_inputs.specs.Checked.{IsReportOn, bytes_of, path_if_given
 ghost use Rattle.check_inputs.specs.Found.{ArePayeesWithout, AreRegistrationsWithout, AreTotalsIfSound};
 ghost use Rattle.check_inputs.specs.Messages.{fact_line, remark_line};
 ghost use Rattle.check_inputs.specs.SoFar.{Adds, GoesOn};
-ghost use Rattle.check_inputs.specs.Report.{cwr_facts, cwr_line, cwr_numbers, fault_lines, if_none, payee_line, payees_remark, territories_remark};
+ghost use Rattle.check_inputs.specs.Report.{cwr_facts, cwr_line, cwr_numbers, fault_lines, if_none, payee_line};
+ghost use Rattle.check_inputs.specs.Report.{payees_remark, territories_remark};
 ghost use Rattle.check_inputs.specs.Report.{tis_facts, tis_line, totals_text, usage_facts, usage_line};
 
 use crate::reading::{read_cwr, read_past_faults};
@@ -60,9 +62,10 @@ impl Input for File {
     }
 }
 
-/// Reports on the inputs of a run: a table of territories, a table of payees where there is one, a CWR file and a usage list. Each is
-/// read whatever stands in the others, past each row or line that is refused. The report has the first hundred faults of each, what is in
-/// those that have none, what a run passes over in them, and, where none has a fault, what a run makes of the usage lines.
+/// Reports on the inputs of a run: a table of territories, a table of payees where there is one, a CWR file and a usage
+/// list. Each is read whatever stands in the others, past each row or line that is refused. The report has the first
+/// hundred faults of each, what is in those that have none, what a run passes over in them, and, where none has a
+/// fault, what a run makes of the usage lines.
 pub fn check(alloc: Global, inputs: &Inputs<File>) -> Result<Checked, AllocError>
     ensures { IfOk result (λ checked.
         IsReportOn (map_inputs path_of inputs.now) (map_inputs bytes_of inputs.now)
@@ -104,8 +107,10 @@ impl Sheet {
 
     /// Adds a table of territories, and answers how many faults it has.
     pub(crate) fn tis(&mut self, alloc: Global, file: &File) -> Result<(TisTable, u64), AllocError>
-        ensures { IfOk result (λ read. (out : List (List (List ℕ) × TisFault)) × tis.IsReadWithout (rows_of file.now.bytes.items) out read.0 × (read.1 ≡ length out)
-            × GoesOn self.old self.new (length out) (fault_lines (tis_line (string_bytes file.now.path)) (string_bytes file.now.path) out)
+        ensures { IfOk result (λ read. (out : List (List (List ℕ) × TisFault))
+            × tis.IsReadWithout (rows_of file.now.bytes.items) out read.0 × (read.1 ≡ length out)
+            × GoesOn self.old self.new (length out)
+            (fault_lines (tis_line (string_bytes file.now.path)) (string_bytes file.now.path) out)
             (tis_facts (string_bytes file.now.path) (length out) read.0)) }
     {
         let path = file.path.as_str();
@@ -148,8 +153,10 @@ impl Sheet {
         payees: &Payees,
         payee_faults: u64,
     ) -> Result<(Option<Registry>, u64), AllocError>
-        ensures { IfOk result (λ read. (out : List (List ℕ × CwrFault)) × AreRegistrationsWithout payees.now (lines_of file.now.bytes.items) out read.0 × (read.1 ≡ length out)
-            × GoesOn self.old self.new (length out) (fault_lines (cwr_line (string_bytes file.now.path)) (string_bytes file.now.path) out)
+        ensures { IfOk result (λ read. (out : List (List ℕ × CwrFault))
+            × AreRegistrationsWithout payees.now (lines_of file.now.bytes.items) out read.0 × (read.1 ≡ length out)
+            × GoesOn self.old self.new (length out)
+            (fault_lines (cwr_line (string_bytes file.now.path)) (string_bytes file.now.path) out)
             (cwr_facts (string_bytes file.now.path) file.now.bytes.items (length out) payee_faults read.0)) }
     {
         let (told, registry) = read_cwr(alloc, file.path.as_str(), file.bytes.as_slice(), payees)?;
@@ -160,8 +167,10 @@ impl Sheet {
 
     /// Adds a usage list.
     pub(crate) fn usage(&mut self, alloc: Global, file: &File) -> Result<Usage, AllocError>
-        ensures { IfOk result (λ lines. (out : List (List (List ℕ) × LineFault)) × usage.IsReadWithout (rows_of file.now.bytes.items) out lines
-            × GoesOn self.old self.new (length out) (fault_lines (usage_line (string_bytes file.now.path)) (string_bytes file.now.path) out)
+        ensures { IfOk result (λ lines. (out : List (List (List ℕ) × LineFault))
+            × usage.IsReadWithout (rows_of file.now.bytes.items) out lines
+            × GoesOn self.old self.new (length out)
+            (fault_lines (usage_line (string_bytes file.now.path)) (string_bytes file.now.path) out)
             (usage_facts (string_bytes file.now.path) (length out) lines)) }
     {
         let path = file.path.as_str();
@@ -186,7 +195,8 @@ impl Sheet {
         tis_faults: u64,
     ) -> Result<(), AllocError>
         requires { faults ≡ 0 → AreSound (lines_of file.now.bytes.items) }
-        ensures { OnOk result (Adds self.old self.new (territories_remark (string_bytes file.now.path) file.now.bytes.items faults tis_faults table.now)) }
+        ensures { OnOk result (Adds self.old self.new
+            (territories_remark (string_bytes file.now.path) file.now.bytes.items faults tis_faults table.now)) }
     {
         add_territories_remark(
             &mut self.facts,
@@ -208,7 +218,8 @@ impl Sheet {
         registry: &Option<Registry>,
         cwr_faults: u64,
     ) -> Result<(), AllocError>
-        ensures { OnOk result (Adds self.old self.new (payees_remark (path_if_given file.now) faults cwr_faults rows.now registry.now)) }
+        ensures { OnOk result (Adds self.old self.new
+            (payees_remark (path_if_given file.now) faults cwr_faults rows.now registry.now)) }
     {
         let path = path_or_none(file);
         add_payees_remark(&mut self.facts, path, faults, cwr_faults, rows, registry)?;
@@ -224,9 +235,11 @@ impl Sheet {
         registry: &Option<Registry>,
         lines: &Usage,
     ) -> Result<(), AllocError>
-        ensures { OnOk result ((totals : Option Totals) × AreTotalsIfSound self.old.is_sound table.now registry.now lines.now totals
+        ensures { OnOk result ((totals : Option Totals)
+            × AreTotalsIfSound self.old.is_sound table.now registry.now lines.now totals
             × Adds self.old self.new
-            (option_map_or (totals_text (string_bytes inputs.now.usage.path) (string_bytes inputs.now.registrations.path)
+            (option_map_or (totals_text (string_bytes inputs.now.usage.path)
+            (string_bytes inputs.now.registrations.path)
             (string_bytes inputs.now.territories.path) (length lines.now)) totals [])) }
     {
         if !self.is_sound {
@@ -249,7 +262,8 @@ impl Sheet {
 
     /// Adds the faults of a file.
     pub(crate) fn add_faults(&mut self, told: &Told<'_>) -> Result<(), AllocError>
-        ensures told { OnOk result ((self.new.faults.items ≡ self.old.faults.items ++ told.now.text.items) × (self.new.is_sound ≡ (self.old.is_sound && (told.now.count == 0)))) }
+        ensures told { OnOk result ((self.new.faults.items ≡ self.old.faults.items ++ told.now.text.items)
+            × (self.new.is_sound ≡ (self.old.is_sound && (told.now.count == 0)))) }
         ensures facts { self.new.facts ≡ self.old.facts }
     {
         self.faults.extend_from_slice(told.text.as_slice())?;
@@ -259,7 +273,8 @@ impl Sheet {
 
     /// Puts the report together.
     pub(crate) fn finish(self) -> Result<Checked, AllocError>
-        ensures { IfOk result (λ checked. (checked.text.items ≡ self.faults.items ++ self.facts.items) × (checked.is_sound ≡ self.is_sound)) }
+        ensures { IfOk result (λ checked. (checked.text.items ≡ self.faults.items ++ self.facts.items)
+            × (checked.is_sound ≡ self.is_sound)) }
     {
         let mut text = self.faults;
         text.extend_from_slice(self.facts.as_slice())?;
@@ -308,7 +323,8 @@ fn read_payees_if_given<'a>(
 ) -> Result<(Told<'a>, Payees), AllocError>
     ensures { IfOk result (λ read. (out : List (List (List ℕ) × PayeeFault))
         × ArePayeesWithout (option_map bytes_of file.entry.now) out read.1
-        × (read.0.text.items ≡ fault_lines (payee_line (path_if_given file.entry.now)) (path_if_given file.entry.now) out) × (read.0.count ≡ length out)) }
+        × (read.0.text.items ≡ fault_lines (payee_line (path_if_given file.entry.now))
+        (path_if_given file.entry.now) out) × (read.0.count ≡ length out)) }
 {
     match file {
         Some(file) => read_past_faults(
@@ -363,7 +379,8 @@ fn add_cwr_facts(
     payee_faults: u64,
     registry: &Option<Registry>,
 ) -> Result<(), AllocError>
-    ensures { OnOk result (text.new.items ≡ text.old.items ++ cwr_facts (string_bytes file.now.path) file.now.bytes.items faults payee_faults registry.now) }
+    ensures { OnOk result (text.new.items ≡ text.old.items
+        ++ cwr_facts (string_bytes file.now.path) file.now.bytes.items faults payee_faults registry.now) }
 {
     if faults > 0 {
         return Ok(());
@@ -389,7 +406,8 @@ fn add_cwr_numbers(
     payee_faults: u64,
     registry: &Registry,
 ) -> Result<(), AllocError>
-    ensures { OnOk result (text.new.items ≡ text.old.items ++ cwr_numbers path.now registrations payee_faults registry.now) }
+    ensures { OnOk result (text.new.items ≡ text.old.items
+        ++ cwr_numbers path.now registrations payee_faults registry.now) }
 {
     let works = registry.works() as u64;
     add_fact(text, path, "works with a registration in force", works)?;
@@ -418,7 +436,8 @@ fn add_usage_facts(
     path: &str,
     lines: u64,
 ) -> Result<(), AllocError>
-    ensures { OnOk result (text.new.items ≡ text.old.items ++ if_none faults (fact_line path.now (codes "usage lines") lines
+    ensures { OnOk result (text.new.items ≡ text.old.items
+        ++ if_none faults (fact_line path.now (codes "usage lines") lines
         ++ if_none lines (remark_line path.now (codes "there are no usage lines")))) }
 {
     if faults > 0 {

@@ -1,6 +1,7 @@
 //! The report on the inputs of a run over the files of several submitters.
 
-ghost use Rattle.std.specs.Prelude.{◌≡◌, ◌&&◌, ◌⊎◌, ◌++◌, [], List, All, IfErr, IfOk, OnOk, Option, Some, length, map, string_bytes, true, ℕ};
+ghost use Rattle.std.specs.Prelude.{◌≡◌, ◌&&◌, ◌⊎◌, ◌++◌, [], List, All, IfErr, IfOk, OnOk, Option, Some, length, map};
+ghost use Rattle.std.specs.Prelude.{string_bytes, true, ℕ};
 ghost use Rattle.std.specs.Option.{option_map_or};
 ghost use Rattle.submitted_inputs.specs.Submitted.{map_tables};
 ghost use Rattle.submitted_inputs.specs.declared.fault.SubmittedFault.TheVariants.{Room};
@@ -25,10 +26,11 @@ use std::alloc::{AllocError, Global};
 use submitted_inputs::{SubmittedFault, SubmittedTables, SubmitterFiles};
 use usage_totals::totals_of;
 
-/// Reports on the inputs of a run over the files of several submitters: the tables, which are read already, and the CWR file of
-/// each submitter, whose path in the report is at its place in `paths`. The files are read one after another, in the order of the names, and the
-/// text of each is let go before the next is read. Each input is read whatever stands in the others, past each row or line that
-/// is refused. Where a file cannot be read, or memory runs out, there is no report.
+/// Reports on the inputs of a run over the files of several submitters: the tables, which are read already, and the CWR
+/// file of each submitter, whose path in the report is at its place in `paths`. The files are read one after another,
+/// in the order of the names, and the text of each is let go before the next is read. Each input is read whatever
+/// stands in the others, past each row or line that is refused. Where a file cannot be read, or memory runs out, there
+/// is no report.
 pub fn check_submitted<F: SubmitterFiles>(
     alloc: Global,
     submitters: &Submitters,
@@ -37,7 +39,8 @@ pub fn check_submitted<F: SubmitterFiles>(
     files: &F,
 ) -> Result<Checked, SubmittedFault>
     requires { length paths.now ≡ length submitters.now }
-    ensures report { IfOk result (λ checked. IsSubmittedReportOn submitters.now (map string_bytes paths.now) (F.holds files.now)
+    ensures report { IfOk result (λ checked. IsSubmittedReportOn submitters.now (map string_bytes paths.now)
+        (F.holds files.now)
         (map_tables path_of tables.now) (map_tables bytes_of tables.now) checked.text.items checked.is_sound) }
     ensures fault { IfErr result (λ fault. (fault ≡ Room)
         ⊎ IsFirstUnread (F.holds files.now) (F.refuses files.now) (length submitters.now) fault) }
@@ -56,7 +59,8 @@ fn add_run(
     sources: &Sources<'_>,
 ) -> Result<(), AllocError>
     requires { ArePaired sources.now }
-    ensures { OnOk result (IsRunTold (map_tables path_of tables.now) (bytes_of tables.now.usage) sources.now pages.old pages.new) }
+    ensures { OnOk result (IsRunTold (map_tables path_of tables.now)
+        (bytes_of tables.now.usage) sources.now pages.old pages.new) }
 {
     let registry = add_links_if_sound(alloc, pages, tables, sources)?;
     let lines = pages.sheet.usage(alloc, &tables.usage)?;
@@ -87,7 +91,7 @@ impl Pages {
     ) -> Result<(), AllocError>
         requires { ArePaired sources.now }
         ensures { OnOk result ((totals : Option Totals)
-            × AreTotalsIfSound self.old.sheet.is_sound sources.now.territories registry.now lines.now totals
+            × AreTotalsIfSound self.old.sheet.is_sound sources.now.tables.territories registry.now lines.now totals
             × (self.new.sheet ≡ self.old.sheet)
             × (self.new.remarks.items ≡ self.old.remarks.items
             ++ option_map_or (λ registered.
@@ -101,7 +105,7 @@ impl Pages {
             return Ok(());
         };
         let path = tables.usage.path.as_str();
-        let totals = totals_of(alloc, &sources.territories, registry, lines)?;
+        let totals = totals_of(alloc, &sources.tables.territories, registry, lines)?;
         add_totals(
             &mut self.remarks,
             path,

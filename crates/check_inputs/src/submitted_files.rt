@@ -1,6 +1,7 @@
 //! The CWR files of several submitters, read one after another.
 
-ghost use Rattle.std.specs.Prelude.{◌≡◌, ◌&&◌, ◌⊎◌, ◌++◌, [], List, IfErr, IfOk, OnOk, count_by, flat_map, length, map, string_bytes, true};
+ghost use Rattle.std.specs.Prelude.{◌≡◌, ◌&&◌, ◌⊎◌, ◌++◌, [], List, IfErr, IfOk, OnOk, count_by, flat_map, length, map};
+ghost use Rattle.std.specs.Prelude.{string_bytes, true};
 ghost use Rattle.cwr_share.specs.Lines.{lines_of};
 ghost use Rattle.cwr_share.specs.Records.{opens_registration};
 ghost use Rattle.submitted_inputs.specs.declared.fault.SubmittedFault.TheVariants.{Room, Unreadable};
@@ -35,7 +36,8 @@ pub(crate) struct Pages {
 pub(crate) struct FilesRead {
     /// What is in force in each.
     pub(crate) in_force: Vec<InForce>,
-    /// What is said of registrations in them that no row links; it is told where nothing that links are made of has a fault.
+    /// What is said of registrations in them that no row links; it is told where nothing that links are made of has a
+    /// fault.
     pub(crate) unlinked: Vec<u8>,
     /// No file has a fault.
     pub(crate) are_sound: bool,

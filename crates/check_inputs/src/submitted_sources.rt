@@ -4,12 +4,13 @@ ghost use Rattle.std.specs.Prelude.{◌≡◌, ◌==◌, ◌&&◌, ◌⊎◌, If
 ghost use Rattle.submitted_inputs.specs.Submitted.{map_tables};
 ghost use Rattle.submitted_inputs.specs.declared.fault.SubmittedFault.TheVariants.{Room};
 ghost use Rattle.check_inputs.specs.Checked.{bytes_of, path_of};
+ghost use Rattle.check_inputs.specs.LinksSoFar.{are_sound};
 ghost use Rattle.check_inputs.specs.SubmittedChecked.{IsFirstUnread};
 ghost use Rattle.check_inputs.specs.SubmittedSoFar.{AreSourcesOf, AreTablesRead};
 
 use crate::File;
 use crate::submitted_files::{FilesRead, Pages, read_files};
-use cwr_share::{InForce, Payees};
+use cwr_share::Payees;
 use linked_works::{Submitters, Works};
 use std::alloc::{AllocError, Global};
 use submitted_inputs::{SubmittedFault, SubmittedTables, SubmitterFiles};
@@ -20,15 +21,17 @@ use tis_tree::TisTable;
 pub(crate) struct Sources<'a> {
     /// The names of the submitters.
     pub(crate) names: &'a [Vec<u8>],
-    pub(crate) territories: TisTable,
-    pub(crate) payees: Payees,
-    pub(crate) works: Works<'a>,
-    /// What is in force in the file of each submitter.
-    pub(crate) files: Vec<InForce>,
-    /// What is said of registrations that no row links.
-    pub(crate) unlinked: Vec<u8>,
+    pub(crate) tables: TablesRead<'a>,
+    pub(crate) files: FilesRead,
+}
+
+impl Sources<'_> {
     /// Nothing that links are made of has a fault.
-    pub(crate) are_sound: bool,
+    pub(crate) fn are_sound(&self) -> bool
+        ensures { result ≡ are_sound self.now }
+    {
+        self.tables.are_sound && self.files.are_sound
+    }
 }
 
 /// What the tables were read as.
@@ -58,17 +61,21 @@ pub(crate) fn read_sources<'a, F: SubmitterFiles>(
     ensures fault { IfErr result (λ fault. (fault ≡ Room)
         ⊎ IsFirstUnread (F.holds files.now) (F.refuses files.now) (length paths.now) fault) }
 {
-    let read = read_tables(alloc, pages, submitters, tables)?;
+    let tables = read_tables(alloc, pages, submitters, tables)?;
     let files = read_files(
         alloc,
         pages,
-        &read.works,
+        &tables.works,
         paths,
         files,
-        &read.territories,
-        read.tis_faults,
+        &tables.territories,
+        tables.tis_faults,
     )?;
-    Ok(put_together(submitters.as_slice(), read, files))
+    Ok(Sources {
+        names: submitters.as_slice(),
+        tables,
+        files,
+    })
 }
 
 /// Reads the tables, and adds what is said of each.
@@ -78,7 +85,8 @@ fn read_tables<'a>(
     submitters: &'a Submitters,
     tables: &SubmittedTables<File>,
 ) -> Result<TablesRead<'a>, AllocError>
-    ensures { IfOk result (AreTablesRead submitters.entry.now (map_tables path_of tables.now) (map_tables bytes_of tables.now)
+    ensures { IfOk result (AreTablesRead submitters.entry.now (map_tables path_of tables.now)
+        (map_tables bytes_of tables.now)
         pages.old pages.new) }
 {
     let (territories, tis_faults) = pages.sheet.tis(alloc, &tables.territories)?;
@@ -100,23 +108,4 @@ fn have_none(faults: u64, others: u64) -> bool
     ensures { result ≡ ((faults == 0) && (others == 0)) }
 {
     faults == 0 && others == 0
-}
-
-/// The tables together with the files.
-fn put_together<'a>(names: &'a [Vec<u8>], tables: TablesRead<'a>, files: FilesRead) -> Sources<'a>
-    ensures names { result.names.now ≡ names.now }
-    ensures tables { (result.territories ≡ tables.entry.territories) × (result.payees ≡ tables.entry.payees)
-        × (result.works ≡ tables.entry.works) }
-    ensures files { (result.files ≡ files.in_force) × (result.unlinked ≡ files.unlinked) }
-    ensures sound { result.are_sound ≡ (tables.entry.are_sound && files.are_sound) }
-{
-    Sources {
-        names,
-        are_sound: tables.are_sound && files.are_sound,
-        territories: tables.territories,
-        payees: tables.payees,
-        works: tables.works,
-        files: files.in_force,
-        unlinked: files.unlinked,
-    }
 }

@@ -75,7 +75,8 @@ fn read_payees<'a>(
 ) -> Result<(Told<'a>, Payees), AllocError>
     ensures { IfOk result (λ read. (out : List (List (List ℕ) × PayeeFault))
         × ArePayeesWithout submitters.now (option_map bytes_of file.entry.now) out read.1
-        × (read.0.text.items ≡ fault_lines (submitter_payee_line (path_if_given file.entry.now)) (path_if_given file.entry.now) out)
+        × (read.0.text.items ≡ fault_lines (submitter_payee_line (path_if_given file.entry.now))
+        (path_if_given file.entry.now) out)
         × (read.0.count ≡ length out)) }
 {
     match file {
@@ -92,7 +93,8 @@ fn read_payees_of<'a>(
 ) -> Result<(Told<'a>, Payees), AllocError>
     ensures { IfOk result (λ read. (out : List (List (List ℕ) × PayeeFault))
         × ArePayeesWithout submitters.now (Some file.entry.now.bytes.items) out read.1
-        × (read.0.text.items ≡ fault_lines (submitter_payee_line (string_bytes file.entry.now.path)) (string_bytes file.entry.now.path) out)
+        × (read.0.text.items ≡ fault_lines (submitter_payee_line (string_bytes file.entry.now.path))
+        (string_bytes file.entry.now.path) out)
         × (read.0.count ≡ length out)) }
 {
     let (told, rows) = read_past_faults(

@@ -9,8 +9,8 @@ use crate::words::{add, add_amount, add_around, add_number, add_path, add_remark
 use std::alloc::AllocError;
 use usage_totals::{Name, Total, Totals};
 
-/// Adds what a run makes of so many lines, where the usage list, what has the registrations and the table of territories have
-/// these paths.
+/// Adds what a run makes of so many lines, where the usage list, what has the registrations and the table of
+/// territories have these paths.
 pub(crate) fn add_totals(
     text: &mut Vec<u8>,
     usage: &str,
@@ -50,7 +50,8 @@ fn add_remark_if_any(
     path: &str,
     remark: &str,
 ) -> Result<(), AllocError>
-    ensures { OnOk result (text.new.items ≡ text.old.items ++ (if nat_lt 0 lines && is_so then remark_line path.now remark.now else [])) }
+    ensures { OnOk result (text.new.items ≡ text.old.items
+        ++ (if nat_lt 0 lines && is_so then remark_line path.now remark.now else [])) }
 {
     if lines > 0 && is_so {
         add_remark(text, path, remark)?;

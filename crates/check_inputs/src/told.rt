@@ -65,8 +65,10 @@ impl<'a> Told<'a> {
     /// Tells one more fault of a CWR file.
     pub(crate) fn cwr(&mut self, line: &[u8], fault: CwrFault) -> Result<(), AllocError>
         requires { self.old.count + 1 < 2 ^ 64 }
-        ensures told { OnOk result ((faults : List (List ℕ × CwrFault)) → IsTold (cwr_line self.old.path.now) self.old.text.items self.old.count faults
-            → IsTold (cwr_line self.old.path.now) self.new.text.items self.new.count (faults ++ (line.now, fault) ∷ [])) }
+        ensures told { OnOk result ((faults : List (List ℕ × CwrFault))
+            → IsTold (cwr_line self.old.path.now) self.old.text.items self.old.count faults
+            → IsTold (cwr_line self.old.path.now) self.new.text.items self.new.count
+            (faults ++ (line.now, fault) ∷ [])) }
         ensures path { self.new.path.now ≡ self.old.path.now }
     {
         if self.count >= MOST_FAULTS {
@@ -81,7 +83,8 @@ impl<'a> Told<'a> {
 
     /// Says how many more faults there are than were told.
     pub(crate) fn close(&mut self) -> Result<(), AllocError>
-        ensures text { OnOk result (self.new.text.items ≡ self.old.text.items ++ more_line self.old.path.now self.old.count) }
+        ensures text { OnOk result (self.new.text.items ≡ self.old.text.items
+            ++ more_line self.old.path.now self.old.count) }
         ensures count { self.new.count ≡ self.old.count }
     {
         if self.count > MOST_FAULTS {
@@ -97,7 +100,8 @@ impl<'a> Told<'a> {
 
     /// Begins the line of a fault.
     fn begin(&mut self, kind: &str, place: Option<u64>) -> Result<(), AllocError>
-        ensures text { OnOk result (self.new.text.items ≡ self.old.text.items ++ (self.old.path.now ++ codes ": " ++ place_text kind.now place)) }
+        ensures text { OnOk result (self.new.text.items ≡ self.old.text.items
+            ++ (self.old.path.now ++ codes ": " ++ place_text kind.now place)) }
         ensures same { (self.new.count ≡ self.old.count) × (self.new.path.now ≡ self.old.path.now) }
     {
         add_path(&mut self.text, self.path)?;
@@ -107,7 +111,8 @@ impl<'a> Told<'a> {
     /// Ends the line of a fault, and counts the fault.
     fn end(&mut self, number: u8) -> Result<(), AllocError>
         requires { self.old.count + 1 < 2 ^ 64 }
-        ensures text { OnOk result (self.new.text.items ≡ self.old.text.items ++ (codes " (fault " ++ decimal number ++ codes ")\n")) }
+        ensures text { OnOk result (self.new.text.items ≡ self.old.text.items
+            ++ (codes " (fault " ++ decimal number ++ codes ")\n")) }
         ensures count { self.new.count ≡ self.old.count + 1 }
         ensures path { self.new.path.now ≡ self.old.path.now }
     {

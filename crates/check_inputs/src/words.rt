@@ -1,11 +1,12 @@
 //! The words of a report.
 
-ghost use Rattle.std.specs.Prelude.{◌≡◌, ◌<◌, ◌++◌, [], OnOk, Option, codes, decimal, flat_map};
+ghost use Rattle.std.specs.Prelude.{◌≡◌, ◌++◌, [], OnOk, Option, codes, decimal, flat_map};
 ghost use Rattle.std.specs.Fmt.{signed_decimal};
-ghost use Rattle.check_inputs.specs.Messages.{around, fact_line, hex, place_text, remark_line, shown, shown_byte};
+ghost use Rattle.check_inputs.specs.Messages.{around, fact_line, place_text, remark_line, shown, shown_byte};
 ghost use Rattle.check_inputs.specs.declared.words.TheConstants.{MOST_FIELD_BYTES};
 
 use itoa::Buffer;
+use page_text::add_code;
 use std::alloc::AllocError;
 
 /// The most bytes of a field that are shown.
@@ -54,7 +55,8 @@ pub(crate) fn add_both(
     second: &[u8],
     after: &str,
 ) -> Result<(), AllocError>
-    ensures { OnOk result (text.new.items ≡ text.old.items ++ (around before.now first.now between.now ++ around [] second.now after.now)) }
+    ensures { OnOk result (text.new.items ≡ text.old.items
+        ++ (around before.now first.now between.now ++ around [] second.now after.now)) }
 {
     add_around(text, before, first, between)?;
     add_shown(text, second)?;
@@ -92,18 +94,7 @@ fn add_byte(text: &mut Vec<u8>, byte: u8) -> Result<(), AllocError>
         text.push(byte)?;
         return Ok(());
     }
-    add(text, "\\x")?;
-    text.push(hex_digit(byte / 16))?;
-    text.push(hex_digit(byte % 16))?;
-    Ok(())
-}
-
-/// A digit to the base 16.
-fn hex_digit(n: u8) -> u8
-    requires { n < 16 }
-    ensures { result ≡ hex n }
-{
-    if n < 10 { n + b'0' } else { n + b'a' - 10 }
+    add_code(text, byte)
 }
 
 /// Begins a line about the file of a path.

@@ -13,4 +13,4 @@ pub use escaped::add_escaped;
 pub use figures::{MOST_DECIMALS, add_amount, add_count, add_last_digits};
 pub use file_names::add_file_name;
 pub use formulas::add_guarded;
-pub use shown::add_shown;
+pub use shown::{add_code, add_shown};

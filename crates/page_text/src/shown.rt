@@ -60,8 +60,8 @@ fn is_visible(character: char) -> bool
     )
 }
 
-/// Adds a byte by its two digits.
-fn add_code(text: &mut Vec<u8>, byte: u8) -> Result<(), AllocError>
+/// Adds a byte by a backslash, an `x` and its two digits to the base 16.
+pub fn add_code(text: &mut Vec<u8>, byte: u8) -> Result<(), AllocError>
     ensures { OnOk result (text.new.items ≡ text.old.items ++ byte_code byte) }
 {
     text.extend_from_slice(b"\\x")?;

@@ -11,7 +11,7 @@ pub add_refused-requires : goal.add_refused-requires
 add_refused-requires c row same =
     let (place, is, first) = rw c.in-Err-Many.field-0-is at c.in-Err-Many.ensures.fault in
     let here : c.in-Err-Many.row ≡ row = cc same in
-    let count = long c.args.sources.now.works.links first.before first.after first.link first.split in
+    let count = long c.args.sources.now.tables.works.links first.before first.after first.link first.split in
     (omega (arith, is, here), omega (arith, is, here, first.place_of, count))
 
 pub returns-in_ok-add_refused-in-Err-Many : goal.returns-in_ok-add_refused-in-Err-Many

@@ -6,4 +6,4 @@ use Rattle.check_inputs.proofs.over.add_over.Given as goal
 abbrev pub invariant-loop-place : goal.invariant-loop-place
 invariant-loop-place l = l.text.items
     ≡ l.initial.text.items
-    ++ flat_map (over_line l.path l.sources.territories l.registry (finds_in_force l.sources) l.sources.works.links l.sources.works.names l.lines) (take l.place l.over)
+    ++ flat_map (over_line l.path l.sources.tables.territories l.registry (finds_in_force l.sources) l.sources.tables.works.links l.sources.tables.works.names l.lines) (take l.place l.over)

@@ -14,8 +14,9 @@ returns c =
     let start = c.args.text.now.items in
     let work = around (codes "work '") c.args.work.now (codes "' is claimed over 100.06 per cent") in
     let total = total_text c.args.total in
-    let who : List ℕ = option_map_or (λ (first : ℕ × UsageLine). row_text first (claims_of_submitters sources.territories (finds_in_force sources) sources.works.links sources.works.names first.1))
-    (first_over sources.territories c.args.registry.now c.args.lines.now c.args.work.now) [] in
+    let who : List ℕ = option_map_or (λ (first : ℕ × UsageLine). row_text first
+    (claims_of_submitters sources.tables.territories (finds_in_force sources) sources.tables.works.links sources.tables.works.names first.1))
+    (first_over sources.tables.territories c.args.registry.now c.args.lines.now c.args.work.now) [] in
     five_behind start c.add_path.new.text.items c.add_around.new.text.items c.add_lines.new.text.items c.add_who_claims.new.text.items c.add.new.text.items
     (path ++ codes ": ") work total who (codes "\n")
     c.in_ok-add_path.ensures c.in_ok-add_around.ensures c.in_ok-add_lines.ensures c.in_ok-add_who_claims.ensures c.in_ok-add.ensures

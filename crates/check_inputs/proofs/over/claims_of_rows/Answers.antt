@@ -1,10 +1,9 @@
-use Rattle.std.proofs.Common.{◌∙◌, ◌≤◌, ◌*◌, arith, map, sym}
-use Rattle.std.proofs.lemmas.List.{length_push, map_push, take_all}
+use Rattle.std.proofs.Common.{◌∙◌, ◌≤◌, ◌*◌, ℕ, List, arith, sym}
+use Rattle.std.proofs.lemmas.List.{length_push, take_all}
 use Rattle.std.proofs.lemmas.List.Elements.{All-push}
 use Rattle.cwr_share.specs.declared.TheConstants.{MOST_SHARES}
 use Rattle.line_split.specs.UsageLine.{usage_line_of}
-use Rattle.check_inputs.specs.OverSoFar.{claim_by_row, claim_shown}
-use Rattle.check_inputs.specs.declared.over.Claim.{Claim}
+use Rattle.check_inputs.specs.OverSoFar.{claim_by_row}
 use Rattle.check_inputs.proofs.Overclaims.{claims_by_rows, kept_more, left_more}
 use Rattle.check_inputs.proofs.over.claims_of_rows.Goals as goal
 use Rattle.check_inputs.proofs.over.claims_of_rows.Goals.{in-Some-claim_of_row+in_ok-push, in_default-claim_of_row}
@@ -21,13 +20,12 @@ loop-place-preserved c =
           let claim = w.in-Some-claim_of_row.claim in
           rw (w.claims-is, w.in_ok-push.ensures.items) record {
             claims =
-                map_push claim_shown claims claim
-                ∙ kept_more by rows place _ c.loop-place-test.true (map claim_shown claims) so_far (claim_shown claim) (sym w.in-Some-claim_of_row.ensures.claim);
+                kept_more by rows place _ c.loop-place-test.true claims so_far claim (sym w.in-Some-claim_of_row.ensures.claim);
             few = omega (arith, length_push claims claim, c.loop-place.invariant.few);
-            small = All-push (λ (claim : Claim). claim.claim ≤ 65535 * MOST_SHARES) claims claim c.loop-place.invariant.small w.in-Some-claim_of_row.ensures.small;
+            small = All-push (λ (claim : List ℕ × ℕ). claim.1 ≤ 65535 * MOST_SHARES) claims claim c.loop-place.invariant.small w.in-Some-claim_of_row.ensures.small;
           }
       | in_default-claim_of_row w ↦ rw w.claims-is record {
-        claims = left_more by rows place _ c.loop-place-test.true (map claim_shown claims) so_far (sym w.in_default-claim_of_row.ensures.claim);
+        claims = left_more by rows place _ c.loop-place-test.true claims so_far (sym w.in_default-claim_of_row.ensures.claim);
         few = omega (arith, c.loop-place.invariant.few);
         small = c.loop-place.invariant.small;
       }

@@ -38,7 +38,8 @@ returns c =
       totals = totals;
     } in
     let none : Sheet = c.none-sheet.result in
-    let so_far = sixth.sound ∙ fifth.sound ∙ sound_of_four found none c.tis.new.self c.payees.new.self c.cwr.new.self c.usage.new.self c.none-sheet.ensures.2 first.sound second.sound third.sound fourth.sound in
+    let so_far = sixth.sound ∙ fifth.sound ∙ sound_of_four found none c.tis.new.self c.payees.new.self c.cwr.new.self c.usage.new.self
+    c.none-sheet.ensures.2 first.sound second.sound third.sound fourth.sound in
     let is : IsFoundIn files found = record {
       territories = is_tis;
       payees = is_payees;

@@ -1,4 +1,4 @@
-use Rattle.std.proofs.Common.{◌≡◌, ◌∙◌, List, ℕ, ap, map, string_bytes, sym}
+use Rattle.std.proofs.Common.{◌≡◌, ◌∙◌, map, string_bytes, sym}
 use Rattle.std.proofs.lemmas.List.{length-map}
 use Rattle.std.specs.Prelude.{length}
 use Rattle.submitted_inputs.specs.Submitted.{map_tables}
