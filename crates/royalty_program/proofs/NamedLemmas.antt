@@ -4,7 +4,7 @@ use Rattle.std.proofs.lemmas.List.{get_or_default, get_or-map, get_or-take, leng
 use Rattle.std.proofs.lemmas.List.Elements.{All-push}
 use Rattle.linked_works.specs.Submitters.{AreSubmitters, IsSubmitter}
 use Rattle.linked_works.proofs.NameLemmas.{one_more}
-use Rattle.royalty_program.specs.declared.named_files.TheConstants.{MOST_NAMED}
+use Rattle.royalty_program.specs.declared.named_files.TheConstants.{MOST_SUBMITTERS}
 use Rattle.royalty_program.specs.NamedFiles.{AreNamed, name_in, path_in}
 
 module _ (values : List (List ℕ)) where
@@ -74,7 +74,7 @@ module _ (values : List (List ℕ)) where
             named.names.once j k [] low_j inside (earlier ∙ sym later)
 
   -- all of them
-  pub all_named : (names paths : List (List ℕ)) (k : ℕ) → length values ≤ k → AreNamedTo k names paths → length values ≤ MOST_NAMED
+  pub all_named : (names paths : List (List ℕ)) (k : ℕ) → length values ≤ k → AreNamedTo k names paths → length values ≤ MOST_SUBMITTERS
       → AreNamed values × (names ≡ map name_in values) × (paths ≡ map path_in values)
   all_named names paths k past to few =
       let whole : first k ≡ values = take_all k values past in (

@@ -54,10 +54,10 @@ fn no_words(kind: io::ErrorKind) -> Failure
 
 /// Does what the words ask for, of which the first is the program's own name. Files are read from
 /// `files`. The answer goes to `out`, or into the file of `target` that the words name, and what went
-/// wrong to `err`. The status is 0 where
-/// the answer was printed or kept, or help was asked for, 1 where an input file is refused for what
-/// is in it or a report tells of a fault, 2 where the words are refused, 3 where memory or a thread
-/// was, and 4 where a file cannot be read or written, or `out` refused a write.
+/// wrong to `err`. The status is 0 where the answer was printed or kept, or help was asked for, 1
+/// where an input file is refused for what is in it or a report tells of a fault, 2 where the words
+/// are refused, 3 where memory or a thread was, and 4 where a file cannot be read or written, or
+/// `out` refused a write.
 pub fn program<R: Threads + Wait + Sync, S: Source + Texts + Sync, T: Target, W: Write, E: Write>(
     rt: &R,
     alloc: Global,

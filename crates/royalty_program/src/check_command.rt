@@ -23,16 +23,17 @@ whatever stands in the others, past each row or line that a run would refuse.
 The answer has a line for each fault, the first hundred of each file, as
   usage.csv: row 3: amount '12,5' is not a whole number from -1000000000000 to 1000000000000 (fault 5)
 and then how many there are of what is in the files without a fault, and remarks on what a run
-passes over: share lines whose territory is not in the table, and payees of parties that nobody is.
-Where no file has a fault, it has how many usage lines are divided and how many are not (WORK, LAND,
-OVER), what they come to, and the unregistered works and the unknown territories with most money.
-The first fault is the one for which a run refuses the files. Status 0: no file has a fault; 1: one
-has.
+passes over: share lines whose territory is not in the table, and rows of payees whose party no
+registration in force has. Where no file has a fault, it has how many usage lines are divided and
+how many are not (WORK, LAND, OVER), what they come to, and the unregistered works and the unknown
+territories with most money. The first fault is the one for which a run refuses the files. Status 0:
+no file has a fault; 1: one has.
 
-With `--works F` the files are those of a run over the files of several submitters, each of which is
-reported on by itself; what the rows of the table of works come to with all of them, and what no row
-links, where none of these has a fault. Works that are claimed OVER have a line each, the ten with
-most money first, with what every submitter claims on the first usage line that is.
+With `--works F` the files are those of a run over the files of several submitters, and each is
+reported on by itself. Where the tables of payees and of works and all CWR files have no fault, it
+also says what the rows of the table of works come to with all files, and what no row links. The ten
+works with most money that are claimed OVER have a line each, with what every submitter claims on the
+first of these usage lines.
 
 Examples:
   royalty_run check --tis territories.csv --cwr works.cwr --usage usage.csv

@@ -31,8 +31,8 @@ const VERSION: &str = "0.1.0\nlogic dac8208d650f15bf";
 /// What stands below the help of the whole program.
 const HELP: &str = "\
 `royalty_run run --help` says what the files of a distribution run have in them,
-`royalty_run works --help` and `royalty_run parties --help` with which tables one over the files of
-several submitters begins, `royalty_run merge --help` how the statements of several runs are merged,
+`royalty_run works --help` and `royalty_run parties --help` which tables a run over several
+submitters' files begins with, `royalty_run merge --help` how the statements of several runs are merged,
 `royalty_run check --help` how the files are checked, `royalty_run explain --help` how one usage line
 is explained, and `royalty_run split --help` how an amount is divided.
 

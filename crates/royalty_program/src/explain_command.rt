@@ -46,8 +46,8 @@ stand:
                                                    are counted anew in each registration
 The claims are those of all these registrations together.
 
-Shares are in hundredths of a per cent. Each of the first ranks has one of the units left. Where
-money is taken back, its size is divided, and each portion has a - before it.
+Shares are in hundredths of a per cent. Each of the first ranks has one of the units left. In a
+reversal the size is divided, and each portion has a - before it.
 
 Examples:
   royalty_run explain --tis territories.csv --cwr works.cwr --usage usage.csv --row 2

@@ -8,7 +8,7 @@ use linked_works::{Submitters, is_submitter};
 use std::alloc::{AllocError, Global};
 
 /// The most submitters that have a file each.
-const MOST_NAMED: usize = 256;
+const MOST_SUBMITTERS: usize = 256;
 
 /// A CWR file of each submitter.
 #[derive(Drop)]
@@ -27,7 +27,7 @@ pub(crate) fn named_files(
     ensures named { IfOk result (λ named. IfOk named (AreNamedBy (map (λ value. value.now) values.now))) }
     ensures wrong { IfOk result (λ named. IfErr named (λ message. ¬ AreNamed (map (λ value. value.now) values.now))) }
 {
-    if values.len() > MOST_NAMED {
+    if values.len() > MOST_SUBMITTERS {
         return Ok(Err(String::from_str(alloc, "at most 256 submitters have a file each")?));
     }
     let mut files = NamedFiles {

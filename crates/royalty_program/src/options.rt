@@ -57,11 +57,11 @@ pub(crate) fn works_arg<'a>(alloc: Global) -> Arg<'a>
     optional_file_arg(
         alloc,
         "works",
-        "The table of works, where several submitters have a CWR file each: --cwr NAME=F, for each",
+        "The table of works, where several submitters have a CWR file each: --cwr NAME=F for each",
     )
 }
 
-/// An option whose value is the path of a file, and which may stand any number of times but none.
+/// A required option whose value is NAME=F, and which may stand several times.
 pub(crate) fn files_arg<'a>(alloc: Global, name: &'a str, help: &'a str) -> Arg<'a>
     ensures optional { IsOptionalArg name.entry.now result }
     ensures needed { result.required ≡ true }

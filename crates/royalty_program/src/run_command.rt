@@ -27,7 +27,7 @@ A file has at most 268435456 bytes. The tables are CSV with a header:
                row is paid itself, and a payee is not looked up again
   usage lines  usage,work,territory,right,amount: a name, the submitter work number, a TIS numeric
                code, P (performing), M (mechanical) or S (synchronisation), and minor units, as cents,
-               with a - before them where money is taken back
+               with a - before them in a reversal
 The registrations are a CWR 2.2 file: of NWR and REV records the submitter work number is read, of
 SPT and SWT records the party, the three collection shares, the mark I or E and the territory.
 Records of other types are skipped, and nothing checks that the file is CWR, or all of it.

@@ -19,8 +19,8 @@ const WORKS_HELP: &str = "\
 The answer is a table of works for `royalty_run run --works`, as CSV with a header:
   work,submitter,number,title
 It has a row for each registration in force, file by file. The work is the ISWC, so registrations with
-one ISWC are of one work, whoever sent them; a registration without one, and the second of a submitter
-with one ISWC, is a work of its own, NAME:NUMBER. The number is the submitter work number.
+one ISWC are of one work, whoever sent them; a registration without one, and each but the first of a
+submitter with one ISWC, is a work of its own, NAME:NUMBER. The number is the submitter work number.
 
 Look the table through before it is used: an ISWC that a submitter left out makes two works of one,
 and titles, which nothing else looks at, often tell. The usage lines then name works as the table does.
@@ -33,8 +33,8 @@ const PARTIES_HELP: &str = "\
 The answer is a table of payees for `royalty_run run --works F --payees`, as CSV with a header:
   submitter,party,payee,name
 It has a row for each party of the share lines of registrations in force, file by file. The payee is
-the IPI name number of the party's SPU or SWR record, where that has one, so parties with one IPI name
-number are paid to one account, whoever sent them; another party is paid to NAME:PARTY.
+the IPI name number of the last of the party's SPU and SWR records that has one, so parties with one
+IPI name number are paid to one account, whoever sent them; another party is paid to NAME:PARTY.
 
 Look the table through before it is used: names, which nothing else looks at, often tell that two
 parties are one. A party whose row is taken out is paid to NAME:PARTY.

@@ -8,11 +8,10 @@ ghost use Rattle.starting_files.specs.Tables.{IsTableOf, header_text, rows_in};
 ghost use Rattle.submitted_inputs.specs.Files.{IsFaultOfFile, IsFaultOfFiles};
 ghost use Rattle.submitted_inputs.specs.declared.fault.SubmittedFault.TheVariants.{Room};
 
-use cwr_share::{CwrFault, InForce};
 use linked_works::Submitters;
 use starting_tables::{add_parties, add_works, parties_header, works_header};
 use std::alloc::{AllocError, Global};
-use submitted_inputs::{SubmittedFault, SubmitterFiles};
+use submitted_inputs::{SubmittedFault, SubmitterFiles, read_with_text};
 
 /// Which table is made.
 #[derive(Clone, Copy, Debug, PartialEq, Eq)]
@@ -89,12 +88,6 @@ fn sound_file<F: SubmitterFiles>(
     ensures fault { IfErr result (λ fault. (fault ≡ Room)
         ⊎ IsFaultOfFile (F.holds files.now) (F.refuses files.now) place fault) }
 {
-    let Some(bytes) = files.read(alloc, place)? else {
-        return Err(SubmittedFault::Unreadable(place));
-    };
-    match InForce::read(alloc, bytes.as_slice()) {
-        Ok(_) => Ok(bytes),
-        Err(CwrFault::Memory) => Err(SubmittedFault::Room),
-        Err(fault) => Err(SubmittedFault::Cwr(place, fault)),
-    }
+    let (bytes, _) = read_with_text(alloc, files, place)?;
+    Ok(bytes)
 }

@@ -16,7 +16,7 @@ ghost use Rattle.works_laws.specs.OneList.{AreOneLists};
 
 use submitted_inputs::SubmitterFiles;
 
-/// Statements go by accounts, claims and refusals alone: where two runs read the same territories and usage lines, and
+/// Statements go by accounts, claims and reasons alone: where two runs read the same territories and usage lines, and
 /// have the same of these, they have the same statements, whatever files they are of.
 pub fn law_statements_go_by_claims_and_accounts()
     ensures { (tables other : Tables) (text : List ℕ) → AnswerAlike tables other

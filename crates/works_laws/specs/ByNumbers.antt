@@ -14,7 +14,7 @@ pub record IsByNumbers (name : List ℕ) (lines : List (List ℕ)) (links : List
   pub all : (number : List ℕ) (shares : List ShareLine) → shares_in_force lines number ≡ Some shares
       → Any (λ link. link.number ≡ number) links
 
--- A party in force has the same payee under its own name by the ones rows and under its submitter's by the others.
+-- By the one table a party in force has the same payee under its own name as by the other under its submitter's.
 pub record ArePaidAsIn (name : List ℕ) (lines : List (List ℕ)) (rows named : List (List ℕ × List ℕ)) : Type 0 where
   pub each : (party : List ℕ) → IsPartyInForce lines party
       → payee_of named (qualified name party) ≡ payee_of rows party

@@ -13,7 +13,7 @@ ghost use Rattle.works_laws.specs.OneList.{AreOneLists};
 ghost use Rattle.works_laws.specs.Reordered.{AreReordered};
 
 /// One submitter alone, each of whose registrations is of the work with its own number, has the accounts, the claims
-/// and the refusals of its file read by itself, where its parties are paid as there.
+/// and the reasons of its file read by itself, where its parties are paid as there.
 pub fn law_one_file_of_a_submitter()
     ensures accounts { (name : List ℕ) (lines : List (List ℕ)) (rows named : List (List ℕ × List ℕ)) (links : List Link)
         (registered joined : Registered) → IsByNumbers name lines links → ArePaidAsIn name lines rows named
@@ -60,7 +60,7 @@ pub fn law_order_does_not_matter()
 {}
 
 /// One list of share lines for each work, in which each interest and party has an interest of its own under the name of
-/// its payee, has the accounts, the claims and the refusals of the list that it stands for.
+/// its payee, has the accounts, the claims and the reasons of the list that it stands for.
 pub fn law_one_list_for_many()
     ensures accounts { (rows : List (List ℕ × List ℕ)) (shares_of single_of : List ℕ → Option (List ShareLine))
         (registered other : Registered) → AreOneLists rows shares_of single_of
