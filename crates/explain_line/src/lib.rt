@@ -11,4 +11,5 @@ mod submitted_files;
 mod submitted_rows;
 
 pub use explanation::explain;
+pub use rows::right_word;
 pub use submitted::explain_submitted;

@@ -68,8 +68,8 @@ fn write_line_fields<'a>(
     ])
 }
 
-/// The word for a right.
-fn right_word(right: Right) -> &'static str
+/// The letter of a right.
+pub fn right_word(right: Right) -> &'static str
     ensures { result.now ≡ right_text right }
 {
     match right {

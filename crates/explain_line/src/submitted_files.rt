@@ -50,8 +50,8 @@ pub(crate) fn found_in<F: SubmitterFiles>(
     })
 }
 
-/// The registrations in force of so many files, and those of rows as they stand in them. The text of each file is let go before
-/// the next is read. The fault of the first that has one is the answer.
+/// The registrations in force of all files, and those of rows as they stand in them. The text of each file is let go
+/// before the next is read. The fault of the first that has one is the answer.
 fn read_in_turn<F: SubmitterFiles>(
     alloc: Global,
     files: &F,
@@ -74,7 +74,7 @@ fn read_in_turn<F: SubmitterFiles>(
     Ok((read, filed))
 }
 
-/// Room for the registrations of so many rows.
+/// Room for the registrations of `count` rows.
 fn none_for(alloc: Global, count: usize) -> Result<Vec<Option<FiledRegistration>>, AllocError>
     ensures { IfOk result (λ filed. length filed.items ≡ count) }
 {

@@ -1,5 +1,5 @@
 -- A field and what is left of it without spaces are no longer than the field.
-use Rattle.std.proofs.Common.{◌≡◌, ◌≤◌, ◌-◌, ◌==◌, ◌∷◌, ◌∙◌, [], ℕ, Bool, true, false, List, arith, cond, drop, length, reverse}
+use Rattle.std.proofs.Common.{◌≤◌, ◌-◌, ◌==◌, ◌∷◌, [], ℕ, Bool, true, false, List, arith, cond, drop, length, reverse}
 use Rattle.std.proofs.lemmas.List.{length-reverse, length-take}
 use Rattle.std.specs.List.{slice_range}
 use Rattle.cwr_share.specs.Fields.{trimmed, without_spaces_before}

@@ -48,7 +48,7 @@ impl<'a> FiledLines<'a> {
     }
 
     /// Its work title, without the spaces at its ends.
-    pub(crate) fn title(&self) -> &'a [u8]
+    pub fn title(&self) -> &'a [u8]
         ensures { result.now ≡ title_of self.now }
     {
         trimmed(TITLE.of(self.opening))

@@ -15,4 +15,5 @@ mod works;
 
 pub use in_force::{FiledLines, registrations_in_force};
 pub use parties::{add_parties, parties_header};
+pub use party_records::{PartyRecords, records_of_parties};
 pub use works::{add_works, works_header};

@@ -1,6 +1,6 @@
 //! The table of payees to begin with.
 
-ghost use Rattle.std.specs.Prelude.{◌≡◌, ◌++◌, ℕ, List, IfOk, OnErr, OnOk, codes, map};
+ghost use Rattle.std.specs.Prelude.{◌≡◌, ◌++◌, ℕ, List, IfOk, OnErr, OnOk, codes};
 ghost use Rattle.csv_table.specs.Written.{text_of, text_of_row};
 ghost use Rattle.cwr_share.specs.Lines.{lines_of};
 ghost use Rattle.linked_works.specs.SubmitterPayees.{header};
@@ -8,7 +8,7 @@ ghost use Rattle.starting_tables.specs.Parties.{party_row, party_rows, rows_of_p
 ghost use Rattle.starting_tables.specs.Records.{AreRecordsOf};
 
 use crate::in_force::registrations_in_force;
-use crate::party_records::{PartyRecords, party_records};
+use crate::party_records::{PartyRecords, records_of_parties};
 use csv_table::RowWriter;
 use std::alloc::{AllocError, Global};
 
@@ -37,7 +37,7 @@ pub fn add_parties(
     ensures unchanged { OnErr result (table.new.items ≡ table.old.items) }
 {
     let registrations = registrations_in_force(alloc, file)?;
-    let records = party_records(alloc, registrations.as_slice())?;
+    let records = records_of_parties(alloc, registrations.as_slice())?;
     let text = parties_text(alloc, submitter, &records)?;
     table.extend_from_slice(text.as_slice())
 }

@@ -23,7 +23,7 @@ use std::collections::BTreeSet;
 
 /// The parties of share lines, in byte order, and the records that say their names and numbers.
 #[derive(Drop)]
-pub(crate) struct PartyRecords<'a> {
+pub struct PartyRecords<'a> {
     /// The parties of the share lines.
     pub(crate) parties: BTreeSet<Vec<u8>>,
     /// By number, the last record that has a name.
@@ -33,7 +33,7 @@ pub(crate) struct PartyRecords<'a> {
 }
 
 /// Those of registrations.
-pub(crate) fn party_records<'a>(
+pub fn records_of_parties<'a>(
     alloc: Global,
     registrations: &[FiledLines<'a>],
 ) -> Result<PartyRecords<'a>, AllocError>
@@ -96,7 +96,7 @@ impl<'a> PartyRecords<'a> {
     }
 
     /// The name of a party, and no bytes where no record has one.
-    pub(crate) fn name_of(&self, alloc: Global, party: &[u8]) -> Result<Vec<u8>, AllocError>
+    pub fn name_of(&self, alloc: Global, party: &[u8]) -> Result<Vec<u8>, AllocError>
         ensures { (lines : List (List ℕ)) → AreRecordsOf lines self.now
             → IfOk result (λ name. name.items ≡ name_by lines party.now) }
     {

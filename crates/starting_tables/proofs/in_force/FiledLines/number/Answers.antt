@@ -1,5 +1,5 @@
-use Rattle.std.proofs.Common.{◌≡◌, ◌≤◌, arith, ap, length, List, ℕ}
-use Rattle.cwr_share.specs.Fields.{field_of, trimmed}
+use Rattle.std.proofs.Common.{arith, ap, length, List, ℕ}
+use Rattle.cwr_share.specs.Fields.{trimmed}
 use Rattle.starting_tables.proofs.NumberLemmas.{trimmed_short, range_short}
 use Rattle.starting_tables.proofs.in_force.FiledLines.number.Goals as goal
 
