@@ -10,12 +10,13 @@ folder=$2
 mkdir -p "$folder"
 name=royalty_run
 
-# The values and arguments that are paths, as the help calls them, and a value that is a name and a path.
+# The values and arguments that are paths, as the help calls them, and a value that is a name and a
+# path.
 paths=(F STATEMENTS)
 named=NAME=F
 
-# The help of each command, and under the key `all` that of the whole program. A command that takes `--works` has another help with it,
-# under a key with ` --works` behind the name.
+# The help of each command, and under the key `all` that of the whole program. A command that takes
+# `--works` has another help with it, under a key with ` --works` behind the name.
 declare -A help
 help[all]=$("$program" --help)
 

@@ -44,14 +44,14 @@ check 'a division' 0 'P,A,2\nM,,1\n' '' "$program" split 3 A=5000
 check 'a run' 0 "$(sed 's/\\/\\\\/g' "$examples/statements.csv")\n" '' "$program" run "${files[@]}" "${plan[@]}"
 check 'a run with = and in another order' 0 "$(sed 's/\\/\\\\/g' "$examples/statements.csv")\n" '' \
     "$program" run --nodes=16 --usage=usage.csv --readers 1 --cwr works.cwr --workers=2 --tis=territories.csv
-# The second line is taken back at the end: its parties have two postings that come to nothing.
+# The second line is reversed at the end: its parties have two postings that come to nothing.
 { cat usage.csv; echo 'RADIO-US-01,NT0001,840,P,-98701'; } >corrected.csv
 corrected=$(sed -e 's/^S,BIGSKY,.*/L,BIGSKY,RADIO-US-01,-29611\nS,BIGSKY,2,0/' \
     -e 's/^S,LINDQVIST,.*/L,LINDQVIST,RADIO-US-01,-29610\nS,LINDQVIST,4,37834/' \
     -e 's/^S,OKAFOR,.*/L,OKAFOR,RADIO-US-01,-19740\nS,OKAFOR,4,25334/' \
     -e 's/^S,RIVER,.*/L,RIVER,RADIO-US-01,-19740\nS,RIVER,6,172284/' \
     -e 's/^R,.*/R,,10,465261/' "$examples/statements.csv")
-check 'a line that is taken back' 0 "$corrected\n" '' \
+check 'a line that is reversed' 0 "$corrected\n" '' \
     "$program" run --tis territories.csv --cwr works.cwr --usage corrected.csv "${plan[@]}"
 printf 'party,payee\nNOBODY,SOMEBODY\n' >payees.csv
 check 'payees of other parties' 0 "$(sed 's/\\/\\\\/g' "$examples/statements.csv")\n" '' "$program" run "${files[@]}" --payees payees.csv "${plan[@]}"
@@ -80,7 +80,7 @@ usage.csv: territory 999 is not in the table: lines 1, amount 750
 " '' "$program" check "${files[@]}"
 # Reversed whole, the list has the same lines again with the opposite amounts.
 { cat usage.csv; tail -n +2 usage.csv | sed 's/,\([0-9]*\)$/,-\1/'; } >reversed.csv
-check 'a check of lines that are taken back' 0 "${facts}reversed.csv: usage lines: 18
+check 'a check of lines that are reversed' 0 "${facts}reversed.csv: usage lines: 18
 reversed.csv: divided: lines 12, amount 0, to the residue 0
 reversed.csv: WORK, not registered: lines 2, amount 0
 reversed.csv: LAND, territory not in the table: lines 2, amount 0
@@ -92,7 +92,7 @@ reversed.csv: territory 999 is not in the table: lines 2, amount 0
 sed 's/E0840/E0841/' works.cwr >mistyped.cwr
 printf 'party,payee\nRIVER,OKAFOR\nMOOM,BIGSKY\nNT0001,BIGSKY\n' >mistyped.csv
 check 'a check that remarks what a run passes over' 0 'mistyped.cwr: remark: share lines whose territory is not in the table: 1, in line 6\nmistyped.csv: remark: rows whose party no registration in force has: 2, in row 2, 3\n' '' \
-    bash -c '"$0" check --tis territories.csv --payees mistyped.csv --cwr mistyped.cwr --usage usage.csv | grep remark' "$program"
+    bash -c 'set -o pipefail; "$0" check --tis territories.csv --payees mistyped.csv --cwr mistyped.cwr --usage usage.csv | grep remark' "$program"
 head -n 1 territories.csv >none.csv
 check 'a check of files of another kind' 0 "none.csv: territories: 0
 usage.csv: works with a registration in force: 0
@@ -263,7 +263,7 @@ check 'an explanation with two files of one submitter' 2 '' "$(twice "explain [O
     "$program" explain "${tables[@]}" "${cwr[@]}" --cwr MOON=north.cwr --row 7
 sed 's/^T9104182072,MOON,ML0003,/T9104182072,MOON,ML9999,/' works.csv >other.csv
 check 'an explanation of a registration that is not in force' 0 'W,MOON,ML9999,\nW,HARBOR,1003,20\n' '' \
-    bash -c '"$0" "$@" | grep ^W' "$program" explain "${tables[@]/works.csv/other.csv}" "${cwr[@]}" --row 7
+    bash -c 'set -o pipefail; "$0" "$@" | grep ^W' "$program" explain "${tables[@]/works.csv/other.csv}" "${cwr[@]}" --row 7
 facts='territories.csv: territories: 41
 payees.csv: parties with a payee: 31
 works.csv: registrations linked: 51
@@ -301,7 +301,7 @@ check 'a check of three files, of which one is not there' 4 '' 'royalty_run: can
 check 'a check with two files of one submitter' 2 '' "$(twice "check [OPTIONS] $several_files")" \
     "$program" check "${tables[@]}" "${cwr[@]}" --cwr MOON=north.cwr
 check 'help with a check of several files' 0 "Usage: royalty_run check [OPTIONS] $several_files\n" '' \
-    bash -c '"$0" "$@" | grep ^Usage' "$program" check --works works.csv --help
+    bash -c 'set -o pipefail; "$0" "$@" | grep ^Usage' "$program" check --works works.csv --help
 check 'a table of works' 0 "$(cat "$several/works.printed.csv")\n" '' "$program" works "${cwr[@]}"
 check 'a table of payees' 0 "$(cat "$several/payees.printed.csv")\n" '' "$program" parties "${cwr[@]}"
 check 'a run over tables as they were printed' 0 '*' '' \
@@ -375,8 +375,8 @@ awk 'BEGIN { u = sprintf("%064d", 1); w = sprintf("%064d", 2)
     for (n = 1; n <= 1000000; n++) print u "," w ",0276,P,1000000000000" }' >long.csv
 [ "$(stat -c %s long.csv)" -gt $((most / 2)) ] || { echo 'program.sh: the long list is too short'; failed=$((failed + 1)); }
 long=(--tis territories.csv --cwr works.cwr --usage long.csv)
-check 'a million lines that stay with the residue' 0 'T,,1000000,1000000000000000000\nR,,1000000,1000000000000000000\n' '' bash -c '"$0" "$@" | tail -n 2' "$program" run "${long[@]}" "${plan[@]}"
-check 'a check of a million lines' 0 'long.csv: usage lines: 1000000\n' '' bash -c '"$0" "$@" | grep "usage lines:"' "$program" check "${long[@]}"
+check 'a million lines that stay with the residue' 0 'T,,1000000,1000000000000000000\nR,,1000000,1000000000000000000\n' '' bash -c 'set -o pipefail; "$0" "$@" | tail -n 2' "$program" run "${long[@]}" "${plan[@]}"
+check 'a check of a million lines' 0 'long.csv: usage lines: 1000000\n' '' bash -c 'set -o pipefail; "$0" "$@" | grep "usage lines:"' "$program" check "${long[@]}"
 sed -i '1000001s/,P,/,X,/' long.csv
 check 'a fault in the last line of a long list' 1 '' 'royalty_run: usage fault 4 at row 1000000\n' "$program" run "${long[@]}" "${plan[@]}"
 rm long.csv

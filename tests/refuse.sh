@@ -2,10 +2,10 @@
 # Runs a program with what it asks of the system refused: each allocation, each thread, each read
 # and write, and each file that is opened, given permissions, brought to the disk or renamed, in
 # turn; and with reads and writes that are cut short or interrupted. It divides one amount, checks
-# the examples, explains a line of them, makes the tables to begin with over three submitters' files,
-# checks these and explains a line of them, runs on the examples with several plans, and into an output file
-# over one submitter's file and over three, merges statements, to standard output and into a file,
-# and runs on 2,000 usage lines, whose rows are written by four threads.
+# the examples and explains a line of them, makes the tables to begin with of three submitters'
+# files, checks these and explains a line of them, runs on the examples with several plans, and into
+# an output file over one CWR file and over three, merges statements, to standard output and into a
+# file, and runs on 2,000 usage lines, whose rows are written by four threads.
 #
 # Each run has to end within a minute: with the whole answer; where memory or a thread was refused,
 # with status 3 and nothing printed, but that a merge may have begun; where a read, a write or a

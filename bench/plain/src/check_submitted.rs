@@ -1,5 +1,5 @@
 //! `check` over the files of several submitters: the same of each file, what their links come to,
-//! and which submitters claim what of the works that are claimed too much.
+//! and what each submitter claims of the works that are claimed over 100.06 per cent.
 
 use crate::check::{
     Found, NAMED, Sheet, Tally, divided, greatest, party_and_payee, registrations, remark_on,
@@ -213,7 +213,7 @@ fn claim_of(lines: &[Raw], line: &Line, tis: &Tis) -> u64 {
         .sum()
 }
 
-/// The works of which more than there is is claimed, and who claims it.
+/// The works that are claimed over 100.06 per cent, and what each submitter claims.
 fn overclaimed(
     path: &str,
     input: &Input,

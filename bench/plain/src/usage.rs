@@ -5,7 +5,7 @@ use crate::rows::{Fault, Field, MOST, Rows, code};
 
 #[derive(Clone, Copy)]
 pub struct Line {
-    /// Below 0 where money is taken back.
+    /// Below 0 in a reversal.
     pub amount: i64,
     usage_at: u32,
     work_at: u32,
