@@ -1,0 +1,3 @@
+pub mod CodeLemmas
+pub mod FirstLemmas
+pub mod Zipped

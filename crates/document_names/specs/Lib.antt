@@ -1,0 +1,4 @@
+pub mod FirstTexts
+pub mod Payees
+pub mod Territories
+pub mod Titles
