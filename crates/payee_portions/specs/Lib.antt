@@ -1,0 +1,4 @@
+pub mod Portions
+pub mod Shown
+pub mod Sections
+pub mod Sums
