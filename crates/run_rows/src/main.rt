@@ -4,6 +4,7 @@
 //! Its arguments name the tables. A heading has the word for what is asked, and files.
 #![tactic(auto)]
 
+mod documents;
 mod files;
 mod merging;
 mod reading;
@@ -95,6 +96,12 @@ fn answer<R: Files + AllocGlobal + Threads + Wait + Sync>(
 ) -> Result<String> {
     match ask {
         "several" => several::statements(rt, alloc, of, question),
+        "title" => documents::title_in_file(rt, alloc, of, question),
+        "title_by_hand" => documents::title_in_table(rt, alloc, of, question),
+        "name" => documents::name_of(rt, alloc, of, question),
+        "territory" => documents::territory(rt, alloc, of, question),
+        "sheet" => documents::sheet(rt, alloc, of, question),
+        "uses" => documents::uses(rt, alloc, of, question),
         "works" => starting::works(rt, alloc, of, question),
         "parties" => starting::parties(rt, alloc, of, question),
         "names" => several::names(alloc, question),

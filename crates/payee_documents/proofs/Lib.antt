@@ -1,0 +1,3 @@
+pub mod SectionsLeft
+pub mod Sheets
+pub mod WorkRows

@@ -1,0 +1,4 @@
+pub mod Pieces
+pub mod Sheet
+pub mod Texts
+pub mod Uses
