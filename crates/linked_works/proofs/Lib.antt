@@ -4,3 +4,4 @@ pub mod LinkedLemmas
 pub mod LinkRows
 pub mod NameLemmas
 pub mod PassingOver
+pub mod PayeeRows

@@ -2,6 +2,8 @@
 
 ghost use Rattle.std.specs.Prelude.{◌≡◌, ℕ, List};
 ghost use Rattle.cwr_share.specs.Joined.{qualified};
+ghost use Rattle.cwr_share.specs.declared.payee_fault.PayeeFault.{PayeeFault};
+ghost use Rattle.cwr_share.specs.declared.payee_fault.PayeeFault.TheVariants as payee_fault;
 ghost use Rattle.linked_works.specs.Linked.{Link};
 ghost use Rattle.linked_works.specs.Submitters.{IsSubmitter};
 ghost use Rattle.linked_works.specs.SubmitterPayees as payee_rows;
@@ -30,6 +32,12 @@ pub fn law_rows_are_one_table()
 pub fn law_a_table_of_works_has_no_fault()
     ensures { (names : List (List ℕ)) (rows : List (List (List ℕ))) (links : List Link) (fault : WorksFault)
         → works_table.IsTableOf names rows links → works_table.IsFaultOf names rows fault → fault ≡ works_fault.Memory }
+{}
+
+/// Rows that are a table of payees are refused for nothing but lack of memory.
+pub fn law_a_table_of_payees_has_no_fault()
+    ensures { (names : List (List ℕ)) (rows : List (List (List ℕ))) (payees : List (List ℕ × List ℕ)) (fault : PayeeFault)
+        → payee_rows.IsTableOf names rows payees → payee_rows.IsFaultOf names rows fault → fault ≡ payee_fault.Memory }
 {}
 
 /// How many rows the two tables may have.

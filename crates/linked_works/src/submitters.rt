@@ -1,6 +1,6 @@
 //! The names of submitters, and what stands behind them.
 
-ghost use Rattle.std.specs.Prelude.{◌≡◌, ◌↔◌, ◌≤◌, ◌<◌, ◌++◌, ◌∷◌, ℕ, [], Contains, IfNone, IfOk, IfSome, IsTrue, if◌then◌else◌, length, slice_index_or};
+ghost use Rattle.std.specs.Prelude.{◌≡◌, ◌↔◌, ◌≤◌, ◌<◌, ◌++◌, ◌∷◌, ℕ, [], Contains, IfNone, IfOk, IfSome, IsTrue, OnErr, if◌then◌else◌, length, slice_index_or};
 ghost use Rattle.cwr_share.specs.Joined.{qualified as qualified_text};
 ghost use Rattle.cwr_share.specs.declared.numbers.TheConstants.{MOST_SUBMITTER_BYTES};
 ghost use Rattle.cwr_share.specs.declared.payees.TheConstants.{MOST_NAME_BYTES};
@@ -43,10 +43,12 @@ impl Submitters {
         }
     }
 
-    /// Adds a name. Answers whether it was: a text that can be no name, or that is among the names, is not.
+    /// Adds a name. Answers whether it was: a text that can be no name, or that is among the names, is not. Where memory
+    /// is refused the names stay as they were.
     pub fn add(&mut self, alloc: Global, name: &[u8]) -> Result<bool, AllocError>
         ensures added { IfOk result (λ added. IsTrue added ↔ (IsSubmitter name.now × ¬ Contains self.old name.now)) }
         ensures names { IfOk result (λ added. self.new ≡ (if added then self.old ++ name.now ∷ [] else self.old)) }
+        ensures unchanged { OnErr result (self.new ≡ self.old) }
     {
         if !is_submitter(name) {
             return Ok(false);

@@ -11,7 +11,7 @@ pub const MOST_DECIMALS: u32 = 9;
 
 /// Adds an amount of minor units, of which a unit has ten to the power of `decimals`: with a minus sign where it is
 /// below 0, groups of three digits, and as many decimal places.
-pub fn add_amount(text: &mut Vec<u8>, decimals: u32, amount: i64) -> Result<(), AllocError>
+pub fn add_amount(text: &mut Vec<u8>, decimals: u32, amount: i128) -> Result<(), AllocError>
     requires { decimals ≤ MOST_DECIMALS }
     ensures { OnOk result (text.new.items ≡ text.old.items ++ amount_text decimals amount) }
 {
@@ -22,11 +22,11 @@ pub fn add_amount(text: &mut Vec<u8>, decimals: u32, amount: i64) -> Result<(), 
 }
 
 /// Adds minor units without their sign.
-fn add_size(text: &mut Vec<u8>, decimals: u32, size: u64) -> Result<(), AllocError>
+fn add_size(text: &mut Vec<u8>, decimals: u32, size: u128) -> Result<(), AllocError>
     requires { decimals ≤ MOST_DECIMALS }
     ensures { OnOk result (text.new.items ≡ text.old.items ++ size_text decimals size) }
 {
-    add_count(text, size / 10_u64.pow(decimals))?;
+    add_count(text, size / 10_u128.pow(decimals))?;
     if decimals > 0 {
         text.push(b'.')?;
         add_last_digits(text, decimals, size)?;
@@ -35,7 +35,7 @@ fn add_size(text: &mut Vec<u8>, decimals: u32, size: u64) -> Result<(), AllocErr
 }
 
 /// Adds a number, with groups of three digits.
-pub fn add_count(text: &mut Vec<u8>, number: u64) -> Result<(), AllocError>
+pub fn add_count(text: &mut Vec<u8>, number: u128) -> Result<(), AllocError>
     ensures { OnOk result (text.new.items ≡ text.old.items ++ count_text number) }
 {
     let mut digits = Buffer::new();
@@ -57,14 +57,14 @@ fn add_grouped(text: &mut Vec<u8>, digits: &[u8]) -> Result<(), AllocError>
 }
 
 /// Adds the last digits of a number, `count` of them, with noughts in front.
-pub fn add_last_digits(text: &mut Vec<u8>, count: u32, number: u64) -> Result<(), AllocError>
+pub fn add_last_digits(text: &mut Vec<u8>, count: u32, number: u128) -> Result<(), AllocError>
     requires { count ≤ 19 }
     ensures { OnOk result (text.new.items ≡ text.old.items ++ last_digits count number) }
 {
     let mut left = count;
     while left > 0 {
         left -= 1;
-        text.push(b'0' + (number / 10_u64.pow(left) % 10) as u8)?;
+        text.push(b'0' + (number / 10_u128.pow(left) % 10) as u8)?;
     }
     Ok(())
 }

@@ -22,7 +22,7 @@ pub fn add_file_name(
     requires number { number < 10 ^ width }
     ensures { OnOk result (text.new.items ≡ text.old.items ++ file_name width number name.now) }
 {
-    add_last_digits(text, width, number)?;
+    add_last_digits(text, width, u128::from(number))?;
     text.push(b'-')?;
     let slug = slug_of(alloc, name)?;
     text.extend_from_slice(slug.as_slice())
