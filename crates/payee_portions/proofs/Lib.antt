@@ -1,6 +1,10 @@
+pub mod FilterLemmas
+pub mod LandLemmas
 pub mod ListedLemmas
+pub mod MoneyLemmas
 pub mod OneSectionLemmas
 pub mod OrderLemmas
 pub mod SectionLemmas
+pub mod SectionsLeft
 pub mod SumLemmas
 pub mod TurnLemmas

@@ -1,5 +1,5 @@
 -- The order in which documents list portions.
-use Rattle.std.proofs.Common.{◌≡◌, ◌∙◌, ◌+◌, ◌<◌, ◌∷◌, [], ℕ, List, arith, ap, length, map}
+use Rattle.std.proofs.Common.{◌∙◌, ◌+◌, ◌<◌, ◌∷◌, [], List, arith, length, map}
 use Rattle.std.specs.Cmp.{IsTotalOrder, nat_cmp_total, on_total, then_total}
 use Rattle.std.specs.List.Sorted.{IsSorted}
 use Rattle.std.specs.Ordering.{is_lt}
@@ -8,8 +8,6 @@ use Rattle.std.proofs.lemmas.Cmp.{nat_list_cmp_total}
 use Rattle.std.proofs.lemmas.List.{get_or-map, length-map}
 use Rattle.payee_portions.specs.Portions as portions
 use Rattle.payee_portions.specs.Portions.{by_title}
-use Rattle.payee_portions.specs.Shown.{portion_shown}
-use Rattle.payee_portions.specs.declared.portion.Portion.{Portion}
 
 pub is_order : IsTotalOrder by_title
 is_order =

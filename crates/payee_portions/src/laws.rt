@@ -1,12 +1,13 @@
 //! What a list of portions keeps to. A law has an empty body: its contract is the law.
 
-ghost use Rattle.std.specs.Prelude.{ℕ, ℤ, ◌≡◌, ◌-◌, ◌<◌, ◌+ℤ◌, All, List, filter, flat_map, length, map};
+ghost use Rattle.std.specs.Prelude.{ℕ, ℤ, ◌≡◌, ◌-◌, ◌<◌, ◌+ℤ◌, All, List, filter, flat_map, length, map, sum_by};
 ghost use Rattle.std.specs.List.Sorted.{IsPermutation};
 ghost use Rattle.cwr_share.specs.Registered.{Registered};
 ghost use Rattle.line_split.specs.UsageLine.{UsageLine};
 ghost use Rattle.line_split.specs.Signs.{int_sum_by};
 ghost use Rattle.line_split.specs.declared.usage.Right.TheVariants.{P, M, S};
 ghost use Rattle.payee_book.specs.Statement.{total_of};
+ghost use Rattle.payee_portions.specs.Lands.{AreTerritories, portions_in};
 ghost use Rattle.payee_portions.specs.Portions.{AreListed, Portion, portions_of};
 ghost use Rattle.payee_portions.specs.Sections.{is_of, sections_of};
 ghost use Rattle.payee_portions.specs.Sums.{sum_for, sum_of};
@@ -44,4 +45,12 @@ pub fn law_a_work_has_one_section()
 pub fn law_rights_add_up()
     ensures { (listed : List Portion)
         → (sum_for P listed +ℤ sum_for M listed) +ℤ sum_for S listed ≡ sum_of listed }
+{}
+
+/// What is of each territory comes to the whole.
+pub fn law_territories_add_up()
+    ensures amounts { (listed : List Portion) (codes : List ℕ) → AreTerritories listed codes
+        → int_sum_by (λ code. sum_of (portions_in code listed)) codes ≡ sum_of listed }
+    ensures counts { (listed : List Portion) (codes : List ℕ) → AreTerritories listed codes
+        → sum_by (λ code. length (portions_in code listed)) codes ≡ length listed }
 {}

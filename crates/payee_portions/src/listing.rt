@@ -69,7 +69,7 @@ fn portions_in_turn<'a>(
 }
 
 /// Puts portions in order.
-fn sort(list: &mut Vec<Portion<'_>>)
+pub(crate) fn sort(list: &mut Vec<Portion<'_>>)
     ensures listed { AreListed (portions_shown list.old.items) (portions_shown list.new.items) }
     ensures count { length list.new.items ≡ length list.old.items }
     ensures small { All (λ portion. unsigned_abs portion.amount ≤ MOST_AMOUNT) list.old.items

@@ -1,7 +1,7 @@
 //! The sections of a list of portions: one for each work.
 
 ghost use Rattle.std.specs.Prelude.{◌≡◌, ◌<◌, ◌≤◌, ◌+◌, drop, length};
-ghost use Rattle.payee_portions.specs.Sections.{section_length};
+ghost use Rattle.payee_portions.specs.Sections.{section_length, sections_of};
 ghost use Rattle.payee_portions.specs.Shown.{portions_shown};
 
 use crate::Portion;
@@ -20,4 +20,17 @@ pub fn end_of_section(list: &[Portion<'_>], from: usize) -> usize
         end += 1;
     }
     end
+}
+
+/// How many works a list has portions of.
+pub fn count_of_sections(list: &[Portion<'_>]) -> u64
+    ensures { result ≡ length (sections_of (portions_shown list.now)) }
+{
+    let mut count = 0;
+    let mut from = 0;
+    while from < list.len() {
+        from = end_of_section(list, from);
+        count += 1;
+    }
+    count
 }

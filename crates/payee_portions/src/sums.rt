@@ -3,7 +3,7 @@
 ghost use Rattle.std.specs.Prelude.{◌≡◌, ◌≤◌, All, length, unsigned_abs};
 ghost use Rattle.line_split.specs.declared.TheConstants.{MOST_AMOUNT, MOST_LINES};
 ghost use Rattle.payee_portions.specs.Shown.{portions_shown};
-ghost use Rattle.payee_portions.specs.Sums.{sum_for as sum_for_right, sum_of as sum_of_list};
+ghost use Rattle.payee_portions.specs.Sums.{portions_for, sum_for as sum_for_right, sum_of as sum_of_list};
 
 use crate::Portion;
 use line_split::Right;
@@ -34,4 +34,17 @@ pub fn sum_for(list: &[Portion<'_>], right: Right) -> i64
         }
     }
     sum
+}
+
+/// How many are of a right.
+pub fn count_for(list: &[Portion<'_>], right: Right) -> u64
+    ensures { result ≡ length (portions_for right (portions_shown list.now)) }
+{
+    let mut count = 0;
+    for place in 0..list.len() {
+        if list[place].line.right == right {
+            count += 1;
+        }
+    }
+    count
 }

@@ -1,0 +1,13 @@
+use Rattle.std.proofs.Common.{◌≡◌, ◌≤◌, ◌*◌, take, unsigned_abs}
+use Rattle.line_split.specs.declared.TheConstants.{MOST_AMOUNT}
+use Rattle.payee_portions.specs.Lands.{portions_in}
+use Rattle.payee_portions.specs.Shown.{portions_shown}
+use Rattle.payee_portions.specs.Sums.{sum_of}
+use Rattle.payee_portions.proofs.lands.sum_in.Given as goal
+
+-- the sum so far, each term of which is small
+abbrev pub invariant-loop-place : goal.invariant-loop-place
+invariant-loop-place l = record {
+  sum : l.sum ≡ sum_of (portions_in l.code (portions_shown (take l.place l.list)));
+  small : unsigned_abs l.sum ≤ l.place * MOST_AMOUNT;
+}
