@@ -1,6 +1,6 @@
 -- A table with a bar in each row.
 use Rattle.std.specs.Prelude.{ℕ, ℤ, pos, negsuc, suc, ◌+◌, ◌-◌, ◌≤◌, ◌==◌, ◌^◌, ◌++◌, ◌∷◌, [], All, Bool, true, false, List}
-use Rattle.std.specs.Prelude.{codes, decimal, flat_map, if◌then◌else◌, int_lt, map, max, unsigned_abs, length}
+use Rattle.std.specs.Prelude.{codes, decimal, flat_map, if◌then◌else◌, int_lt, map, max, min, unsigned_abs, length}
 use Rattle.page_parts.specs.Parts.{thousandths}
 use Rattle.page_parts.specs.Pieces.{all_of, in_page}
 use Rattle.page_parts.specs.declared.bars.BarRow.{BarRow}
@@ -90,19 +90,23 @@ zero_of scale = if (scale.below + scale.above) == 0 then 0 else thousandths scal
 abbrev pub width_in : Scale → (size : ℕ) → ℕ
 width_in scale size = if size == 0 then 0 else max (thousandths size (scale.below + scale.above)) 3
 
+-- a bar goes to the left of 0 where it is negative, and does not leave the picture
+abbrev pub start_at : (at width : ℕ) → (is_negative : Bool) → ℕ
+start_at at width is_negative = if is_negative then at - width else min at (1000 - width)
+
 abbrev pub start_in : Scale → ℤ → ℕ
 start_in scale amount =
-    if int_lt amount (pos 0) then zero_of scale - width_in scale (unsigned_abs amount) else zero_of scale
+    start_at (zero_of scale) (width_in scale (unsigned_abs amount)) (int_lt amount (pos 0))
 
 abbrev pub bar_class_text : (is_rest is_negative : Bool) → List ℕ
 bar_class_text is_rest is_negative =
     if is_rest then codes " class=\"rest\"" else (if is_negative then codes " class=\"minus\"" else [])
 
 -- the line at 0, where bars go both ways from it
-abbrev pub axis_text : (below zero : ℕ) → List ℕ
-axis_text below zero =
+abbrev pub axis_text : (below at : ℕ) → List ℕ
+axis_text below at =
     if below == 0 then []
-    else all_of (codes "<rect class=\"axis\" x=\"" ∷ decimal zero ∷ codes "\" width=\"3\" height=\"1\"/>" ∷ [])
+    else all_of (codes "<rect class=\"axis\" x=\"" ∷ decimal at ∷ codes "\" width=\"3\" height=\"1\"/>" ∷ [])
 
 abbrev pub bar_text : Scale → (is_rest : Bool) → ℤ → List ℕ
 bar_text scale is_rest amount = all_of (
@@ -146,7 +150,8 @@ others_text decimals scale rest others = all_of (
 
 abbrev pub bars_head : Table → List ℕ
 bars_head table = all_of (
-    codes "<table class=\"bars\"><caption>" ∷ table.caption ∷ codes "</caption><thead><tr><th scope=\"col\">" ∷ table.head
+    codes "<table class=\"bars\"><caption>" ∷ table.caption ∷ codes "</caption><thead><tr><th scope=\"col\">"
+    ∷ table.head
     ∷ codes "</th><td></td><th scope=\"col\" class=\"n opt\">Portions</th>"
     ∷ codes "<th scope=\"col\" class=\"n\">Amount</th></tr></thead><tbody>\n" ∷ [])
 

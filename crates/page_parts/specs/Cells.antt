@@ -49,8 +49,12 @@ line_cells_text land row line = all_of (
 abbrev pub body_tag_text : (uses : ℕ) → List ℕ
 body_tag_text uses = if nat_le uses 6 then codes "<tbody class=\"short\">" else codes "<tbody>"
 
+abbrev pub work_tag_text : (is_negative : Bool) → List ℕ
+work_tag_text is_negative = if is_negative then codes "<tr class=\"work neg\">" else codes "<tr class=\"work\">"
+
 -- the row of a work: its title, and what its uses come to
 abbrev pub work_row_text : (decimals columns : ℕ) → (title work : List ℕ) → (uses : ℕ) → (amount : ℤ) → List ℕ
 work_row_text decimals columns title work uses amount = all_of (
-    body_tag_text uses ∷ codes "<tr class=\"work\"><th scope=\"rowgroup\" colspan=\"" ∷ decimal columns ∷ codes "\">"
+    body_tag_text uses ∷ work_tag_text (int_lt amount (pos 0)) ∷ codes "<th scope=\"rowgroup\" colspan=\""
+    ∷ decimal columns ∷ codes "\">"
     ∷ work_text title work ∷ codes "</th><td>" ∷ amount_text decimals amount ∷ codes "</td></tr>\n" ∷ [])

@@ -37,5 +37,6 @@ currency_text currency =
 -- a large figure, up to its note
 abbrev pub figure_text : (decimals : ℕ) → (label : List ℕ) → (amount : ℤ) → (currency : List ℕ) → List ℕ
 figure_text decimals label amount currency = all_of (
-    figure_class_text (int_lt amount (pos 0)) ∷ codes "<span>" ∷ label ∷ codes "</span><b>" ∷ amount_text decimals amount
+    figure_class_text (int_lt amount (pos 0)) ∷ codes "<span>" ∷ label ∷ codes "</span><b>"
+    ∷ amount_text decimals amount
     ∷ currency_text currency ∷ codes "</b> <i>" ∷ [])

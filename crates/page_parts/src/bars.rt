@@ -3,7 +3,7 @@
 ghost use Rattle.std.specs.Prelude.{◌≡◌, ◌≤◌, ◌++◌, ◌^◌, ◌⊎◌, false, true, OnOk, unsigned_abs};
 ghost use Rattle.page_parts.specs.Bars.{AreSmall, axis_text, bar_class_text, bar_text, bars_head, bars_text, figures_text};
 ghost use Rattle.page_parts.specs.Bars.{label_text, others_shown, others_text, row_shown, row_tag_text, row_text};
-ghost use Rattle.page_parts.specs.Bars.{scale_for, sums_text, table_shown, widened as widened_by, width_in, zero_of};
+ghost use Rattle.page_parts.specs.Bars.{scale_for, start_at, sums_text, table_shown, widened as widened_by, width_in, zero_of};
 ghost use Rattle.page_text.specs.declared.figures.TheConstants.{MOST_DECIMALS};
 
 use crate::parts::part_of;
@@ -64,8 +64,8 @@ struct Scale {
     above: u128,
 }
 
-/// Adds a table with bars: a row for each that is shown, one for those that are left out, where there are some, and the sum.
-/// A bar shows how large an amount is beside the others; one below 0 goes to the left.
+/// Adds a table with bars: a row for each that is shown, one for those that are left out, where there are some, and
+/// the sum. A bar shows how large an amount is beside the others; one below 0 goes to the left.
 pub fn add_bars(
     alloc: Global,
     page: &mut Vec<u8>,
@@ -226,7 +226,8 @@ fn add_others(
     requires below { scale.below ≤ 2 ^ 100 }
     requires above { scale.above ≤ 2 ^ 100 }
     requires within { (unsigned_abs others.amount ≤ scale.below) ⊎ (unsigned_abs others.amount ≤ scale.above) }
-    ensures { OnOk result (page.new.items ≡ page.old.items ++ others_text decimals scale rest.entry.now (others_shown others)) }
+    ensures { OnOk result (page.new.items ≡ page.old.items ++ others_text decimals scale rest.entry.now
+        (others_shown others)) }
 {
     add(
         alloc,
@@ -285,11 +286,7 @@ fn add_bar(
 {
     let zero = zero_at(scale);
     let width = width_of(scale, amount.unsigned_abs());
-    let start = if amount < 0 {
-        zero.saturating_sub(width)
-    } else {
-        zero
-    };
+    let start = start_of(zero, width, amount < 0);
     add(
         alloc,
         page,
@@ -308,6 +305,17 @@ fn add_bar(
     )?;
     add_axis(alloc, page, scale, zero)?;
     page.extend_from_slice(b"</svg>")
+}
+
+/// Where a bar begins: one below 0 goes to the left, and none leaves the picture.
+fn start_of(zero: u64, width: u64, is_negative: bool) -> u64
+    ensures { result ≡ start_at zero width is_negative }
+{
+    if is_negative {
+        zero.saturating_sub(width)
+    } else {
+        zero.min(1000_u64.saturating_sub(width))
+    }
 }
 
 /// What a bar looks like.

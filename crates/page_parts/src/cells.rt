@@ -3,7 +3,7 @@
 ghost use Rattle.std.specs.Prelude.{◌≡◌, ◌≤◌, ◌++◌, OnOk};
 ghost use Rattle.line_split.specs.UsageLine.{usage_line_of};
 ghost use Rattle.page_parts.specs.Cells.{body_tag_text, land_text, line_cells_text, line_tag_text, reversal_mark_text};
-ghost use Rattle.page_parts.specs.Cells.{right_name as name_of_right, work_row_text, work_text};
+ghost use Rattle.page_parts.specs.Cells.{right_name as name_of_right, work_row_text, work_tag_text, work_text};
 ghost use Rattle.page_text.specs.declared.figures.TheConstants.{MOST_DECIMALS};
 
 use crate::piece::{Piece, add};
@@ -44,7 +44,8 @@ pub fn add_work_row(
         0,
         &[
             Piece::Tag(body_tag(row.uses)),
-            Piece::Tag("<tr class=\"work\"><th scope=\"rowgroup\" colspan=\""),
+            Piece::Tag(work_tag(row.amount < 0)),
+            Piece::Tag("<th scope=\"rowgroup\" colspan=\""),
             Piece::Number(columns),
             Piece::Tag("\">"),
         ],
@@ -70,6 +71,17 @@ fn body_tag(uses: usize) -> &'static str
         "<tbody class=\"short\">"
     } else {
         "<tbody>"
+    }
+}
+
+/// The tag that begins the row of a work.
+fn work_tag(is_negative: bool) -> &'static str
+    ensures { result.now ≡ work_tag_text is_negative }
+{
+    if is_negative {
+        "<tr class=\"work neg\">"
+    } else {
+        "<tr class=\"work\">"
     }
 }
 

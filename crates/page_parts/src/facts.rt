@@ -56,7 +56,8 @@ pub fn begin_figure(
     currency: &[u8],
 ) -> Result<(), AllocError>
     requires { decimals ≤ MOST_DECIMALS }
-    ensures { OnOk result (page.new.items ≡ page.old.items ++ figure_text decimals label.entry.now amount currency.now) }
+    ensures { OnOk result (page.new.items ≡ page.old.items
+        ++ figure_text decimals label.entry.now amount currency.now) }
 {
     add(
         alloc,

@@ -14,8 +14,8 @@ const BEFORE_TITLE: &str = "\
     <meta name=\"viewport\" content=\"width=device-width, initial-scale=1\"/>\n\
     <meta name=\"robots\" content=\"noindex\"/>\n<title>";
 
-/// Begins a page: its head, with a title and the style sheet, and the beginning of its body. The title is `name`, a colon,
-/// and `distribution`; the words before the name are the page's own.
+/// Begins a page: its head, with a title and the style sheet, and the beginning of its body. The title is `name`, a
+/// colon, and `distribution`; the words before the name are the page's own.
 pub fn begin_page<'a>(
     alloc: Global,
     page: &mut Vec<u8>,

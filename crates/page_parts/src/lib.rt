@@ -1,5 +1,5 @@
-//! The parts that all pages of a distribution have: pieces of text and figures, tables with bars, the frame of a page, and
-//! its style.
+//! The parts that all pages of a distribution have: pieces of text and figures, tables with bars, the frame of a
+//! page, and its style.
 #![tactic(auto)]
 
 mod bars;

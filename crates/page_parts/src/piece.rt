@@ -14,8 +14,8 @@ use std::alloc::{AllocError, Global};
 pub enum Piece<'a> {
     /// Tags and words of the page itself, as they stand.
     Tag(&'static str),
-    /// A text of whatever bytes: those that cannot be seen stand by their digits, and none opens a tag, an attribute or a
-    /// character reference.
+    /// A text of whatever bytes: those that cannot be seen stand by their digits, and none opens a tag, an attribute
+    /// or a character reference.
     Text(&'a [u8]),
     /// A number without groups of digits: a row, or a code.
     Number(u64),

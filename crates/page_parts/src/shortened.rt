@@ -8,8 +8,8 @@ ghost use Rattle.page_parts.specs.Shortened.{kept, others_of};
 use crate::{BarRow, Others};
 use std::cmp::Ordering;
 
-/// Puts rows in order of their amounts, the highest first, and keeps the first `most` of them. The answer is what the others
-/// come to. One row alone is not left out.
+/// Puts rows in order of their amounts, the highest first, and keeps the first `most` of them. The answer is what the
+/// others come to. One row alone is not left out.
 pub fn shorten(rows: &mut Vec<BarRow<'_>>, most: usize) -> Others
     requires { AreCountable (map row_shown rows.old.items) }
     ensures { IsShortened most (map row_shown rows.old.items) (map row_shown rows.new.items) (others_shown result) }
@@ -32,7 +32,8 @@ fn sort(rows: &mut Vec<BarRow<'_>>)
     );
 }
 
-/// Which of two rows comes first: that with the higher amount; of equal ones that with the lesser name, or the lesser code.
+/// Which of two rows comes first: that with the higher amount; of equal ones that with the lesser name, or the lesser
+/// code.
 fn by_amount(row: &BarRow<'_>, other: &BarRow<'_>) -> Ordering
     ensures { result ≡ in_order_of_amount (row_shown row.now) (row_shown other.now) }
 {

@@ -134,8 +134,6 @@ const NARROW: &str = "\
     .codes tr:not(.work)>td:nth-child(3)::before{content:\"territory \"}\
     .uses td:nth-child(5):not(:last-child)::before{content:\"of \"}\
     .uses td:nth-child(6):not(:last-child)::after{content:\" %\"}\
-    .claims td:nth-child(5):not(:last-child)::before{content:\"claims \"}\
-    .claims td:nth-child(5):not(:last-child)::after{content:\" %\"}\
     .uses tr.neg:not(.work){background:var(--negwash)}.uses tr.neg:not(.work)>*{background:none}.uses tfoot tr,\
     .payees tfoot tr{border-top:1px solid var(--rule);border-bottom:3px double var(--rule)}}";
 

@@ -1,19 +1,17 @@
-use Rattle.std.proofs.Common.{◌≡◌, append_assoc, rules}
+use Rattle.std.proofs.Common.{append_assoc}
 use Rattle.std.proofs.lemmas.Int.{to_z-of_z}
 use mir.Syntax.{w128}
-use Rattle.page_parts.specs.Bars.{start_in}
 use Rattle.page_parts.proofs.Chains.{added, behind, chain}
 use Rattle.page_parts.proofs.bars.add_bar.Goals as goal
 
 pub returns : goal.returns
 returns c =
-    let start : c.if-amount-lt0.start ≡ start_in c.args.scale c.args.amount = search rules in
     chain c.extend_from_slice.result _ _ (added _ _ _ c.extend_from_slice.ensures.items)
     (λ last. rw (
       behind c.add_axis.new.page.items _ last,
       behind c.add.new.page.items _ c.in_ok-add_axis.ensures,
       simp append_assoc at (behind c.args.page.now.items _ c.in_ok-add.ensures),
-      start,
+      c.start_of-start.ensures,
       c.bar_class.ensures,
       c.width_of-width.ensures,
       c.zero_at-zero.ensures,

@@ -12,5 +12,6 @@ returns c =
       behind c.add.new.page.items _ c.in_ok-add_work.ensures,
       simp append_assoc at (behind c.args.page.now.items _ c.in_ok-add.ensures),
       c.body_tag.ensures,
+      c.work_tag.ensures,
       to_z-of_z w128 c.args.row.now.amount (search rules),
     ))
