@@ -1,3 +1,3 @@
-pub mod SectionsLeft
+pub mod Rows
 pub mod Sheets
-pub mod WorkRows
+pub mod Slices

@@ -1,4 +1,7 @@
-pub mod Pieces
+pub mod Breakdowns
+pub mod Heads
+pub mod Notes
+pub mod Payees
 pub mod Sheet
-pub mod Texts
+pub mod Statement
 pub mod Uses

@@ -1,64 +1,62 @@
 -- The table of a payee's portions in its page.
-use Rattle.std.specs.Prelude.{ℕ, pos, ◌++◌, ◌∷◌, [], Bool, List, codes, decimal, flat_map, if◌then◌else◌, int_lt}
-use Rattle.std.specs.Prelude.{length, nat_le}
-use Rattle.page_text.specs.Figures.{amount_text}
-use Rattle.payee_documents.specs.Pieces.{all_of}
-use Rattle.payee_documents.specs.Texts.{in_page, land_text, right_name, share_text, work_text}
-use Rattle.payee_documents.specs.declared.uses.TheConstants.{USES_HEAD}
+use Rattle.std.specs.Prelude.{ℕ, ◌++◌, ◌==◌, ◌∷◌, [], List, codes, flat_map, if◌then◌else◌, length}
+use Rattle.document_names.specs.Territories.{name_of_code}
+use Rattle.line_split.specs.declared.TheConstants.{FULL_SHARE}
+use Rattle.page_parts.specs.Cells.{line_cells_text, work_row_text}
+use Rattle.page_parts.specs.Pieces.{all_of}
+use Rattle.page_text.specs.Figures.{amount_text, count_text, size_text}
 use Rattle.payee_portions.specs.Portions.{Portion}
 use Rattle.payee_portions.specs.Sections.{sections_of}
 use Rattle.payee_portions.specs.Sums.{sum_of}
 
--- a line takes money back
-abbrev pub is_reversal : Portion → Bool
-is_reversal portion = int_lt portion.line.amount (pos 0)
+-- a share in per cent, with two decimal places, and what it is a share of, where that is not 100 per cent
+abbrev pub share_text : (share base : ℕ) → List ℕ
+share_text share base = size_text 2 share ++ (if base == FULL_SHARE then [] else codes " / " ++ size_text 2 base)
 
-abbrev pub row_tag_text : (is_reversal : Bool) → List ℕ
-row_tag_text is_reversal = if is_reversal then codes "<tr class=\"neg\">" else codes "<tr>"
-
-abbrev pub reversal_mark_text : (is_reversal : Bool) → List ℕ
-reversal_mark_text is_reversal = if is_reversal then codes "<span class=\"back\">Reversal</span>" else []
-
--- The row of a portion: the row of its usage line, the use, the territory, the right, the amount of the use, the share
--- and the portion.
-abbrev pub use_text : (names : List (ℕ × List ℕ)) → (decimals : ℕ) → Portion → List ℕ
-use_text names decimals portion = all_of (
-    row_tag_text (is_reversal portion)
-    ∷ codes "<td>" ∷ decimal portion.row
-    ∷ codes "</td><th scope=\"row\">" ∷ in_page portion.line.usage ∷ reversal_mark_text (is_reversal portion)
-    ∷ codes "</th><td>" ∷ land_text names portion.line.territory
-    ∷ codes "</td><td>" ∷ right_name portion.line.right
-    ∷ codes "</td><td>" ∷ amount_text decimals portion.line.amount
+-- the amount of the use, the share and the portion
+abbrev pub figures_text : (decimals : ℕ) → Portion → List ℕ
+figures_text decimals portion = all_of (
+    codes "<td>" ∷ amount_text decimals portion.line.amount
     ∷ codes "</td><td>" ∷ share_text portion.share portion.base
     ∷ codes "</td><td>" ∷ amount_text decimals portion.amount
     ∷ codes "</td></tr>\n" ∷ [])
 
--- up to six portions of a work stay on one printed page
-abbrev pub body_tag_text : (portions : ℕ) → List ℕ
-body_tag_text portions = if nat_le portions 6 then codes "<tbody class=\"short\">" else codes "<tbody>"
+-- The row of a portion: the row of its usage line, the use, the territory, the right, the amount of the use, the share
+-- and the portion.
+abbrev pub use_text : (names : List (ℕ × List ℕ)) → (decimals : ℕ) → Portion → List ℕ
+use_text names decimals portion =
+    line_cells_text (name_of_code names portion.line.territory) portion.row portion.line
+    ++ figures_text decimals portion
 
 -- the row of a work: its title, and what its portions come to
-abbrev pub work_row_text : (decimals : ℕ) → List Portion → List ℕ
-work_row_text decimals [] = []
-work_row_text decimals (first ∷ later) = all_of (
-    body_tag_text (length (first ∷ later))
-    ∷ codes "<tr class=\"work\"><th scope=\"rowgroup\" colspan=\"6\">" ∷ work_text first.title first.line.work
-    ∷ codes "</th><td>" ∷ amount_text decimals (sum_of (first ∷ later))
-    ∷ codes "</td></tr>\n" ∷ [])
+abbrev pub work_text : (decimals : ℕ) → List Portion → List ℕ
+work_text decimals [] = []
+work_text decimals (first ∷ later) =
+    work_row_text decimals 6 first.title first.line.work (length (first ∷ later)) (sum_of (first ∷ later))
 
 -- the portions of a work
 abbrev pub section_text : (names : List (ℕ × List ℕ)) → (decimals : ℕ) → List Portion → List ℕ
 section_text names decimals section =
-    work_row_text decimals section ++ (flat_map (use_text names decimals) section ++ codes "</tbody>\n")
+    work_text decimals section ++ (flat_map (use_text names decimals) section ++ codes "</tbody>\n")
 
 -- the row of the total, and the end of the table
 abbrev pub total_text : (decimals : ℕ) → List Portion → List ℕ
 total_text decimals portions = all_of (
-    codes "<tfoot><tr><th scope=\"row\" colspan=\"6\">Total</th><td>" ∷ amount_text decimals (sum_of portions)
+    codes "<tfoot><tr class=\"work\"><th scope=\"row\" colspan=\"6\">Total</th><td>"
+    ∷ amount_text decimals (sum_of portions)
     ∷ codes "</td></tr></tfoot>\n</table>\n" ∷ [])
+
+abbrev pub uses_head : List Portion → List ℕ
+uses_head portions = all_of (
+    codes "<table class=\"uses\" translate=\"no\"><caption>Works by title: "
+    ∷ count_text (length (sections_of portions))
+    ∷ codes "</caption>\n<thead><tr><th scope=\"col\">Row</th><th scope=\"col\">Use</th>"
+    ∷ codes "<th scope=\"col\">Territory</th><th scope=\"col\">Right</th>"
+    ∷ codes "<th scope=\"col\">Amount of the use</th><th scope=\"col\">Your share,&#160;%</th>"
+    ∷ codes "<th scope=\"col\">Your portion</th></tr></thead>\n" ∷ [])
 
 -- the table of a list of portions
 abbrev pub uses_text : (names : List (ℕ × List ℕ)) → (decimals : ℕ) → List Portion → List ℕ
 uses_text names decimals listed =
-    USES_HEAD.now
+    uses_head listed
     ++ (flat_map (section_text names decimals) (sections_of listed) ++ total_text decimals listed)

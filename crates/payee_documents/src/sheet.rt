@@ -15,9 +15,9 @@ use page_text::{add_guarded, add_shown};
 use payee_portions::Portion;
 use std::alloc::{AllocError, Global};
 
-/// The sheet of portions: CSV with the header `row,usage,work,title,territory,right,amount,share,base,portion`, and a row
-/// for each portion, in their order. Amounts are minor units, share and base hundredths of a per cent. Bytes of a title
-/// that cannot be seen stand by their digits, as `\x1b`; and no text begins a formula.
+/// The sheet of portions: CSV with the header `row,usage,work,title,territory,right,amount,share,base,portion`, and a
+/// row for each portion, in their order. Amounts are minor units, share and base hundredths of a per cent. Bytes of a
+/// title that cannot be seen stand by their digits, as `\x1b`; and no text begins a formula.
 pub fn sheet_of(alloc: Global, portions: &[Portion<'_>]) -> Result<Vec<u8>, AllocError>
     ensures text { IfOk result (λ text. text.items ≡ text_of (sheet_rows (portions_shown portions.now))) }
 {

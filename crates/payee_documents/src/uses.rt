@@ -1,24 +1,23 @@
 //! The table of a payee's portions in its page: work by work, and the uses of each.
 
-ghost use Rattle.std.specs.Prelude.{◌≡◌, ◌≤◌, ◌<◌, ◌++◌, All, OnOk, length, unsigned_abs};
+ghost use Rattle.std.specs.Prelude.{◌≡◌, ◌≤◌, ◌++◌, All, OnOk, length, unsigned_abs};
 ghost use Rattle.line_split.specs.declared.TheConstants.{MOST_AMOUNT, MOST_LINES};
 ghost use Rattle.page_text.specs.declared.figures.TheConstants.{MOST_DECIMALS};
-ghost use Rattle.payee_documents.specs.Uses.{body_tag_text, reversal_mark_text, row_tag_text, section_text};
-ghost use Rattle.payee_documents.specs.Uses.{total_text, use_text, uses_text, work_row_text};
+ghost use Rattle.payee_documents.specs.Uses.{figures_text, section_text, share_text, total_text, use_text};
+ghost use Rattle.payee_documents.specs.Uses.{uses_head, uses_text, work_text};
 ghost use Rattle.payee_portions.specs.Shown.{portion_shown, portions_shown};
 
-use crate::pieces::add_all;
-use crate::texts::{amount, in_page, land, right_name, share, work};
 use document_names::TerritoryNames;
-use itoa::Buffer;
-use payee_portions::{Portion, end_of_section, sum_of};
+use line_split::FULL_SHARE;
+use page_parts::{Piece, WorkRow, add, add_line_cells, add_work_row};
+use payee_portions::{Portion, count_of_sections, end_of_section, sum_of};
 use std::alloc::{AllocError, Global};
 
-/// The most uses of a work that a printed page keeps together.
-const MOST_KEPT_TOGETHER: usize = 6;
+/// How many columns stand before that of the portion.
+const COLUMNS: u64 = 6;
 
-/// Adds the table of portions: for each work its title and what they come to, and then a row for each portion; at its end
-/// what all come to.
+/// Adds the table of portions: for each work its title and what they come to, and then a row for each portion; at its
+/// end what all come to.
 pub fn add_uses(
     alloc: Global,
     page: &mut Vec<u8>,
@@ -32,7 +31,7 @@ pub fn add_uses(
     ensures { OnOk result (page.new.items
         ≡ page.old.items ++ uses_text names.now decimals (portions_shown portions.now)) }
 {
-    page.extend_from_slice(USES_HEAD.as_bytes())?;
+    add_head(alloc, page, portions)?;
     let mut from = 0;
     while from < portions.len() {
         let end = end_of_section(portions, from);
@@ -42,9 +41,28 @@ pub fn add_uses(
     add_total(alloc, page, decimals, portions)
 }
 
-/// The head of the table.
-const USES_HEAD: &str =
-    "<table class=\"uses\" translate=\"no\">\n<thead><tr><th scope=\"col\">Row</th><th scope=\"col\">Use</th><th scope=\"col\">Territory</th><th scope=\"col\">Right</th><th scope=\"col\">Amount of the use</th><th scope=\"col\">Your share,&#160;%</th><th scope=\"col\">Your portion</th></tr></thead>\n";
+/// Adds the head of the table.
+fn add_head(alloc: Global, page: &mut Vec<u8>, portions: &[Portion<'_>]) -> Result<(), AllocError>
+    ensures { OnOk result (page.new.items ≡ page.old.items ++ uses_head (portions_shown portions.now)) }
+{
+    add(
+        alloc,
+        page,
+        0,
+        &[
+            Piece::Tag("<table class=\"uses\" translate=\"no\"><caption>Works by title: "),
+            Piece::Count(count_of_sections(portions)),
+            Piece::Tag(
+                "</caption>\n<thead><tr><th scope=\"col\">Row</th><th scope=\"col\">Use</th>",
+            ),
+            Piece::Tag("<th scope=\"col\">Territory</th><th scope=\"col\">Right</th>"),
+            Piece::Tag(
+                "<th scope=\"col\">Amount of the use</th><th scope=\"col\">Your share,&#160;%</th>",
+            ),
+            Piece::Tag("<th scope=\"col\">Your portion</th></tr></thead>\n"),
+        ],
+    )
+}
 
 /// Adds the portions of a work.
 fn add_section(
@@ -78,35 +96,18 @@ fn add_work(
     requires few { length section.now ≤ MOST_LINES }
     requires small { All (λ portion. unsigned_abs portion.amount ≤ MOST_AMOUNT) section.now }
     ensures { OnOk result (page.new.items
-        ≡ page.old.items ++ work_row_text decimals (portions_shown section.now)) }
+        ≡ page.old.items ++ work_text decimals (portions_shown section.now)) }
 {
     let Some((first, _)) = section.split_first() else {
         return Ok(());
     };
-    let title = work(alloc, first.title, first.line.work)?;
-    let subtotal = amount(alloc, decimals, sum_of(section))?;
-    add_all(
-        page,
-        &[
-            body_tag(section.len()).as_bytes(),
-            b"<tr class=\"work\"><th scope=\"rowgroup\" colspan=\"6\">",
-            title.as_slice(),
-            b"</th><td>",
-            subtotal.as_slice(),
-            b"</td></tr>\n",
-        ],
-    )
-}
-
-/// The tag that begins the portions of a work, of which there are so many.
-fn body_tag(portions: usize) -> &'static str
-    ensures { result.now ≡ body_tag_text portions }
-{
-    if portions <= MOST_KEPT_TOGETHER {
-        "<tbody class=\"short\">"
-    } else {
-        "<tbody>"
-    }
+    let row = WorkRow {
+        title: first.title,
+        work: first.line.work,
+        uses: section.len(),
+        amount: i128::from(sum_of(section)),
+    };
+    add_work_row(alloc, page, decimals, COLUMNS, &row)
 }
 
 /// Adds the row of a portion.
@@ -121,57 +122,54 @@ fn add_use(
     ensures { OnOk result (page.new.items
         ≡ page.old.items ++ use_text names.now decimals (portion_shown portion.now)) }
 {
-    let mut row = Buffer::new();
-    let usage = in_page(alloc, portion.line.usage)?;
-    let territory = land(alloc, names, portion.line.territory)?;
-    let whole = amount(alloc, decimals, portion.line.amount)?;
-    let claim = share(alloc, portion.share, portion.base)?;
-    let own = amount(alloc, decimals, portion.amount)?;
-    let is_reversal = portion.line.amount < 0;
-    add_all(
+    let land = names.name_of(portion.line.territory);
+    add_line_cells(alloc, page, land, portion.row, &portion.line)?;
+    add_figures(alloc, page, decimals, portion)
+}
+
+/// Adds the amount of the use, what the payee claims of it, and the portion, and ends their row.
+fn add_figures(
+    alloc: Global,
+    page: &mut Vec<u8>,
+    decimals: u32,
+    portion: &Portion<'_>,
+) -> Result<(), AllocError>
+    requires { decimals ≤ MOST_DECIMALS }
+    ensures { OnOk result (page.new.items
+        ≡ page.old.items ++ figures_text decimals (portion_shown portion.now)) }
+{
+    add(
+        alloc,
         page,
+        decimals,
         &[
-            row_tag(is_reversal).as_bytes(),
-            b"<td>",
-            row.format(portion.row).as_bytes(),
-            b"</td><th scope=\"row\">",
-            usage.as_slice(),
-            reversal_mark(is_reversal).as_bytes(),
-            b"</th><td>",
-            territory.as_slice(),
-            b"</td><td>",
-            right_name(portion.line.right).as_bytes(),
-            b"</td><td>",
-            whole.as_slice(),
-            b"</td><td>",
-            claim.as_slice(),
-            b"</td><td>",
-            own.as_slice(),
-            b"</td></tr>\n",
+            Piece::Tag("<td>"),
+            Piece::Amount(i128::from(portion.line.amount)),
+            Piece::Tag("</td><td>"),
+        ],
+    )?;
+    add_share(alloc, page, portion.share, portion.base)?;
+    add(
+        alloc,
+        page,
+        decimals,
+        &[
+            Piece::Tag("</td><td>"),
+            Piece::Amount(i128::from(portion.amount)),
+            Piece::Tag("</td></tr>\n"),
         ],
     )
 }
 
-/// The tag that begins the row of a portion.
-fn row_tag(is_reversal: bool) -> &'static str
-    ensures { result.now ≡ row_tag_text is_reversal }
+/// Adds a share in per cent, and what it is a share of, where that is not 100 per cent.
+fn add_share(alloc: Global, page: &mut Vec<u8>, share: u32, base: u32) -> Result<(), AllocError>
+    ensures { OnOk result (page.new.items ≡ page.old.items ++ share_text share base) }
 {
-    if is_reversal {
-        "<tr class=\"neg\">"
-    } else {
-        "<tr>"
+    add(alloc, page, 0, &[Piece::Share(share)])?;
+    if base == FULL_SHARE {
+        return Ok(());
     }
-}
-
-/// The word behind a use that takes money back.
-fn reversal_mark(is_reversal: bool) -> &'static str
-    ensures { result.now ≡ reversal_mark_text is_reversal }
-{
-    if is_reversal {
-        "<span class=\"back\">Reversal</span>"
-    } else {
-        ""
-    }
+    add(alloc, page, 0, &[Piece::Tag(" / "), Piece::Share(base)])
 }
 
 /// Adds the row of the total, and ends the table.
@@ -187,13 +185,14 @@ fn add_total(
     ensures { OnOk result (page.new.items
         ≡ page.old.items ++ total_text decimals (portions_shown portions.now)) }
 {
-    let total = amount(alloc, decimals, sum_of(portions))?;
-    add_all(
+    add(
+        alloc,
         page,
+        decimals,
         &[
-            b"<tfoot><tr><th scope=\"row\" colspan=\"6\">Total</th><td>",
-            total.as_slice(),
-            b"</td></tr></tfoot>\n</table>\n",
+            Piece::Tag("<tfoot><tr class=\"work\"><th scope=\"row\" colspan=\"6\">Total</th><td>"),
+            Piece::Amount(i128::from(sum_of(portions))),
+            Piece::Tag("</td></tr></tfoot>\n</table>\n"),
         ],
     )
 }

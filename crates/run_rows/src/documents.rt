@@ -93,9 +93,7 @@ pub fn sheet<R: Files + AllocGlobal>(
     of: &str,
     account: &str,
 ) -> Result<String> {
-    let inputs = inputs_in(rt, alloc, of)?;
-    let titles = titles_in_file(alloc, inputs.registrations.as_slice())?;
-    let tables = read_inputs(alloc, inputs)?;
+    let (tables, titles) = tables_and_titles(rt, alloc, of)?;
     let list = portions(alloc, &tables, &titles, account)?;
     let sheet = sheet_of(alloc, list.as_slice())?;
     Ok(String::from_str(alloc, text_of(sheet.as_slice()))?)
@@ -112,12 +110,32 @@ pub fn uses<R: Files + AllocGlobal>(
     let (names, of) = of.split_once(' ').context("no files")?;
     let names = bytes_in(rt, alloc, names)?;
     let names = TerritoryNames::read(alloc, names.as_slice())?;
+    let (tables, titles) = tables_and_titles(rt, alloc, of)?;
+    uses_in(alloc, &names, &tables, &titles, account)
+}
+
+/// The tables of a run, and the titles in its CWR file.
+fn tables_and_titles<R: Files + AllocGlobal>(
+    rt: &R,
+    alloc: Global,
+    of: &str,
+) -> Result<(Tables, FirstTexts)> {
     let inputs = inputs_in(rt, alloc, of)?;
     let titles = titles_in_file(alloc, inputs.registrations.as_slice())?;
-    let tables = read_inputs(alloc, inputs)?;
-    let list = portions(alloc, &tables, &titles, account)?;
+    Ok((read_inputs(alloc, inputs)?, titles))
+}
+
+/// The table of an account's portions, as it stands in a page.
+fn uses_in(
+    alloc: Global,
+    names: &TerritoryNames,
+    tables: &Tables,
+    titles: &FirstTexts,
+    account: &str,
+) -> Result<String> {
+    let list = portions(alloc, tables, titles, account)?;
     let mut page = Vec::new(alloc);
-    add_uses(alloc, &mut page, &names, 2, list.as_slice())?;
+    add_uses(alloc, &mut page, names, 2, list.as_slice())?;
     Ok(String::from_str(alloc, text_of(page.as_slice()))?)
 }
 

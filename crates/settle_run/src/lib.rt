@@ -6,4 +6,4 @@ mod reasons;
 mod statements;
 
 pub use run_inputs::{Fault, Inputs};
-pub use statements::{settle, settle_paid, settle_tables_to, settle_to};
+pub use statements::{Divided, divide, settle, settle_paid, settle_tables_to, settle_to};

@@ -2,7 +2,7 @@
 
 ghost use Rattle.std.specs.Prelude.{◌≡◌, ◌+◌, ◌*◌, ◌<◌, ◌≤◌, All, IfOk, length, map};
 ghost use Rattle.payee_book.specs.Text.{residue_rows};
-ghost use Rattle.settle_run.specs.Reasons.{AreFound, AreUnknown};
+ghost use Rattle.settle_run.specs.Reasons.{AreFound, AreReasonsFor, AreUnknown};
 ghost use Rattle.settle_run.specs.Settled.{reason_of};
 
 use cwr_share::Registry;
@@ -30,6 +30,8 @@ pub(crate) fn reasons_of<R: Threads + Sync>(
     requires lines { All (λ posting. posting.0 < length usage.now) residue.now }
     requires threads { 0 < threads }
     ensures each { IfOk result (λ reasons. length reasons.items ≡ length usage.now) }
+    ensures found { IfOk result (λ reasons. AreReasonsFor (map (reason_of tis.now registry.now) usage.now) residue.now
+        reasons.items) }
     ensures rows { IfOk result (λ reasons. residue_rows usage.now reasons.items residue.now ≡ residue_rows usage.now (map (reason_of tis.now registry.now) usage.now) residue.now) }
 {
     let mut found: Vec<Option<Reason>> = vec![in alloc; None; residue.len()]?;

@@ -1,13 +1,13 @@
-use Rattle.std.proofs.Common.{◌≡◌, ◌∙◌, ◌<◌, ◌+◌, ◌-◌, ◌++◌, [], ℕ, List, ap, append-nil, append_assoc, arith, drop, flat_map, length, length-drop, sym}
-use Rattle.std.proofs.lemmas.Result.{IfOk-weaker}
+use Rattle.std.proofs.Common.{◌≡◌, ◌∙◌, ◌<◌, ◌+◌, ◌-◌, ◌++◌, [], ℕ, List, ap, append-nil, arith, drop, flat_map, length, length-drop, sym}
+use Rattle.std.proofs.lemmas.Result.{on_ok_weaker}
 use Rattle.std.proofs.lemmas.List.{drop-drop, drop_all}
-use Rattle.payee_documents.specs.Uses.{section_text, total_text}
-use Rattle.payee_documents.specs.declared.uses.TheConstants.{USES_HEAD}
+use Rattle.page_parts.proofs.Chains.{behind}
+use Rattle.payee_documents.specs.Uses.{section_text}
 use Rattle.payee_portions.specs.Portions as portions
 use Rattle.payee_portions.specs.Sections.{section_length, sections_of}
 use Rattle.payee_portions.specs.Shown.{portions_shown}
 use Rattle.payee_portions.specs.declared.portion.Portion.{Portion}
-use Rattle.payee_documents.proofs.SectionsLeft.{no_section, section_more}
+use Rattle.payee_portions.proofs.SectionsLeft.{no_section, section_more}
 use Rattle.payee_documents.proofs.uses.add_uses.Goals as goal
 
 pub loop-from-preserved : goal.loop-from-preserved
@@ -22,9 +22,9 @@ loop-from-preserved c =
     let some : 0 < length left = omega (arith, length-drop from list, c.loop-from-test.true) in
     let is : size ≡ section_length (portions_shown left) = omega (arith, c.end_of_section-end.ensures.end) in
     let whole : from + size ≡ end = omega (arith, c.end_of_section-end.ensures.some) in
-    let behind : drop size left ≡ drop end list = drop-drop size from list ∙ ap (λ (n : ℕ). drop n list) whole in record {
+    let rest : drop size left ≡ drop end list = drop-drop size from list ∙ ap (λ (n : ℕ). drop n list) whole in record {
       left =
-          ap (λ (l : List Portion). next ++ flat_map text (sections_of (portions_shown l))) (sym behind)
+          ap (λ (l : List Portion). next ++ flat_map text (sections_of (portions_shown l))) (sym rest)
           ∙ (section_more text left size c.loop-from.page.items next some is c.in_ok-add_section.ensures ∙ c.loop-from.invariant.left);
       within = c.end_of_section-end.ensures.within;
     }
@@ -33,18 +33,12 @@ pub returns : goal.returns
 returns c =
     let list = c.args.portions.now in
     let page = c.loop-from.page.items in
+    let before = c.add_head.new.page.items in
     let text : List portions.Portion → List ℕ = section_text c.args.names.now c.args.decimals in
     let all = flat_map text (sections_of (portions_shown list)) in
-    let total = total_text c.args.decimals (portions_shown list) in
-    let head = USES_HEAD.now in
     let none : sections_of (portions_shown (drop c.loop-from.from list)) ≡ [] =
     ap (λ (l : List Portion). sections_of (portions_shown l)) (drop_all c.loop-from.from list c.loop-from-test.false) ∙ no_section in
-    let headed : c.extend_from_slice.new.self.items ≡ c.args.page.now.items ++ head =
-    c.in_ok-extend_from_slice.ensures.items ∙ ap (λ (l : List ℕ). c.args.page.now.items ++ l) c.as_bytes.ensures.value in
-    let done : page ≡ c.extend_from_slice.new.self.items ++ all =
+    let done : page ≡ before ++ all =
     sym (append-nil page) ∙ (ap (λ (sections : List (List portions.Portion)). page ++ flat_map text sections) (sym none) ∙ c.loop-from.invariant.left) in
-    IfOk-weaker c.add_total.result _ _
-    (λ _ is. is
-    ∙ ((λ i. (done i) ++ total)
-    ∙ ((λ i. (headed i ++ all) ++ total)
-    ∙ (append_assoc (c.args.page.now.items ++ head) all total ∙ append_assoc c.args.page.now.items head (all ++ total))))) c.add_total.ensures
+    on_ok_weaker c.add_total.result
+    (λ last. last ∙ (behind before all done _ ∙ behind c.args.page.now.items _ c.in_ok-add_head.ensures _)) c.add_total.ensures

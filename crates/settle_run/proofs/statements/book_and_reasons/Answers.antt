@@ -1,6 +1,7 @@
 use Rattle.std.proofs.Common.{◌≡◌, ◌<◌, [], length, map, get_or, ap, subst, arith}
 use Rattle.csv_table.specs.Written.{text_of}
 use Rattle.payee_book.specs.Text.{residue_rows}
+use Rattle.settle_run.specs.Reasons.{AreReasonsFor}
 use Rattle.settle_run.specs.Settled.{reason_of}
 use Rattle.split_run.specs.Divisions.{division_by}
 use Rattle.settle_run.proofs.BookLemmas.{book_lines_below}
@@ -18,6 +19,16 @@ reasons_of-requires-clause-lines g c κs within =
 pub returns-clause-lines : goal.returns-clause-lines
 returns-clause-lines g c =
     book_lines_below (division_by c.args.tables.now.territories c.args.tables.now.registry) c.args.tables.now.usage (length c.args.tables.now.registry.accounts) c.in-Ok.book c.in-Ok.ensures.book
+
+pub returns-clause-divided : goal.returns-clause-divided
+returns-clause-divided g c =
+    let owns = map (reason_of c.args.tables.now.territories c.args.tables.now.registry) c.args.tables.now.usage in
+    record {
+      divided = c.in-Ok.ensures.book;
+      adds_up = c.in-Ok.ensures.adds_up;
+      reasons_are =
+          subst (λ postings. AreReasonsFor owns postings c.in_ok-reasons.reasons.items) c.lines-residue.ensures.postings c.in_ok-reasons.ensures.found;
+    }
 
 pub returns-clause-statements : goal.returns-clause-statements
 returns-clause-statements g c =

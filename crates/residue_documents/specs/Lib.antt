@@ -1,0 +1,4 @@
+pub mod Page
+pub mod Reasons
+pub mod Sums
+pub mod Tables
