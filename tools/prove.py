@@ -1,9 +1,9 @@
 """Proves everything by `rt ci`, and prints the minutes of processor time that each crate took.
 
-    python3 -m tools.prove [--jobs N] [--times FILE] [-- WORD..]
+    python3 -m tools.prove [--jobs N] [--times FILE]
 
 It takes as many jobs as there are processors and as memory holds, 5 GB each, where neither --jobs
-nor RT_JOBS says. Words behind `--` go to `rt ci`.
+nor RT_JOBS says.
 """
 import argparse
 import os
@@ -103,10 +103,10 @@ def table(found):
     return lines
 
 
-def prove(words, jobs):
+def prove(jobs):
     """Runs `rt ci`: its status and the times of the kit's programs."""
     told = {**os.environ, "RT_JOBS": str(jobs)}
-    begun = subprocess.Popen(["rt", "ci", *words], cwd=ROOT, env=told)
+    begun = subprocess.Popen(["rt", "ci"], cwd=ROOT, env=told)
     times, is_over = Times(begun.pid), threading.Event()
 
     def watch():
@@ -125,11 +125,10 @@ def main():
     parser = argparse.ArgumentParser(prog="tools.prove", description=__doc__.splitlines()[0])
     parser.add_argument("--jobs", type=int, help="how many crates at once")
     parser.add_argument("--times", metavar="FILE", help="a file for the table of times")
-    parser.add_argument("words", nargs="*", metavar="WORD", help="a word for rt ci")
     words = parser.parse_args()
     jobs = words.jobs or jobs_said() or jobs_for(os.cpu_count() or 1, memory())
     began = time.time()
-    status, times = prove(words.words, jobs)
+    status, times = prove(jobs)
     lines = table(times.by_crate())
     used = resource.getrusage(resource.RUSAGE_CHILDREN)
     lines.append(f"{(time.time() - began) / 60:.1f} minutes with {jobs} jobs, "

@@ -4,8 +4,8 @@ ghost use Rattle.std.specs.Prelude.{◌≡◌, ◌≤◌, ◌<◌, ◌++◌, ◌
 ghost use Rattle.line_split.specs.declared.TheConstants.{MOST_AMOUNT, MOST_LINES};
 ghost use Rattle.page_parts.specs.Bars.{row_shown};
 ghost use Rattle.page_text.specs.declared.figures.TheConstants.{MOST_DECIMALS};
-ghost use Rattle.payee_documents.specs.Breakdowns.{HasBreakdowns, HasLands, land_row as row_of_land};
-ghost use Rattle.payee_documents.specs.Breakdowns.{right_row as row_of_right, right_rows as rows_of_rights, rights_text};
+ghost use Rattle.payee_documents.specs.Breakdowns.{HasBreakdowns, HasLands, land_row as row_of_land, rights_text};
+ghost use Rattle.payee_documents.specs.Breakdowns.{right_row as row_of_right, right_rows as rows_of_rights};
 ghost use Rattle.payee_portions.specs.Shown.{portions_shown};
 
 use crate::heads::due_label;
