@@ -1,0 +1,3 @@
+pub mod Filtered
+pub mod Groups
+pub mod Wide
