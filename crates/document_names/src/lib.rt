@@ -3,6 +3,7 @@
 #![tactic(auto)]
 
 mod first_texts;
+pub mod laws;
 mod name_fault;
 mod payees;
 mod territories;
