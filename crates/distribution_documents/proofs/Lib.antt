@@ -1,0 +1,3 @@
+pub mod Accounts
+pub mod Balance
+pub mod Files

@@ -1,0 +1,85 @@
+//! A folder in memory, and CWR files.
+
+use distribution_documents::Folder;
+use std::alloc::{AllocError, Global};
+use std::io::{self, ErrorKind, Write};
+use submitted_inputs::SubmitterFiles;
+
+/// A folder in memory, which refuses the file of one name.
+#[derive(Drop)]
+pub struct Memory<'a> {
+    pub alloc: Global,
+    pub refused: &'a [u8],
+}
+
+/// A file that is being written.
+#[derive(Drop)]
+pub struct Page {
+    bytes: Vec<u8>,
+}
+
+impl Write for Page {
+    fn write(&mut self, buf: &[u8]) -> io::Result<usize> {
+        self.bytes.write(buf)
+    }
+
+    fn flush(&mut self) -> io::Result<()> {
+        Ok(())
+    }
+}
+
+/// A file that was written.
+#[derive(Drop)]
+pub struct NamedPage {
+    pub name: Vec<u8>,
+    pub bytes: Vec<u8>,
+}
+
+impl<'a> Folder for Memory<'a> {
+    ghost use Rattle.std.specs.Prelude.{None};
+
+    type Draft = Page;
+
+    type Stored = NamedPage;
+
+    ghost blank = { None };
+
+    ghost has = { λ _ _ _. Unit {0} };
+
+    fn begin(&self, alloc: Global, name: &[u8]) -> io::Result<Page> {
+        if name == self.refused {
+            return Err(io::Error::from(ErrorKind::PermissionDenied));
+        }
+        Ok(Page {
+            bytes: Vec::new(alloc),
+        })
+    }
+
+    fn store(&self, draft: Page, name: &[u8]) -> io::Result<NamedPage> {
+        Ok(NamedPage {
+            name: Vec::from_slice(self.alloc, name)?,
+            bytes: draft.bytes,
+        })
+    }
+}
+
+/// Files in memory, some of which cannot be read.
+#[derive(Drop)]
+pub struct Kept {
+    pub files: Vec<Option<Vec<u8>>>,
+}
+
+impl SubmitterFiles for Kept {
+    ghost holds = { λ _ _ _. Unit {0} };
+
+    ghost refuses = { λ _ _. Unit {0} };
+
+    ghost lacks = { λ _ _. Unit {0} };
+
+    fn read(&self, alloc: Global, place: usize) -> Result<Option<Vec<u8>>, AllocError> {
+        match self.files.get(place) {
+            Some(Some(bytes)) => Ok(Some(Vec::from_slice(alloc, bytes.as_slice())?)),
+            _ => Ok(None),
+        }
+    }
+}

@@ -1,0 +1,5 @@
+pub mod Documented
+pub mod Names
+pub mod OneFile
+pub mod Submitters
+pub mod Wordings
