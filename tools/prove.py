@@ -1,6 +1,9 @@
 """Proves everything by `rt ci`, and prints the minutes of processor time that each crate took.
 
-    python3 -m tools.prove [--jobs N] [--times FILE]
+    python3 -m tools.prove [--jobs N] [--times FILE] [--anew]
+
+`rt ci` leaves out what it has passed on this machine before, by the checksums of all that it read;
+with --anew it leaves out nothing.
 
 It takes as many jobs as there are processors and as memory holds, 5 GB each, where neither --jobs
 nor RT_JOBS says.
@@ -103,10 +106,10 @@ def table(found):
     return lines
 
 
-def prove(jobs):
+def prove(jobs, anew=False):
     """Runs `rt ci`: its status and the times of the kit's programs."""
     told = {**os.environ, "RT_JOBS": str(jobs)}
-    begun = subprocess.Popen(["rt", "ci"], cwd=ROOT, env=told)
+    begun = subprocess.Popen(["rt", "ci", *["--anew"] * anew], cwd=ROOT, env=told)
     times, is_over = Times(begun.pid), threading.Event()
 
     def watch():
@@ -125,10 +128,12 @@ def main():
     parser = argparse.ArgumentParser(prog="tools.prove", description=__doc__.splitlines()[0])
     parser.add_argument("--jobs", type=int, help="how many crates at once")
     parser.add_argument("--times", metavar="FILE", help="a file for the table of times")
+    parser.add_argument("--anew", action="store_true",
+                        help="prove what has passed on this machine before, too")
     words = parser.parse_args()
     jobs = words.jobs or jobs_said() or jobs_for(os.cpu_count() or 1, memory())
     began = time.time()
-    status, times = prove(jobs)
+    status, times = prove(jobs, words.anew)
     lines = table(times.by_crate())
     used = resource.getrusage(resource.RUSAGE_CHILDREN)
     lines.append(f"{(time.time() - began) / 60:.1f} minutes with {jobs} jobs, "
