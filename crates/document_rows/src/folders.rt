@@ -1,5 +1,7 @@
 //! The documents that a run writes.
 
+ghost use Rattle.std.specs.Prelude.{◌≤◌};
+
 use crate::files::{bytes_in, inputs_in};
 use crate::memory::{Kept, Memory, NamedPage};
 use anyhow::{Context, Result, bail};
@@ -26,13 +28,14 @@ pub fn of_one_file<R: Files + AllocGlobal + Threads + Wait + Sync>(
     let (lands, inputs) = of.split_once(' ').context("no inputs")?;
     let lands = territories_in(rt, alloc, lands)?;
     let inputs = inputs_in(rt, alloc, inputs)?;
-    let asked = asked_in(question)?;
+    let plan = plan_in(question)?;
+    let what = what_in(question);
     let folder = Memory {
         alloc,
-        refused: asked.refused.as_bytes(),
+        refused: refused_in(what).as_bytes(),
     };
-    match document_files(rt, alloc, &inputs, &wording(&lands), asked.plan, &folder) {
-        Ok(Some(pages)) => told(alloc, pages.as_slice(), asked.what),
+    match document_files(rt, alloc, &inputs, &wording(&lands), plan, &folder) {
+        Ok(Some(pages)) => told(alloc, pages.as_slice(), what),
         Ok(None) => Ok(String::from_str(alloc, "a refused file")?),
         Err(fault) => Ok(format!(in alloc; "{fault:?}")?),
     }
@@ -47,43 +50,97 @@ pub fn of_submitters<R: Files + AllocGlobal + Threads + Wait + Sync>(
     of: &str,
     question: &str,
 ) -> Result<String> {
-    let mut names = of.split(' ');
-    let lands = territories_in(rt, alloc, names.next().unwrap_or(""))?;
-    let territories = bytes_in(rt, alloc, names.next().unwrap_or(""))?;
-    let payees = bytes_if_any(rt, alloc, names.next().unwrap_or(""))?;
-    let works = bytes_in(rt, alloc, names.next().unwrap_or(""))?;
-    let usage = bytes_in(rt, alloc, names.next().unwrap_or(""))?;
+    let plan = plan_in(question)?;
+    let given = given_in(rt, alloc, of)?;
+    written_for(rt, alloc, &given, plan, what_in(question))
+}
+
+/// The inputs of a run over the files of several submitters, and the names of territories.
+#[derive(Drop)]
+struct Given {
+    lands: TerritoryNames,
+    tables: SubmittedTables<Vec<u8>>,
+    submitters: Submitters,
+    kept: Kept,
+}
+
+/// What is asked of the documents of such a run.
+fn written_for<R: Threads + Wait + Sync>(
+    rt: &R,
+    alloc: Global,
+    given: &Given,
+    plan: Plan,
+    what: &str,
+) -> Result<String> {
+    let folder = Memory {
+        alloc,
+        refused: refused_in(what).as_bytes(),
+    };
+    let run = SubmittedRun {
+        submitters: &given.submitters,
+        tables: &given.tables,
+        files: &given.kept,
+    };
+    match document_submitted(rt, alloc, run, &wording(&given.lands), plan, &folder) {
+        Ok(Some(pages)) => told(alloc, pages.as_slice(), what),
+        Ok(None) => Ok(String::from_str(alloc, "a refused file")?),
+        Err(fault) => Ok(format!(in alloc; "{fault:?}")?),
+    }
+}
+
+/// The inputs that a heading names.
+fn given_in<R: Files + AllocGlobal>(rt: &R, alloc: Global, of: &str) -> Result<Given> {
+    let lands = territories_in(rt, alloc, word_in(of, 0))?;
+    let tables = tables_in(rt, alloc, of)?;
     let mut submitters = Submitters::none(alloc);
+    let kept = files_in(rt, alloc, of, &mut submitters)?;
+    Ok(Given {
+        lands,
+        tables,
+        submitters,
+        kept,
+    })
+}
+
+/// The tables that a heading names behind that of the names of territories.
+fn tables_in<R: Files + AllocGlobal>(
+    rt: &R,
+    alloc: Global,
+    of: &str,
+) -> Result<SubmittedTables<Vec<u8>>> {
+    let territories = bytes_in(rt, alloc, word_in(of, 1))?;
+    let payees = bytes_if_any(rt, alloc, word_in(of, 2))?;
+    let works = bytes_in(rt, alloc, word_in(of, 3))?;
+    let usage = bytes_in(rt, alloc, word_in(of, 4))?;
+    Ok(SubmittedTables {
+        territories,
+        payees,
+        works,
+        usage,
+    })
+}
+
+/// The files that a heading names behind the tables, each by its submitter, whose name is added to these.
+fn files_in<R: Files + AllocGlobal>(
+    rt: &R,
+    alloc: Global,
+    of: &str,
+    submitters: &mut Submitters,
+) -> Result<Kept> {
     let mut files = Vec::new(alloc);
-    for word in names {
+    for word in of.split(' ').skip(5) {
         let (name, file) = word.split_once('=').unwrap_or((word, "-"));
         if !submitters.add(alloc, name.as_bytes())? {
             bail!("{name} is no name, or there already");
         }
         files.push(bytes_if_any(rt, alloc, file)?)?;
     }
-    let asked = asked_in(question)?;
-    let folder = Memory {
-        alloc,
-        refused: asked.refused.as_bytes(),
-    };
-    let kept = Kept { files };
-    let tables = SubmittedTables {
-        territories,
-        payees,
-        works,
-        usage,
-    };
-    let run = SubmittedRun {
-        submitters: &submitters,
-        tables: &tables,
-        files: &kept,
-    };
-    match document_submitted(rt, alloc, run, &wording(&lands), asked.plan, &folder) {
-        Ok(Some(pages)) => told(alloc, pages.as_slice(), asked.what),
-        Ok(None) => Ok(String::from_str(alloc, "a refused file")?),
-        Err(fault) => Ok(format!(in alloc; "{fault:?}")?),
-    }
+    Ok(Kept { files })
+}
+
+/// The word of a place in a heading.
+fn word_in(of: &str, place: usize) -> &str {
+    of.split(' ').nth(place).unwrap_or("")
 }
 
 /// A table of names of territories; none where its name is `-`.
@@ -111,7 +168,9 @@ fn bytes_if_any<R: Files + AllocGlobal>(
 }
 
 /// How these documents are worded.
-fn wording(territories: &TerritoryNames) -> Wording<'_> {
+fn wording(territories: &TerritoryNames) -> Wording<'_>
+    ensures { result.decimals ≤ 9 }
+{
     Wording {
         title: b"Distribution",
         currency: b"EUR",
@@ -120,28 +179,27 @@ fn wording(territories: &TerritoryNames) -> Wording<'_> {
     }
 }
 
-/// What a question asks.
-#[derive(Drop)]
-struct Asked<'a> {
-    plan: Plan,
-    what: &'a str,
-    /// The name of the file that the folder refuses.
-    refused: &'a str,
+/// A plan of as many workers as a question begins with.
+fn plan_in(question: &str) -> Result<Plan> {
+    let mut words = question.split(' ');
+    let threads = words.next().unwrap_or("").parse()?;
+    Plan::new(threads, 1, 1).context("no plan")
 }
 
-/// The threads of a question, and what it asks.
-fn asked_in(question: &str) -> Result<Asked<'_>> {
-    let (threads, what) = question.split_once(' ').context("no threads")?;
-    let plan = Plan::new(threads.parse()?, 1, 1).context("no plan")?;
-    let refused = match what.split_once(' ') {
+/// What a question asks, behind the number of threads.
+fn what_in(question: &str) -> &str {
+    match question.split_once(' ') {
+        Some((_, what)) => what,
+        None => "",
+    }
+}
+
+/// The name of the file that the folder is to refuse, where it is asked for.
+fn refused_in(what: &str) -> &str {
+    match what.split_once(' ') {
         Some(("refused", name)) => name,
         _ => "",
-    };
-    Ok(Asked {
-        plan,
-        what,
-        refused,
-    })
+    }
 }
 
 /// The names of all files, each on a line; or the bytes of one, or whether it has a text.
