@@ -18,8 +18,8 @@ pub record AreReady (documents : Documents) : Type 0 where
   pub decimals : documents.distribution.decimals ≤ MOST_DECIMALS
 
 -- documents of these parts
-abbrev pub documents_of : Bor Divided → Bor (List (List ℕ × List ℕ)) → Bor (List (Vec ℕ Global)) → Bor (List (ℕ × List ℕ)) → Distribution
-    → Documents
+abbrev pub documents_of : Bor Divided → Bor (List (List ℕ × List ℕ)) → Bor (List (Vec ℕ Global)) → Bor (List (ℕ × List ℕ))
+    → Distribution → Documents
 documents_of divided titles names territories distribution = record {
   divided = divided;
   titles = titles;

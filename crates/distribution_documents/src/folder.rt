@@ -31,7 +31,12 @@ pub trait Folder {
 }
 
 /// Writes a whole file.
-pub fn put<F: Folder>(alloc: Global, folder: &F, name: &[u8], bytes: &[u8]) -> io::Result<F::Stored>
+pub(crate) fn put<F: Folder>(
+    alloc: Global,
+    folder: &F,
+    name: &[u8],
+    bytes: &[u8],
+) -> io::Result<F::Stored>
     ensures { IfOk result (λ file. F.has file name.now bytes.now) }
 {
     let mut draft = folder.begin(alloc, name)?;

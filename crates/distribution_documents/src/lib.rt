@@ -12,5 +12,5 @@ mod residue;
 mod writing;
 
 pub use documents::{DocumentFault, Documents};
-pub use folder::{Folder, put};
+pub use folder::Folder;
 pub use writing::write_documents;

@@ -42,8 +42,8 @@ pub fn of_one_file<R: Files + AllocGlobal + Threads + Wait + Sync>(
 }
 
 /// The same over the files of several submitters: a heading names the table of names of territories, the tables of
-/// territories, payees, works and usage lines, and then `NAME=FILE` of each submitter; `-` stands for no payees, and for
-/// a file that cannot be read.
+/// territories, payees, works and usage lines, and then `NAME=FILE` of each submitter; `-` stands for no payees, and
+/// for a file that cannot be read.
 pub fn of_submitters<R: Files + AllocGlobal + Threads + Wait + Sync>(
     rt: &R,
     alloc: Global,

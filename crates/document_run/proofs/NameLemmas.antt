@@ -9,12 +9,8 @@ use Rattle.std.specs.Option.{option_map_or}
 use Rattle.cwr_share.specs.Lines.{lines_of}
 use Rattle.document_names.specs.FirstTexts.{is_said}
 use Rattle.document_names.specs.Payees.{named_by}
+use Rattle.line_split.proofs.Enumerated.{map_same}
 use Rattle.document_run.specs.Names.{AreNamesOf, first_said, items_of, name_among, party_name}
-
--- a function of the items is one of the texts
-pub map_twice : {X Y Z : Type 0} (f : X → Y) (h : Y → Z) (xs : List X) → map h (map f xs) ≡ map (λ x. h (f x)) xs
-map_twice f h [] = refl
-map_twice f h (x ∷ xs) = ap (λ rest. h (f x) ∷ rest) (map_twice f h xs)
 
 -- lists of the same length are zipped to their ends
 pub zip_one_more : {X Y : Type 0} (xs : List X) (ys : List Y) (x : X) (y : Y) → length xs ≡ length ys → zip (xs ++ x ∷ []) (ys ++ y ∷ []) ≡ zip xs ys ++ (x, y) ∷ []
@@ -71,11 +67,6 @@ as_many submitters files accounts known names is same =
     let all = ap length is in
     let lesser : min (length accounts) (length known) ≡ length accounts = grind (arith, same) in
     sym own ∙ all ∙ made ∙ zipped ∙ lesser
-
--- functions that are the same at each item make the same list
-map_same : {X Y : Type 0} (f h : X → Y) → ((x : X) → f x ≡ h x) → (xs : List X) → map f xs ≡ map h xs
-map_same f h same [] = refl
-map_same f h same (x ∷ xs) = ap (λ y. y ∷ map f xs) (same x) ∙ ap (λ rest. h x ∷ rest) (map_same f h same xs)
 
 -- files of submitters and one more hold their bytes
 held_by_more : (holds : ℕ → List ℕ → Type 0) (files : List (List ℕ)) (file : List ℕ) (place : ℕ) → length files ≡ place → ((j : ℕ) → j < place → holds j (get_or files j []))

@@ -1,6 +1,7 @@
--- The names of accounts in a run over the files of several submitters. `holds place bytes` says that the file of a place
--- among the submitters holds these bytes, and `refuses place` that it cannot be read.
-use Rattle.std.specs.Prelude.{ℕ, ◌≡◌, ◌<◌, ◌∷◌, [], List, None, Option, Some, Vec, drop, length, map, slice_index_or, zip}
+-- The names of accounts in a run over the files of several submitters. `holds place bytes` says that the file of a
+-- place among the submitters holds these bytes, and `refuses place` that it cannot be read.
+use Rattle.std.specs.Prelude.{ℕ, ◌≡◌, ◌<◌, ◌∷◌, [], List, None, Option, Some, Vec}
+use Rattle.std.specs.Prelude.{drop, length, map, slice_index_or, zip}
 use Rattle.std.specs.List.{find}
 use Rattle.std.specs.Option.{option_map_or}
 use Rattle.std.specs.declared.alloc.Global.{Global}

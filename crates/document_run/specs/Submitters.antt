@@ -13,8 +13,8 @@ use Rattle.run_inputs.specs.declared.inputs.Tables.{Tables}
 use Rattle.submitted_inputs.specs.Submitted.{IsReading}
 use Rattle.submitted_inputs.specs.declared.inputs.SubmittedTables.{SubmittedTables}
 
--- Works have the titles of the table of works. Accounts have the names of the table of payees, and those without one the
--- names of the files.
+-- Works have the titles of the table of works. Accounts have the names of the table of payees, and those without one
+-- the names of the files.
 pub record AreNamedBy (submitters : List (List ℕ)) (holds : ℕ → List ℕ → Type 0) (inputs : SubmittedTables (List ℕ))
     (accounts : List (List ℕ)) (titles : List (List ℕ × List ℕ)) (names : List (List ℕ)) : Type 0 where
   pub titles_are : AreFirstTexts (titles_in_rows (drop 1 (rows_of inputs.works))) titles

@@ -48,7 +48,8 @@ pub(crate) fn names_in_files<S: SubmitterFiles>(
     requires { length names.items ≡ length accounts.now }
     ensures names { IfOk result (λ found. AreNamesOf submitters.now (S.holds files.now)
         (map (λ account. account.items) accounts.now) (items_of names) (items_of found)) }
-    ensures fault { IfErr result (λ fault. (fault ≡ Room) ⊎ IsUnreadable (S.refuses files.now) (length submitters.now) fault) }
+    ensures fault { IfErr result (λ fault. (fault ≡ Room)
+        ⊎ IsUnreadable (S.refuses files.now) (length submitters.now) fault) }
 {
     let list = submitters.as_slice();
     for place in 0..list.len() {

@@ -21,9 +21,9 @@ use std::sync::Wait;
 use std::thread::Threads;
 use submitted_inputs::{SubmittedFault, SubmittedTables, SubmitterFiles, read_submitted};
 
-/// Writes all documents of a run over the files of several submitters to a folder, by as many threads as the plan has. The
-/// first input that is refused is the answer. The files are read once more for the names of parties that the table of
-/// payees has none for. None: no input has a fault, and the folder refused a file.
+/// Writes all documents of a run over the files of several submitters to a folder, by as many threads as the plan
+/// has. The first input that is refused is the answer. The files are read once more for the names of parties that the
+/// table of payees has none for. None: no input has a fault, and the folder refused a file.
 pub fn document_submitted<
     R: Threads + Wait + Sync,
     I: Input,
@@ -42,8 +42,8 @@ pub fn document_submitted<
         × AreSubmittedDocuments inputs.entry.submitters.now (S.holds inputs.entry.files.now)
         (map_tables I.bytes inputs.entry.tables.now) (wording_shown wording.now) files
         × AreWritten F.has written.items files)) }
-    ensures fault { IfErr result (IsFaultOf inputs.entry.submitters.now (S.holds inputs.entry.files.now) (S.refuses inputs.entry.files.now)
-        (map_tables I.bytes inputs.entry.tables.now)) }
+    ensures fault { IfErr result (IsFaultOf inputs.entry.submitters.now (S.holds inputs.entry.files.now)
+        (S.refuses inputs.entry.files.now) (map_tables I.bytes inputs.entry.tables.now)) }
 {
     let named = read_named(rt, alloc, inputs, plan.thread_count())?;
     Ok(document_tables(rt, alloc, named, wording, plan, folder)?)
@@ -70,8 +70,8 @@ fn read_named<R: Threads + Sync, I: Input, S: SubmitterFiles + Sync>(
     ensures ready { IfOk result AreReady }
     ensures read { IfOk result (IsNamedSubmitted inputs.entry.submitters.now (S.holds inputs.entry.files.now)
         (map_tables I.bytes inputs.entry.tables.now)) }
-    ensures fault { IfErr result (IsFaultOf inputs.entry.submitters.now (S.holds inputs.entry.files.now) (S.refuses inputs.entry.files.now)
-        (map_tables I.bytes inputs.entry.tables.now)) }
+    ensures fault { IfErr result (IsFaultOf inputs.entry.submitters.now (S.holds inputs.entry.files.now)
+        (S.refuses inputs.entry.files.now) (map_tables I.bytes inputs.entry.tables.now)) }
 {
     let SubmittedRun {
         submitters,

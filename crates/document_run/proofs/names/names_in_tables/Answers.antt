@@ -5,7 +5,7 @@ use Rattle.csv_table.specs.Table.{rows_of}
 use Rattle.document_names.specs.FirstTexts.{first_text}
 use Rattle.document_names.specs.Payees.{names_in_rows}
 use Rattle.document_run.specs.Names.{items_of, names_by_table}
-use Rattle.document_run.proofs.NameLemmas.{map_twice}
+use mathlib.Core.List.{map-map}
 use Rattle.document_run.proofs.names.names_in_tables.Goals as goal
 
 abbrev Texts : Type 0
@@ -19,11 +19,11 @@ returns-in-Some g c =
     (λ (names : Texts). items_of names ≡ names_by_table (option_map g.I.Input.bytes c.args.payees.now) (map (λ account. account.items) accounts))
     (λ names is. subst (λ (payees : Option g.row.I.Denot). items_of names ≡ names_by_table (option_map g.I.Input.bytes payees) (map (λ account. account.items) accounts)) (sym c.in-Some.is)
     (subst (λ (table : List ℕ). items_of names ≡ map (named table) (map (λ account. account.items) accounts)) c.bytes.ensures
-    (is ∙ sym (map_twice (λ account. account.items) (named c.bytes.result.now) accounts)))) c.names_in_table.ensures
+    (is ∙ sym (map-map (named c.bytes.result.now) (λ (account : Vec ℕ Global). account.items) accounts)))) c.names_in_table.ensures
 
 pub returns-in-None : goal.returns-in-None
 returns-in-None g c =
     let accounts : List (Vec ℕ Global) = c.args.accounts.now in
     IfOk-weaker c.unnamed.result (λ (names : Texts). items_of names ≡ map (λ _. []) accounts)
     (λ (names : Texts). items_of names ≡ names_by_table (option_map g.I.Input.bytes c.args.payees.now) (map (λ account. account.items) accounts))
-    (λ names is. rw c.in-None.is (is ∙ sym (map_twice (λ account. account.items) (λ _. []) accounts))) c.unnamed.ensures
+    (λ names is. rw c.in-None.is (is ∙ sym (map-map (λ (account : List ℕ). []) (λ (account : Vec ℕ Global). account.items) accounts))) c.unnamed.ensures

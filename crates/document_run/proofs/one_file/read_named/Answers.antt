@@ -8,7 +8,7 @@ use Rattle.document_run.specs.Names.{items_of}
 use Rattle.document_run.specs.OneFile.{AreNamedBy}
 use Rattle.run_inputs.specs.Inputs.{IsReading, map_inputs}
 use Rattle.document_run.proofs.InputLemmas.{as_many_as, of_inputs}
-use Rattle.document_run.proofs.NameLemmas.{map_twice}
+use mathlib.Core.List.{map-map}
 use Rattle.document_run.proofs.one_file.read_named.Goals as goal
 
 pub returns-in_err-names-clause-fault : goal.returns-in_err-names-clause-fault
@@ -34,6 +34,6 @@ returns-clause-read g c =
         titles_are = subst (λ (bytes : List ℕ). AreFirstTexts (titles_of_registrations (lines_of bytes)) c.in_ok-titles.titles) same c.in_ok-titles.ensures;
         names_are =
             subst (λ (bytes : List ℕ). items_of c.in_ok-names.names ≡ map (name_in (lines_of bytes)) tables.registry.accounts) same
-            (c.in_ok-names.ensures ∙ (sym (map_twice (λ (party : Vec ℕ Global). party.items) (name_in (lines_of file)) c.parties.result.now) ∙ ap (map (name_in (lines_of file))) c.parties.ensures));
+            (c.in_ok-names.ensures ∙ (sym (map-map (name_in (lines_of file)) (λ (party : Vec ℕ Global). party.items) c.parties.result.now) ∙ ap (map (name_in (lines_of file))) c.parties.ensures));
       };
     }
