@@ -4,8 +4,8 @@ use Rattle.overview_documents.specs.Lines.{LineSum}
 use Rattle.overview_documents.specs.Overviews.{Overview}
 use Rattle.overview_documents.specs.Payees.{Group, group_of}
 use Rattle.overview_documents.specs.declared.balance.TheConstants.{IN_HEAD, OUT_HEAD}
-use Rattle.page_parts.specs.Bars.{row_tag_text}
 use Rattle.page_parts.specs.Pieces.{all_of}
+use Rattle.page_parts.specs.Tags.{row_tag_text}
 use Rattle.page_text.specs.Figures.{amount_text, count_text}
 use Rattle.residue_documents.specs.Reasons.{amount_in, lines_in}
 
@@ -18,8 +18,8 @@ in_row_text decimals right sum = all_of (
 -- the row of a total, and the end of the table
 abbrev pub total_row_text : (decimals : ℕ) → (words : List ℕ) → (count : ℕ) → (amount : ℤ) → List ℕ
 total_row_text decimals words count amount = all_of (
-    codes "</tbody><tfoot><tr><th scope=\"row\">" ∷ words ∷ codes "</th><td class=\"n\">" ∷ count_text count
-    ∷ codes "</td><td class=\"n\">" ∷ amount_text decimals amount ∷ codes "</td></tr></tfoot></table>\n" ∷ [])
+    codes "</tbody><tfoot>" ∷ row_tag_text (int_lt amount (pos 0)) ∷ codes "<th scope=\"row\">" ∷ words
+    ∷ codes "</th><td class=\"n\">" ∷ count_text count ∷ codes "</td><td class=\"n\">" ∷ amount_text decimals amount ∷ codes "</td></tr></tfoot></table>\n" ∷ [])
 
 -- what came in, by right
 abbrev pub in_text : (decimals : ℕ) → Overview → List ℕ

@@ -5,9 +5,10 @@ use Rattle.std.specs.Bool.{beq}
 use Rattle.line_split.specs.Signs.{int_sum_by}
 use Rattle.overview_documents.specs.declared.payees.Group as kept_group
 use Rattle.overview_documents.specs.declared.payees.PayeeLine as kept
-use Rattle.page_parts.specs.Bars.{Others, Row, bars_text, row_tag_text}
+use Rattle.page_parts.specs.Bars.{Others, Row, bars_text}
 use Rattle.page_parts.specs.Pieces.{all_of, in_page}
 use Rattle.page_parts.specs.Shortened.{IsShortened}
+use Rattle.page_parts.specs.Tags.{row_tag_text}
 use Rattle.page_text.specs.Figures.{amount_text, count_text}
 
 -- a payee: its account's number and name, its own name, its files, its portions, and what they come to
@@ -121,7 +122,8 @@ payee_row_text decimals payee = all_of (
 
 abbrev pub payees_total_text : (decimals : ℕ) → (all : Group) → List ℕ
 payees_total_text decimals all = all_of (
-    codes "</tbody><tfoot><tr><td class=\"opt\"></td><th scope=\"row\">Payees: " ∷ count_text all.payees
+    codes "</tbody><tfoot>" ∷ row_tag_text (int_lt all.amount (pos 0))
+    ∷ codes "<td class=\"opt\"></td><th scope=\"row\">Payees: " ∷ count_text all.payees
     ∷ codes "</th><td></td><td class=\"n\">" ∷ count_text all.portions ∷ codes "</td><td class=\"n\">"
     ∷ amount_text decimals all.amount ∷ codes "</td><td class=\"opt screen\"></td></tr></tfoot></table>\n" ∷ [])
 

@@ -6,13 +6,12 @@ ghost use Rattle.overview_documents.specs.Balance.{residue_row_text, total_row_t
 ghost use Rattle.overview_documents.specs.Lines.{sum_shown};
 ghost use Rattle.overview_documents.specs.Overviews.{CanBeShown, overview_shown};
 ghost use Rattle.overview_documents.specs.Payees.{group_shown};
-ghost use Rattle.page_parts.specs.Bars.{row_tag_text};
 ghost use Rattle.page_text.specs.declared.figures.TheConstants.{MOST_DECIMALS};
 
 use crate::lines::LineSum;
 use crate::page::Overview;
 use crate::payees::{Group, group_of};
-use page_parts::{Piece, add};
+use page_parts::{Piece, add, row_tag};
 use residue_documents::{amount_of, lines_of};
 use std::alloc::{AllocError, Global};
 
@@ -188,17 +187,6 @@ fn add_residue_row(
     )
 }
 
-/// The tag that begins a row.
-fn row_tag(is_negative: bool) -> &'static str
-    ensures { result.now ≡ row_tag_text is_negative }
-{
-    if is_negative {
-        "<tr class=\"neg\">"
-    } else {
-        "<tr>"
-    }
-}
-
 /// Adds the row of a total, and ends the table.
 fn add_total_row(
     alloc: Global,
@@ -216,7 +204,9 @@ fn add_total_row(
         page,
         decimals,
         &[
-            Piece::Tag("</tbody><tfoot><tr><th scope=\"row\">"),
+            Piece::Tag("</tbody><tfoot>"),
+            Piece::Tag(row_tag(amount < 0)),
+            Piece::Tag("<th scope=\"row\">"),
             Piece::Tag(words),
             Piece::Tag("</th><td class=\"n\">"),
             Piece::Count(count),

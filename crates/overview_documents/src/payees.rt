@@ -4,10 +4,10 @@ ghost use Rattle.std.specs.Prelude.{◌≡◌, ◌≤◌, ◌++◌, ◌^◌, All
 ghost use Rattle.overview_documents.specs.Payees.{AreFew, HasLargest, IsCountable, bar_row, code_in};
 ghost use Rattle.overview_documents.specs.Payees.{group_of as group_in, group_shown, line_shown, lines_shown, name_in};
 ghost use Rattle.overview_documents.specs.Payees.{payee_row_text, payees_head, payees_text, payees_total_text};
-ghost use Rattle.page_parts.specs.Bars.{row_shown, row_tag_text};
+ghost use Rattle.page_parts.specs.Bars.{row_shown};
 ghost use Rattle.page_text.specs.declared.figures.TheConstants.{MOST_DECIMALS};
 
-use page_parts::{BarRow, BarTable, Piece, add, add_bars, shorten};
+use page_parts::{BarRow, BarTable, Piece, add, add_bars, row_tag, shorten};
 use std::alloc::{AllocError, Global};
 
 /// How many payees the table of the largest has.
@@ -219,17 +219,6 @@ fn add_payee(
     )
 }
 
-/// The tag that begins the row of a payee.
-fn row_tag(is_owed: bool) -> &'static str
-    ensures { result.now ≡ row_tag_text is_owed }
-{
-    if is_owed {
-        "<tr class=\"neg\">"
-    } else {
-        "<tr>"
-    }
-}
-
 /// Adds what all payees have, and ends the table.
 fn add_total(alloc: Global, page: &mut Vec<u8>, decimals: u32, all: Group) -> Result<(), AllocError>
     requires { decimals ≤ MOST_DECIMALS }
@@ -240,7 +229,9 @@ fn add_total(alloc: Global, page: &mut Vec<u8>, decimals: u32, all: Group) -> Re
         page,
         decimals,
         &[
-            Piece::Tag("</tbody><tfoot><tr><td class=\"opt\"></td><th scope=\"row\">Payees: "),
+            Piece::Tag("</tbody><tfoot>"),
+            Piece::Tag(row_tag(all.amount < 0)),
+            Piece::Tag("<td class=\"opt\"></td><th scope=\"row\">Payees: "),
             Piece::Count(all.payees),
             Piece::Tag("</th><td></td><td class=\"n\">"),
             Piece::Count(all.portions),

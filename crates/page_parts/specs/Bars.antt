@@ -3,6 +3,7 @@ use Rattle.std.specs.Prelude.{ℕ, ℤ, pos, negsuc, suc, ◌+◌, ◌-◌, ◌�
 use Rattle.std.specs.Prelude.{codes, decimal, flat_map, if◌then◌else◌, int_lt, map, max, min, unsigned_abs, length}
 use Rattle.page_parts.specs.Parts.{thousandths}
 use Rattle.page_parts.specs.Pieces.{all_of, in_page}
+use Rattle.page_parts.specs.Tags.{row_tag_text}
 use Rattle.page_parts.specs.declared.bars.BarRow.{BarRow}
 use Rattle.page_parts.specs.declared.bars.BarTable.{BarTable}
 use Rattle.page_parts.specs.declared.bars.Others as kept_others
@@ -102,11 +103,11 @@ abbrev pub bar_class_text : (is_rest is_negative : Bool) → List ℕ
 bar_class_text is_rest is_negative =
     if is_rest then codes " class=\"rest\"" else (if is_negative then codes " class=\"minus\"" else [])
 
--- the line at 0, where bars go both ways from it
+-- the line at 0, where a bar goes to the left of it; it does not leave the picture either
 abbrev pub axis_text : (below at : ℕ) → List ℕ
 axis_text below at =
     if below == 0 then []
-    else all_of (codes "<rect class=\"axis\" x=\"" ∷ decimal at ∷ codes "\" width=\"3\" height=\"1\"/>" ∷ [])
+    else all_of (codes "<rect class=\"axis\" x=\"" ∷ decimal (min at 997) ∷ codes "\" width=\"3\" height=\"1\"/>" ∷ [])
 
 abbrev pub bar_text : Scale → (is_rest : Bool) → ℤ → List ℕ
 bar_text scale is_rest amount = all_of (
@@ -115,9 +116,6 @@ bar_text scale is_rest amount = all_of (
     ∷ codes " x=\"" ∷ decimal (start_in scale amount)
     ∷ codes "\" width=\"" ∷ decimal (width_in scale (unsigned_abs amount))
     ∷ codes "\" height=\"1\"/>" ∷ axis_text scale.below (zero_of scale) ∷ codes "</svg>" ∷ [])
-
-abbrev pub row_tag_text : (is_negative : Bool) → List ℕ
-row_tag_text is_negative = if is_negative then codes "<tr class=\"neg\">" else codes "<tr>"
 
 abbrev pub figures_text : (decimals count : ℕ) → (amount : ℤ) → List ℕ
 figures_text decimals count amount = all_of (
@@ -158,7 +156,8 @@ bars_head table = all_of (
 -- what all come to
 abbrev pub sums_text : (decimals : ℕ) → Table → List ℕ
 sums_text decimals table = all_of (
-    codes "</tbody><tfoot><tr><th scope=\"row\" colspan=\"2\">" ∷ table.total ∷ codes "</th><td class=\"n opt\">"
+    codes "</tbody><tfoot>" ∷ row_tag_text (int_lt table.amount (pos 0)) ∷ codes "<th scope=\"row\" colspan=\"2\">"
+    ∷ table.total ∷ codes "</th><td class=\"n opt\">"
     ∷ count_text table.count ∷ codes "</td><td class=\"n\">" ∷ amount_text decimals table.amount
     ∷ codes "</td></tr></tfoot></table>\n" ∷ [])
 

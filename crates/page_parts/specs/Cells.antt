@@ -4,6 +4,7 @@ use Rattle.line_split.specs.UsageLine.{UsageLine}
 use Rattle.line_split.specs.declared.usage.Right.{Right}
 use Rattle.line_split.specs.declared.usage.Right.TheVariants.{P, M, S}
 use Rattle.page_parts.specs.Pieces.{all_of, in_page}
+use Rattle.page_parts.specs.Tags.{row_tag_text, work_tag_text}
 use Rattle.page_text.specs.Figures.{amount_text}
 
 -- a name with a code behind it
@@ -27,9 +28,6 @@ right_name P = codes "Performing"
 right_name M = codes "Mechanical"
 right_name S = codes "Synchronisation"
 
-abbrev pub line_tag_text : (is_reversal : Bool) → List ℕ
-line_tag_text is_reversal = if is_reversal then codes "<tr class=\"neg\">" else codes "<tr>"
-
 abbrev pub reversal_mark_text : (is_reversal : Bool) → List ℕ
 reversal_mark_text is_reversal = if is_reversal then codes "<span class=\"back\">Reversal</span>" else []
 
@@ -40,7 +38,7 @@ is_reversal line = int_lt line.amount (pos 0)
 -- the row of the usage list, the use, the territory and the right
 abbrev pub line_cells_text : (land : List ℕ) → (row : ℕ) → UsageLine → List ℕ
 line_cells_text land row line = all_of (
-    line_tag_text (is_reversal line) ∷ codes "<td>" ∷ decimal row
+    row_tag_text (is_reversal line) ∷ codes "<td>" ∷ decimal row
     ∷ codes "</td><th scope=\"row\">" ∷ in_page line.usage ∷ reversal_mark_text (is_reversal line)
     ∷ codes "</th><td>" ∷ land_text land line.territory
     ∷ codes "</td><td>" ∷ right_name line.right ∷ codes "</td>" ∷ [])
@@ -48,9 +46,6 @@ line_cells_text land row line = all_of (
 -- up to six uses of a work stay on one printed page
 abbrev pub body_tag_text : (uses : ℕ) → List ℕ
 body_tag_text uses = if nat_le uses 6 then codes "<tbody class=\"short\">" else codes "<tbody>"
-
-abbrev pub work_tag_text : (is_negative : Bool) → List ℕ
-work_tag_text is_negative = if is_negative then codes "<tr class=\"work neg\">" else codes "<tr class=\"work\">"
 
 -- the row of a work: its title, and what its uses come to
 abbrev pub work_row_text : (decimals columns : ℕ) → (title work : List ℕ) → (uses : ℕ) → (amount : ℤ) → List ℕ

@@ -6,3 +6,4 @@ pub mod Parts
 pub mod Pieces
 pub mod Shortened
 pub mod Style
+pub mod Tags

@@ -2,12 +2,13 @@
 
 ghost use Rattle.std.specs.Prelude.{◌≡◌, ◌≤◌, ◌++◌, ◌^◌, ◌⊎◌, false, true, OnOk, unsigned_abs};
 ghost use Rattle.page_parts.specs.Bars.{AreSmall, axis_text, bar_class_text, bar_text, bars_head, bars_text, figures_text};
-ghost use Rattle.page_parts.specs.Bars.{label_text, others_shown, others_text, row_shown, row_tag_text, row_text};
+ghost use Rattle.page_parts.specs.Bars.{label_text, others_shown, others_text, row_shown, row_text};
 ghost use Rattle.page_parts.specs.Bars.{scale_for, start_at, sums_text, table_shown, widened as widened_by, width_in, zero_of};
 ghost use Rattle.page_text.specs.declared.figures.TheConstants.{MOST_DECIMALS};
 
 use crate::parts::part_of;
 use crate::piece::{Piece, add};
+use crate::tags::row_tag;
 use std::alloc::{AllocError, Global};
 
 /// A row of such a table.
@@ -167,17 +168,6 @@ fn add_row(
     add_figures(alloc, page, decimals, row.count, row.amount)
 }
 
-/// The tag that begins a row.
-fn row_tag(is_negative: bool) -> &'static str
-    ensures { result.now ≡ row_tag_text is_negative }
-{
-    if is_negative {
-        "<tr class=\"neg\">"
-    } else {
-        "<tr>"
-    }
-}
-
 /// Adds what a row is of: its name, which leads to a page where it has one, and its code.
 fn add_label(alloc: Global, page: &mut Vec<u8>, row: &BarRow<'_>) -> Result<(), AllocError>
     ensures { OnOk result (page.new.items ≡ page.old.items ++ label_text (row_shown row.now)) }
@@ -331,7 +321,7 @@ fn bar_class(is_rest: bool, is_negative: bool) -> &'static str
     }
 }
 
-/// Adds the line at 0, where bars go both ways from it.
+/// Adds the line at 0, where a bar goes to the left of it. The line is 3 wide, and does not leave the picture.
 fn add_axis(alloc: Global, page: &mut Vec<u8>, scale: Scale, zero: u64) -> Result<(), AllocError>
     ensures { OnOk result (page.new.items ≡ page.old.items ++ axis_text scale.below zero) }
 {
@@ -344,7 +334,7 @@ fn add_axis(alloc: Global, page: &mut Vec<u8>, scale: Scale, zero: u64) -> Resul
         0,
         &[
             Piece::Tag("<rect class=\"axis\" x=\""),
-            Piece::Number(zero),
+            Piece::Number(zero.min(997)),
             Piece::Tag("\" width=\"3\" height=\"1\"/>"),
         ],
     )
@@ -391,7 +381,9 @@ fn add_sums(
         page,
         decimals,
         &[
-            Piece::Tag("</tbody><tfoot><tr><th scope=\"row\" colspan=\"2\">"),
+            Piece::Tag("</tbody><tfoot>"),
+            Piece::Tag(row_tag(table.amount < 0)),
+            Piece::Tag("<th scope=\"row\" colspan=\"2\">"),
             Piece::Tag(table.total),
             Piece::Tag("</th><td class=\"n opt\">"),
             Piece::Count(table.count),

@@ -2,11 +2,12 @@
 
 ghost use Rattle.std.specs.Prelude.{◌≡◌, ◌≤◌, ◌++◌, OnOk};
 ghost use Rattle.line_split.specs.UsageLine.{usage_line_of};
-ghost use Rattle.page_parts.specs.Cells.{body_tag_text, land_text, line_cells_text, line_tag_text, reversal_mark_text};
-ghost use Rattle.page_parts.specs.Cells.{right_name as name_of_right, work_row_text, work_tag_text, work_text};
+ghost use Rattle.page_parts.specs.Cells.{body_tag_text, land_text, line_cells_text, reversal_mark_text};
+ghost use Rattle.page_parts.specs.Cells.{right_name as name_of_right, work_row_text, work_text};
 ghost use Rattle.page_text.specs.declared.figures.TheConstants.{MOST_DECIMALS};
 
 use crate::piece::{Piece, add};
+use crate::tags::{row_tag, work_tag};
 use line_split::{Line, Right};
 use std::alloc::{AllocError, Global};
 
@@ -63,7 +64,7 @@ pub fn add_work_row(
     )
 }
 
-/// The tag that begins the uses of a work, of which there are so many.
+/// The tag that begins the uses of a work: a few of them stay on one printed page.
 fn body_tag(uses: usize) -> &'static str
     ensures { result.now ≡ body_tag_text uses }
 {
@@ -71,17 +72,6 @@ fn body_tag(uses: usize) -> &'static str
         "<tbody class=\"short\">"
     } else {
         "<tbody>"
-    }
-}
-
-/// The tag that begins the row of a work.
-fn work_tag(is_negative: bool) -> &'static str
-    ensures { result.now ≡ work_tag_text is_negative }
-{
-    if is_negative {
-        "<tr class=\"work neg\">"
-    } else {
-        "<tr class=\"work\">"
     }
 }
 
@@ -134,7 +124,7 @@ pub fn add_line_cells(
         page,
         0,
         &[
-            Piece::Tag(line_tag(is_reversal)),
+            Piece::Tag(row_tag(is_reversal)),
             Piece::Tag("<td>"),
             Piece::Number(row),
             Piece::Tag("</td><th scope=\"row\">"),
@@ -147,17 +137,6 @@ pub fn add_line_cells(
     page.extend_from_slice(b"</td><td>")?;
     page.extend_from_slice(right_name(line.right).as_bytes())?;
     page.extend_from_slice(b"</td>")
-}
-
-/// The tag that begins the row of a usage line.
-fn line_tag(is_reversal: bool) -> &'static str
-    ensures { result.now ≡ line_tag_text is_reversal }
-{
-    if is_reversal {
-        "<tr class=\"neg\">"
-    } else {
-        "<tr>"
-    }
 }
 
 /// The word behind a use that is a reversal.

@@ -14,8 +14,11 @@ const BEFORE_TITLE: &str = "\
     <meta name=\"viewport\" content=\"width=device-width, initial-scale=1\"/>\n\
     <meta name=\"robots\" content=\"noindex\"/>\n<title>";
 
+/// What stands before the words at the foot of each printed page.
+const PRINTED_FOOT: &str = "@page{@bottom-left{font:7.5pt sans-serif;color:#56616c;content:\"";
+
 /// Begins a page: its head, with a title and the style sheet, and the beginning of its body. The title is `name`, a
-/// colon, and `distribution`; the words before the name are the page's own.
+/// colon, and `distribution`; the words before the name are the page's own. Each printed page has them at its foot.
 pub fn begin_page<'a>(
     alloc: Global,
     page: &mut Vec<u8>,
@@ -39,7 +42,19 @@ pub fn begin_page<'a>(
         ],
     )?;
     add_style(page)?;
-    page.extend_from_slice(b"</style>\n</head>\n<body>\n")
+    add(
+        alloc,
+        page,
+        0,
+        &[
+            Piece::Tag(PRINTED_FOOT),
+            Piece::Styled(distribution),
+            Piece::Tag(". "),
+            Piece::Tag(words),
+            Piece::Styled(name),
+            Piece::Tag("\"}}</style>\n</head>\n<body>\n"),
+        ],
+    )
 }
 
 /// Ends a page: what it is stands at its foot, on screens alone.

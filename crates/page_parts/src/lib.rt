@@ -11,6 +11,7 @@ mod parts;
 mod piece;
 mod shortened;
 mod style;
+mod tags;
 
 pub use bars::{BarRow, BarTable, Others, add_bars};
 pub use cells::{WorkRow, add_line_cells, add_work_row, right_name};
@@ -19,3 +20,4 @@ pub use frame::{begin_page, end_page};
 pub use parts::part_of;
 pub use piece::{Piece, add};
 pub use shortened::shorten;
+pub use tags::{row_tag, work_tag};

@@ -1,12 +1,12 @@
 //! What a page is put together of: tags of its own, and texts and figures of a run.
 
 ghost use Rattle.std.specs.Prelude.{◌≡◌, ◌≤◌, ◌++◌, OnOk, decimal};
-ghost use Rattle.page_parts.specs.Pieces.{in_page, piece_text, pieces_text};
+ghost use Rattle.page_parts.specs.Pieces.{in_page, in_style, piece_text, pieces_text};
 ghost use Rattle.page_text.specs.Figures.{size_text};
 ghost use Rattle.page_text.specs.declared.figures.TheConstants.{MOST_DECIMALS};
 
 use itoa::Buffer;
-use page_text::{add_amount, add_count, add_escaped, add_last_digits, add_shown};
+use page_text::{add_amount, add_count, add_escaped, add_last_digits, add_shown, add_styled};
 use std::alloc::{AllocError, Global};
 
 /// A piece of a page. Only what the page itself says is a tag, so no text of an input can be one.
@@ -17,6 +17,8 @@ pub enum Piece<'a> {
     /// A text of whatever bytes: those that cannot be seen stand by their digits, and none opens a tag, an attribute
     /// or a character reference.
     Text(&'a [u8]),
+    /// A text of whatever bytes within the quotes of the page's style sheet, which it doesn't end.
+    Styled(&'a [u8]),
     /// A number without groups of digits: a row, or a code.
     Number(u64),
     /// A count, with groups of three digits.
@@ -56,6 +58,7 @@ fn add_piece(
     match piece {
         Piece::Tag(text) => page.extend_from_slice(text.as_bytes()),
         Piece::Text(text) => add_text(alloc, page, text),
+        Piece::Styled(text) => add_style_text(alloc, page, text),
         Piece::Number(number) => add_number(page, number),
         Piece::Count(count) => add_count(page, u128::from(count)),
         Piece::Amount(amount) => add_amount(page, decimals, amount),
@@ -70,6 +73,15 @@ fn add_text(alloc: Global, page: &mut Vec<u8>, text: &[u8]) -> Result<(), AllocE
     let mut shown = Vec::new(alloc);
     add_shown(&mut shown, text)?;
     add_escaped(page, shown.as_slice())
+}
+
+/// Adds a text as it is shown, within quotes of a style sheet.
+fn add_style_text(alloc: Global, page: &mut Vec<u8>, text: &[u8]) -> Result<(), AllocError>
+    ensures { OnOk result (page.new.items ≡ page.old.items ++ in_style text.now) }
+{
+    let mut shown = Vec::new(alloc);
+    add_shown(&mut shown, text)?;
+    add_styled(page, shown.as_slice())
 }
 
 /// Adds a number without groups of digits.

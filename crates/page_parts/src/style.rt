@@ -94,7 +94,7 @@ const USES: &str = "\
     .uses tr.neg .code,.uses tr.neg td:nth-child(1){color:inherit}\
     .uses tfoot th,.uses tfoot td{padding-top:.7rem;font-size:1rem}\
     .back{font-size:.7rem;font-weight:600;letter-spacing:.04em;border:1px solid;border-radius:2px;\
-    padding:0 .3em;margin-left:.4em;white-space:nowrap}";
+    padding:0 .3em;margin-left:.4em;white-space:nowrap}.lead .back{margin-left:0}";
 
 /// What to do, and notes.
 const NOTES: &str = "\
@@ -150,6 +150,6 @@ const PAPER: &str = "\
     padding-bottom:.2rem}.uses thead th{position:static}.uses tbody .work{break-after:avoid}.uses .work+tr,\
     .uses .work+tr+tr{break-before:avoid}.uses tbody tr:last-child{break-before:avoid}\
     .uses .short{break-inside:avoid}.keep{break-inside:avoid}.bars{font-size:.9rem}\
-    .payees td:nth-child(5){padding-right:0}.screen{display:none}}\
+    .payees tr>:nth-child(5){padding-right:0}.screen{display:none}}\
     @page{margin:17mm 16mm 19mm;@bottom-right{font:7.5pt sans-serif;color:#56616c;\
     content:\"Page \" counter(page) \" of \" counter(pages)}}";

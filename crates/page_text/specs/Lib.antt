@@ -3,3 +3,4 @@ pub mod Figures
 pub mod FileNames
 pub mod Formulas
 pub mod Shown
+pub mod Styled

@@ -8,6 +8,7 @@ ghost use Rattle.page_text.specs.declared.figures.TheConstants.{MOST_DECIMALS};
 ghost use Rattle.page_text.specs.FileNames.{file_name, is_plain, lower, slug};
 ghost use Rattle.page_text.specs.Formulas.{begins_formula, guarded};
 ghost use Rattle.page_text.specs.Shown.{shown};
+ghost use Rattle.page_text.specs.Styled.{styled};
 
 /// A text that was escaped reads back as it was, whatever its bytes.
 pub fn law_text_reads_back()
@@ -17,6 +18,11 @@ pub fn law_text_reads_back()
 /// It opens no tag and ends no attribute.
 pub fn law_text_opens_nothing()
     ensures { (text : List ℕ) → All (λ byte. (byte ≢ 60) × (byte ≢ 62) × (byte ≢ 34) × (byte ≢ 39)) (escaped text) }
+{}
+
+/// A text in a style sheet ends neither its quotes nor the sheet: it has no quote, no `<` and no line end.
+pub fn law_a_style_text_ends_nothing()
+    ensures { (text : List ℕ) → All (λ byte. (byte ≢ 34) × (byte ≢ 60) × (byte ≢ 10)) (styled text) }
 {}
 
 /// A text of characters of ASCII that can be seen is shown as it stands.

@@ -71,7 +71,7 @@ pub fn add_code(text: &mut Vec<u8>, byte: u8) -> Result<(), AllocError>
 }
 
 /// A digit to the base 16.
-fn hex_digit(n: u8) -> u8
+pub(crate) fn hex_digit(n: u8) -> u8
     requires { n < 16 }
     ensures { result ≡ hex n }
 {

@@ -1,9 +1,10 @@
 -- The table of a payee's portions in its page.
-use Rattle.std.specs.Prelude.{ℕ, ◌++◌, ◌==◌, ◌∷◌, [], List, codes, flat_map, if◌then◌else◌, length}
+use Rattle.std.specs.Prelude.{ℕ, pos, ◌++◌, ◌==◌, ◌∷◌, [], List, codes, flat_map, if◌then◌else◌, int_lt, length}
 use Rattle.document_names.specs.Territories.{name_of_code}
 use Rattle.line_split.specs.declared.TheConstants.{FULL_SHARE}
 use Rattle.page_parts.specs.Cells.{line_cells_text, work_row_text}
 use Rattle.page_parts.specs.Pieces.{all_of}
+use Rattle.page_parts.specs.Tags.{work_tag_text}
 use Rattle.page_text.specs.Figures.{amount_text, count_text, size_text}
 use Rattle.payee_portions.specs.Portions.{Portion}
 use Rattle.payee_portions.specs.Sections.{sections_of}
@@ -42,7 +43,8 @@ section_text names decimals section =
 -- the row of the total, and the end of the table
 abbrev pub total_text : (decimals : ℕ) → List Portion → List ℕ
 total_text decimals portions = all_of (
-    codes "<tfoot><tr class=\"work\"><th scope=\"row\" colspan=\"6\">Total</th><td>"
+    codes "<tfoot>" ∷ work_tag_text (int_lt (sum_of portions) (pos 0))
+    ∷ codes "<th scope=\"row\" colspan=\"6\">Total</th><td>"
     ∷ amount_text decimals (sum_of portions)
     ∷ codes "</td></tr></tfoot>\n</table>\n" ∷ [])
 

@@ -9,7 +9,7 @@ ghost use Rattle.payee_portions.specs.Shown.{portion_shown, portions_shown};
 
 use document_names::TerritoryNames;
 use line_split::FULL_SHARE;
-use page_parts::{Piece, WorkRow, add, add_line_cells, add_work_row};
+use page_parts::{Piece, WorkRow, add, add_line_cells, add_work_row, work_tag};
 use payee_portions::{Portion, count_of_sections, end_of_section, sum_of};
 use std::alloc::{AllocError, Global};
 
@@ -185,13 +185,16 @@ fn add_total(
     ensures { OnOk result (page.new.items
         ≡ page.old.items ++ total_text decimals (portions_shown portions.now)) }
 {
+    let total = sum_of(portions);
     add(
         alloc,
         page,
         decimals,
         &[
-            Piece::Tag("<tfoot><tr class=\"work\"><th scope=\"row\" colspan=\"6\">Total</th><td>"),
-            Piece::Amount(i128::from(sum_of(portions))),
+            Piece::Tag("<tfoot>"),
+            Piece::Tag(work_tag(total < 0)),
+            Piece::Tag("<th scope=\"row\" colspan=\"6\">Total</th><td>"),
+            Piece::Amount(i128::from(total)),
             Piece::Tag("</td></tr></tfoot>\n</table>\n"),
         ],
     )

@@ -1,9 +1,11 @@
 -- Reasons why money is held back, in words, and the table of them.
-use Rattle.std.specs.Prelude.{ℕ, ℤ, ◌+◌, ◌≤◌, ◌+ℤ◌, ◌==◌, ◌^◌, ◌∷◌, [], List, codes, if◌then◌else◌, unsigned_abs}
+use Rattle.std.specs.Prelude.{ℕ, ℤ, pos, ◌+◌, ◌≤◌, ◌+ℤ◌, ◌==◌, ◌^◌, ◌∷◌, [], List}
+use Rattle.std.specs.Prelude.{codes, if◌then◌else◌, int_lt, unsigned_abs}
 use Rattle.line_split.specs.ReasonTexts.{reason_text}
 use Rattle.line_split.specs.declared.reason.Reason.{Reason}
 use Rattle.line_split.specs.declared.reason.Reason.TheVariants.{Work, Land, Over, Open}
 use Rattle.page_parts.specs.Pieces.{all_of}
+use Rattle.page_parts.specs.Tags.{row_tag_text}
 use Rattle.page_text.specs.Figures.{amount_text, count_text}
 use Rattle.residue_documents.specs.Sums.{HeldSum, sum_shown}
 use Rattle.residue_documents.specs.declared.reasons.ReasonSums as kept
@@ -89,7 +91,8 @@ reason_row_text decimals link reason sum = all_of (
 
 abbrev pub reasons_total_text : (decimals : ℕ) → ReasonSums → List ℕ
 reasons_total_text decimals sums = all_of (
-    codes "</tbody><tfoot><tr><th scope=\"row\">Residue</th><td class=\"n\">" ∷ count_text (lines_in sums)
+    codes "</tbody><tfoot>" ∷ row_tag_text (int_lt (amount_in sums) (pos 0))
+    ∷ codes "<th scope=\"row\">Residue</th><td class=\"n\">" ∷ count_text (lines_in sums)
     ∷ codes "</td><td class=\"n opt\"></td><td class=\"n\">" ∷ amount_text decimals (amount_in sums)
     ∷ codes "</td></tr></tfoot></table>\n" ∷ [])
 

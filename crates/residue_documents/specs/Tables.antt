@@ -1,10 +1,11 @@
 -- The table of the lines that are held back for a reason.
-use Rattle.std.specs.Prelude.{ℕ, ◌≡◌, ◌++◌, ◌∷◌, [], List, codes, decimal, flat_map, length}
+use Rattle.std.specs.Prelude.{ℕ, pos, ◌≡◌, ◌++◌, ◌∷◌, [], List, codes, decimal, flat_map, int_lt, length}
 use Rattle.document_names.specs.Territories.{name_of_code}
 use Rattle.line_split.specs.declared.reason.Reason.{Reason}
 use Rattle.line_split.specs.declared.reason.Reason.TheVariants.{Land, Open}
 use Rattle.page_parts.specs.Cells.{line_cells_text, work_row_text}
 use Rattle.page_parts.specs.Pieces.{all_of}
+use Rattle.page_parts.specs.Tags.{work_tag_text}
 use Rattle.page_text.specs.Figures.{amount_text, count_text, size_text}
 use Rattle.payee_portions.specs.Held.{AreByMoney}
 use Rattle.payee_portions.specs.Portions.{Portion}
@@ -65,7 +66,8 @@ head_text reason list = all_of (
 
 abbrev pub total_text : (decimals : ℕ) → Reason → List Portion → List ℕ
 total_text decimals reason list = all_of (
-    codes "<tfoot><tr class=\"work\"><th scope=\"row\" colspan=\"" ∷ decimal (columns_of reason)
+    codes "<tfoot>" ∷ work_tag_text (int_lt (sum_of list) (pos 0)) ∷ codes "<th scope=\"row\" colspan=\""
+    ∷ decimal (columns_of reason)
     ∷ codes "\">Held back</th><td>" ∷ amount_text decimals (sum_of list) ∷ codes "</td></tr></tfoot>\n</table>\n" ∷ [])
 
 -- the table, where the sections of its works stand in this order

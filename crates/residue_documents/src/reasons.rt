@@ -10,7 +10,7 @@ ghost use Rattle.residue_documents.specs.Sums.{sum_shown};
 
 use crate::sums::HeldSum;
 use line_split::Reason;
-use page_parts::{Piece, add};
+use page_parts::{Piece, add, row_tag};
 use std::alloc::{AllocError, Global};
 
 const WORK_MEANS: &str = "\
@@ -254,15 +254,18 @@ fn add_total(
     requires few { CanBeAdded sums.now }
     ensures { OnOk result (page.new.items ≡ page.old.items ++ reasons_total_text decimals (sums_shown sums.now)) }
 {
+    let amount = amount_of(sums);
     add(
         alloc,
         page,
         decimals,
         &[
-            Piece::Tag("</tbody><tfoot><tr><th scope=\"row\">Residue</th><td class=\"n\">"),
+            Piece::Tag("</tbody><tfoot>"),
+            Piece::Tag(row_tag(amount < 0)),
+            Piece::Tag("<th scope=\"row\">Residue</th><td class=\"n\">"),
             Piece::Count(lines_of(sums)),
             Piece::Tag("</td><td class=\"n opt\"></td><td class=\"n\">"),
-            Piece::Amount(amount_of(sums)),
+            Piece::Amount(amount),
             Piece::Tag("</td></tr></tfoot></table>\n"),
         ],
     )

@@ -11,7 +11,7 @@ ghost use Rattle.residue_documents.specs.Tables.{section_text, table_tag_text, t
 
 use document_names::TerritoryNames;
 use line_split::Reason;
-use page_parts::{Piece, WorkRow, add, add_line_cells, add_work_row};
+use page_parts::{Piece, WorkRow, add, add_line_cells, add_work_row, work_tag};
 use payee_portions::{Portion, Section, count_of_sections, sections_by_money, sum_of};
 use std::alloc::{AllocError, Global};
 
@@ -218,15 +218,18 @@ fn add_total(
     ensures { OnOk result (page.new.items
         ≡ page.old.items ++ total_text decimals reason (portions_shown list.now)) }
 {
+    let sum = sum_of(list);
     add(
         alloc,
         page,
         decimals,
         &[
-            Piece::Tag("<tfoot><tr class=\"work\"><th scope=\"row\" colspan=\""),
+            Piece::Tag("<tfoot>"),
+            Piece::Tag(work_tag(sum < 0)),
+            Piece::Tag("<th scope=\"row\" colspan=\""),
             Piece::Number(columns(reason)),
             Piece::Tag("\">Held back</th><td>"),
-            Piece::Amount(i128::from(sum_of(list))),
+            Piece::Amount(i128::from(sum)),
             Piece::Tag("</td></tr></tfoot>\n</table>\n"),
         ],
     )

@@ -3,6 +3,7 @@
 use crate::asked::Asked;
 use page_text::{
     MOST_DECIMALS, add_amount, add_count, add_escaped, add_file_name, add_guarded, add_shown,
+    add_styled,
 };
 use row_tables::text_of;
 use std::alloc::{AllocError, Global};
@@ -11,6 +12,7 @@ pub fn add_answer(alloc: Global, asked: &Asked<'_>, answer: &mut String) -> Resu
     let mut text = Vec::new(alloc);
     match asked.ask {
         "escaped" => add_escaped(&mut text, asked.question)?,
+        "styled" => add_styled(&mut text, asked.question)?,
         "shown" => add_shown(&mut text, asked.question)?,
         "guarded" => add_guarded(&mut text, asked.question)?,
         "amount" => add_amount_of(&mut text, asked.text())?,

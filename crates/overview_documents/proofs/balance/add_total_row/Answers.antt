@@ -4,4 +4,4 @@ use mir.Syntax.{w128}
 use Rattle.overview_documents.proofs.balance.add_total_row.Goals as goal
 
 pub returns : goal.returns
-returns c = IfOk-equal c.add.result _ _ _ c.add.ensures (rw (to_z-of_z w128 c.args.amount c.ranges.amount))
+returns c = IfOk-equal c.add.result _ _ _ c.add.ensures (rw (c.row_tag.ensures, to_z-of_z w128 c.args.amount c.ranges.amount))

@@ -6,4 +6,4 @@ use Rattle.page_parts.proofs.bars.add_sums.Goals as goal
 
 pub returns : goal.returns
 returns c =
-    IfOk-equal c.add.result _ _ _ c.add.ensures (rw (to_z-of_z w128 c.args.table.now.amount (search rules)))
+    IfOk-equal c.add.result _ _ _ c.add.ensures (rw (c.row_tag.ensures, to_z-of_z w128 c.args.table.now.amount (search rules)))

@@ -13,7 +13,7 @@ returns c =
       behind c.add_land.new.page.items _ c.in_ok-extend_from_slice.ensures.items,
       behind c.add.new.page.items _ c.in_ok-add_land.ensures,
       simp append_assoc at (behind c.args.page.now.items _ c.in_ok-add.ensures),
-      c.line_tag.ensures,
+      c.row_tag.ensures,
       c.reversal_mark.ensures,
       c.as_bytes.ensures.value,
       c.right_name.ensures,
