@@ -7,4 +7,4 @@ use Rattle.payee_documents.proofs.uses.add_total.Goals as goal
 pub returns : goal.returns
 returns c =
     IfOk-equal c.add.result _ _ _ c.add.ensures
-    (rw (c.work_tag.ensures, to_z-of_z w128 c.from.result (search rules), c.from.ensures, to_z-of_z w64 c.sum_of.result (search rules), c.sum_of.ensures))
+    (rw (c.work_tag.ensures, to_z-of_z w128 c.from.result (search rules), c.from.ensures, to_z-of_z w64 c.sum_of-total.result (search rules), c.sum_of-total.ensures))

@@ -8,9 +8,10 @@ pub returns : goal.returns
 returns c =
     IfOk-equal c.add.result _ _ _ c.add.ensures
     (rw (
+      c.work_tag.ensures,
       to_z-of_z w128 c.from.result (search rules),
       c.from.ensures,
-      to_z-of_z w64 c.sum_of.result (search rules),
-      c.sum_of.ensures,
+      to_z-of_z w64 c.sum_of-sum.result (search rules),
+      c.sum_of-sum.ensures,
       c.columns.ensures,
     ))
