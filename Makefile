@@ -1,4 +1,4 @@
-.PHONY: help build demo try install test prove edits compare fuzz sizes refuse bench explore months cluster
+.PHONY: help build demo try install test prove edits compare fuzz sizes refuse pages bench explore months cluster
 
 help:
 	@echo 'make demo     make the statements of the example in about a minute, with a build that is not proved'
@@ -11,20 +11,21 @@ help:
 	@echo 'make compare  run the program and a plain Rust one on made-up inputs, good and bad, and compare'
 	@echo 'make fuzz     the same on 200000 damaged inputs, half of them of several submitters; some twenty minutes on four cores'
 	@echo 'make sizes    run both at each limit and one beyond it, print times and peak memory; a minute, 2 GB of memory'
-	@echo 'make refuse   run the program with each allocation, thread, read, write and file refused in turn, kill it as it writes a file, and refuse each call as make test does; two minutes once both are built'
+	@echo 'make refuse   run the program with each allocation, thread, read, write and file refused in turn, kill it as it writes a file or a folder, and refuse each call as make test does; two minutes once both are built'
+	@echo 'make pages    open the documents of an example in chromium, which has to be installed, at three widths, and leave pictures of them in out/pages; half a minute'
 	@echo 'make bench    run both on a million usage lines, print the table and the aims of bench/README.md; the same beside busy loops; and a mailbox alone and pools'
 	@echo 'make explore  go through every state of a small mailbox and of a small pool, with the model in Python, and find each wrong one out; a minute'
 	@echo 'make months   run small months in parts, with stand-ins for Slurm; kill parts, change files, and compare with the plain program; a minute'
 	@echo 'make cluster  run a month under Slurm, which is started for it on this machine alone and has to be installed: 1,600,000 usage lines, or make cluster LINES=10000000'
 	@echo 'make help     this list'
-	@echo 'compare, fuzz, sizes, refuse, bench, months and cluster build and prove the program first, unless they are given one: make bench PROGRAM=out/royalty_run'
-	@echo 'All but explore need the command rt of the Rattle kit on the path; compare, fuzz, sizes, bench, explore, months and cluster also'
+	@echo 'compare, fuzz, sizes, refuse, pages, bench, months and cluster build and prove the program first, unless they are given one: make bench PROGRAM=out/royalty_run'
+	@echo 'All but explore need the command rt of the Rattle kit on the path; compare, fuzz, sizes, pages, bench, explore, months and cluster also'
 	@echo 'python3, test, compare, fuzz, sizes, bench and months cargo, and test, prove and refuse a C compiler.'
 
 PROGRAM = out/royalty_run
 PREFIX = /usr/local
 ifeq ($(origin PROGRAM),file)
-compare fuzz sizes refuse bench months: build
+compare fuzz sizes refuse pages bench months: build
 endif
 
 build:
@@ -64,6 +65,7 @@ test:
 prove:
 	python3 -m tools.prove $(if $(ANEW),--anew)
 	tests/program.sh crates/royalty_run/out/royalty_run
+	tests/documents.sh crates/royalty_run/out/royalty_run
 	tests/install.sh crates/royalty_run/out/royalty_run
 	tests/refuse.sh crates/royalty_run/out/royalty_run quick
 	tests/refuse_calls.sh crates/refusal_runs/out/refusal_runs
@@ -90,6 +92,9 @@ refuse:
 	tests/kill.sh $(PROGRAM)
 	cd crates/refusal_runs && rt run < stdin > /dev/null
 	tests/refuse_calls.sh crates/refusal_runs/out/refusal_runs
+
+pages:
+	tests/pages.sh $(PROGRAM)
 
 bench:
 	python3 -m bench.bench --program $(PROGRAM) --lines 1000000 --works 20000 --parties 400 16000 --repeats 5

@@ -3,9 +3,11 @@
 //   REFUSE_FROM=N     all allocations from this number on
 //   REFUSE_THREAD=N   the thread with this number
 //   REFUSE_IO=N       the read or write with this number: an error of the device
-//   REFUSE_FILE=N     the file that is opened, given permissions, brought to the disk or renamed with this number: the same
+//   REFUSE_FILE=N     the file that is opened, given permissions, brought to the disk or renamed with this number, or
+//                     the directory that is made: the same
 //   INTERRUPT_IO=N    each read or write whose number is a multiple of this: it has to be made again
 //   SHORT_IO=N        nothing, but a read or a write takes so many bytes at most
+//   SKIP_SYNC=1       nothing, but the system is not asked to bring files to the disk, which takes its time
 #define _GNU_SOURCE
 #include <dlfcn.h>
 #include <errno.h>
@@ -18,7 +20,7 @@
 #include <sys/types.h>
 
 static atomic_long allocations, threads, transfers, files;
-static long refused, refused_from, refused_thread, refused_io, refused_file, interrupted_io, short_io;
+static long refused, refused_from, refused_thread, refused_io, refused_file, interrupted_io, short_io, skip_sync;
 
 static long number_in(const char *name) {
     const char *number = getenv(name);
@@ -33,6 +35,7 @@ __attribute__((constructor)) static void begin(void) {
     refused_file = number_in("REFUSE_FILE");
     interrupted_io = number_in("INTERRUPT_IO");
     short_io = number_in("SHORT_IO");
+    skip_sync = number_in("SKIP_SYNC");
 }
 
 static int is_refused(void) {
@@ -125,7 +128,14 @@ int fchmod(int file, mode_t mode) {
 int fsync(int file) {
     static int (*next)(int);
     if (!next) next = dlsym(RTLD_NEXT, "fsync");
-    return is_file_refused() ? -1 : next(file);
+    if (is_file_refused()) return -1;
+    return skip_sync ? 0 : next(file);
+}
+
+int mkdir(const char *path, mode_t mode) {
+    static int (*next)(const char *, mode_t);
+    if (!next) next = dlsym(RTLD_NEXT, "mkdir");
+    return is_file_refused() ? -1 : next(path, mode);
 }
 
 int rename(const char *from, const char *to) {

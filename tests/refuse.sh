@@ -1,23 +1,25 @@
 #!/usr/bin/env bash
 # Runs a program with what it asks of the system refused: each allocation, each thread, each read
-# and write, and each file that is opened, given permissions, brought to the disk or renamed, in
-# turn; and with reads and writes that are cut short or interrupted. It divides one amount, checks
-# the examples and explains a line of them, makes the tables to begin with of three submitters'
-# files, checks these and explains a line of them, runs on the examples with several plans, and into
-# an output file over one CWR file and over three, merges statements, to standard output and into a
-# file, and runs on 2,000 usage lines, whose rows are written by four threads.
+# and write, and each file that is opened, given permissions, brought to the disk or renamed and
+# each directory that is made, in turn; and with reads and writes that are cut short or interrupted.
+# It divides one amount, checks the examples and explains a line of them, makes the tables to begin
+# with of three submitters' files, checks these and explains a line of them, runs on the examples
+# with several plans, and into an output file over one CWR file and over three, writes a folder of
+# documents, merges statements, to standard output and into a file, and runs on 2,000 usage lines,
+# whose rows are written by four threads.
 #
 # Each run has to end within a minute: with the whole answer; where memory or a thread was refused,
 # with status 3 and nothing printed, but that a merge may have begun; where a read, a write or a
 # file was, with status 4, what the output took, and a message that says which. An output file is
-# then as it was, or at the very end whole, and no new file is left beside it.
+# then as it was, or at the very end whole, and no new file is left beside it. A folder of documents
+# is not there, or at the very end whole, and no new folder is left beside it.
 #
-# It takes a C compiler, and a minute; `quick`, all but the other plans and the many lines, half of
-# it. Usage: tests/refuse.sh PROGRAM [quick]
+# It takes a C compiler, and a minute; `quick`, all but the other plans, most allocations of the
+# documents and the many lines, half of it. Usage: tests/refuse.sh PROGRAM [quick]
 set -euo pipefail
 program=$(realpath "$1")
-plans=('1 1 1' '2 2 16' '3 1 2' '8 8 64')
-[[ ${2-} != quick ]] || plans=('2 2 16')
+plans=('1 1 1' '2 2 16' '3 1 2' '8 8 64') most_steps=1
+[[ ${2-} != quick ]] || plans=('2 2 16') most_steps=9
 examples=$(dirname "$(realpath "$0")")/../examples
 room=$(mktemp -d)
 trap 'rm -rf "$room"' EXIT
@@ -26,9 +28,13 @@ trap 'rm -rf "$room"' EXIT
 # A run is over where this many numbers in a row are past its last allocation; how many there are depends on the threads.
 past=40
 
-# The words of the runs that follow, what they are called, the file that has their whole answer, and the file that they write, if they do. A merge may have begun to print where memory or
-# a read is refused.
-words=() name='' whole='' kept='' may_begin=''
+# Whether files are brought to the disk by the system is not asked here.
+export SKIP_SYNC=1
+
+# The words of the runs that follow, what they are called, the file or the folder that has their
+# whole answer, and the file or the folder that they write, if they do. A merge may have begun to
+# print where memory or a read is refused. Of allocations every one is refused, or one of so many.
+words=() name='' whole='' kept='' folder='' may_begin='' steps=1
 
 fail() {
     echo "refuse.sh: $name, $1: status $status: $(cat "$room/err")"
@@ -42,22 +48,32 @@ answer() {
         rm -f "$kept".new*
         echo before > "$kept"
     fi
+    [[ -z $folder ]] || rm -rf "$folder" "$folder".new*
     env "$@" LD_PRELOAD="$room/refuse.so" timeout 60 "$program" "${words[@]}" > "$room/out" 2> "$room/err" || status=$?
 }
 
-# whether no new file is left beside the one that is written
+# whether no new file or folder is left beside the one that is written
 is_alone() {
-    [[ -z $kept || ! -e $kept.new ]]
+    [[ ! -e ${kept:-$folder}.new ]]
 }
 
 is_as_before() {
-    is_alone && [[ -z $kept || $(< "$kept") == before ]]
+    is_alone && [[ -z $kept || $(< "$kept") == before ]] && [[ -z $folder || ! -e $folder ]]
+}
+
+# whether the file or the folder has the whole answer
+has_whole() {
+    if [[ -n $kept ]]; then
+        cmp -s "$kept" "$whole"
+    else
+        diff -r "$folder" "$whole" > /dev/null
+    fi
 }
 
 is_whole() {
     [[ $status == 0 && ! -s $room/err ]] && is_alone || return 1
-    if [[ -n $kept ]]; then
-        [[ ! -s $room/out ]] && cmp -s "$kept" "$whole"
+    if [[ -n $kept$folder ]]; then
+        [[ ! -s $room/out ]] && has_whole
     else
         cmp -s "$room/out" "$whole"
     fi
@@ -65,7 +81,11 @@ is_whole() {
 
 # whether what was printed is where the answer begins
 is_beginning() {
-    [[ -z $kept || ! -s $room/out ]] && cmp -s -n "$(stat -c %s "$room/out")" "$room/out" "$whole"
+    if [[ -n $kept$folder ]]; then
+        [[ ! -s $room/out ]]
+    else
+        cmp -s -n "$(stat -c %s "$room/out")" "$room/out" "$whole"
+    fi
 }
 
 is_out_of_room() {
@@ -75,23 +95,24 @@ is_out_of_room() {
 is_cut_off() {
     is_beginning || return 1
     case $status:$(< "$room/err") in
-        '4:royalty_run: cannot write') [[ -z $kept ]] ;;
-        "4:royalty_run: cannot write $kept") is_as_before || { is_alone && cmp -s "$kept" "$whole"; } ;;
+        '4:royalty_run: cannot write') [[ -z $kept$folder ]] ;;
+        "4:royalty_run: cannot write $kept$folder") is_as_before || { is_alone && has_whole; } ;;
         '4:royalty_run: cannot read '*) is_as_before && [[ -n $may_begin || ! -s $room/out ]] ;;
         *) return 1 ;;
     esac
 }
 
-# sweep VARIABLE CHECK: refuses one number after another; where the answer is not whole, CHECK has to hold. `refusals` counts these.
-# Only where one of the last two is refused may the output file be there, whole: it gets its name when its bytes are on the disk.
+# sweep VARIABLE CHECK [STEP]: refuses one number after another, or one of so many; where the answer
+# is not whole, CHECK has to hold. `refusals` counts these. Only where one of the last two is refused
+# may the output be there, whole: it gets its name when its bytes are on the disk.
 sweep() {
-    local number=0 answered=0 named=()
-    refusals=0
+    local step=${3-1} number answered=0 named=()
+    number=$((1 - step)) refusals=0
     while ((answered < past)); do
-        number=$((number + 1))
+        number=$((number + step))
         answer "$1=$number"
         if is_whole; then
-            answered=$((answered + 1))
+            answered=$((answered + step))
         elif "$2"; then
             answered=0 refusals=$((refusals + 1))
             is_as_before || named+=("$refusals")
@@ -101,7 +122,7 @@ sweep() {
     done
     ((refusals > 0)) || fail "$1: nothing was refused"
     for number in ${named[@]+"${named[@]}"}; do
-        ((number > refusals - 2)) || fail "$1: the file had its name at refusal $number of $refusals"
+        ((number > refusals - 2)) || fail "$1: named at refusal $number of $refusals"
     done
 }
 
@@ -111,7 +132,7 @@ sweep_all() {
     local threads=$1 allocations transfers files=0
     answer REFUSE=0
     is_whole || fail 'nothing refused'
-    sweep REFUSE is_out_of_room
+    sweep REFUSE is_out_of_room "$steps"
     allocations=$refusals
     sweep REFUSE_IO is_cut_off
     transfers=$refusals
@@ -195,6 +216,17 @@ kept='' may_begin=1
 words=(merge "$room/none" "$room/all") name='a merge'
 sweep_all 0
 may_begin=''
+
+# A folder of documents, of two lines. Its parent alone is brought to the disk behind its name.
+{ head -n 1 "$examples/usage.csv"; grep -e 'NT0003' -e 'FILM' "$examples/usage.csv"; } > "$room/two.csv"
+words=(statements --tis "$examples/territories.csv" --cwr "$examples/works.cwr"
+    --usage "$room/two.csv" --workers 2 --readers 1 --nodes 16)
+whole=$room/documents
+"$program" "${words[@]}" --to "$whole"
+folder=$room/folder
+words+=(--to "$folder") name='a folder of documents' steps=$most_steps
+sweep_all 3 26
+folder='' steps=1
 
 [[ ${2-} != quick ]] || exit 0
 

@@ -165,6 +165,7 @@ def steps_of(listed):
         "compared mergers": compared("bench.merges"),
         "refusals of the program": script("tests/refuse.sh", PROGRAM, "quick"),
         "the program's script": script("tests/program.sh", PROGRAM),
+        "its documents": script("tests/documents.sh", PROGRAM),
         "its installation": script("tests/install.sh", PROGRAM),
     }
     steps += [Step(name, act, built, (PROGRAM,)) for name, act in of_program.items()]

@@ -7,7 +7,7 @@
 use crate::outputs::Output;
 use anyhow::Result;
 use row_tables::text_of;
-use royalty_program::{Source, Target, Texts, program};
+use royalty_program::{Folders, Source, Target, Texts, program};
 use std::alloc::{AllocError, Global};
 use std::sync::Wait;
 use std::thread::Threads;
@@ -37,7 +37,7 @@ const ALL: Shown = Shown {
 };
 
 /// The answer to the arguments of a line, between which a sign stands.
-pub fn whole<R: Threads + Wait + Sync, S: Source + Texts + Target + Sync>(
+pub fn whole<R: Threads + Wait + Sync, S: Source + Texts + Target + Folders + Sync>(
     rt: &R,
     alloc: Global,
     disks: &mut Disks<S>,
@@ -51,7 +51,7 @@ pub fn whole<R: Threads + Wait + Sync, S: Source + Texts + Target + Sync>(
 }
 
 /// Whether the answer to a line is the text that follows it; if not, the answer.
-pub fn written<R: Threads + Wait + Sync, S: Source + Texts + Target + Sync>(
+pub fn written<R: Threads + Wait + Sync, S: Source + Texts + Target + Folders + Sync>(
     rt: &R,
     alloc: Global,
     disks: &mut Disks<S>,
@@ -66,7 +66,7 @@ pub fn written<R: Threads + Wait + Sync, S: Source + Texts + Target + Sync>(
 }
 
 /// How the answer to a line begins, by the two numbers of a heading.
-pub fn beginning<R: Threads + Wait + Sync, S: Source + Texts + Target + Sync>(
+pub fn beginning<R: Threads + Wait + Sync, S: Source + Texts + Target + Folders + Sync>(
     rt: &R,
     alloc: Global,
     disks: &mut Disks<S>,
@@ -83,7 +83,7 @@ pub fn beginning<R: Threads + Wait + Sync, S: Source + Texts + Target + Sync>(
 }
 
 /// The status, and which of the outputs has the text that stands in brackets after the line of a question.
-pub fn teller<R: Threads + Wait + Sync, S: Source + Texts + Target + Sync>(
+pub fn teller<R: Threads + Wait + Sync, S: Source + Texts + Target + Folders + Sync>(
     rt: &R,
     alloc: Global,
     disks: &mut Disks<S>,
@@ -107,7 +107,7 @@ pub fn teller<R: Threads + Wait + Sync, S: Source + Texts + Target + Sync>(
 
 /// What comes through two outputs that hold their bytes back until they are flushed. The first cannot be flushed where
 /// it is stopped.
-pub fn through<R: Threads + Wait + Sync, S: Source + Texts + Target + Sync>(
+pub fn through<R: Threads + Wait + Sync, S: Source + Texts + Target + Folders + Sync>(
     rt: &R,
     alloc: Global,
     disks: &mut Disks<S>,
@@ -122,7 +122,7 @@ pub fn through<R: Threads + Wait + Sync, S: Source + Texts + Target + Sync>(
 
 /// What two outputs take that refuse one write, each after a number of bytes. A question has the two numbers before its
 /// line.
-pub fn through_narrow<R: Threads + Wait + Sync, S: Source + Texts + Target + Sync>(
+pub fn through_narrow<R: Threads + Wait + Sync, S: Source + Texts + Target + Folders + Sync>(
     rt: &R,
     alloc: Global,
     disks: &mut Disks<S>,
@@ -137,7 +137,7 @@ pub fn through_narrow<R: Threads + Wait + Sync, S: Source + Texts + Target + Syn
 }
 
 /// The status that the program answers to the arguments of a line, between which a sign stands.
-pub fn status_of<R: Threads + Wait + Sync, S: Source + Texts + Target + Sync>(
+pub fn status_of<R: Threads + Wait + Sync, S: Source + Texts + Target + Folders + Sync>(
     rt: &R,
     alloc: Global,
     disks: &mut Disks<S>,

@@ -3,6 +3,7 @@
 use crate::asks::on_one_line;
 use anyhow::{Result, bail};
 use cwr_share::{CwrFault, PayeeFault};
+use document_names::NameFault;
 use line_split::LineFault;
 use linked_works::WorksFault;
 use pair_split::PairFault;
@@ -38,6 +39,9 @@ fn failure_named(alloc: Global, name: &str) -> Result<Failure> {
         "too many payees of all works" => Ok(Failure::Works(WorksFault::Accounts)),
         "the party of line 7 of north.cwr" => failure_of_file(alloc, CwrFault::Party(7)),
         "too many share lines of north.cwr" => failure_of_file(alloc, CwrFault::Many(1_000_000)),
+        "the name of row 7" => Ok(Failure::from(NameFault::Twice(7))),
+        "too many names" => Ok(Failure::from(NameFault::Rows)),
+        "memory of names" => Ok(Failure::from(NameFault::Memory)),
         "memory of a run" => Ok(Failure::from(Fault::Room)),
         _ => bail!("no failure has this name"),
     }

@@ -3,7 +3,7 @@
 use crate::asks::{ARROW, Disks, status_of};
 use crate::outputs::Output;
 use anyhow::Result;
-use royalty_program::{Source, Target, Texts};
+use royalty_program::{Folders, Source, Target, Texts};
 use std::alloc::Global;
 use std::rt::{Env, Files};
 use std::sync::Wait;
@@ -14,7 +14,7 @@ use std::{env, fs};
 /// the usage lines, and the statements.
 pub fn long_run<
     R: Env + Files + AllocGlobal + Threads + Wait + Sync,
-    S: Source + Texts + Target + Sync,
+    S: Source + Texts + Target + Folders + Sync,
 >(rt: &R, alloc: Global, disks: &mut Disks<S>, question: &str) -> Result<String> {
     let (uses, statements) = question.split_once(ARROW).unwrap_or((question, ""));
     let folder = env::temp_dir(rt)?;
@@ -26,7 +26,7 @@ pub fn long_run<
 }
 
 /// How a run prints the statements of the usage lines in a file.
-fn printed_over<R: Threads + Wait + Sync, S: Source + Texts + Target + Sync>(
+fn printed_over<R: Threads + Wait + Sync, S: Source + Texts + Target + Folders + Sync>(
     rt: &R,
     alloc: Global,
     disks: &mut Disks<S>,

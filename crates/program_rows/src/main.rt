@@ -11,7 +11,7 @@ mod outputs;
 use anyhow::{Result, bail};
 use asks::Disks;
 use row_tables::{Rows, Tally, text_of, written_out};
-use royalty_program::{Disk, Source, Target, Texts};
+use royalty_program::{Disk, Folders, Source, Target, Texts};
 use std::alloc::Global;
 use std::process::ExitCode;
 use std::rt::{Env, Files};
@@ -21,8 +21,14 @@ use std::{env, fs, io};
 
 fn main(rt: HostRuntime) -> io::Result<ExitCode> {
     let mut disks = Disks {
-        files: Disk { rt: &rt },
-        target: Disk { rt: &rt },
+        files: Disk {
+            rt: &rt,
+            watched: None,
+        },
+        target: Disk {
+            rt: &rt,
+            watched: None,
+        },
     };
     let mut are_right = true;
     for name in env::args(&rt)?.skip(1) {
@@ -41,7 +47,7 @@ fn main(rt: HostRuntime) -> io::Result<ExitCode> {
 /// Asks the rows of the table in a file.
 fn ask_table<
     R: Env + Files + AllocGlobal + Threads + Wait + Sync,
-    S: Source + Texts + Target + Sync,
+    S: Source + Texts + Target + Folders + Sync,
 >(rt: &R, alloc: Global, disks: &mut Disks<S>, name: &str) -> io::Result<Tally> {
     let text = fs::read_to_string(rt, name)?;
     let mut tally = Tally::new(alloc);
@@ -52,7 +58,7 @@ fn ask_table<
 
 fn ask_rows<
     R: Env + Files + AllocGlobal + Threads + Wait + Sync,
-    S: Source + Texts + Target + Sync,
+    S: Source + Texts + Target + Folders + Sync,
 >(
     rt: &R,
     alloc: Global,
@@ -79,7 +85,10 @@ fn ask_rows<
     Ok(())
 }
 
-fn ask_row<R: Env + Files + AllocGlobal + Threads + Wait + Sync, S: Source + Texts + Target + Sync>(
+fn ask_row<
+    R: Env + Files + AllocGlobal + Threads + Wait + Sync,
+    S: Source + Texts + Target + Folders + Sync,
+>(
     rt: &R,
     alloc: Global,
     disks: &mut Disks<S>,
@@ -100,7 +109,7 @@ fn ask_row<R: Env + Files + AllocGlobal + Threads + Wait + Sync, S: Source + Tex
 /// The answer to a question below a heading.
 fn answer_of<
     R: Env + Files + AllocGlobal + Threads + Wait + Sync,
-    S: Source + Texts + Target + Sync,
+    S: Source + Texts + Target + Folders + Sync,
 >(
     rt: &R,
     alloc: Global,

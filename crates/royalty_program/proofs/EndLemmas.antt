@@ -11,7 +11,7 @@ use Rattle.royalty_program.specs.SubmittedFiles.{SubmittedPaths}
 use Rattle.royalty_program.proofs.SubmittedFileLemmas.{unread_or_room}
 use Rattle.std.specs.declared.io.ErrorKind.{ErrorKind}
 use Rattle.royalty_program.specs.declared.failure.Failure.{Failure}
-use Rattle.royalty_program.specs.declared.failure.Failure.TheVariants.{Words, NotText, Pairs, Input, Works, Registrations, Row, Room, File, Output, Target, Statement, Many, Changed, Replaces}
+use Rattle.royalty_program.specs.declared.failure.Failure.TheVariants.{Words, NotText, Pairs, Input, Works, Registrations, Row, Room, File, Output, Target, Statement, Many, Changed, Replaces, Names, Taken}
 
 -- a failure has no status of an answer
 pub fails_with : (failure : Failure) → status_of failure ≢ 0
@@ -30,6 +30,8 @@ fails_with (Statement fault path) is = cc is
 fails_with Many is = cc is
 fails_with (Changed path) is = cc is
 fails_with (Replaces path) is = cc is
+fails_with (Names fault) is = cc is
+fails_with (Taken path) is = cc is
 
 -- what neither comes to does not come
 neither : (several : Bool) (One All : Type 0) → ¬ One → ¬ All → ¬ EitherRun several One All
@@ -58,6 +60,8 @@ check_fails_with holds refuses words (Statement fault path) is = λ same. neithe
 check_fails_with holds refuses words Many is = λ same. neither (name_works words) _ _ (λ one. one.0) (no_fault holds refuses (submitted_given submitted_check_app words) Many (λ room. cc) (λ name file. cc)) is
 check_fails_with holds refuses words (Changed path) is = λ same. cc same
 check_fails_with holds refuses words (Replaces path) is = λ same. cc same
+check_fails_with holds refuses words (Names fault) is = λ same. neither (name_works words) _ _ (λ one. one.0) (no_fault holds refuses (submitted_given submitted_check_app words) (Names fault) (λ room. cc) (λ name file. cc)) is
+check_fails_with holds refuses words (Taken path) is = λ same. cc same
 
 -- what was printed stays as it is sent on
 pub sent_on : (old mid new : Option (List ℕ)) (text : List ℕ) → Appends old mid text → Keeps mid new → Appends old new text

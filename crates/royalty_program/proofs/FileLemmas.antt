@@ -1,11 +1,11 @@
--- Which of the files of a run is the first that cannot be read.
-use Rattle.std.proofs.Common.{◌≡◌, ℕ, List, None, Option, Some, ap, inl, inr, refl, subst, sym}
+-- Which of the files of a run is the first that cannot be read, and what holds after an error.
+use Rattle.std.proofs.Common.{◌≡◌, ℕ, Err, List, None, Ok, OnErr, Option, Result, Some, ap, inl, inr, refl, subst, sym}
 use Rattle.std.specs.Option.{IfSome, IsSome, option_map}
 use Rattle.std.specs.Prelude.{String, string_bytes}
 use Rattle.std.specs.declared.alloc.Global.{Global}
 use Rattle.std.specs.declared.io.ErrorKind.{ErrorKind}
 use Rattle.std.specs.declared.io.ErrorKind.TheVariants.{OutOfMemory}
-use Rattle.royalty_program.specs.Status.{IsFirst, IsOfFile, IsOfNoInput, IsOfPaths, failure_of_file, failure_of_run}
+use Rattle.royalty_program.specs.Status.{IsFirst, IsOfFile, IsOfNoInput, IsOfPaths, IsRefusal, failure_of_file, failure_of_run}
 use Rattle.royalty_program.specs.Files.{HoldsIfGiven, IsFaultOver}
 use Rattle.run_inputs.specs.declared.fault.Fault.{Fault}
 use Rattle.run_inputs.specs.declared.fault.Fault.TheVariants.{Tis, Cwr, Usage, Room, Payee}
@@ -65,3 +65,16 @@ no_input refuses path failure fails = subst IsOfNoInput (sym fails.2) (by fails.
 pub no_input_if_given : (refuses : List ℕ → ErrorKind → Type 0) (path : Option (String Global)) (failure : Failure) → IsSome path → IfSome path (λ path. IsOfFile refuses path failure) → IsOfNoInput failure
 no_input_if_given refuses None failure there fails = cc
 no_input_if_given refuses (Some path) failure there fails = no_input refuses path failure fails
+
+-- a fault of an input is a refusal, and lack of memory is one of its own
+pub is_refusal : (fault : Fault) → IsRefusal (failure_of_run fault)
+is_refusal (Tis fault) = λ same. cc same
+is_refusal (Payee fault) = λ same. cc same
+is_refusal (Cwr fault) = λ same. cc same
+is_refusal (Usage fault) = λ same. cc same
+is_refusal Room = tt
+
+-- what always holds does after an error
+pub after : {T E : Type 0} (r : Result T E) (P : Type 0) → P → OnErr r P
+after (Ok x) P p = tt
+after (Err e) P p = p

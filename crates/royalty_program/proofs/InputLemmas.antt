@@ -31,10 +31,10 @@ adds_four c0 c1 c2 c3 c4 app tis payees cwr usage has a1 a a2 a3 n1 np n2 n3 r1 
       has = has_more c3 c4 usage _ _ _ _ h2 a3 (as_optional _ usage n3) r3;
     }
 
--- one more argument is added behind them
-pub adds_more : (old new : Command) (a : Arg) (more : List Arg) (app : App) (name : List ℕ) (rule : Rule) → HasInputArgs old more app → (added : AddsArg old a new)
-    → IsOptionalArg name a → rule_of a ≡ rule → HasInputArgs new (more ++ added.arg ∷ []) (with_rule app rule)
-adds_more old new a more app name rule inputs added needed is = record {
+-- a command has them still where it has the arguments behind them and more
+pub has_inputs_still : (old new : Command) (more all : List Arg) (app grown : App) (inputs : HasInputArgs old more app)
+    → HasArgs new (inputs.tis ∷ inputs.payees ∷ inputs.cwr ∷ inputs.usage ∷ all) grown → HasInputArgs new all grown
+has_inputs_still old new more all app grown inputs has = record {
   tis = inputs.tis;
   payees = inputs.payees;
   cwr = inputs.cwr;
@@ -43,8 +43,14 @@ adds_more old new a more app name rule inputs added needed is = record {
   may_have_payees = inputs.may_have_payees;
   needs_cwr = inputs.needs_cwr;
   needs_usage = inputs.needs_usage;
-  has = has_more old new a _ app name rule inputs.has added needed is;
+  has = has;
 }
+
+-- one more argument is added behind them
+pub adds_more : (old new : Command) (a : Arg) (more : List Arg) (app : App) (name : List ℕ) (rule : Rule) → HasInputArgs old more app → (added : AddsArg old a new)
+    → IsOptionalArg name a → rule_of a ≡ rule → HasInputArgs new (more ++ added.arg ∷ []) (with_rule app rule)
+adds_more old new a more app name rule inputs added needed is =
+    has_inputs_still old new more (more ++ added.arg ∷ []) app (with_rule app rule) inputs (has_more old new a _ app name rule inputs.has added needed is)
 
 -- the names of the options
 abbrev pub input_names : (more : List Text) → List Text

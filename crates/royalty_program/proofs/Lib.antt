@@ -4,11 +4,13 @@ pub mod NoHelp
 pub mod SplitLemmas
 pub mod Walked
 pub mod OptionLemmas
+pub mod OptionalLemmas
 pub mod InputLemmas
 pub mod EitherLemmas
 pub mod NamedLemmas
 pub mod RunLemmas
 pub mod SubmittedLemmas
+pub mod StatementsLemmas
 pub mod StartingLemmas
 pub mod CheckLemmas
 pub mod ExplainLemmas
@@ -21,3 +23,5 @@ pub mod FileLemmas
 pub mod SubmittedFileLemmas
 pub mod MergeFileLemmas
 pub mod OutputLemmas
+pub mod NamesLemmas
+pub mod DocumentLemmas

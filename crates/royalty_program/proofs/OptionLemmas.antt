@@ -147,11 +147,11 @@ options_of c args names app has ids are = record {
 id_at : (c : Command) (names : List Text) (app : App) (k : ℕ) (d : Arg) → HasOptions c names app → k < length (args_of c) → (slice_index_or (args_of c) k d).id.now ≡ get_or names k []
 id_at c names app k d has low = sym (get_or-map (λ (a : Arg). a.id.now) (args_of c) k d [] low) ∙ ap (λ (l : List Text). get_or l k []) has.ids
 
-count : (c : Command) (names : List Text) (app : App) → HasOptions c names app → length (args_of c) ≡ length names
+pub count : (c : Command) (names : List Text) (app : App) → HasOptions c names app → length (args_of c) ≡ length names
 count c names app has = sym (length-map (args_of c) (λ (a : Arg). a.id.now)) ∙ ap length has.ids
 
 -- so an option with the name of another is the other
-only_one : (c : Command) (names : List Text) (app : App) (j k : ℕ) (e d : Arg) → HasOptions c names app → j < length (args_of c) → k < length (args_of c)
+pub only_one : (c : Command) (names : List Text) (app : App) (j k : ℕ) (e d : Arg) → HasOptions c names app → j < length (args_of c) → k < length (args_of c)
     → bytes_eq (slice_index_or (args_of c) j e).id.now (slice_index_or (args_of c) k d).id.now ≡ true → j ≡ k
 only_one c names app j k e d has j_low k_low same =
     let one_id = (bytes_eq-Decides (slice_index_or (args_of c) j e).id.now (slice_index_or (args_of c) k d).id.now).0 same in
@@ -159,7 +159,7 @@ only_one c names app j k e d has j_low k_low same =
     one_place names has.are j k (omega (arith, j_low, many)) (omega (arith, k_low, many)) (sym (id_at c names app j e has j_low) ∙ (one_id ∙ id_at c names app k d has k_low))
 
 -- an option has a name, and is not one that clap adds
-is_own : (c : Command) (names : List Text) (app : App) (k : ℕ) (d : Arg) → HasOptions c names app → k < length (args_of c)
+pub is_own : (c : Command) (names : List Text) (app : App) (k : ℕ) (d : Arg) → HasOptions c names app → k < length (args_of c)
     → ((slice_index_or (args_of c) k d).id.now ≡ [] → ⊥) × (IsAuto (slice_index_or (args_of c) k d) → ⊥)
 unfolding is_own_name
 is_own c names app k d has low =

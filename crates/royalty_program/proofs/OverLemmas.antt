@@ -15,9 +15,11 @@ use Rattle.royalty_program.specs.Asked.{AreRunWords, EitherRun, IsDivision, file
 use Rattle.royalty_program.specs.CheckCommand.{check_app}
 use Rattle.royalty_program.specs.ExplainCommand.{explain_app}
 use Rattle.royalty_program.specs.Files.{AreStatementsOver, IsExplanationOver, IsReportOver}
-use Rattle.royalty_program.specs.Status.{FailFor, IsOfCheck, IsOfDivision, IsOfExplanation, IsOfMerge, IsOfPaths, IsOfRunOutput, IsOfFiles, IsOfSubmitted, IsOfTable, IsOfRun, IsRefusal, IsSaidOf, IsSubmittedUnchecked, IsSubmittedUnexplained, IsUnchecked, IsUnexplained, status_of}
+use Rattle.royalty_program.specs.DocumentsAnswered.{IsOfStatements}
+use Rattle.royalty_program.specs.Fails.{FailFor}
+use Rattle.royalty_program.specs.Status.{IsOfCheck, IsOfDivision, IsOfExplanation, IsOfMerge, IsOfPaths, IsOfRunOutput, IsOfFiles, IsOfSubmitted, IsOfTable, IsOfRun, IsRefusal, IsSaidOf, IsSubmittedUnchecked, IsSubmittedUnexplained, IsUnchecked, IsUnexplained, status_of}
 use Rattle.royalty_program.specs.declared.failure.Failure.{Failure}
-use Rattle.royalty_program.specs.declared.failure.Failure.TheVariants.{Words, NotText, Pairs, Input, Works, Registrations, Row, Room, File, Output, Target, Statement, Many, Changed, Replaces}
+use Rattle.royalty_program.specs.declared.failure.Failure.TheVariants.{Words, NotText, Pairs, Input, Works, Registrations, Row, Room, File, Output, Target, Statement, Many, Changed, Replaces, Names, Taken}
 use Rattle.run_inputs.specs.declared.inputs.Inputs.{Inputs}
 use Rattle.royalty_program.specs.declared.explain_command.ExplainWords.{ExplainWords}
 use Rattle.royalty_program.specs.declared.run_command.RunWords.{RunWords}
@@ -71,7 +73,7 @@ no_words_said files (submitted.Cwr place fault) error (name, is, at) = cc is
 no_words_said files (submitted.Usage fault) error said = cc said
 no_words_said files submitted.Room error said = cc said
 
-no_words_of_submitted : (holds : List ℕ → List ℕ → Type 0) (refuses : List ℕ → ErrorKind → Type 0) (paths : SubmittedPaths) (error : Error) → ¬ IsOfSubmitted holds refuses paths (Words error)
+pub no_words_of_submitted : (holds : List ℕ → List ℕ → Type 0) (refuses : List ℕ → ErrorKind → Type 0) (paths : SubmittedPaths) (error : Error) → ¬ IsOfSubmitted holds refuses paths (Words error)
 no_words_of_submitted holds refuses paths error (inl room) = cc room
 no_words_of_submitted holds refuses paths error (inr (inl none)) = none
 no_words_of_submitted holds refuses paths error (inr (inr (fault, over, said))) = no_words_said paths.files fault error said
@@ -122,6 +124,8 @@ fails_given holds refuses words asked read failure is = as_run failure is
     as_run Many is = given Many is
     as_run (Changed path) is = given (Changed path) is
     as_run (Replaces path) named = sym read.output ∙ ap (option_map string_bytes) named
+    as_run (Names fault) is = given (Names fault) is
+    as_run (Taken path) is = given (Taken path) is
 
 -- the merge is that of the paths that the words name
 pub merged_given : (gives : List ℕ → List ℕ → Type 0) (words : List (List ℕ)) (asked : MergeWords) (text : List ℕ) → AreMergeFrom words asked
@@ -156,6 +160,8 @@ as_unexplained holds refuses paths row (Statement fault path) none = none
 as_unexplained holds refuses paths row Many none = none
 as_unexplained holds refuses paths row (Changed path) none = none
 as_unexplained holds refuses paths row (Replaces path) none = none
+as_unexplained holds refuses paths row (Names fault) none = none
+as_unexplained holds refuses paths row (Taken path) none = none
 
 -- so is what the tables and files of several submitters fail for
 pub as_submitted_unexplained : (holds : List ℕ → List ℕ → Type 0) (refuses : List ℕ → ErrorKind → Type 0) (paths : SubmittedPaths) (row : ℕ) (failure : Failure)
@@ -175,6 +181,8 @@ as_submitted_unexplained holds refuses paths row (Statement fault path) is = is
 as_submitted_unexplained holds refuses paths row Many is = is
 as_submitted_unexplained holds refuses paths row (Changed path) is = is
 as_submitted_unexplained holds refuses paths row (Replaces path) is = is
+as_submitted_unexplained holds refuses paths row (Names fault) is = is
+as_submitted_unexplained holds refuses paths row (Taken path) is = is
 
 -- and its words fail for that
 pub unexplained_given : (holds : List ℕ → List ℕ → Type 0) (refuses : List ℕ → ErrorKind → Type 0) (words : List (List ℕ)) (asked : ExplainWords) → AreExplainedFrom words asked → (failure : Failure)
@@ -209,6 +217,8 @@ unexplained_given holds refuses words asked read failure is = as_asked failure i
     as_asked Many is = given Many is
     as_asked (Changed path) is = given (Changed path) is
     as_asked (Replaces path) is = given (Replaces path) is
+    as_asked (Names fault) is = given (Names fault) is
+    as_asked (Taken path) is = given (Taken path) is
 
 -- a check reports on the paths that the options are given
 pub reported_given : (holds : List ℕ → List ℕ → Type 0) (words : List (List ℕ)) (inputs : RunInputs) (sound : Bool) (text : List ℕ) → AreCheckedFrom words inputs
@@ -268,6 +278,8 @@ unchecked_given holds refuses words inputs read failure is = as_asked failure is
     as_asked Many is = given Many is
     as_asked (Changed path) is = given (Changed path) is
     as_asked (Replaces path) is = given (Replaces path) is
+    as_asked (Names fault) is = given (Names fault) is
+    as_asked (Taken path) is = given (Taken path) is
 
 -- a table to begin with is of the files that the option names
 pub table_given : (holds : List ℕ → List ℕ → Type 0) (words : List (List ℕ)) (table : StartingTable) (asked : StartingWords) (text : List ℕ) → AreStarting table words asked
@@ -305,6 +317,8 @@ no_table_given holds refuses words table asked read failure is = as_table failur
     as_table Many is = is
     as_table (Changed path) is = is
     as_table (Replaces path) is = is
+    as_table (Names fault) is = is
+    as_table (Taken path) is = is
 
 -- how the program ends: an answer ends with 0, a report that tells of a fault with 1, both with 4 where the output refuses them, and a failure with its status
 pub ends_with : {T E : Type 0} (r : Result (Result T E × Bool) Failure) (status : ℕ) (holds gives : List ℕ → List ℕ → Type 0) (refuses : List ℕ → ErrorKind → Type 0) (words : List (List ℕ)) (mid new : Option (List ℕ))
@@ -312,10 +326,11 @@ pub ends_with : {T E : Type 0} (r : Result (Result T E × Bool) Failure) (status
     → (word_at words 1 ≡ codes "run" → IfErr r (IsOfRun holds refuses (drop 1 words))) → (word_at words 1 ≡ codes "explain" → IfErr r (IsOfExplanation holds refuses (drop 1 words)))
     → (word_at words 1 ≡ codes "check" → IfErr r (IsOfCheck holds refuses (drop 1 words))) → (word_at words 1 ≡ codes "merge" → IfErr r (IsOfMerge gives (drop 1 words)))
     → ((table : StartingTable) → word_at words 1 ≡ starting_name table → IfErr r (IsOfTable holds refuses table (drop 1 words)))
+    → (word_at words 1 ≡ codes "statements" → IfErr r (IsOfStatements holds refuses (drop 1 words)))
     → status ≢ 0 → ¬ ((status ≡ 1) × (word_at words 1 ≡ codes "check")) → (failure : Failure) × (status ≡ status_of failure) × ((failure ≡ Output) ⊎ FailFor holds gives refuses words failure)
-ends_with (Ok done) status holds gives refuses words mid new is (inl refused) others refusal division run explanation checked merge table failed no_report = (Output, refused, inl refl)
-ends_with (Ok (printed, true)) status holds gives refuses words mid new is (inr (told, ok, kept)) others refusal division run explanation checked merge table failed no_report = absurd (failed told)
-ends_with (Ok (printed, false)) status holds gives refuses words mid new is (inr (told, ok, kept)) others refusal division run explanation checked merge table failed no_report =
+ends_with (Ok done) status holds gives refuses words mid new is (inl refused) others refusal division run explanation checked merge table documents failed no_report = (Output, refused, inl refl)
+ends_with (Ok (printed, true)) status holds gives refuses words mid new is (inr (told, ok, kept)) others refusal division run explanation checked merge table documents failed no_report = absurd (failed told)
+ends_with (Ok (printed, false)) status holds gives refuses words mid new is (inr (told, ok, kept)) others refusal division run explanation checked merge table documents failed no_report =
     cc (others (λ check. no_report (told, check)))
-ends_with (Err failure) status holds gives refuses words mid new is through others refusal division run explanation checked merge table failed no_report =
-    (failure, is, inr (record { refusal = refusal; division = division; run = run; explanation = explanation; checked = checked; merge = merge; table = table }))
+ends_with (Err failure) status holds gives refuses words mid new is through others refusal division run explanation checked merge table documents failed no_report =
+    (failure, is, inr (record { refusal = refusal; division = division; run = run; explanation = explanation; checked = checked; merge = merge; table = table; documents = documents }))

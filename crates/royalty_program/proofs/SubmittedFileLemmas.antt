@@ -115,6 +115,8 @@ unread_or_room holds refuses submitted (failures.Statement fault path) (inr (inl
 unread_or_room holds refuses submitted failures.Many (inr (inl none)) = absurd none
 unread_or_room holds refuses submitted (failures.Changed path) (inr (inl none)) = absurd none
 unread_or_room holds refuses submitted (failures.Replaces path) (inr (inl none)) = absurd none
+unread_or_room holds refuses submitted (failures.Names fault) (inr (inl none)) = absurd none
+unread_or_room holds refuses submitted (failures.Taken path) (inr (inl none)) = absurd none
 unread_or_room holds refuses submitted failure (inr (inr is)) = by is.fault is.first is.said
   where
     by : (fault : SubmittedFault) → checked.IsFirstUnread (HoldsAt holds submitted.files) (RefusesAt refuses submitted.files) (length submitted.names) fault → IsSaidOf submitted.files fault failure

@@ -50,10 +50,10 @@ adds_five c0 c1 c2 c3 c4 c5 app tis payees works cwr usage has a1 a2 a3 a4 a5 n1
       has = has_more c4 c5 usage _ _ _ _ h4 a5 (as_optional _ usage n5) r5;
     }
 
--- one more argument is added behind them
-adds_more : (old new : Command) (a : Arg) (more : List Arg) (app : App) (name : List ℕ) (rule : Rule) → HasSubmittedArgs old more app → (added : AddsArg old a new)
-    → IsOptionalArg name a → rule_of a ≡ rule → HasSubmittedArgs new (more ++ added.arg ∷ []) (with_rule app rule)
-adds_more old new a more app name rule inputs added needed is = record {
+-- a command has them still where it has the arguments behind them and more
+pub has_submitted_still : (old new : Command) (more all : List Arg) (app grown : App) (inputs : HasSubmittedArgs old more app)
+    → HasArgs new (inputs.tis ∷ inputs.payees ∷ inputs.works ∷ inputs.cwr ∷ inputs.usage ∷ all) grown → HasSubmittedArgs new all grown
+has_submitted_still old new more all app grown inputs has = record {
   tis = inputs.tis;
   payees = inputs.payees;
   works = inputs.works;
@@ -65,8 +65,14 @@ adds_more old new a more app name rule inputs added needed is = record {
   has_cwr = inputs.has_cwr;
   needs_cwr = inputs.needs_cwr;
   needs_usage = inputs.needs_usage;
-  has = has_more old new a _ app name rule inputs.has added needed is;
+  has = has;
 }
+
+-- one more argument is added behind them
+adds_more : (old new : Command) (a : Arg) (more : List Arg) (app : App) (name : List ℕ) (rule : Rule) → HasSubmittedArgs old more app → (added : AddsArg old a new)
+    → IsOptionalArg name a → rule_of a ≡ rule → HasSubmittedArgs new (more ++ added.arg ∷ []) (with_rule app rule)
+adds_more old new a more app name rule inputs added needed is =
+    has_submitted_still old new more (more ++ added.arg ∷ []) app (with_rule app rule) inputs (has_more old new a _ app name rule inputs.has added needed is)
 
 -- and with these four it is the command of such a run
 pub adds_four_more : (c0 c1 c2 c3 c4 : Command) (workers readers nodes output : Arg) → HasSubmittedArgs c0 [] (with_submitted (new_app (codes "run")))

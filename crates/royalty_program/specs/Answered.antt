@@ -1,12 +1,14 @@
 -- What is read of a command line, and what answers it.
-use Rattle.std.specs.Prelude.{ℕ, ◌≡◌, ◌<◌, ◌≤◌, ◌⊎◌, Bool, true, List, None}
+use Rattle.std.specs.Prelude.{ℕ, ◌≡◌, ◌<◌, ◌≤◌, ◌⊎◌, [], Bool, true, List, None}
 use Rattle.std.specs.Prelude.{IfSome, Option, Some, codes, drop, length, map, string_bytes, ⊤}
 use Rattle.std.specs.Option.{option_map}
 use Rattle.std.specs.Io.KnownBytes.{Appends, Keeps}
 use Rattle.line_split.specs.declared.TheConstants.{MOST_AMOUNT}
+use Rattle.clap.specs.Words.{App}
 use Rattle.royalty_program.specs.RunCommand.{run_app}
 use Rattle.royalty_program.specs.Asked.{AreRunWords, AreAccepted, AskForCheck, AskForExplanation, AskForMerge, AskForRun, AskForSubmittedRun, AskForTable, EitherRun, IsDivision, IsRun}
 use Rattle.royalty_program.specs.Asked.{amount_of, files_given, inputs_given, name_works, number_in, pairs_of, path_if_given, paths_given, paths_in_order, plan_given, row_given, run_grammar, run_output, submitted_given}
+use Rattle.royalty_program.specs.Asked.{number_or, path_given, plan_or_usual, statements_grammar, text_or}
 use Rattle.run_inputs.specs.Inputs.{map_inputs}
 use Rattle.run_inputs.specs.declared.inputs.Inputs.{Inputs}
 use Rattle.pair_split.specs.PairFault.{AreSound}
@@ -20,6 +22,7 @@ use Rattle.royalty_program.specs.OutputPath.{IsNoInput}
 use Rattle.royalty_program.specs.Files.{AreStatementsOver, IsExplanationOver, IsReportOver}
 use Rattle.royalty_program.specs.NamedFiles.{AreNamedBy}
 use Rattle.royalty_program.specs.StartingCommand.{starting_app, starting_name}
+use Rattle.royalty_program.specs.StatementsCommand.{MOST_DECIMALS, statements_app, submitted_statements_app}
 use Rattle.royalty_program.specs.SubmittedCommand.{submitted_app, submitted_check_app, submitted_explain_app}
 use Rattle.royalty_program.specs.SubmittedFiles.{AreSubmittedStatementsOver, IsNoneOf, IsSubmittedExplanationOver}
 use Rattle.royalty_program.specs.SubmittedFiles.{IsSubmittedReportOver, IsTableOver, SubmittedPaths, paths_of}
@@ -29,22 +32,26 @@ use Rattle.royalty_program.specs.declared.inputs.RunInputs.{RunInputs}
 use Rattle.royalty_program.specs.declared.inputs.RunInputs.TheVariants.{OneFile, Submitted}
 use Rattle.royalty_program.specs.declared.commands.Asked.{Asked}
 use Rattle.royalty_program.specs.declared.commands.Asked.TheVariants.{Check, Division, Explanation, Merge, Run, Starting}
+use Rattle.royalty_program.specs.declared.commands.Asked.TheVariants.{Statements}
 use Rattle.royalty_program.specs.declared.explain_command.ExplainWords.{ExplainWords}
 use Rattle.royalty_program.specs.declared.merge_command.MergeWords.{MergeWords}
 use Rattle.royalty_program.specs.declared.run_command.RunWords.{RunWords}
+use Rattle.royalty_program.specs.declared.statements_command.StatementsWords.{StatementsWords}
 
 -- the command is the one that the word names
 abbrev pub IsNamedBy : List ℕ → Asked → Type 0
 IsNamedBy word (Division asked) = word ≡ codes "split"
 IsNamedBy word (Run asked) = word ≡ codes "run"
+IsNamedBy word (Statements asked) = word ≡ codes "statements"
 IsNamedBy word (Explanation asked) = word ≡ codes "explain"
 IsNamedBy word (Check asked) = word ≡ codes "check"
 IsNamedBy word (Merge asked) = word ≡ codes "merge"
 IsNamedBy word (Starting asked) = word ≡ starting_name asked.table
 
--- an amount that is divided is in range
+-- an amount that is divided is in range, and so are the decimal places of documents
 abbrev pub IsInRange : Asked → Type 0
 IsInRange (Division asked) = asked.amount ≤ MOST_AMOUNT
+IsInRange (Statements asked) = asked.decimals ≤ MOST_DECIMALS
 IsInRange _ = ⊤
 
 -- the amount and the pairs are those of the words
@@ -85,6 +92,25 @@ IsRunOf words _ = ⊥
 abbrev pub IsRunInOrder : (words : List (List ℕ)) → AreRunWords (drop 1 words) → Asked → Type 0
 IsRunInOrder words run (Run asked) = AreReadInOrder (drop 1 words) run asked
 IsRunInOrder words run _ = ⊥
+
+-- how documents are made and written is what the options are given, or as usual where they are not there
+pub record AreChosenFrom (app : App) (words : List (List ℕ)) (asked : StatementsWords) : Type 0 where
+  pub plan : asked.plan ≡ plan_or_usual app words
+  pub to : string_bytes asked.to ≡ path_given app (codes "to") words
+  pub names : option_map string_bytes asked.names ≡ path_if_given app (codes "names") words
+  pub title : string_bytes asked.title ≡ text_or (codes "Distribution") app (codes "title") words
+  pub currency : string_bytes asked.currency ≡ text_or [] app (codes "currency") words
+  pub decimals : asked.decimals ≡ number_or 2 app (codes "decimals") words
+
+-- and the paths of the files of the run are those that the options are given
+pub record AreDocumentsFrom (words : List (List ℕ)) (asked : StatementsWords) : Type 0 where
+  pub inputs : EitherRun (name_works words) (AreOneFile (inputs_given statements_app words) asked.inputs)
+      (AreSubmitted (submitted_given submitted_statements_app words) asked.inputs)
+  pub chosen : AreChosenFrom (statements_grammar words) words asked
+
+abbrev pub IsStatementsAsked : List (List ℕ) → Asked → Type 0
+IsStatementsAsked words (Statements asked) = AreDocumentsFrom (drop 1 words) asked
+IsStatementsAsked words _ = ⊥
 
 -- the paths and the row are those that the options of an explanation are given
 pub record AreExplainedFrom (words : List (List ℕ)) (asked : ExplainWords) : Type 0 where

@@ -42,6 +42,12 @@ number_rule name most = record (file_rule name) {
   parser = Some (vp.Unsigned 1 most);
 }
 
+-- and of one that need not be there
+abbrev pub optional_number_rule : List ℕ → ℕ → Rule
+optional_number_rule name most = record (number_rule name most) {
+  required = false;
+}
+
 -- the command has these arguments, and nothing that changes how words are read
 pub record HasArgs (c : Command) (args : List Arg) (app : App) : Type 0 where
   pub list : args_of c ≡ args

@@ -1,5 +1,6 @@
 -- What a command line asks for: a division in its plain form, with no options; or a run, its options in any order and form that clap takes.
 use Rattle.std.specs.Prelude.{ℕ, ◌≡◌, ◌≢◌, ◌⊎◌, ◌∷◌, ◌++◌, ◌||◌, Bool, true, false, List, [], All, IfSome, None, Some, drop, codes, if◌then◌else◌, map, nat_eq, slice_index, unwrap_or, Option}
+use Rattle.std.specs.Option.{option_map}
 use Rattle.std.specs.Cmp.Lexicographic.{pointwise}
 use Rattle.std.specs.List.{list_any, starts_with}
 use Rattle.std.specs.Str.Parse.{digits_value, without_leading_plus}
@@ -14,6 +15,7 @@ use Rattle.royalty_program.specs.MergeCommand.{AreWrongPaths, merge_app}
 use Rattle.royalty_program.specs.NamedFiles.{AreNamed, name_in, path_in}
 use Rattle.royalty_program.specs.RunCommand.{run_app}
 use Rattle.royalty_program.specs.StartingCommand.{starting_app, starting_name}
+use Rattle.royalty_program.specs.StatementsCommand.{statements_app, submitted_statements_app}
 use Rattle.royalty_program.specs.SubmittedCommand.{submitted_app, submitted_check_app, submitted_explain_app}
 use Rattle.starting_files.specs.declared.making.StartingTable.{StartingTable}
 use Rattle.royalty_program.specs.SubmittedFiles.{SubmittedPaths}
@@ -64,6 +66,13 @@ paths_given app name words = unwrap_or (all_of name (matches_of app words)) []
 unfoldable pub number_given : App → (name : List ℕ) → List (List ℕ) → ℕ
 number_given app name words = number_in (unwrap_or (one_of name (matches_of app words)) [])
 
+-- the number, and the text, of an option that need not be there, or this where it is not there
+unfoldable pub number_or : (missing : ℕ) → App → (name : List ℕ) → List (List ℕ) → ℕ
+number_or missing app name words = unwrap_or (option_map number_in (one_of name (matches_of app words))) missing
+
+unfoldable pub text_or : (missing : List ℕ) → App → (name : List ℕ) → List (List ℕ) → List ℕ
+text_or missing app name words = unwrap_or (first_of name (matches_of app words)) missing
+
 -- clap comes upon a word that asks for help, or for the version
 unfoldable pub AskForHelp : App → List (List ℕ) → Type 0
 AskForHelp app words = IsAmong kinds.DisplayHelp (fault_of app words) ⊎ IsAmong kinds.DisplayVersion (fault_of app words)
@@ -84,9 +93,17 @@ plan_given app words = record {
   nodes = number_given app (codes "nodes") words;
 }
 
--- A word is `--works`, or that with its value behind a `=`. Words of a run, of an explanation or of a check that have
--- one after the first are of a run over the files of several submitters, and are read by another grammar: it has `--cwr
--- NAME=F` as often as there are submitters.
+-- where its numbers need not be there, it has 4 workers, 2 readers and 64 nodes unless the words have others
+abbrev pub plan_or_usual : App → List (List ℕ) → Planned
+plan_or_usual app words = record {
+  workers = number_or 4 app (codes "workers") words;
+  readers = number_or 2 app (codes "readers") words;
+  nodes = number_or 64 app (codes "nodes") words;
+}
+
+-- A word is `--works`, or that with its value behind a `=`. Words of a run, of documents, of an explanation or of a
+-- check that have one after the first are of a run over the files of several submitters, and are read by another
+-- grammar: it has `--cwr NAME=F` as often as there are submitters.
 abbrev pub is_works_word : List ℕ → Bool
 is_works_word word = pointwise nat_eq word (codes "--works") || starts_with nat_eq word (codes "--works=")
 
@@ -126,6 +143,10 @@ explain_grammar words = if name_works words then submitted_explain_app else expl
 -- and of a check
 abbrev pub check_grammar : List (List ℕ) → App
 check_grammar words = if name_works words then submitted_check_app else check_app
+
+-- and of documents
+abbrev pub statements_grammar : List (List ℕ) → App
+statements_grammar words = if name_works words then submitted_statements_app else statements_app
 
 -- the row that is explained
 abbrev pub row_given : List (List ℕ) → ℕ
@@ -191,6 +212,11 @@ IsExplainError words error =
 abbrev pub IsCheckError : List (List ℕ) → Error → Type 0
 IsCheckError words error =
     EitherRun (name_works words) (IsErrorOf check_app words error) (IsSubmittedError submitted_check_app words error)
+
+abbrev pub IsStatementsError : List (List ℕ) → Error → Type 0
+IsStatementsError words error =
+    EitherRun (name_works words) (IsErrorOf statements_app words error)
+    (IsSubmittedError submitted_statements_app words error)
 
 -- The words of a command line ask for the explanation of a line, in a run over one file or over those of several submitters, and for no help.
 pub record AskForExplanation (words : List (List ℕ)) : Type 0 where

@@ -2,8 +2,12 @@ pub mod Answered
 pub mod Args
 pub mod Asked
 pub mod CheckCommand
+pub mod DocumentFiles
+pub mod DocumentsAnswered
 pub mod ExplainCommand
+pub mod Fails
 pub mod Files
+pub mod Folders
 pub mod InputCommand
 pub mod OutputPath
 pub mod MergeCommand
@@ -14,6 +18,7 @@ pub mod RunCommand
 pub mod RunInputs
 pub mod SplitCommand
 pub mod StartingCommand
+pub mod StatementsCommand
 pub mod Status
 pub mod SubmittedCommand
 pub mod SubmittedFiles

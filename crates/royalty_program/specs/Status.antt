@@ -7,7 +7,7 @@ use Rattle.std.specs.declared.io.ErrorKind as io
 use Rattle.std.specs.declared.io.ErrorKind.TheVariants as io_kind
 use Rattle.pair_split.specs.Pair.{word_at}
 use Rattle.royalty_program.specs.Asked.{AreAccepted, AreCheckAccepted, AreExplainAccepted, AreFilesAccepted}
-use Rattle.royalty_program.specs.Asked.{AreRunAccepted, EitherRun, IsDivision, NameWrongPaths}
+use Rattle.royalty_program.specs.Asked.{AreRunAccepted, EitherRun, NameWrongPaths}
 use Rattle.royalty_program.specs.Asked.{files_given, inputs_given, name_works, pairs_of, path_if_given, paths_given, row_given, run_output, submitted_given}
 use Rattle.pair_split.specs.PairFault.{IsFaultOf}
 use Rattle.pair_split.specs.PairFault as pair
@@ -15,6 +15,9 @@ use Rattle.check_inputs.specs.SubmittedChecked as checked
 use Rattle.tis_tree.specs.TisRows as tis
 use Rattle.cwr_share.specs.CwrFile as cwr
 use Rattle.cwr_share.specs.PayeeTable as payees
+use Rattle.document_names.specs.Territories as names
+use Rattle.document_names.specs.declared.name_fault.NameFault.{NameFault}
+use Rattle.document_names.specs.declared.name_fault.NameFault.TheVariants as name_fault
 use Rattle.linked_works.specs.WorksTable as works
 use Rattle.submitted_inputs.specs.declared.fault.SubmittedFault.{SubmittedFault}
 use Rattle.submitted_inputs.specs.declared.fault.SubmittedFault.TheVariants as submitted
@@ -32,7 +35,7 @@ use Rattle.royalty_program.specs.MergeCommand.{merge_app}
 use Rattle.royalty_program.specs.RunCommand.{run_app}
 use Rattle.royalty_program.specs.SplitCommand.{split_app}
 use Rattle.royalty_program.specs.NamedFiles.{name_in, path_in}
-use Rattle.royalty_program.specs.StartingCommand.{starting_app, starting_name}
+use Rattle.royalty_program.specs.StartingCommand.{starting_app}
 use Rattle.royalty_program.specs.SubmittedCommand.{submitted_app, submitted_check_app, submitted_explain_app}
 use Rattle.royalty_program.specs.SubmittedFiles.{AreTablesRead, HoldsAt, IsSubmittedFaultOver, RefusesAt}
 use Rattle.royalty_program.specs.SubmittedFiles.{SubmittedHaveNoRowOver, SubmittedPaths}
@@ -40,7 +43,7 @@ use Rattle.starting_files.specs.declared.making.StartingTable.{StartingTable}
 use Rattle.submitted_inputs.specs.Files.{IsFaultOfFiles}
 use Rattle.royalty_program.specs.MergeFiles.{AreTooMany, GivesFault, HasChanged, HoldsOf, IsFaultAt, IsFirstRefused}
 use Rattle.royalty_program.specs.declared.failure.Failure.{Failure}
-use Rattle.royalty_program.specs.declared.failure.Failure.TheVariants.{Words, NotText, Pairs, Input, Works, Registrations, Row, Room, File, Output, Target, Statement, Many, Changed, Replaces}
+use Rattle.royalty_program.specs.declared.failure.Failure.TheVariants.{Words, NotText, Pairs, Input, Works, Registrations, Row, Room, File, Output, Target, Statement, Many, Changed, Replaces, Names, Taken}
 use Rattle.run_inputs.specs.Inputs.{ThisOrLater}
 use Rattle.run_inputs.specs.declared.fault.Fault.{Fault}
 use Rattle.run_inputs.specs.declared.fault.Fault.TheVariants as input
@@ -66,6 +69,8 @@ status_of (Statement fault path) = 1
 status_of Many = 1
 status_of (Changed path) = 4
 status_of (Replaces path) = 2
+status_of (Names fault) = 1
+status_of (Taken path) = 2
 
 -- the status says that a report tells of a fault, which is no failure
 abbrev pub IsReportOfFault : (status : ℕ) → List (List ℕ) → Type 0
@@ -110,6 +115,8 @@ text_of (Statement f path) =
 text_of Many = Some (codes "royalty_run: the statements are of more than 1000000000000000000 usage lines\n")
 text_of (Changed path) = Some (codes "royalty_run: " ++ string_bytes path ++ codes " changed while it was read\n")
 text_of (Replaces path) = Some (codes "royalty_run: " ++ string_bytes path ++ codes " is an input, which the output would replace\n")
+text_of (Names f) = Some (fault_text (codes "names") (names.number_of_fault f) (codes "row ") (names.place_of_fault f))
+text_of (Taken path) = Some (codes "royalty_run: " ++ string_bytes path ++ codes " is there already\n")
 
 -- words and inputs are refused for what is wrong with them: lack of memory is a failure of its own, and help is none
 abbrev pub IsRefusal : Failure → Type 0
@@ -127,12 +134,26 @@ IsRefusal (Statement f path) = ⊤
 IsRefusal Many = ⊤
 IsRefusal (Changed path) = ⊤
 IsRefusal (Replaces path) = ⊤
+IsRefusal (Names f) = f ≢ name_fault.Memory
+IsRefusal (Taken path) = ⊤
 IsRefusal _ = ⊥
 
 -- lack of memory is no failure of a file, which any other error leaves unread
 abbrev pub failure_of_file : io.ErrorKind → String Global → Failure
 failure_of_file io_kind.OutOfMemory path = Room
 failure_of_file _ path = File path
+
+-- lack of memory is no fault of the names of territories
+abbrev pub failure_of_names : NameFault → Failure
+failure_of_names name_fault.Memory = Room
+failure_of_names f = Names f
+
+-- nor is it one of a folder that is to be written, where a path that something has already is taken
+abbrev pub failure_of_folder : io.ErrorKind → String Global → Failure
+failure_of_folder io_kind.OutOfMemory path = Room
+failure_of_folder io_kind.AlreadyExists path = Taken path
+failure_of_folder io_kind.DirectoryNotEmpty path = Taken path
+failure_of_folder _ path = Target path
 
 -- nor of one that is to be written
 abbrev pub failure_of_target : io.ErrorKind → String Global → Failure
@@ -352,16 +373,6 @@ IsOfDivision words (Pairs fault) = IsFaultOf (pairs_of words) fault
 IsOfDivision words (Words error) = ¬ AreAccepted split_app (drop 1 words)
 IsOfDivision words Room = ⊤
 IsOfDivision words _ = ⊥
-
--- the words of a command line fail for this
-pub record FailFor (holds gives : List ℕ → List ℕ → Type 0) (refuses : List ℕ → io.ErrorKind → Type 0) (words : List (List ℕ)) (failure : Failure) : Type 0 where
-  pub refusal : IsRefusal failure
-  pub division : IsDivision words → IsOfDivision words failure
-  pub run : word_at words 1 ≡ codes "run" → IsOfRun holds refuses (drop 1 words) failure
-  pub explanation : word_at words 1 ≡ codes "explain" → IsOfExplanation holds refuses (drop 1 words) failure
-  pub checked : word_at words 1 ≡ codes "check" → IsOfCheck holds refuses (drop 1 words) failure
-  pub merge : word_at words 1 ≡ codes "merge" → IsOfMerge gives (drop 1 words) failure
-  pub table : (table : StartingTable) → word_at words 1 ≡ starting_name table → IsOfTable holds refuses table (drop 1 words) failure
 
 -- lack of memory is no fault of the pairs
 abbrev pub failure_of_fault : PairFault → Failure

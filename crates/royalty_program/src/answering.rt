@@ -1,13 +1,17 @@
 //! What the program does with its words, and the status that it answers.
 
-ghost use Rattle.std.specs.Prelude.{◌≡◌, ◌≢◌, ◌≤◌, ◌⊎◌, ℕ, List, None, true, false, IfOk, IfErr, IsOk, OnErr, OnOk, codes, drop, if◌then◌else◌, map, string_bytes};
+ghost use Rattle.std.specs.Prelude.{◌≡◌, ◌≢◌, ◌≤◌, ◌⊎◌, ℕ, List, None, Some, true, false, IfOk, IfErr, IsOk, OnErr, OnOk, codes, drop, if◌then◌else◌, map, string_bytes};
 ghost use Rattle.std.specs.Io.KnownBytes.{Appends, Keeps};
 ghost use Rattle.royalty_program.specs.Asked.{AreRun, IsDivision, run_output};
 ghost use Rattle.royalty_program.specs.Answered.{IsAnswered, IsDelivered, NameOutput};
 ghost use Rattle.royalty_program.specs.Targets.{IsLeftOrHas};
 ghost use Rattle.royalty_program.specs.StartingCommand.{starting_name};
 ghost use Rattle.starting_files.specs.declared.making.StartingTable.{StartingTable};
-ghost use Rattle.royalty_program.specs.Status.{FailFor, IsOfCheck, IsOfDivision, IsOfExplanation, IsOfMerge, IsOfRun, IsOfTable, IsRefusal, IsReportOfFault, IsStatusOfSilence, failure_of_kind, status_of};
+ghost use Rattle.royalty_program.specs.DocumentsAnswered.{AreDocumentsAnswered, AskForDocuments, IsOfStatements, folder_given};
+ghost use Rattle.royalty_program.specs.Fails.{FailFor};
+ghost use Rattle.royalty_program.specs.Folders.{IsLeftOrHasFolder};
+ghost use Rattle.distribution_documents.specs.Documents.{File};
+ghost use Rattle.royalty_program.specs.Status.{IsOfCheck, IsOfDivision, IsOfExplanation, IsOfMerge, IsOfRun, IsOfTable, IsRefusal, IsReportOfFault, IsStatusOfSilence, failure_of_kind, status_of};
 ghost use Rattle.royalty_program.specs.declared.failure.Failure.{Failure};
 ghost use Rattle.royalty_program.specs.declared.failure.Failure.TheVariants.{Output, Room};
 ghost use Rattle.pair_split.specs.Pair.{word_at};
@@ -15,8 +19,10 @@ ghost use Rattle.std.specs.IoError.{error_kind};
 ghost use Rattle.std.specs.Vec.Iter.{into_iter_items};
 
 use crate::commands::{Asked, read_words};
+use crate::document_files::document_out;
 use crate::failure::Failure;
 use crate::files::{check_files, explain_files, settle_out};
+use crate::folders::Folders;
 use crate::merge_files::merge_out;
 use crate::sources::{Source, Texts};
 use crate::submitted_files::starting_table;
@@ -58,7 +64,13 @@ fn no_words(kind: io::ErrorKind) -> Failure
 /// where an input file is refused for what is in it or a report tells of a fault, 2 where the words
 /// are refused, 3 where memory or a thread was, and 4 where a file cannot be read or written, or
 /// `out` refused a write.
-pub fn program<R: Threads + Wait + Sync, S: Source + Texts + Sync, T: Target, W: Write, E: Write>(
+pub fn program<
+    R: Threads + Wait + Sync,
+    S: Source + Texts + Sync,
+    T: Target + Folders,
+    W: Write,
+    E: Write,
+>(
     rt: &R,
     alloc: Global,
     files: &S,
@@ -79,7 +91,15 @@ pub fn program<R: Threads + Wait + Sync, S: Source + Texts + Sync, T: Target, W:
         × ((failure ≡ Output) ⊎ FailFor (S.holds files.now) (S.gives files.now) (S.refuses files.now) (map string_bytes words.now) failure) }
     ensures left { (path : List ℕ) → NameOutput (map string_bytes words.now) path → IsLeftOrHas (T.keeps target.old path) (T.keeps target.new path)
         (IsAnswered (S.holds files.now) (S.gives files.now) (map string_bytes words.now) true) }
-    ensures unused { ((path : List ℕ) → ¬ NameOutput (map string_bytes words.now) path) → target.new ≡ target.old }
+    ensures documents { result ≡ 0 → AskForDocuments (map string_bytes words.now) → (documents : List File)
+        × T.keeps_folder target.new (folder_given (drop 1 (map string_bytes words.now))) (Some documents)
+        × AreDocumentsAnswered (S.holds files.now) (drop 1 (map string_bytes words.now)) documents }
+    ensures left_folder { word_at (map string_bytes words.now) 1 ≡ codes "statements" → IsLeftOrHasFolder
+        (T.keeps_folder target.old (folder_given (drop 1 (map string_bytes words.now))))
+        (T.keeps_folder target.new (folder_given (drop 1 (map string_bytes words.now))))
+        (AreDocumentsAnswered (S.holds files.now) (drop 1 (map string_bytes words.now))) }
+    ensures unused { ((path : List ℕ) → ¬ NameOutput (map string_bytes words.now) path)
+        → ¬ (word_at (map string_bytes words.now) 1 ≡ codes "statements") → target.new ≡ target.old }
 {
     let printed = answer(rt, alloc, files, target, words, out);
     end(printed, out, err)
@@ -111,7 +131,7 @@ fn end<W: Write, E: Write>(
 /// It prints the rows of a division, the statements of a run, merged statements, the explanation of
 /// a usage line or a report, or help; or keeps statements in the file that the words name. Answers
 /// whether no report tells of a fault.
-pub fn answer<R: Threads + Wait + Sync, S: Source + Texts + Sync, T: Target, W: Write>(
+pub fn answer<R: Threads + Wait + Sync, S: Source + Texts + Sync, T: Target + Folders, W: Write>(
     rt: &R,
     alloc: Global,
     files: &S,
@@ -133,7 +153,17 @@ pub fn answer<R: Threads + Wait + Sync, S: Source + Texts + Sync, T: Target, W: 
     ensures silent { IfErr result (λ failure. (status_of failure ≤ 2) ⊎ (¬ (word_at (map string_bytes words.now) 1 ≡ codes "merge")) → out.new ≡ out.old) }
     ensures left { (path : List ℕ) → NameOutput (map string_bytes words.now) path → IsLeftOrHas (T.keeps target.old path) (T.keeps target.new path)
         (IsAnswered (S.holds files.now) (S.gives files.now) (map string_bytes words.now) true) }
-    ensures unused { ((path : List ℕ) → ¬ NameOutput (map string_bytes words.now) path) → target.new ≡ target.old }
+    ensures documents { IfOk result (λ done. AskForDocuments (map string_bytes words.now) → (documents : List File)
+        × T.keeps_folder target.new (folder_given (drop 1 (map string_bytes words.now))) (Some documents)
+        × AreDocumentsAnswered (S.holds files.now) (drop 1 (map string_bytes words.now)) documents) }
+    ensures undocumented { word_at (map string_bytes words.now) 1 ≡ codes "statements"
+        → IfErr result (IsOfStatements (S.holds files.now) (S.refuses files.now) (drop 1 (map string_bytes words.now))) }
+    ensures left_folder { word_at (map string_bytes words.now) 1 ≡ codes "statements" → IsLeftOrHasFolder
+        (T.keeps_folder target.old (folder_given (drop 1 (map string_bytes words.now))))
+        (T.keeps_folder target.new (folder_given (drop 1 (map string_bytes words.now))))
+        (AreDocumentsAnswered (S.holds files.now) (drop 1 (map string_bytes words.now))) }
+    ensures unused { ((path : List ℕ) → ¬ NameOutput (map string_bytes words.now) path)
+        → ¬ (word_at (map string_bytes words.now) 1 ≡ codes "statements") → target.new ≡ target.old }
 {
     match read_words(alloc, words) {
         Ok(Asked::Division(asked)) => {
@@ -143,6 +173,10 @@ pub fn answer<R: Threads + Wait + Sync, S: Source + Texts + Sync, T: Target, W: 
             }
         }
         Ok(Asked::Run(asked)) => Ok((settle_out(rt, alloc, files, target, asked, out)?, true)),
+        Ok(Asked::Statements(asked)) => {
+            document_out(rt, alloc, files, target, asked)?;
+            Ok((Ok(()), true))
+        }
         Ok(Asked::Explanation(asked)) => {
             let text = explain_files(alloc, files, asked)?;
             Ok((out.write_all(text.as_slice()), true))

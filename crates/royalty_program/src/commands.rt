@@ -4,11 +4,12 @@ ghost use Rattle.std.specs.Prelude.{◌≡◌, ◌≢◌, IfOk, IfErr, codes, dr
 ghost use Rattle.clap.specs.Words.{kind_of};
 ghost use Rattle.clap.specs.declared.error.kind.ErrorKind.TheVariants as kinds;
 ghost use Rattle.royalty_program.specs.Asked.{IsCheckError, IsDivision, IsErrorOf, IsExplainError, IsMergeError, IsRun};
-ghost use Rattle.royalty_program.specs.Asked.{IsRunError, IsSubmittedError};
+ghost use Rattle.royalty_program.specs.Asked.{IsRunError, IsStatementsError, IsSubmittedError};
 ghost use Rattle.royalty_program.specs.SplitCommand.{split_app};
 ghost use Rattle.royalty_program.specs.StartingCommand.{starting_app, starting_name};
 ghost use Rattle.starting_files.specs.declared.making.StartingTable.{StartingTable};
 ghost use Rattle.royalty_program.specs.Answered.{IsCheckAsked, IsDivisionOf, IsExplanationAsked, IsInRange, IsMergeAsked, IsNamedBy, IsRunInOrder, IsRunOf, IsTableAsked};
+ghost use Rattle.royalty_program.specs.Answered.{IsStatementsAsked};
 ghost use Rattle.pair_split.specs.Pair.{word_at};
 
 use crate::check_command::{check_command, read_check};
@@ -18,6 +19,7 @@ use crate::merge_command::{MergeWords, merge_command, read_merge};
 use crate::run_command::{RunWords, read_run, run_command};
 use crate::split_command::{SplitWords, read_split, split_command};
 use crate::starting_command::{StartingWords, read_starting, starting_command};
+use crate::statements_command::{StatementsWords, read_statements, statements_command};
 use clap::error::ErrorKind;
 use clap::{Command, Error};
 use pair_split::word;
@@ -31,6 +33,7 @@ const VERSION: &str = "0.1.0\nlogic dac8208d650f15bf";
 /// What stands below the help of the whole program.
 const HELP: &str = "\
 `royalty_run run --help` says what the files of a distribution run have in them,
+`royalty_run statements --help` how its statements are written as documents that people read,
 `royalty_run works --help` and `royalty_run parties --help` which tables a run over several
 submitters' files begins with, `royalty_run merge --help` how the statements of several runs are merged,
 `royalty_run check --help` how the files are checked, `royalty_run explain --help` how one usage line
@@ -53,6 +56,8 @@ pub enum Asked {
     Division(SplitWords),
     /// A distribution run.
     Run(RunWords),
+    /// The statements of a run as documents.
+    Statements(StatementsWords),
     /// The explanation of a usage line.
     Explanation(ExplainWords),
     /// A report on the files of a run.
@@ -69,6 +74,10 @@ pub fn read_words(alloc: Global, words: &[String]) -> Result<Asked, Error>
     ensures in_range { IfOk result IsInRange }
     ensures division { IsDivision (map string_bytes words.now) → IfOk result (IsDivisionOf (map string_bytes words.now)) }
     ensures run { word_at (map string_bytes words.now) 1 ≡ codes "run" → IfOk result (IsRunOf (map string_bytes words.now)) }
+    ensures documents { word_at (map string_bytes words.now) 1 ≡ codes "statements"
+        → IfOk result (IsStatementsAsked (map string_bytes words.now)) }
+    ensures no_documents { word_at (map string_bytes words.now) 1 ≡ codes "statements"
+        → IfErr result (IsStatementsError (drop 1 (map string_bytes words.now))) }
     ensures explanation { word_at (map string_bytes words.now) 1 ≡ codes "explain" → IfOk result (IsExplanationAsked (map string_bytes words.now)) }
     ensures unexplained { word_at (map string_bytes words.now) 1 ≡ codes "explain" → IfErr result (IsExplainError (drop 1 (map string_bytes words.now))) }
     ensures checked { word_at (map string_bytes words.now) 1 ≡ codes "check" → IfOk result (IsCheckAsked (map string_bytes words.now)) }
@@ -88,6 +97,7 @@ pub fn read_words(alloc: Global, words: &[String]) -> Result<Asked, Error>
     match word(words, 1) {
         "split" => Ok(Asked::Division(read_split(alloc, &words[1..])?)),
         "run" => Ok(Asked::Run(read_run(alloc, &words[1..])?)),
+        "statements" => Ok(Asked::Statements(read_statements(alloc, &words[1..])?)),
         "explain" => Ok(Asked::Explanation(read_explain(alloc, &words[1..])?)),
         "check" => Ok(Asked::Check(read_check(alloc, &words[1..])?)),
         "merge" => Ok(Asked::Merge(read_merge(alloc, &words[1..])?)),
@@ -109,6 +119,7 @@ fn refusal(alloc: Global, words: &[String]) -> Result<Error, AllocError> {
         .subcommand_required(true)
         .arg_required_else_help(true)
         .subcommand(run_command(alloc)?)?
+        .subcommand(statements_command(alloc)?)?
         .subcommand(merge_command(alloc)?)?
         .subcommand(starting_command(alloc, StartingTable::Works)?)?
         .subcommand(starting_command(alloc, StartingTable::Parties)?)?

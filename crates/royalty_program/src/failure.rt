@@ -7,6 +7,7 @@ ghost use Rattle.royalty_program.specs.Status.{fault_text, file_fault_text};
 
 use csv_table::FileFault;
 use cwr_share::CwrFault;
+use document_names::NameFault;
 use linked_works::WorksFault;
 use merge_statements::StatementFault;
 use pair_split::PairFault;
@@ -48,6 +49,10 @@ pub enum Failure {
     Changed(String),
     /// The statements of a run were to go to this path, which an input has too.
     Replaces(String),
+    /// The table of names of territories is refused.
+    Names(NameFault),
+    /// Documents were to go to a new folder of this path, which something has already.
+    Taken(String),
 }
 
 impl fmt::Display for Failure {
@@ -98,6 +103,10 @@ impl fmt::Display for Failure {
                 f,
                 "royalty_run: {path} is an input, which the output would replace\n"
             ),
+            Failure::Names(fault) => {
+                write_fault(f, "names", fault.number(), "row ", fault.place())
+            }
+            Failure::Taken(path) => write!(f, "royalty_run: {path} is there already\n"),
         }
     }
 }
@@ -185,6 +194,21 @@ impl From<Fault> for Failure {
     }
 }
 
+impl From<NameFault> for Failure {
+    ghost use Rattle.std.specs.Prelude.{◌≡◌};
+    ghost use Rattle.royalty_program.specs.Status.{failure_of_names};
+
+    ghost from_gives = { λ fault given. given ≡ failure_of_names fault };
+
+    /// Lack of memory is no fault of the table.
+    fn from(fault: NameFault) -> Failure {
+        match fault {
+            NameFault::Memory => Failure::Room,
+            _ => Failure::Names(fault),
+        }
+    }
+}
+
 impl Failure {
     ghost use Rattle.royalty_program.specs.Status.{status_of, text_of};
 
@@ -197,12 +221,14 @@ impl Failure {
             | Failure::Works(_)
             | Failure::Registrations { .. }
             | Failure::Statement { .. }
-            | Failure::Many => 1,
+            | Failure::Many
+            | Failure::Names(_) => 1,
             Failure::Words(_)
             | Failure::NotText
             | Failure::Pairs(_)
             | Failure::Row(_)
-            | Failure::Replaces(_) => 2,
+            | Failure::Replaces(_)
+            | Failure::Taken(_) => 2,
             Failure::Room => 3,
             Failure::File(_) | Failure::Output | Failure::Target(_) | Failure::Changed(_) => 4,
         }

@@ -243,7 +243,7 @@ fn check_one_file<S: Source>(
 }
 
 /// The files of these paths, read in this order.
-fn read_all<S: Source>(
+pub(crate) fn read_all<S: Source>(
     files: &S,
     alloc: Global,
     inputs: Inputs<String>,

@@ -4,9 +4,11 @@
 mod answering;
 mod check_command;
 mod commands;
+mod document_files;
 mod explain_command;
 mod failure;
 mod files;
+mod folders;
 mod inputs;
 mod merge_command;
 mod merge_files;
@@ -17,11 +19,13 @@ mod run_command;
 mod sources;
 mod split_command;
 mod starting_command;
+mod statements_command;
 mod submitted_command;
 mod submitted_files;
 mod targets;
 
 pub use answering::{answer, program, words_of};
 pub use failure::Failure;
+pub use folders::Folders;
 pub use sources::{Disk, Source, Texts};
 pub use targets::Target;

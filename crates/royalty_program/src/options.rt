@@ -1,7 +1,7 @@
 //! What several commands have: the form of a command, and of its options.
 
 ghost use Rattle.std.specs.Option.{option_map};
-ghost use Rattle.std.specs.Prelude.{◌≡◌, [], IfOk, Some, codes, map, string_bytes, true};
+ghost use Rattle.std.specs.Prelude.{◌≡◌, [], IfOk, Some, codes, map, string_bytes, true, unwrap_or};
 ghost use Rattle.clap.specs.Words.{new_app, rule_of};
 ghost use Rattle.royalty_program.specs.Args.{HasArgs, IsOptionalArg, IsRequiredArg, file_rule, optional_rule};
 ghost use Rattle.royalty_program.specs.SubmittedCommand.{files_rule};
@@ -42,9 +42,22 @@ pub(crate) fn optional_file_arg<'a>(alloc: Global, name: &'a str, help: &'a str)
     ensures optional { IsOptionalArg name.entry.now result }
     ensures rule { rule_of result ≡ optional_rule name.entry.now }
 {
+    optional_arg(alloc, name, "F", help)
+}
+
+/// An option whose value is any text, and which need not be there. Help calls the value by a name.
+pub(crate) fn optional_arg<'a>(
+    alloc: Global,
+    name: &'a str,
+    value_name: &'a str,
+    help: &'a str,
+) -> Arg<'a>
+    ensures optional { IsOptionalArg name.entry.now result }
+    ensures rule { rule_of result ≡ optional_rule name.entry.now }
+{
     Arg::new(alloc, name)
         .long(name)
-        .value_name("F")
+        .value_name(value_name)
         .help(help)
         .action(ArgAction::Set)
 }
@@ -114,6 +127,21 @@ pub(crate) fn owned(alloc: Global, text: Option<&str>) -> Result<Option<String>,
     match text {
         Some(text) => Ok(Some(String::from_str(alloc, text)?)),
         None => Ok(None),
+    }
+}
+
+/// A text of its own: this one, or the other where there is none.
+pub(crate) fn owned_or(
+    alloc: Global,
+    text: Option<&str>,
+    missing: &str,
+) -> Result<String, AllocError>
+    ensures { IfOk result (λ owned.
+        string_bytes owned ≡ unwrap_or (option_map (λ text. text.now) text.entry) missing.now) }
+{
+    match text {
+        Some(text) => String::from_str(alloc, text),
+        None => String::from_str(alloc, missing),
     }
 }
 

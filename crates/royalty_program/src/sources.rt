@@ -10,7 +10,7 @@ ghost use Rattle.royalty_program.specs.MergeFiles.{Gives, any_text};
 use crate::failure::Failure;
 use std::alloc::Global;
 use std::fs::{self, OpenFile};
-use std::io::{self, ErrorKind, Read};
+use std::io::{self, ErrorKind, Read, Stderr};
 use std::rt::Files;
 
 /// The most bytes that a file of a run has.
@@ -47,6 +47,8 @@ pub trait Texts {
 #[derive(Drop)]
 pub struct Disk<'a, R> {
     pub rt: &'a R,
+    /// Standard error, where somebody watches it: a line there tells how many documents are written.
+    pub watched: Option<&'a Stderr>,
 }
 
 impl<'a, R: Files> Source for Disk<'a, R> {

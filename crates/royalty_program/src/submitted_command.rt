@@ -117,7 +117,7 @@ pub(crate) fn wrong_files(mut command: Command<'_>, message: &str) -> Result<Err
 }
 
 /// The inputs that a parse found, or what is wrong with its values of `--cwr`.
-fn read_submitted_inputs(
+pub(crate) fn read_submitted_inputs(
     alloc: Global,
     matches: &ArgMatches<'_>,
 ) -> Result<Result<SubmittedInputs, String>, AllocError>
@@ -190,7 +190,7 @@ fn submitted_check_command<'a>(alloc: Global) -> Result<Command<'a>, AllocError>
 }
 
 /// A command with the options that name the tables, and the files of several submitters.
-fn submitted_input_command<'a>(
+pub(crate) fn submitted_input_command<'a>(
     alloc: Global,
     name: &'a str,
     bin_name: &str,

@@ -34,9 +34,9 @@ use submitted_inputs::{SubmittedFault, SubmittedTables, SubmitterFiles, read_sub
 
 /// The CWR files of submitters under their paths.
 #[derive(Drop)]
-struct CwrFiles<'a, S> {
-    files: &'a S,
-    paths: &'a [String],
+pub(crate) struct CwrFiles<'a, S> {
+    pub files: &'a S,
+    pub paths: &'a [String],
 }
 
 impl<'a, S: Source> SubmitterFiles for CwrFiles<'a, S> {
@@ -175,7 +175,7 @@ pub(crate) fn check_in_submitted<S: Source>(
 }
 
 /// What the fault of an input comes to, where the files of the submitters have these paths.
-fn what_failed(fault: SubmittedFault, mut paths: Vec<String>) -> Failure
+pub(crate) fn what_failed(fault: SubmittedFault, mut paths: Vec<String>) -> Failure
     ensures said { IsWithin (length (map string_bytes paths.items)) fault → IsSaidOf (map string_bytes paths.items) fault result }
     ensures beyond { (¬ IsWithin (length (map string_bytes paths.items)) fault) → result ≡ Room }
     ensures refusal { IsRefusal result }
@@ -230,7 +230,7 @@ fn read_tables<S: Source>(
 }
 
 /// The tables of these paths, read in this order.
-fn read_table_files<S: Source>(
+pub(crate) fn read_table_files<S: Source>(
     files: &S,
     alloc: Global,
     paths: SubmittedTables<String>,

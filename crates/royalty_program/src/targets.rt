@@ -220,7 +220,7 @@ fn create_beside<R: Files>(rt: &R, alloc: Global, path: &str) -> io::Result<NewF
 }
 
 /// The path with `.new` behind it, and then a number, but for the first.
-fn name_beside(alloc: Global, path: &str, number: u32) -> Result<String, AllocError> {
+pub(crate) fn name_beside(alloc: Global, path: &str, number: u32) -> Result<String, AllocError> {
     match number {
         0 => format!(in alloc; "{path}.new"),
         _ => format!(in alloc; "{path}.new{number}"),
@@ -233,7 +233,7 @@ fn sync_directory<R: Files>(rt: &R, path: &str) -> io::Result<()> {
 }
 
 /// The directory that a path is in.
-fn directory_of(path: &str) -> &str {
+pub(crate) fn directory_of(path: &str) -> &str {
     match Path::new(path).parent() {
         Some(parent) => match parent.as_str() {
             "" => ".",

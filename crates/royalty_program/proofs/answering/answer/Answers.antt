@@ -1,4 +1,4 @@
-use Rattle.std.proofs.Common.{◌≡◌, ◌≢◌, ◌⊎◌, ◌∙◌, ℕ, List, Bool, refl, drop, inl, inr, map, codes, false, sym, true, rules}
+use Rattle.std.proofs.Common.{◌≡◌, ◌≢◌, ◌⊎◌, ◌∙◌, ℕ, List, Bool, Some, [], refl, drop, inl, inr, map, codes, false, subst, sym, true, rules}
 use Rattle.std.proofs.lemmas.Result.{err_from_is_err_and, on_ok_weaker}
 use Rattle.std.specs.Option.{option_map}
 use Rattle.std.specs.Prelude.{string_bytes}
@@ -31,6 +31,9 @@ use Rattle.starting_files.specs.declared.making.StartingTable.{StartingTable}
 use Rattle.royalty_program.proofs.OutputLemmas.{delivered_merge, delivered_out, delivered_run, left_merge, left_run, no_check_help_given, no_explain_help_given, no_files_help_given, no_merge_help_given, no_output, no_run_help_given, not_accepted_check, not_accepted_explain, not_accepted_files, not_accepted_run, unmerged_words, unused_merge, unused_run}
 use Rattle.royalty_program.proofs.OverLemmas.{each_has_a_path, explained_given, fails_given, merged_given, no_table_given, over_given, over_in_order, over_submitted, reported_given, table_given, unchecked_given, unexplained_given}
 use Rattle.royalty_program.proofs.OptionLemmas.{accepted_is_memory}
+use Rattle.royalty_program.specs.Answered.{AreDocumentsFrom}
+use Rattle.royalty_program.proofs.DocumentLemmas.{answers_documents, documents_given, left_given, no_statements_help_given, not_accepted_statements, nothing_added}
+use Rattle.royalty_program.proofs.DocumentLemmas as documents
 use Rattle.royalty_program.proofs.RunWalked.{no_help}
 use Rattle.royalty_program.proofs.answering.answer.Goals as goal
 
@@ -351,28 +354,28 @@ returns-in-Ok-Merge-clause-left g c path named =
     (λ text over. answers_merge (g.S.Source.holds c.args.files.now) (g.S.Texts.gives c.args.files.now) words asked text command read over) c.merge_out.ensures.left path named
 
 pub returns-in_err-settle_out-in-Ok-Run-clause-unused : goal.returns-in_err-settle_out-in-Ok-Run-clause-unused
-returns-in_err-settle_out-in-Ok-Run-clause-unused g c none =
+returns-in_err-settle_out-in-Ok-Run-clause-unused g c none other =
     let words = map string_bytes c.args.words.now in
     let command : word_at words 1 ≡ codes "run" = rw (c.in-Ok-Run.is, c.in-Ok-Run.field-0-is) at c.read_words.ensures.named in
     let read : AreReadFrom (drop 1 words) c.in-Ok-Run.asked = rw (c.in-Ok-Run.is, c.in-Ok-Run.field-0-is) at (c.read_words.ensures.run command) in
     unused_run words c.in-Ok-Run.asked.output _ command read.output c.settle_out.ensures.unused none
 
 pub returns-in-Ok-Run-clause-unused : goal.returns-in-Ok-Run-clause-unused
-returns-in-Ok-Run-clause-unused g c none =
+returns-in-Ok-Run-clause-unused g c none other =
     let words = map string_bytes c.args.words.now in
     let command : word_at words 1 ≡ codes "run" = rw (c.in-Ok-Run.is, c.in-Ok-Run.field-0-is) at c.read_words.ensures.named in
     let read : AreReadFrom (drop 1 words) c.in-Ok-Run.asked = rw (c.in-Ok-Run.is, c.in-Ok-Run.field-0-is) at (c.read_words.ensures.run command) in
     unused_run words c.in-Ok-Run.asked.output _ command read.output c.settle_out.ensures.unused none
 
 pub returns-in_err-merge_out-in-Ok-Merge-clause-unused : goal.returns-in_err-merge_out-in-Ok-Merge-clause-unused
-returns-in_err-merge_out-in-Ok-Merge-clause-unused g c none =
+returns-in_err-merge_out-in-Ok-Merge-clause-unused g c none other =
     let words = map string_bytes c.args.words.now in
     let command : word_at words 1 ≡ codes "merge" = rw (c.in-Ok-Merge.is, c.in-Ok-Merge.field-0-is) at c.read_words.ensures.named in
     let read : AreMergeFrom (drop 1 words) c.in-Ok-Merge.asked = rw (c.in-Ok-Merge.is, c.in-Ok-Merge.field-0-is) at (c.read_words.ensures.merged command) in
     unused_merge words c.in-Ok-Merge.asked.output _ command read.output c.merge_out.ensures.unused none
 
 pub returns-in-Ok-Merge-clause-unused : goal.returns-in-Ok-Merge-clause-unused
-returns-in-Ok-Merge-clause-unused g c none =
+returns-in-Ok-Merge-clause-unused g c none other =
     let words = map string_bytes c.args.words.now in
     let command : word_at words 1 ≡ codes "merge" = rw (c.in-Ok-Merge.is, c.in-Ok-Merge.field-0-is) at c.read_words.ensures.named in
     let read : AreMergeFrom (drop 1 words) c.in-Ok-Merge.asked = rw (c.in-Ok-Merge.is, c.in-Ok-Merge.field-0-is) at (c.read_words.ensures.merged command) in
@@ -407,3 +410,82 @@ returns-in_err-text-in-Ok-Starting-clause-table g c table named =
     let exit = err_from_is_err_and c.from_residual-in_err-text-in-Ok-Starting.result c.from_residual-in_err-text-in-Ok-Starting.ensures.1 in
     rw (exit.1, exit.2)
     (no_table_given (g.S.Source.holds c.args.files.now) (g.S.Source.refuses c.args.files.now) (drop 1 words) table asked read failed.field-0.0 failed.ensures.files)
+
+pub returns-in-Ok-Statements-clause-answered : goal.returns-in-Ok-Statements-clause-answered
+returns-in-Ok-Statements-clause-answered g c =
+    let words = map string_bytes c.args.words.now in
+    let holds = g.S.Source.holds c.args.files.now in
+    let gives = g.S.Texts.gives c.args.files.now in
+    let command : word_at words 1 ≡ codes "statements" = rw (c.in-Ok-Statements.is, c.in-Ok-Statements.field-0-is) at c.read_words.ensures.named in
+    let no_file = no_output (g.T.Target.keeps c.document_out.new.target) words (λ run. differ (sym command ∙ run) refl) (λ merge. differ (sym command ∙ merge) refl) in
+    ([], delivered_out (g.T.Target.keeps c.document_out.new.target) words _ _ [] no_file (nothing_added _), answers_documents holds gives words [] command)
+
+pub returns-in-Ok-Statements-clause-documents : goal.returns-in-Ok-Statements-clause-documents
+returns-in-Ok-Statements-clause-documents g c asks =
+    let words = map string_bytes c.args.words.now in
+    let asked = c.in-Ok-Statements.asked in
+    let read : AreDocumentsFrom (drop 1 words) asked = rw (c.in-Ok-Statements.is, c.in-Ok-Statements.field-0-is) at (c.read_words.ensures.documents asks.command) in
+    let made = c.in_ok-document_out-in-Ok-Statements.ensures.documents in (
+      made.0,
+      subst (λ (path : List ℕ). g.T.Folders.keeps_folder c.document_out.new.target path (Some made.0)) read.chosen.to made.1,
+      documents_given (g.S.Source.holds c.args.files.now) (drop 1 words) asked read made.0 made.2,
+    )
+
+pub returns-in_err-document_out-in-Ok-Statements-clause-undocumented : goal.returns-in_err-document_out-in-Ok-Statements-clause-undocumented
+returns-in_err-document_out-in-Ok-Statements-clause-undocumented g c command =
+    let words = map string_bytes c.args.words.now in
+    let asked = c.in-Ok-Statements.asked in
+    let failed = c.in_err-document_out-in-Ok-Statements in
+    let read : AreDocumentsFrom (drop 1 words) asked = rw (c.in-Ok-Statements.is, c.in-Ok-Statements.field-0-is) at (c.read_words.ensures.documents command) in
+    let exit = err_from_is_err_and c.from_residual-in_err-document_out-in-Ok-Statements.result c.from_residual-in_err-document_out-in-Ok-Statements.ensures.1 in
+    rw (exit.1, exit.2)
+    (documents.fails_given (g.S.Source.holds c.args.files.now) (drop 1 words) asked read (g.S.Source.refuses c.args.files.now) failed.field-0.0 failed.ensures.files)
+
+pub returns-in-Err-2-clause-undocumented : goal.returns-in-Err-2-clause-undocumented
+returns-in-Err-2-clause-undocumented g c command =
+    let words = map string_bytes c.args.words.now in
+    let not_memory : kind_of c.in-Err-2.error ≢ kinds.OutOfMemory = search rules in
+    not_accepted_statements (drop 1 words) c.in-Err-2.error not_memory (c.in-Err-2.ensures.no_documents command)
+
+pub returns-in-Ok-Statements-clause-left_folder : goal.returns-in-Ok-Statements-clause-left_folder
+returns-in-Ok-Statements-clause-left_folder g c command =
+    let words = map string_bytes c.args.words.now in
+    let asked = c.in-Ok-Statements.asked in
+    let read : AreDocumentsFrom (drop 1 words) asked = rw (c.in-Ok-Statements.is, c.in-Ok-Statements.field-0-is) at (c.read_words.ensures.documents command) in
+    let made = c.in_ok-document_out-in-Ok-Statements.ensures.documents in
+    left_given (g.S.Source.holds c.args.files.now) (drop 1 words) asked read (g.T.Folders.keeps_folder c.args.target.now) (g.T.Folders.keeps_folder c.document_out.new.target) (inr made)
+
+pub returns-in_err-document_out-in-Ok-Statements-clause-left_folder : goal.returns-in_err-document_out-in-Ok-Statements-clause-left_folder
+returns-in_err-document_out-in-Ok-Statements-clause-left_folder g c command =
+    let words = map string_bytes c.args.words.now in
+    let asked = c.in-Ok-Statements.asked in
+    let read : AreDocumentsFrom (drop 1 words) asked = rw (c.in-Ok-Statements.is, c.in-Ok-Statements.field-0-is) at (c.read_words.ensures.documents command) in
+    left_given (g.S.Source.holds c.args.files.now) (drop 1 words) asked read (g.T.Folders.keeps_folder c.args.target.now) (g.T.Folders.keeps_folder c.document_out.new.target)
+    c.in_err-document_out-in-Ok-Statements.ensures.left
+
+pub returns-in_err-settle_out-in-Ok-Run-clause-left_folder : goal.returns-in_err-settle_out-in-Ok-Run-clause-left_folder
+returns-in_err-settle_out-in-Ok-Run-clause-left_folder g c statements =
+    let command : word_at (map string_bytes c.args.words.now) 1 ≡ codes "run" = rw (c.in-Ok-Run.is, c.in-Ok-Run.field-0-is) at c.read_words.ensures.named in
+    absurd (differ (sym command ∙ statements) refl)
+
+pub returns-in-Ok-Run-clause-left_folder : goal.returns-in-Ok-Run-clause-left_folder
+returns-in-Ok-Run-clause-left_folder g c statements =
+    let command : word_at (map string_bytes c.args.words.now) 1 ≡ codes "run" = rw (c.in-Ok-Run.is, c.in-Ok-Run.field-0-is) at c.read_words.ensures.named in
+    absurd (differ (sym command ∙ statements) refl)
+
+pub returns-in_err-merge_out-in-Ok-Merge-clause-left_folder : goal.returns-in_err-merge_out-in-Ok-Merge-clause-left_folder
+returns-in_err-merge_out-in-Ok-Merge-clause-left_folder g c statements =
+    let command : word_at (map string_bytes c.args.words.now) 1 ≡ codes "merge" = rw (c.in-Ok-Merge.is, c.in-Ok-Merge.field-0-is) at c.read_words.ensures.named in
+    absurd (differ (sym command ∙ statements) refl)
+
+pub returns-in-Ok-Merge-clause-left_folder : goal.returns-in-Ok-Merge-clause-left_folder
+returns-in-Ok-Merge-clause-left_folder g c statements =
+    let command : word_at (map string_bytes c.args.words.now) 1 ≡ codes "merge" = rw (c.in-Ok-Merge.is, c.in-Ok-Merge.field-0-is) at c.read_words.ensures.named in
+    absurd (differ (sym command ∙ statements) refl)
+
+pub returns-in-Ok-format-clause-documents : goal.returns-in-Ok-format-clause-documents
+returns-in-Ok-format-clause-documents g c asks =
+    let words = map string_bytes c.args.words.now in
+    let none : ⊥ = (let bad : false ≡ true = c.if-use_stderr.ensures.1
+    (no_statements_help_given (drop 1 words) c.in-Err.error (c.in-Err.ensures.no_documents asks.command) asks.no_help) in cc) in
+    absurd none

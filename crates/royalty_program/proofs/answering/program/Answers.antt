@@ -1,8 +1,10 @@
-use Rattle.std.proofs.Common.{◌≡◌, ◌≤◌, ◌⊎◌, inl, inr, codes, drop, false, map, true}
-use Rattle.std.proofs.lemmas.Result.{IfErr-weaker}
+use Rattle.std.proofs.Common.{◌≡◌, ◌≤◌, ◌⊎◌, List, Some, inl, inr, codes, drop, false, map, true}
+use Rattle.std.proofs.lemmas.Result.{IfErr-weaker, IfOk-weaker}
 use Rattle.std.specs.Prelude.{string_bytes}
+use Rattle.distribution_documents.specs.Documents.{File}
 use Rattle.pair_split.specs.Pair.{word_at}
 use Rattle.royalty_program.specs.Answered.{IsAnswered, IsDelivered}
+use Rattle.royalty_program.specs.DocumentsAnswered.{AreDocumentsAnswered, AskForDocuments, folder_given}
 use Rattle.royalty_program.specs.Status.{status_of}
 use Rattle.royalty_program.specs.declared.failure.Failure.{Failure}
 use Rattle.royalty_program.proofs.EndLemmas.{check_fails_with, fails_with, left_alone, printed_whole, quiet_then, silent_then}
@@ -13,7 +15,7 @@ use Rattle.royalty_program.proofs.answering.program.Goals as goal
 pub returns-clause-failed : goal.returns-clause-failed
 returns-clause-failed g c = ends_with c.answer-printed.result c.end.result (g.S.Source.holds c.args.files.now) (g.S.Texts.gives c.args.files.now) (g.S.Source.refuses c.args.files.now) (map string_bytes c.args.words.now) _ _
     c.end.ensures.failed c.end.ensures.answered c.answer-printed.ensures.others c.answer-printed.ensures.failure c.answer-printed.ensures.pairs c.answer-printed.ensures.run c.answer-printed.ensures.explanation
-    c.answer-printed.ensures.checked c.answer-printed.ensures.merge c.answer-printed.ensures.table
+    c.answer-printed.ensures.checked c.answer-printed.ensures.merge c.answer-printed.ensures.table c.answer-printed.ensures.undocumented
 
 pub returns-clause-printed : goal.returns-clause-printed
 returns-clause-printed g c same =
@@ -45,3 +47,12 @@ returns-clause-silent g c which =
     let words = map string_bytes c.args.words.now in
     silent_then c.answer-printed.result c.end.result (word_at words 1 ≡ codes "check") (word_at words 1 ≡ codes "merge") _ _ _ c.end.ensures.answered c.answer-printed.ensures.others c.end.ensures.failed
     (left_alone c.answer-printed.result (λ (failure : Failure). (status_of failure ≤ 2) ⊎ (¬ (word_at words 1 ≡ codes "merge"))) _ _ _ c.end.ensures.silent c.answer-printed.ensures.silent) which
+
+pub returns-clause-documents : goal.returns-clause-documents
+returns-clause-documents g c same asks =
+    let words = map string_bytes c.args.words.now in
+    quiet_then c.answer-printed.result c.end.result true
+    (AskForDocuments words → (documents : List File) × g.T.Folders.keeps_folder c.answer-printed.new.target (folder_given (drop 1 words)) (Some documents)
+    × AreDocumentsAnswered (g.S.Source.holds c.args.files.now) (drop 1 words) documents)
+    (IfOk-weaker c.answer-printed.result _ _ (λ done made _. made) c.answer-printed.ensures.documents) c.end.ensures.failed
+    (IfErr-weaker c.answer-printed.result _ _ (λ failure _. fails_with failure) c.answer-printed.ensures.failure) same asks

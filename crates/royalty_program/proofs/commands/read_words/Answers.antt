@@ -1,7 +1,7 @@
 use Rattle.std.proofs.Common.{All, map, drop, ap, sym, ◌∙◌}
 use Rattle.std.specs.Prelude.{string_bytes}
 use Rattle.royalty_program.specs.Asked.{IsValue, number_in}
-use Rattle.royalty_program.specs.Answered.{AreCheckedFrom, AreExplainedFrom, AreMergeFrom, AreReadFrom}
+use Rattle.royalty_program.specs.Answered.{AreCheckedFrom, AreDocumentsFrom, AreExplainedFrom, AreMergeFrom, AreReadFrom}
 use Rattle.royalty_program.specs.Asked.{files_given}
 use Rattle.royalty_program.specs.NamedFiles.{AreNamedBy}
 use Rattle.royalty_program.specs.StartingCommand.{starting_app}
@@ -30,6 +30,12 @@ returns-in_ok-read_run-in-run-clause-in_order c asked =
     let words = c.args.words.now in
     let read : AreReadFrom (map string_bytes (others words)) c.in_ok-read_run-in-run.field-0 = c.in_ok-read_run-in-run.ensures.read in
     read_in_order (drop 1 (map string_bytes words)) c.in_ok-read_run-in-run.field-0 asked.options (rw (mapped_others string_bytes words) at read)
+
+pub returns-in_ok-read_statements-in-statements-clause-documents : goal.returns-in_ok-read_statements-in-statements-clause-documents
+returns-in_ok-read_statements-in-statements-clause-documents c command =
+    let words = c.args.words.now in
+    let read : AreDocumentsFrom (map string_bytes (others words)) c.in_ok-read_statements-in-statements.field-0 = c.in_ok-read_statements-in-statements.ensures.read in
+    rw (mapped_others string_bytes words) at read
 
 pub returns-in_ok-read_explain-in-explain-clause-explanation : goal.returns-in_ok-read_explain-in-explain-clause-explanation
 returns-in_ok-read_explain-in-explain-clause-explanation c command =
