@@ -55,13 +55,14 @@ MADE = {
          "merging/", "manifest", ".made"],
     "files of whoever calls": ["/dev/null", "usage.csv", "payees.csv", "territories.csv",
                                "works.cwr", "F.new"],
+    "a folder of documents": ["FOLDER.new", "payees/0001-NAME.*"],
 }
 
 # Files in which what a program says isn't looked up: documents, proofs, and these rules.
 UNREAD = r"\.md$|/proofs/|^tools/(?:names\.py|tests/)"
 
 # What stands in a text for something else.
-PLACEHOLDERS = r"\b(?:[A-Z]|MESSAGE|PATH|VAR)\b|\.\.|\b\d[\d.]*\b|: |[\w/.-]+\.(?:%s)\b|[^ -~]"
+PLACEHOLDERS = r"\b(?:[A-Z]|FOLDER|MESSAGE|PATH|VAR)\b|\.\.|\b\d[\d.]*\b|: |[\w/.-]+\.(?:%s)\b|[^ -~]"
 
 
 class Sources:
