@@ -380,6 +380,21 @@ check 'a check of a million lines' 0 'long.csv: usage lines: 1000000\n' '' bash 
 sed -i '1000001s/,P,/,X,/' long.csv
 check 'a fault in the last line of a long list' 1 '' 'royalty_run: usage fault 4 at row 1000000\n' "$program" run "${long[@]}" "${plan[@]}"
 rm long.csv
+# A file of more than four fifths of the most bytes, whose registrations are its last lines.
+{ yes "$(printf 'ALT%0148d' 0)" | head -n 1500000; cat "$examples/works.cwr"; } >long.cwr || true
+[ "$(stat -c %s long.cwr)" -gt $((most / 5 * 4)) ] || { echo 'program.sh: the long file is too short'; failed=$((failed + 1)); }
+check 'a long file of registrations' 0 '' '' "$program" run --tis "$examples/territories.csv" --cwr long.cwr --usage "$examples/usage.csv" "${plan[@]}" --output paid
+holds 'a long file of registrations' paid "$examples/statements.csv"
+rm long.cwr paid
+# A text of three million rows of a payee and as many of the residue, which is merged again.
+awk 'BEGIN { print "usage,work,territory,right,amount"; for (n = 1; n <= 1000000; n++) print "u,NT0002,250,M,4" }' >long.csv
+check 'a million lines of a payee' 0 '' '' "$program" run --tis "$examples/territories.csv" --cwr "$examples/works.cwr" --usage long.csv "${plan[@]}" --output part1
+cp part1 part2
+cp part1 part3
+check 'three long texts' 0 '' '' "$program" merge --output whole part1 part2 part3
+check 'the last rows of a long text' 0 'T,,3000000,3000000\nR,,3000000,12000000\n' '' tail -n 2 whole
+check 'a long text that is merged again' 0 '' '' bash -c 'set -o pipefail; "$0" merge whole | cmp - whole' "$program"
+rm long.csv part1 part2 part3 whole
 # Of many faults the first hundred are told, and how many more there are.
 awk 'BEGIN { print "usage,work,territory,right,amount"; for (n = 1; n <= 6000; n++) print "u,W,276,X,1" }' >faulty.csv
 check 'a check of six thousand faults' 1 'faulty.csv: further faults: 5900\n' '' bash -c '"$0" "$@" >told; status=$?; grep further told; exit "$status"' "$program" check --tis territories.csv --cwr works.cwr --usage faulty.csv

@@ -2,3 +2,5 @@ pub mod Parts
 pub mod OneReading
 pub mod Submitters
 pub mod Accounts
+mod FirstOut
+mod Reports

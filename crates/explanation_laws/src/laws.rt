@@ -1,12 +1,14 @@
-//! What explanations and reports over the files of several submitters keep to. A law has an empty body: its contract is
-//! the law.
+//! What explanations and reports over the files of several submitters keep to, and what a report has to do with a run.
+//! A law has an empty body, or calls another law: its contract is the law.
 
-ghost use Rattle.std.specs.Prelude.{ℕ, ℤ, ◌≡◌, ◌<◌, ◌+◌, ◌==◌, [], All, AllPairs, Contains, List, Some};
+ghost use Rattle.std.specs.Prelude.{ℕ, ℤ, ◌≡◌, ◌<◌, ◌+◌, ◌==◌, ◌↔◌, [], All, AllPairs, Contains, List, Some, true};
 ghost use Rattle.std.specs.Prelude.{filter, length, slice_index_or, sum_by, unwrap_or};
+ghost use Rattle.check_inputs.specs.Found.{Found, IsFoundIn, is_sound};
 ghost use Rattle.check_inputs.specs.SubmittedOver.{claims_of_submitters};
 ghost use Rattle.cwr_share.specs.ClaimsOn.{claimed_in, claims_by, claims_on};
 ghost use Rattle.cwr_share.specs.Registered.{IsRegistered, Registered};
 ghost use Rattle.cwr_share.specs.Registrations.{ShareLine, find_work};
+ghost use Rattle.explanation_laws.specs.FirstFound.{first_fault};
 ghost use Rattle.explain_line.specs.Explanation.{IsRow, portions_shown};
 ghost use Rattle.explain_line.specs.Submitted.{IsSubmittedExplanationOf};
 ghost use Rattle.line_split.specs.Claims.{total_of};
@@ -14,12 +16,30 @@ ghost use Rattle.line_split.specs.Signs.{signed_portions_of};
 ghost use Rattle.line_split.specs.UsageLine.{UsageLine};
 ghost use Rattle.linked_works.specs.Linked.{Finds, Link, shares_linked};
 ghost use Rattle.payee_book.specs.Run.{IsBookOf, portion_for, posting_of};
+ghost use Rattle.run_inputs.specs.Inputs.{HaveNoFault, IsFaultOf};
+ghost use Rattle.run_inputs.specs.declared.fault.Fault.{Fault};
+ghost use Rattle.run_inputs.specs.declared.inputs.Inputs.{Inputs};
 ghost use Rattle.run_inputs.specs.declared.inputs.Tables.{Tables};
 ghost use Rattle.submitted_inputs.specs.Submitted.{IsReading};
 ghost use Rattle.submitted_inputs.specs.declared.inputs.SubmittedTables.{SubmittedTables};
 ghost use Rattle.submitted_laws.specs.Alike.{HoldsOneText};
 
+use run_inputs::laws::law_inputs_that_are_read_have_no_fault;
 use submitted_inputs::SubmitterFiles;
+
+/// The first fault that a report tells is one that a run over the same files is refused for.
+pub fn law_the_first_fault_of_a_report_refuses_a_run()
+    ensures { (files : Inputs (List ℕ)) (found : Found) (fault : Fault) → IsFoundIn files found
+        → first_fault found ≡ Some fault → IsFaultOf files fault }
+{}
+
+/// A report tells of no fault exactly where no input has one.
+pub fn law_a_report_is_sound_where_no_input_has_a_fault()
+    ensures { (files : Inputs (List ℕ)) (found : Found) → IsFoundIn files found
+        → (is_sound found ≡ true) ↔ HaveNoFault files }
+{
+    law_inputs_that_are_read_have_no_fault();
+}
 
 /// A row of the usage list has one explanation, where each file has one text: whoever works it out by the definitions
 /// comes to the same bytes.

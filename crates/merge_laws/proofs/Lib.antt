@@ -1,6 +1,7 @@
 mod Limits
 mod ManyRuns
 mod Names
+mod OneFile
 mod OneList
 mod Parts
 mod Runs

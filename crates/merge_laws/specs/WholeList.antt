@@ -1,6 +1,8 @@
 -- A list of usage lines that is spread over several files.
-use Rattle.std.specs.Prelude.{ℕ, ◌≡◌, ◌++◌, ◌∷◌, [], List}
+use Rattle.std.specs.Prelude.{ℕ, ◌≡◌, ◌++◌, ◌∷◌, [], List, drop, flat_map}
+use Rattle.csv_table.specs.Table.{rows_of}
 use Rattle.line_split.specs.UsageLine.{UsageLine}
+use Rattle.line_split.specs.UsageTable.{header}
 use Rattle.run_inputs.specs.Inputs.{IsReading, with_lines, with_usage}
 use Rattle.run_inputs.specs.declared.inputs.Inputs.{Inputs}
 use Rattle.run_inputs.specs.declared.inputs.Tables.{Tables}
@@ -20,3 +22,7 @@ pub record AreStatementsOfAll (inputs : Inputs (List ℕ)) (usage_files : List (
   pub tables : Tables
   pub read : AreLinesOf inputs usage_files tables
   pub statements : AreStatementsFor tables text
+
+-- One file has the rows of several: the header once, and the rows below the header of each file, in order.
+abbrev pub HasRowsOfAll : (usage_files : List (List ℕ)) → (whole : List ℕ) → Type 0
+HasRowsOfAll usage_files whole = rows_of whole ≡ header ∷ flat_map (λ file. drop 1 (rows_of file)) usage_files

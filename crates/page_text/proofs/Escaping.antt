@@ -4,7 +4,7 @@ use Rattle.std.specs.Prelude.{◌==◌, codes}
 use Rattle.std.specs.List.{list_all}
 use Rattle.std.proofs.lemmas.Bool.{and_parts, cases_eq}
 use Rattle.std.proofs.lemmas.Bool.Decides.{nat_tests}
-use Rattle.std.proofs.lemmas.List.Elements.{All-append, All-cons, All-nil}
+use Rattle.std.proofs.lemmas.List.Elements.{All-append, All-cons, All-head, All-nil, All-tail}
 use Rattle.page_text.specs.Escaped.{escaped, escaped_byte, read_back, read_from}
 
 -- a byte that is none of the five stands as it is
@@ -77,3 +77,9 @@ reads_from (suc n) (byte ∷ rest) h =
 
 pub reads_back : (text : List ℕ) → read_back (escaped text) ≡ text
 reads_back text = reads_from (length (escaped text)) text (le_refl _)
+
+-- a text in which every byte stands as it is
+pub escaped_as_it_is : (text : List ℕ) → All (λ byte. escaped_byte byte ≡ byte ∷ []) text → escaped text ≡ text
+escaped_as_it_is [] all = refl
+escaped_as_it_is (byte ∷ rest) all =
+    (λ i. All-head (λ b. escaped_byte b ≡ b ∷ []) byte rest all i ++ escaped_as_it_is rest (All-tail (λ b. escaped_byte b ≡ b ∷ []) byte rest all) i)

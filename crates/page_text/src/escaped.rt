@@ -1,6 +1,6 @@
 //! Text as it stands in a page of HTML.
 
-ghost use Rattle.std.specs.Prelude.{◌≡◌, ◌++◌, OnOk};
+ghost use Rattle.std.specs.Prelude.{◌≡◌, ◌++◌, ◌↔◌, ◌∷◌, [], All, IsTrue, OnOk};
 ghost use Rattle.page_text.specs.Escaped.{escaped, escaped_byte};
 
 use std::alloc::AllocError;
@@ -10,10 +10,21 @@ use std::alloc::AllocError;
 pub fn add_escaped(page: &mut Vec<u8>, text: &[u8]) -> Result<(), AllocError>
     ensures { OnOk result (page.new.items ≡ page.old.items ++ escaped text.now) }
 {
+    if stands(text) {
+        return page.extend_from_slice(text);
+    }
     for place in 0..text.len() {
         add_byte(page, text[place])?;
     }
     Ok(())
+}
+
+/// Whether a text has none of the bytes that something else stands for.
+fn stands(text: &[u8]) -> bool
+    ensures { IsTrue result ↔ All (λ byte. escaped_byte byte ≡ byte ∷ []) text.now }
+{
+    text.iter()
+        .all(|byte| !matches!(*byte, b'&' | b'<' | b'>' | b'"' | b'\''))
 }
 
 /// Adds a byte, or what stands for it.

@@ -1,6 +1,6 @@
 //! A text of any bytes, as a document shows it.
 
-ghost use Rattle.std.specs.Prelude.{◌≡◌, ◌++◌, ◌<◌, OnOk, flat_map, if◌then◌else◌};
+ghost use Rattle.std.specs.Prelude.{◌≡◌, ◌++◌, ◌<◌, ◌≤◌, ◌↔◌, All, IsTrue, OnOk, flat_map, if◌then◌else◌};
 ghost use Rattle.page_text.specs.Shown.{byte_code, hex, is_seen, shown, shown_span};
 
 use bstr::ByteSlice;
@@ -11,10 +11,20 @@ use std::alloc::AllocError;
 pub fn add_shown(text: &mut Vec<u8>, bytes: &[u8]) -> Result<(), AllocError>
     ensures { OnOk result (text.new.items ≡ text.old.items ++ shown bytes.now) }
 {
+    if is_plain(bytes) {
+        return text.extend_from_slice(bytes);
+    }
     for (begin, end, character) in bytes.char_indices() {
         add_span(text, &bytes[begin..end], is_visible(character))?;
     }
     Ok(())
+}
+
+/// Whether a text has characters of ASCII that a reader can see, and no other.
+fn is_plain(bytes: &[u8]) -> bool
+    ensures { IsTrue result ↔ All (λ byte. (32 ≤ byte) × (byte ≤ 126)) bytes.now }
+{
+    bytes.iter().all(|byte| *byte >= 32 && *byte <= 126)
 }
 
 /// Adds the bytes of a character, as they stand or by their digits.

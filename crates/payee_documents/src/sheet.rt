@@ -103,7 +103,7 @@ fn add_fields<'a>(
 fn guarded_text(alloc: Global, text: &[u8]) -> Result<Vec<u8>, AllocError>
     ensures { IfOk result (λ field. field.items ≡ guarded text.now) }
 {
-    let mut field = Vec::new(alloc);
+    let mut field = Vec::with_capacity(alloc, text.len())?;
     add_guarded(&mut field, text)?;
     Ok(field)
 }
@@ -112,7 +112,7 @@ fn guarded_text(alloc: Global, text: &[u8]) -> Result<Vec<u8>, AllocError>
 fn title_text(alloc: Global, title: &[u8]) -> Result<Vec<u8>, AllocError>
     ensures { IfOk result (λ field. field.items ≡ guarded (shown title.now)) }
 {
-    let mut text = Vec::new(alloc);
+    let mut text = Vec::with_capacity(alloc, title.len())?;
     add_shown(&mut text, title)?;
     guarded_text(alloc, text.as_slice())
 }

@@ -19,7 +19,7 @@ use Rattle.royalty_program.specs.Answered.{AreDocumentsFrom, IsAnswered}
 use Rattle.royalty_program.specs.Asked.{AreAccepted, AreFilesAccepted, AskForHelp, EitherRun, IsErrorOf, IsStatementsError, IsSubmittedError}
 use Rattle.royalty_program.specs.Asked.{inputs_given, name_works, statements_grammar, submitted_given}
 use Rattle.royalty_program.specs.DocumentFiles.{AreDocumentsAsked, AreDocumentsOfInputs, AreDocumentsOver, AreLandsOver, AreNamesRefused, AreSubmittedDocumentsOver, IsOfDocuments, IsOfNames, said_by}
-use Rattle.royalty_program.specs.DocumentsAnswered.{AreDocumentsAnswered, AreStatementsAccepted, IsOfStatements, folder_given, names_given, said_in}
+use Rattle.royalty_program.specs.DocumentsAnswered.{AreDocumentsAnswered, AreStatementsAccepted, IsOfAccepted, IsOfStatements, folder_given, names_given, said_in}
 use Rattle.royalty_program.specs.Folders.{IsLeftOrHasFolder, IsOfFolderNamed}
 use Rattle.royalty_program.specs.RunInputs.{IsOfInputs}
 use Rattle.royalty_program.specs.StatementsCommand.{statements_app, submitted_statements_app}
@@ -87,14 +87,6 @@ no_words_of_inputs : (holds : List ℕ → List ℕ → Type 0) (refuses : List 
 no_words_of_inputs holds refuses (OneFile inputs) error none = none
 no_words_of_inputs holds refuses (Submitted inputs) error is = no_words_of_submitted holds refuses (paths_of inputs) error is
 
--- what the words fail for, but for themselves
-abbrev IsOfStatementsElse : (holds : List ℕ → List ℕ → Type 0) (refuses : List ℕ → ErrorKind → Type 0) → List (List ℕ) → Failure → Type 0
-IsOfStatementsElse holds refuses words failure =
-    IsOfFolderNamed (folder_given words) failure
-    ⊎ ((path : String Global) × (names_given words ≡ Some (string_bytes path)) × (IsOfFile refuses path failure ⊎ AreNamesRefused holds (string_bytes path) failure))
-    ⊎ EitherRun (name_works words) (IsOfPaths holds refuses (inputs_given statements_app words) failure)
-    (IsOfSubmitted holds refuses (submitted_given submitted_statements_app words) failure)
-
 module _ (holds : List ℕ → List ℕ → Type 0) (words : List (List ℕ)) (asked : StatementsWords) (read : AreDocumentsFrom words asked) where
   -- what is said of the distribution is what the options say
   said_is : (lands : List (ℕ × List ℕ)) → said_by asked lands ≡ said_in words lands
@@ -120,13 +112,13 @@ module _ (holds : List ℕ → List ℕ → Type 0) (words : List (List ℕ)) (a
   ])
 
   module _ (refuses : List ℕ → ErrorKind → Type 0) where
-    no_words_of_names : (error : Error) → ¬ IsOfNames holds refuses asked.names (failures.Words error)
+    no_words_of_names : (error : Error) → ¬ IsOfNames holds refuses (option_map string_bytes asked.names) (failures.Words error)
     no_words_of_names error (path, is, inl (kind, refused, unread)) = no_words_of_file kind path error unread
     no_words_of_names error (path, is, inr refused) = no_words_of_table refused.fault error refused.said
 
-    given : (failure : Failure) → IsOfDocuments holds refuses asked failure → IsOfStatementsElse holds refuses words failure
+    given : (failure : Failure) → IsOfDocuments holds refuses asked failure → IsOfAccepted holds refuses words failure
     given failure (inl folder) = inl (asked.to, read.chosen.to, folder)
-    given failure (inr (inl (path, is, names))) = inr (inl (path, sym read.chosen.names ∙ ap (option_map string_bytes) is, names))
+    given failure (inr (inl names)) = inr (inl (subst (λ (given : Option (List ℕ)). IsOfNames holds refuses given failure) read.chosen.names names))
     given failure (inr (inr inputs)) = inr (inr (by_inputs (λ paths. IsOfPaths holds refuses paths failure) (λ paths. IsOfSubmitted holds refuses paths failure) (name_works words)
         (inputs_given statements_app words) (submitted_given submitted_statements_app words) asked.inputs read.inputs inputs))
 

@@ -18,13 +18,14 @@ use Rattle.royalty_program.specs.declared.failure.Failure.{Failure}
 
 module _ (holds : List ℕ → List ℕ → Type 0) (refuses : List ℕ → ErrorKind → Type 0) (failure : Failure) where
   -- the table cannot be read
-  pub of_unread : (names : Option (String Global)) → IsSome names → IfSome names (λ path. IsOfFile refuses path failure) → IsOfNames holds refuses names failure
+  pub of_unread : (names : Option (String Global)) → IsSome names → IfSome names (λ path. IsOfFile refuses path failure)
+      → IsOfNames holds refuses (option_map string_bytes names) failure
   of_unread None there fails = cc
   of_unread (Some path) there fails = (path, refl, inl fails)
 
   -- or is refused
   pub of_refused : (names : Option (String Global)) (bytes : List ℕ) (fault : NameFault) → HoldsIfGiven holds (option_map string_bytes names) (Some bytes) → IsFaultOf (rows_of bytes) fault
-      → failure ≡ failure_of_names fault → IsOfNames holds refuses names failure
+      → failure ≡ failure_of_names fault → IsOfNames holds refuses (option_map string_bytes names) failure
   of_refused None bytes fault held fault_of said = absurd held
   of_refused (Some path) bytes fault held fault_of said = (path, refl, inr (record { bytes = bytes; held = held; fault = fault; fault_of = fault_of; said = said }))
 

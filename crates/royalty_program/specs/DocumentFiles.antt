@@ -75,13 +75,13 @@ pub record AreNamesRefused (holds : List ℕ → List ℕ → Type 0) (path : Li
 
 -- the names of territories fail since the table of the path cannot be read, or is refused
 abbrev pub IsOfNames : (holds : List ℕ → List ℕ → Type 0) → (refuses : List ℕ → ErrorKind → Type 0)
-    → Option (String Global) → Failure → Type 0
-IsOfNames holds refuses names failure = (path : String Global) × (names ≡ Some path)
+    → Option (List ℕ) → Failure → Type 0
+IsOfNames holds refuses names failure = (path : String Global) × (names ≡ Some (string_bytes path))
     × (IsOfFile refuses path failure ⊎ AreNamesRefused holds (string_bytes path) failure)
 
 -- Documents fail for their folder, for the names of territories, or as a run does.
 abbrev pub IsOfDocuments : (holds : List ℕ → List ℕ → Type 0) → (refuses : List ℕ → ErrorKind → Type 0)
     → StatementsWords → Failure → Type 0
 IsOfDocuments holds refuses asked failure =
-    IsOfFolder asked.to failure ⊎ IsOfNames holds refuses asked.names failure
+    IsOfFolder asked.to failure ⊎ IsOfNames holds refuses (option_map string_bytes asked.names) failure
     ⊎ IsOfInputs holds refuses asked.inputs failure

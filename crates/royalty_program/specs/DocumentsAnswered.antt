@@ -1,6 +1,5 @@
 -- What words that ask for documents are answered with, and what they fail for.
-use Rattle.std.specs.Prelude.{ℕ, ◌≡◌, ◌⊎◌, [], List, Option, Some, String, codes, drop, string_bytes}
-use Rattle.std.specs.declared.alloc.Global.{Global}
+use Rattle.std.specs.Prelude.{ℕ, ◌≡◌, ◌⊎◌, [], List, Option, codes, drop}
 use Rattle.std.specs.declared.io.ErrorKind.{ErrorKind}
 use Rattle.distribution_documents.specs.Documents.{File}
 use Rattle.document_run.specs.Wordings.{Said}
@@ -8,11 +7,11 @@ use Rattle.pair_split.specs.Pair.{word_at}
 use Rattle.royalty_program.specs.Asked.{AreAccepted, AreFilesAccepted, AskForHelp, EitherRun, inputs_given, name_works}
 use Rattle.royalty_program.specs.Asked.{number_or, path_given, path_if_given, statements_grammar, submitted_given}
 use Rattle.royalty_program.specs.Asked.{text_or}
-use Rattle.royalty_program.specs.DocumentFiles.{AreDocumentsOver, AreLandsOver, AreNamesRefused}
-use Rattle.royalty_program.specs.DocumentFiles.{AreSubmittedDocumentsOver}
+use Rattle.royalty_program.specs.DocumentFiles.{AreDocumentsOver, AreLandsOver}
+use Rattle.royalty_program.specs.DocumentFiles.{AreSubmittedDocumentsOver, IsOfNames}
 use Rattle.royalty_program.specs.Folders.{IsOfFolderNamed}
 use Rattle.royalty_program.specs.StatementsCommand.{statements_app, submitted_statements_app}
-use Rattle.royalty_program.specs.Status.{IsOfFile, IsOfPaths, IsOfSubmitted}
+use Rattle.royalty_program.specs.Status.{IsOfPaths, IsOfSubmitted}
 use Rattle.royalty_program.specs.declared.failure.Failure.{Failure}
 use Rattle.royalty_program.specs.declared.failure.Failure.TheVariants.{Words}
 
@@ -57,13 +56,17 @@ abbrev pub AreStatementsAccepted : List (List ℕ) → Type 0
 AreStatementsAccepted words =
     EitherRun (name_works words) (AreAccepted statements_app words) (AreFilesAccepted submitted_statements_app words)
 
--- The words fail since they are not accepted, for the folder, for the names of territories, or as a run does.
+-- Words that are accepted fail for the folder, for the names of territories, or as a run does.
+abbrev pub IsOfAccepted : (holds : List ℕ → List ℕ → Type 0) → (refuses : List ℕ → ErrorKind → Type 0)
+    → List (List ℕ) → Failure → Type 0
+IsOfAccepted holds refuses words failure =
+    IsOfFolderNamed (folder_given words) failure
+    ⊎ IsOfNames holds refuses (names_given words) failure
+    ⊎ EitherRun (name_works words) (IsOfPaths holds refuses (inputs_given statements_app words) failure)
+    (IsOfSubmitted holds refuses (submitted_given submitted_statements_app words) failure)
+
+-- The words fail since they are not accepted, or for what accepted ones fail for.
 abbrev pub IsOfStatements : (holds : List ℕ → List ℕ → Type 0) → (refuses : List ℕ → ErrorKind → Type 0)
     → List (List ℕ) → Failure → Type 0
 IsOfStatements holds refuses words (Words error) = ¬ AreStatementsAccepted words
-IsOfStatements holds refuses words failure =
-    IsOfFolderNamed (folder_given words) failure
-    ⊎ ((path : String Global) × (names_given words ≡ Some (string_bytes path))
-    × (IsOfFile refuses path failure ⊎ AreNamesRefused holds (string_bytes path) failure))
-    ⊎ EitherRun (name_works words) (IsOfPaths holds refuses (inputs_given statements_app words) failure)
-    (IsOfSubmitted holds refuses (submitted_given submitted_statements_app words) failure)
+IsOfStatements holds refuses words failure = IsOfAccepted holds refuses words failure

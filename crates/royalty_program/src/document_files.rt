@@ -7,7 +7,8 @@ ghost use Rattle.distribution_documents.specs.Written.{AreWritten};
 ghost use Rattle.document_run.specs.Wordings.{CanBeShown, wording_shown};
 ghost use Rattle.run_inputs.specs.Inputs.{map_inputs};
 ghost use Rattle.royalty_program.specs.DocumentFiles.{AreDocumentsAsked, AreDocumentsOfInputs, AreDocumentsOver};
-ghost use Rattle.royalty_program.specs.DocumentFiles.{AreLandsOver, AreSubmittedDocumentsOver, IsOfDocuments, IsOfNames};
+ghost use Rattle.royalty_program.specs.DocumentFiles.{AreLandsOver, AreSubmittedDocumentsOver};
+ghost use Rattle.royalty_program.specs.DocumentFiles.{IsOfDocuments, IsOfNames};
 ghost use Rattle.royalty_program.specs.Folders.{IfWritten, IsFolderLeft, IsLeftOrHasFolder, IsLeftOrKept, IsOfFolder};
 ghost use Rattle.royalty_program.specs.Status.{IsOfPaths, IsOfSubmitted, IsRefusal, failure_of_folder};
 ghost use Rattle.royalty_program.specs.RunInputs.{IsOfInputs};
@@ -206,7 +207,7 @@ fn territories_of<S: Source>(
 ) -> Result<TerritoryNames, Failure>
     ensures names { IfOk result (λ names. AreLandsOver (S.holds files.now) (option_map string_bytes path) names) }
     ensures failure { IfErr result IsRefusal }
-    ensures files { IfErr result (IsOfNames (S.holds files.now) (S.refuses files.now) path) }
+    ensures files { IfErr result (IsOfNames (S.holds files.now) (S.refuses files.now) (option_map string_bytes path)) }
 {
     match file_if_given(files, alloc, path)? {
         Some(file) => Ok(TerritoryNames::read(alloc, file.bytes.as_slice())?),

@@ -112,6 +112,7 @@ fn answer<R: Files + AllocGlobal + Threads + Wait + Sync>(
         "amount" => merging::amount(alloc, question),
         "count" => merging::count(alloc, question),
         "merged" => merging::merged(alloc, question),
+        "merged_rows" => merging::merged_rows(alloc, question),
         "checked" => merging::checked(alloc, question),
         "cut" => merging::cut_off(alloc, question),
         "lines" => reading::lines(alloc, of, question),

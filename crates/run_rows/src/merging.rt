@@ -47,6 +47,18 @@ pub fn merged(alloc: Global, question: &str) -> Result<String> {
     })
 }
 
+/// How many rows texts merge to, and the last of them.
+pub fn merged_rows(alloc: Global, question: &str) -> Result<String> {
+    let text = merged(alloc, question)?;
+    let mut count = 0u64;
+    let mut last = "";
+    for row in text.lines() {
+        count = count.saturating_add(1);
+        last = row;
+    }
+    Ok(format!(in alloc; "{count} rows, the last {last}")?)
+}
+
 /// How many usage lines a text is of, or what it is refused for.
 pub fn checked(alloc: Global, question: &str) -> Result<String> {
     let text = written_out(alloc, question)?;

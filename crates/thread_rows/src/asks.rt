@@ -1,5 +1,6 @@
 //! What rows ask of runs.
 
+use crate::gates::Told;
 use crate::inputs::{Inputs, inputs_in, number_at, plan_in, plan_of};
 use crate::kinds;
 use crate::roll_call::RollCall;
@@ -10,6 +11,9 @@ use std::alloc::Global;
 use std::rt::Files;
 use std::sync::Wait;
 use std::thread::Threads;
+
+/// How often a run that is cut is tried.
+const MOST_TRIES: u32 = 1_000;
 
 /// The answer to a question below a heading.
 pub fn answer<R: Files + AllocGlobal + Threads + Wait + Sync>(
@@ -27,8 +31,10 @@ pub fn answer<R: Files + AllocGlobal + Threads + Wait + Sync>(
         "book" => book(rt, alloc, kind, &inputs, question),
         "books" => books(rt, alloc, kind, &inputs, question),
         "cut" => cut(rt, alloc, kind, &inputs, question),
+        "cut-told" => cut_told(rt, alloc, kind, &inputs, question),
         "takes" => takes(rt, alloc, kind, &inputs, question),
         "told" => told(rt, alloc, kind, &inputs, question),
+        "early" => early(rt, alloc, &inputs, question),
         "workers-meet" => workers_meet(rt, alloc, kind, &inputs, question),
         "readers-meet" => readers_meet(rt, alloc, kind, &inputs, question),
         _ => bail!("nothing is asked so"),
@@ -121,10 +127,40 @@ fn cut<R: Threads + Wait + Sync>(
     question: &str,
 ) -> Result<String> {
     let threads = number_at(question, 3)?;
-    match kinds::book_cut(rt, alloc, kind, inputs, plan_in(question)?, threads)? {
+    match kinds::book_cut(
+        rt,
+        alloc,
+        kind,
+        inputs,
+        plan_in(question)?,
+        &NoGate,
+        threads,
+    )? {
         Some(book) => shown(alloc, inputs, &book),
         None => Ok(String::from_str(alloc, "no book")?),
     }
+}
+
+/// Whether a worker comes to a line in a run without a book, whose thread with the number at the end counts as refused.
+/// It is tried until one comes, since those that were started may find the run stopped.
+fn cut_told<R: Threads + Wait + Sync>(
+    rt: &R,
+    alloc: Global,
+    kind: &str,
+    inputs: &Inputs,
+    question: &str,
+) -> Result<String> {
+    let (plan, threads) = (plan_in(question)?, number_at(question, 3)?);
+    let gate = Told::new();
+    for _ in 0..MOST_TRIES {
+        if kinds::book_cut(rt, alloc, kind, inputs, plan, &gate, threads)?.is_some() {
+            bail!("there is a book");
+        }
+        if gate.has_come() {
+            return Ok(String::from_str(alloc, "no book, a line")?);
+        }
+    }
+    Ok(String::from_str(alloc, "no book, no line")?)
 }
 
 /// How many items a run by a plan takes.
@@ -151,6 +187,24 @@ fn told<R: Threads + Wait + Sync>(
     let gate = RollCall::of(alloc, workers, inputs.usage.len())?;
     let _ = kinds::book(rt, alloc, kind, inputs, plan_of(workers, 2, 64)?, &gate)?;
     gate.told(alloc)
+}
+
+/// How many lines of so many postings each a gate is told by a worker, and how many of them had something taken while
+/// the worker waited there.
+fn early<R: Threads + Wait + Sync>(
+    rt: &R,
+    alloc: Global,
+    inputs: &Inputs,
+    question: &str,
+) -> Result<String> {
+    let (told, late) = kinds::early(
+        rt,
+        alloc,
+        inputs,
+        plan_of(1, 1, 64)?,
+        number_at(question, 0)?,
+    )?;
+    Ok(format!(in alloc; "{told} lines, {late} with something taken")?)
 }
 
 /// The book of a run by a plan whose first worker is held at its first line until the other has come to so many

@@ -1,5 +1,6 @@
 //! Runs over each kind of mailboxes: `links`, `lanes`, their shy ones, and a `pool`.
 
+use crate::gates::Early;
 use crate::inputs::Inputs;
 use anyhow::{Result, bail};
 use mail_box::{LaneMail, LinkMail, Mail, ShyMail};
@@ -57,21 +58,22 @@ fn over_pool<P: Pool, G: Gate, R: Threads + Wait + Sync>(
 }
 
 /// The book of a run whose thread with a number counts as refused. None: there is no book.
-pub fn book_cut<R: Threads + Wait + Sync>(
+pub fn book_cut<G: Gate, R: Threads + Wait + Sync>(
     rt: &R,
     alloc: Global,
     kind: &str,
     inputs: &Inputs,
     plan: Plan,
+    gate: &G,
     threads: u64,
 ) -> Result<Option<Book>> {
     let (tis, registry, usage) = (&inputs.tis, &inputs.registry, &inputs.usage);
     let book = match kind {
         "links" => run_cut(
-            rt, alloc, &LinkMail, tis, registry, usage, plan, &NoGate, threads,
+            rt, alloc, &LinkMail, tis, registry, usage, plan, gate, threads,
         ),
         "pool" => run_pool_cut(
-            rt, alloc, &PoolMail, tis, registry, usage, plan, &NoGate, threads,
+            rt, alloc, &PoolMail, tis, registry, usage, plan, gate, threads,
         ),
         _ => bail!("no such kind"),
     };
@@ -110,6 +112,20 @@ fn takes_over<M: Mail + Drop, R: Threads + Wait + Sync>(
     let counting = CountingMail::new(alloc, mail)?;
     let _ = over_mail(rt, alloc, &counting, inputs, plan, &NoGate)?;
     Ok(counting.takes())
+}
+
+/// How many lines a gate is told by a run over a pool that counts, and how many of them had something taken.
+pub fn early<R: Threads + Wait + Sync>(
+    rt: &R,
+    alloc: Global,
+    inputs: &Inputs,
+    plan: Plan,
+    postings: u64,
+) -> Result<(u64, u64)> {
+    let counting = CountingPool::new(alloc, PoolMail)?;
+    let gate = Early::of(&counting, postings);
+    let _ = over_pool(rt, alloc, &counting, inputs, plan, &gate)?;
+    Ok((gate.told(), gate.late()))
 }
 
 /// The book of a run in whose mailboxes the first reader waits for another, and whether it was let go by it.

@@ -6,6 +6,7 @@
 #![tactic(auto)]
 
 mod asks;
+mod gates;
 mod inputs;
 mod kinds;
 mod roll_call;

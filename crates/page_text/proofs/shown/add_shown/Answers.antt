@@ -1,8 +1,8 @@
-use Rattle.std.proofs.Common.{◌++◌, ◌∙◌, ℕ, ap, flat_map, length, sym, rules}
+use Rattle.std.proofs.Common.{◌++◌, ◌∙◌, ℕ, ap, flat_map, length, refl, sym, rules}
 use Rattle.std.proofs.lemmas.List.Elements.{All-same, All-head, All-rest}
 use Rattle.bstr.proofs.lemmas.SpanLemmas.{IsWithin, All-char_spans}
 use Rattle.page_text.specs.Shown.{shown_span}
-use Rattle.page_text.proofs.Seeing.{span_added}
+use Rattle.page_text.proofs.Seeing.{plain_shown, span_added}
 use Rattle.page_text.proofs.shown.add_shown.Goals as goal
 
 pub loop-begin-init : goal.loop-begin-init
@@ -40,3 +40,8 @@ loop-begin-preserved c =
       within = All-rest (IsWithin (length bytes)) _ _ _ steps c.loop-begin.invariant.within;
       adds = rw (c.in_ok-add_span.ensures, c.is_visible.ensures) (span_added bytes c.loop-begin.text.items _ span _ _ steps c.loop-begin.invariant.adds);
     }
+
+pub returns-then-is_plain : goal.returns-then-is_plain
+returns-then-is_plain c =
+    let same = plain_shown c.args.bytes.now (c.if-is_plain.ensures.0 refl) in
+    search rules

@@ -1,7 +1,7 @@
 use Rattle.std.proofs.Common.{◌⊎◌, List, Some, Vec, Global, inl, inr}
 use Rattle.std.proofs.lemmas.Result.{IfErr-weaker, IfOk-weaker, on_err_weaker}
 use Rattle.std.proofs.lemmas.Option.{IfSome_then}
-use Rattle.std.specs.Prelude.{IfErr, IfOk, IfSome, string_bytes}
+use Rattle.std.specs.Prelude.{IfErr, IfOk, IfSome, option_map, string_bytes}
 use Rattle.distribution_documents.specs.Documents.{File}
 use Rattle.distribution_documents.specs.Written.{AreWritten}
 use Rattle.royalty_program.specs.DocumentFiles.{AreDocumentsAsked, IsOfNames}
@@ -61,11 +61,11 @@ returns-clause-files g c =
     let asked = c.args.asked in
     let holds = g.S.Source.holds c.args.files.now in
     let refuses = g.S.Source.refuses c.args.files.now in
-    let fails : IfErr c.match-territories_of.written (λ failure. IsOfNames holds refuses asked.names failure ⊎ IsOfInputs holds refuses asked.inputs failure) =
+    let fails : IfErr c.match-territories_of.written (λ failure. IsOfNames holds refuses (option_map string_bytes asked.names) failure ⊎ IsOfInputs holds refuses asked.inputs failure) =
     elim c.match-territories_of.branch [
       | in-Ok-territories_of w ↦ rw w.written-is (IfErr-weaker w.documents_of-written.result _ _ (λ failure of_inputs. inr of_inputs) w.documents_of-written.ensures.files)
       | in-Err-territories_of w ↦ rw w.written-is (inl w.in-Err-territories_of.ensures.files)
     ] in
     IfErr-weaker c.finish_folder.result _ _
-    (λ failure of_folder. unfinished asked.to (λ (failure : Failure). IsOfNames holds refuses asked.names failure ⊎ IsOfInputs holds refuses asked.inputs failure)
+    (λ failure of_folder. unfinished asked.to (λ (failure : Failure). IsOfNames holds refuses (option_map string_bytes asked.names) failure ⊎ IsOfInputs holds refuses asked.inputs failure)
     c.match-territories_of.written failure fails of_folder) c.finish_folder.ensures.failure

@@ -1,3 +1,4 @@
+use Rattle.std.specs.Prelude.{option_map, string_bytes}
 use Rattle.std.proofs.lemmas.Result.{err_from_is_err_and}
 use Rattle.clap.proofs.TakesLemmas.{passed_up}
 use Rattle.royalty_program.specs.DocumentFiles.{IsOfNames}
@@ -9,7 +10,7 @@ returns-in_err-file-clause-files g c =
     let holds = g.S.Source.holds c.args.files.now in
     let refuses = g.S.Source.refuses c.args.files.now in
     let failure = c.in_err-file.field-0.0 in
-    passed_up c.from_residual.result failure (IsOfNames holds refuses c.args.path) c.from_residual.ensures.1 (of_unread holds refuses failure c.args.path c.in_err-file.ensures.given c.in_err-file.ensures.failure)
+    passed_up c.from_residual.result failure (IsOfNames holds refuses (option_map string_bytes c.args.path)) c.from_residual.ensures.1 (of_unread holds refuses failure c.args.path c.in_err-file.ensures.given c.in_err-file.ensures.failure)
 
 pub returns-in_err-read-in-Some-clause-files : goal.returns-in_err-read-in-Some-clause-files
 returns-in_err-read-in-Some-clause-files g c =
