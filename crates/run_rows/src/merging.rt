@@ -50,13 +50,12 @@ pub fn merged(alloc: Global, question: &str) -> Result<String> {
 /// How many rows texts merge to, and the last of them.
 pub fn merged_rows(alloc: Global, question: &str) -> Result<String> {
     let text = merged(alloc, question)?;
-    let mut count = 0u64;
-    let mut last = "";
-    for row in text.lines() {
-        count = count.saturating_add(1);
-        last = row;
-    }
-    Ok(format!(in alloc; "{count} rows, the last {last}")?)
+    let rows = text.trim_end_matches('\n');
+    let last = match rows.rsplit_once('\n') {
+        Some((_, last)) => last,
+        None => rows,
+    };
+    Ok(format!(in alloc; "{} rows, the last {last}", text.lines().count())?)
 }
 
 /// How many usage lines a text is of, or what it is refused for.
