@@ -2,5 +2,13 @@ pub mod Parts
 pub mod OneReading
 pub mod Submitters
 pub mod Accounts
-mod FirstOut
+mod Chains
+mod FirstFaults
+mod TableFaults
+mod OneOfSeveral
+mod RowFaults
+mod LineFaults
+mod LinkFaults
+mod FileFaults
 mod Reports
+mod SubmittedReports

@@ -5,12 +5,12 @@ use Rattle.run_inputs.specs.Faults.{fault_of_cwr, fault_of_payees, fault_of_tis,
 use Rattle.run_inputs.specs.declared.fault.Fault.{Fault}
 
 -- the first of those of an input, as it is to a run; of each it is also said what row or line it is of
-abbrev pub first_of : {R F : Type 0} → (as_fault : F → Fault) → List (R × F) → Option Fault
+abbrev pub first_of : {R F X : Type 0} → (as_fault : F → X) → List (R × F) → Option X
 first_of as_fault [] = None
 first_of as_fault (out ∷ more) = Some (as_fault out.1)
 
 -- this fault, where there is one, or else the other
-abbrev pub or_later : Option Fault → Option Fault → Option Fault
+abbrev pub or_later : {X : Type 0} → Option X → Option X → Option X
 or_later (Some fault) later = Some fault
 or_later None later = later
 
