@@ -77,7 +77,25 @@ usage.csv: LAND, territory not in the table: lines 1, amount 750
 usage.csv: OVER, claims over 100.06 per cent: lines 1, amount 5000
 usage.csv: work 'NT0009' is not registered: lines 1, amount 300
 usage.csv: territory 999 is not in the table: lines 1, amount 750
+usage.csv: work 'NT0002' is not claimed in full: lines 1, to the residue 10000
+usage.csv: work 'NT0003' is claimed over 100.06 per cent: lines 1, amount 5000
 " '' "$program" check "${files[@]}"
+# Cut off behind its fourth line, in an exclusion's registration, a file has sound lines and no trailers.
+head -n 6 works.cwr >cut.cwr
+sed 's/^TRL0000200000004/TRL0000300000005/; s/^SWR\(.*\)OKAFOR /XWR\1OKAFOR /' works.cwr >miscounted.cwr
+tr '\n' '\r' <works.cwr >returns.cwr
+{ cat usage.csv; sed -n 3p usage.csv; sed -n '2s/,/,"/p' usage.csv; } >quoted.csv
+for form in 'cut.cwr: remark: its last record is no TRL, so it may be cut off\n' \
+    "miscounted.cwr: remark: record types that CWR 2.2 does not have: 1, 'XWR' (3)\nmiscounted.cwr: remark: line 40: TRL says 3 groups, and the file has 2\nmiscounted.cwr: remark: line 40: TRL says 5 transactions, and the file has 4\n" \
+    'returns.cwr: remark: no line is an NWR or REV\nreturns.cwr: remark: line ends are CR alone, so that all of it is one line\nreturns.cwr: remark: its last record is no TRL, so it may be cut off\nreturns.cwr: remark: it has the work of no usage line\n'; do
+    check "a check of ${form%%:*}" 0 "$form" '' \
+        bash -c '"$0" check --tis territories.csv --cwr "$1" --usage usage.csv | grep "^$1: remark"' "$program" "${form%%:*}"
+done
+check 'a check of a quote that does not end' 0 'quoted.csv: remark: row 11: a quote opens in it that does not end\n' '' \
+    bash -c '"$0" check --tis territories.csv --cwr works.cwr --usage quoted.csv | grep remark' "$program"
+{ cat usage.csv; sed -n 3p usage.csv; } >twice.csv
+check 'a check of a line that stands there twice' 0 'twice.csv: remark: rows that are the same as an earlier one: 1, in row 10\n' '' \
+    bash -c '"$0" check --tis territories.csv --cwr works.cwr --usage twice.csv | grep remark' "$program"
 # Reversed whole, the list has the same lines again with the opposite amounts.
 { cat usage.csv; tail -n +2 usage.csv | sed 's/,\([0-9]*\)$/,-\1/'; } >reversed.csv
 check 'a check of lines that are reversed' 0 "${facts}reversed.csv: usage lines: 18
@@ -87,6 +105,8 @@ reversed.csv: LAND, territory not in the table: lines 2, amount 0
 reversed.csv: OVER, claims over 100.06 per cent: lines 2, amount 0
 reversed.csv: work 'NT0009' is not registered: lines 2, amount 0
 reversed.csv: territory 999 is not in the table: lines 2, amount 0
+reversed.csv: work 'NT0002' is not claimed in full: lines 2, to the residue 0
+reversed.csv: work 'NT0003' is claimed over 100.06 per cent: lines 2, amount 0
 " '' "$program" check --usage reversed.csv --tis territories.csv --cwr works.cwr
 # An exclusion and two parties are mistyped.
 sed 's/E0840/E0841/' works.cwr >mistyped.cwr
@@ -100,6 +120,8 @@ usage.csv: registrations replaced by later ones: 0
 usage.csv: parties in force: 0
 usage.csv: accounts, the residue's included: 1
 usage.csv: remark: no line is an NWR or REV
+usage.csv: remark: record types that CWR 2.2 does not have: 5, 'usa' (1), 'RAD' (5), 'CD-' (2), 'FIL' (1), '\"CL' (1)
+usage.csv: remark: its last record is no TRL, so it may be cut off
 usage.csv: usage lines: 9
 usage.csv: divided: lines 0, amount 0, to the residue 0
 usage.csv: WORK, not registered: lines 9, amount 563962
@@ -128,7 +150,7 @@ check 'an output that is full' 4 '' 'royalty_run: cannot write\n' bash -c '"$0" 
 
 # A file of registrations whose one fault is more payees than a run has accounts: a check tells that fault, and no lack of memory.
 awk 'BEGIN { for (work = 0; work < 64; work++) { printf "NWR%016d%-62s%-14s\n", 0, "SONG", "W" work; for (party = 0; party < 256; party++) printf "SPT%016d%-9s      000010000100001I2136\n", 0, "P" work * 256 + party } }' >many.cwr
-check 'more payees than accounts' 1 'many.cwr: the parties in force have more than 16383 payees (fault 8)\nterritories.csv: territories: 22\nusage.csv: usage lines: 9\n' '' "$program" check --tis territories.csv --cwr many.cwr --usage usage.csv
+check 'more payees than accounts' 1 'many.cwr: the parties in force have more than 16383 payees (fault 8)\nterritories.csv: territories: 22\nmany.cwr: remark: its last record is no TRL, so it may be cut off\nusage.csv: usage lines: 9\n' '' "$program" check --tis territories.csv --cwr many.cwr --usage usage.csv
 
 # An output file is whole under its name, or it is as it was and nothing is left beside it.
 # is_alone DIRECTORY NAME..: a directory has files of these names and no others
@@ -213,7 +235,7 @@ check 'a text that is not there' 4 '' 'royalty_run: cannot read absent\n' "$prog
 check 'merged statements to an output that is full' 4 '' 'royalty_run: cannot write\n' bash -c '"$0" merge parts/first >/dev/full' "$program"
 # Each text may be right, and all of them too much.
 printf 'T,,0,0\nR,,600000000000000000,0\n' | tee parts/many1 >parts/many2
-check 'too many usage lines' 1 '' 'royalty_run: the statements are of more than 1000000000000000000 usage lines\n' "$program" merge parts/many1 parts/many2
+check 'too many usage lines' 1 '' 'royalty_run: the statements are of more than 1000000000000000000 portions or usage lines\n' "$program" merge parts/many1 parts/many2
 
 # Runs over the files of several submitters, and the tables to begin with.
 several=$examples/three_submitters
@@ -288,6 +310,17 @@ usage.csv: OVER, claims over 100.06 per cent: lines 3, amount 71800
 usage.csv: work 'MOON:ML0112' is not registered: lines 3, amount 5166
 usage.csv: work 'T9135551234' is not registered: lines 5, amount 3511
 usage.csv: territory 566 is not in the table: lines 2, amount 3550
+usage.csv: work 'NORTH:1025' is not claimed in full: lines 2, to the residue 88325
+usage.csv: work 'T9130607339' is not claimed in full: lines 4, to the residue 60898
+usage.csv: work 'T9113400263' is not claimed in full: lines 5, to the residue 45991
+usage.csv: work 'T9131019379' is not claimed in full: lines 4, to the residue 15389
+usage.csv: work 'HARBOR:1013' is not claimed in full: lines 1, to the residue 13334
+usage.csv: work 'T9110773814' is not claimed in full: lines 1, to the residue 13333
+usage.csv: work 'T9131906359' is not claimed in full: lines 2, to the residue 11717
+usage.csv: work 'MOON:ML0016' is not claimed in full: lines 3, to the residue 6046
+usage.csv: work 'T9131704648' is not claimed in full: lines 4, to the residue 5023
+usage.csv: work 'T9130802050' is not claimed in full: lines 1, to the residue 4125
+usage.csv: further works that are not claimed in full: 3
 usage.csv: work 'T9110773814' is claimed over 100.06 per cent: lines 3, amount 71800; in row 12: HARBOR claims 6000 of 10000, NORTH claims 5000 of 10000
 "
 check 'a check of three files' 0 "$reported" '' "$program" check "${tables[@]}" "${cwr[@]}"

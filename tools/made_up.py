@@ -5,9 +5,11 @@ A case is a list of three files in this order, or of four where it has a table o
 import os
 import re
 
+from tools import forms
 from tools.crates import ROOT
 from tools.damage import damaged
 from tools.large_inputs import FILES, generate
+from tools.running import NAMES
 from tools.small_inputs import payees, registrations, territories, usage
 
 
@@ -52,9 +54,15 @@ def realistic(rng, folder):
     return files
 
 
+def in_other_forms(rng, files):
+    """The files of a case, of which some have another form at times."""
+    return [forms.changed(rng, name, data) for name, data in zip(NAMES, files)]
+
+
 def case(rng, folder):
-    """The files of a case, small or realistic, of which one is damaged in half of the cases."""
-    files = small(rng) if rng.random() < 0.5 else realistic(rng, folder)
+    """The files of a case, small or realistic, at times of another form. One is damaged in half of
+    the cases."""
+    files = in_other_forms(rng, small(rng) if rng.random() < 0.5 else realistic(rng, folder))
     if rng.random() < 0.5:
         place = rng.randrange(len(files))
         files[place] = damaged(rng, files[place])

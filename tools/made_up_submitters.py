@@ -5,7 +5,7 @@ ISWCs and IPI name numbers come from short lists, so that they occur in several 
 """
 import zlib
 
-from tools import cwr_records
+from tools import cwr_records, forms
 from tools.damage import damaged, in_bytes, in_fields, in_lines
 from tools.large_inputs import FILES, generate
 from tools.made_up import files_in, parties_of
@@ -399,11 +399,20 @@ def at_limits(rng):
     return Submitted(tables, files)
 
 
+def in_other_forms(rng, submitted):
+    """A case in which some of the tables and files have another form at times."""
+    tables = {name: forms.changed(rng, name, data) for name, data in submitted.tables.items()}
+    files = [(name, forms.changed(rng, "cwr", data)) for name, data in submitted.files]
+    return Submitted(tables, files)
+
+
 def case(rng, folder):
-    """A case of one to five submitters, of which a third has something damaged."""
+    """A case of one to five submitters, of which a third has something damaged. Some of the tables
+    and files have another form."""
     if rng.random() < 0.03:
         return at_limits(rng)
     submitted = small(rng) if rng.random() < 0.6 else realistic(rng, folder)
+    submitted = in_other_forms(rng, submitted)
     return after_accident(rng, submitted) if rng.random() < 1 / 3 else submitted
 
 
@@ -433,6 +442,7 @@ def in_records(rng, data, others):
 def fuzzed(rng, folder):
     """A case in which one to three of the tables and files are damaged, one to six times each."""
     submitted = small(rng) if rng.random() < 0.7 else realistic(rng, folder, is_short=True)
+    submitted = in_other_forms(rng, submitted)
     kinds = [*kinds_of(submitted), "usage"]
     # A set of names would have another order in each process.
     for place in dict.fromkeys(rng.choice(kinds) for _ in range(rng.choice([1, 1, 1, 2, 3]))):

@@ -36,7 +36,7 @@ class Kept(unittest.TestCase):
             compared = [it for n in range(12) for it in made_up.case(random.Random(n), folder)]
             fuzzed = [it for n in range(30) for it in fuzz.case(1, n, folder)[0]]
         self.assertEqual((digest(compared), digest(fuzzed)),
-                         ("e8526f9f862ab248", "968a62df75b8e17f"))
+                         ("e994384799a0574c", "4a0cd184d514e7b0"))
 
     def test_spoilt_files_are_those_of_before(self):
         files = []

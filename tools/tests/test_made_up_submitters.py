@@ -31,7 +31,7 @@ class Kept(unittest.TestCase):
             damaged = [it for seed in range(12)
                        for it in bytes_of(made_up_submitters.fuzzed(random.Random(seed), folder))]
         self.assertEqual((digest(made), digest(damaged)),
-                         ("1a0a2362b550b405", "09ba7d48a9b7849a"))
+                         ("3ad350eaac9ab311", "7ac483c41a45ab1b"))
 
 
 class MadeUp(unittest.TestCase):

@@ -5,7 +5,7 @@ What it has to print was worked out by hand. Claims are in hundredths of a per c
 import tempfile
 import unittest
 
-from tools import plain
+from tools import forms, plain
 from tools.cwr_records import file_of, publisher_share, work
 from tools.running import run, words_of
 from tools.submitters import Submitted, table, written_options
@@ -30,9 +30,11 @@ class Answers(unittest.TestCase):
     def answer(self, command, files, tables, *options):
         """The outcome of a command over files by submitter, each a list of records.
 
-        Paths are told from the test's folder on.
+        A trailer with the right counts stands behind these. Paths are told from the test's folder
+        on.
         """
-        files = [(name, file_of(*records)) for name, records in files.items()]
+        files = [(name, file_of(*records, forms.trailer([*records, b"TRL"])))
+                 for name, records in files.items()]
         tables = {"tis": TERRITORIES, **tables}
         named = written_options(self.folder, Submitted(tables, files))
         status, printed, message = run(words_of(PROGRAM, command, [*named, *options]))
@@ -182,6 +184,7 @@ class Reports(Answers):
             "usage: WORK, not registered: lines 0, amount 0",
             "usage: LAND, territory not in the table: lines 0, amount 0",
             "usage: OVER, claims over 100.06 per cent: lines 2, amount -4",
+            "usage: work 'SONG' is not claimed in full: lines 1, to the residue 4",
             "usage: work 'SONG' is claimed over 100.06 per cent: lines 2, amount -4; in row 2: "
             "A claims 5003 of 10000, C claims 0 of 10000, B claims 5004 of 10000")
 
@@ -206,8 +209,10 @@ class Reports(Answers):
         tables = {"works": works(*(f"S{n} A W{n}" for n in numbers)),
                   "usage": uses(*(f"u S{n} 276 {amounts[n]}" for n in numbers))}
         printed = self.answer("check", files, tables)[1]
-        told = [line.split("'")[1] for line in printed.split("\n") if "is claimed over" in line]
+        *told, more, _ = printed.split("\n")
+        told = [line.split("'")[1] for line in told if "is claimed over" in line]
         self.assertEqual(told, ["S11", "S12", *(f"S{n}" for n in range(10, 2, -1))])
+        self.assertEqual(more, "usage: further works that are claimed over 100.06 per cent: 3")
 
     def test_rows_and_registrations_that_have_no_part_are_remarked_on(self):
         # Of payees, row 1 is of a party of A that is replaced, and row 3 of one that no row links.
@@ -237,9 +242,9 @@ class Reports(Answers):
         printed = self.answer("check", files, {"works": works(*rows), "usage": USES})[1]
         self.assertIn(
             "works: remark: rows whose registration is not in force: 11, in row 1, 2, 3, 4, 5, 6, "
-            "7, 8, 9, 10 and others\n"
+            "7, 8, 9, 10 and 1 more\n"
             "submitted/0.cwr: remark: registrations in force that no row links: 11, 'W1', 'W2', "
-            "'W3', 'W4', 'W5', 'W6', 'W7', 'W8', 'W9', 'W10' and others\n", printed)
+            "'W3', 'W4', 'W5', 'W6', 'W7', 'W8', 'W9', 'W10' and 1 more\n", printed)
         self.assertTrue(printed.endswith("works: remark: it has the work of no usage line\n"))
 
     def test_faults_of_a_table_of_works_are_told_of_each_row(self):
@@ -271,6 +276,29 @@ class Reports(Answers):
             "payees: row 6: party 'P ' of submitter 'A' has an earlier row (fault 3)",
             "tis: territories: 3", "works: registrations linked: 2", *FOUND,
             "usage: usage lines: 2")
+
+    def test_the_form_of_a_file_is_told_behind_what_is_in_it(self):
+        # The table of works ends within quotes, and B has a fault.
+        files = {"A": [*world("W1", "P=1"), b"GRT", b"NEW"], "B": [b"NWR\xff"]}
+        tables = {"works": b'work,submitter,number,title\nSONG,A,W1,"T',
+                  "usage": uses("u SONG 4 1"),
+                  "payees": b'submitter,party,payee,name\nA,P,X,"\n'}
+        no_number = "remark: line 4: GRT says no number of"
+        self.reports(
+            files, tables, 1, "submitted/1.cwr: line 1: record 'NWR' ends before its last field: "
+            "NWR and REV take 82 bytes, SPT 54, SWT 48 (fault 1)",
+            "tis: territories: 3", "payees: parties with a payee: 1",
+            "payees: remark: row 1: a quote opens in it that does not end",
+            "works: registrations linked: 1",
+            "works: remark: row 1: a quote opens in it that does not end",
+            "submitted/0.cwr: registrations in force: 1",
+            "submitted/0.cwr: registrations replaced by later ones: 0",
+            "submitted/0.cwr: remark: record types that CWR 2.2 does not have: 1, 'NEW' in 1 "
+            "records",
+            f"submitted/0.cwr: {no_number} transactions, and its group has 1",
+            f"submitted/0.cwr: {no_number} records, and its group has 4",
+            "submitted/1.cwr: remark: NWR, REV, SPT or SWT with a byte beyond ASCII before the "
+            "last field that is read: 1, in line 1", "usage: usage lines: 1")
 
     def test_files_with_faults_stand_in_their_order(self):
         # 103 share lines of A end too early, and a hundred of them are told. The line of C is one

@@ -1,14 +1,15 @@
-//! `check`, as one would write it by hand and slowly: every fault of every file in words, what is in the files that have none, and
-//! what a run makes of the usage lines where no file has one.
+//! `check`, as one would write it by hand and slowly: every fault of every file in words, what is
+//! in the files that have none, what is odd in the form of any, and what a run makes of the usage
+//! lines where no file has a fault.
 //! A row or a line that has a fault is left out, and the next one is looked at as if it were not there.
 
-use crate::ACCOUNTS;
 use crate::cwr::{Registry, name, share};
 use crate::payees::{LONGEST, Payees};
 use crate::rows::{Field, MOST, Rows, code};
 use crate::split::{BLOCK, Input, LAND, OPEN, OVER, Scratch, WORK};
 use crate::tis::{NONE, Tis};
-use crate::usage::{Usage, amount};
+use crate::usage::{Line, Usage, amount};
+use crate::{ACCOUNTS, form};
 use std::cmp::Reverse;
 use std::collections::{BTreeMap, BTreeSet, HashSet};
 use std::fmt;
@@ -17,11 +18,14 @@ use std::sync::atomic::{AtomicU8, Ordering::Relaxed};
 /// How many faults of a file are told.
 const TOLD: usize = 100;
 
-/// How many works that are not registered are told, and how many territories that are not in the table.
+/// How many works or territories of a kind are told, those with most money.
 const GREATEST: usize = 10;
 
-/// How many of the lines or rows that a run passes over are named.
+/// How many lines, rows or numbers of a kind are named.
 pub const NAMED: usize = 10;
+
+/// The number of the header, the first row, in remarks on open quotes and on repeated rows.
+const HEADER: usize = 0;
 
 /// How many bytes of a field are shown.
 const SHOWN: usize = 64;
@@ -36,12 +40,16 @@ pub struct Sheet<'a> {
     unit: &'a str,
     faults: usize,
     told: String,
+    /// What is said of a file that has no fault.
     facts: String,
+    /// What is said of its form, whether or not it has faults.
+    form: String,
 }
 
 impl<'a> Sheet<'a> {
     pub fn new(path: &'a str, unit: &'a str) -> Sheet<'a> {
-        Sheet { path, unit, faults: 0, told: String::new(), facts: String::new() }
+        let (told, facts, form) = (String::new(), String::new(), String::new());
+        Sheet { path, unit, faults: 0, told, facts, form }
     }
 
     pub fn fault(&mut self, place: Option<usize>, (number, message): Wrong) {
@@ -60,8 +68,35 @@ impl<'a> Sheet<'a> {
         self.facts += &format!("{}: remark: {text}\n", self.path);
     }
 
+    /// A remark on its form.
+    pub fn form(&mut self, text: &str) {
+        self.form += &format!("{}: remark: {text}\n", self.path);
+    }
+
+    /// How many there are of something in its form beyond those that are told.
+    pub fn further_form(&mut self, what: &str, count: usize, told: usize) {
+        self.form += &further(self.path, what, count, told);
+    }
+
     pub fn is_sound(&self) -> bool {
         self.faults == 0
+    }
+}
+
+/// How many there are of something beyond those that are told, where there are more.
+pub fn further(path: &str, what: &str, count: usize, told: usize) -> String {
+    match count.saturating_sub(told) {
+        0 => String::new(),
+        more => format!("{path}: further {what}: {more}\n"),
+    }
+}
+
+/// The first ten of a list, and how many more there are.
+pub fn listed(items: &[String]) -> String {
+    let named = items[..items.len().min(NAMED)].join(", ");
+    match items.len().saturating_sub(NAMED) {
+        0 => named,
+        more => format!("{named} and {more} more"),
     }
 }
 
@@ -87,8 +122,8 @@ pub fn table(
     mut read: impl FnMut(&[&[u8]]) -> Result<(), Wrong>,
 ) -> usize {
     // The reader takes quotes out in place.
-    let mut bytes = bytes.to_vec();
-    let mut rows = Rows::new(&mut bytes);
+    let mut text = bytes.to_vec();
+    let mut rows = Rows::new(&mut text);
     if !rows.header(header) {
         sheet.fault(Some(0), (1, format!("the first row is not {}", header.join(","))));
     }
@@ -112,7 +147,22 @@ pub fn table(
             Err(wrong) => sheet.fault(Some(number), wrong),
         }
     }
+    if let Some(row) = open_row(bytes) {
+        sheet.form(&format!("row {row}: a quote opens in it that does not end"));
+    }
     sound
+}
+
+/// The row in which a quote opens that does not end, which is the last.
+fn open_row(bytes: &[u8]) -> Option<usize> {
+    let mut bytes = bytes.to_vec();
+    let mut rows = Rows::new(&mut bytes);
+    let mut f = [Field::default(); MOST];
+    let mut row = HEADER;
+    while rows.next(&mut f).is_some() && !rows.is_open {
+        row += 1;
+    }
+    rows.is_open.then_some(row)
 }
 
 /// The codes of the sound rows.
@@ -313,44 +363,71 @@ fn parties<'a>(sheet: &mut Sheet, found: &Found<'a>, payees: &Payees, all: bool)
     parties
 }
 
-/// A remark on lines or rows of a kind, by their numbers, where there are any.
-pub fn remark_on(path: &str, what: &str, kind: &str, numbers: impl Iterator<Item = usize>) -> String {
+/// How many lines or rows of a kind there are, and where the first ten stand, if there are any.
+pub fn places_of(kind: &str, numbers: impl Iterator<Item = usize>) -> Option<String> {
     let numbers: Vec<String> = numbers.map(|number| number.to_string()).collect();
-    if numbers.is_empty() {
-        return String::new();
+    let text = || format!("{}, in {kind} {}", numbers.len(), listed(&numbers));
+    (!numbers.is_empty()).then(text)
+}
+
+/// A remark on lines or rows of a kind, by their numbers, where there are any.
+pub fn remark_on(
+    path: &str,
+    what: &str,
+    kind: &str,
+    numbers: impl Iterator<Item = usize>,
+) -> String {
+    let remark = |places| format!("{path}: remark: {what}: {places}\n");
+    places_of(kind, numbers).map(remark).unwrap_or_default()
+}
+
+/// A usage line: its usage, its work, its territory, its right and its amount.
+type UsageLine = (Vec<u8>, Vec<u8>, u16, u8, i64);
+
+/// What a row of the usage list has, or what is wrong with it.
+fn usage_line(row: &[&[u8]]) -> Result<UsageLine, Wrong> {
+    let text = |field: &[u8]| {
+        (1..=64).contains(&field.len()) && field.iter().all(|b| (b' '..=b'~').contains(b))
+    };
+    if !text(row[0]) || !text(row[1]) {
+        let (usage, work) = (shown(row[0]), shown(row[1]));
+        let text = "are not both 1 to 64 printable ASCII characters";
+        return Err((2, format!("usage {usage} and work {work} {text}")));
     }
-    let named = numbers[..numbers.len().min(NAMED)].join(", ");
-    let others = if numbers.len() > NAMED { " and others" } else { "" };
-    format!("{path}: remark: {what}: {}, in {kind} {named}{others}\n", numbers.len())
+    let Some(territory) = code(row[2]) else {
+        let field = shown(row[2]);
+        return Err((3, format!("territory {field} is not one to four digits, or is 0")));
+    };
+    let &[right @ (b'P' | b'M' | b'S')] = row[3] else {
+        return Err((4, format!("right {} is not P, M or S", shown(row[3]))));
+    };
+    let Some(amount) = amount(row[4]) else {
+        let text = "is not a whole number from -1000000000000 to 1000000000000";
+        return Err((5, format!("amount {} {text}", shown(row[4]))));
+    };
+    Ok((row[0].to_vec(), row[1].to_vec(), territory, right, amount))
 }
 
 pub fn usage(sheet: &mut Sheet, bytes: &[u8]) {
     let header = ["usage", "work", "territory", "right", "amount"];
     let many = (6, "there are more than 1000000 usage lines".into());
-    let text = |field: &[u8]| {
-        (1..=64).contains(&field.len()) && field.iter().all(|b| (b' '..=b'~').contains(b))
-    };
+    let (mut seen, mut repeated) = (HashSet::new(), Vec::new());
+    // Repeated rows are told of a list without a fault, so that all rows are counted.
+    let mut number = HEADER;
     let count = table(sheet, bytes, &header, 1_000_000, many, |row| {
-        if !text(row[0]) || !text(row[1]) {
-            let (usage, work) = (shown(row[0]), shown(row[1]));
-            let text = "are not both 1 to 64 printable ASCII characters";
-            return Err((2, format!("usage {usage} and work {work} {text}")));
-        }
-        if code(row[2]).is_none() {
-            return Err((3, format!("territory {} is not one to four digits, or is 0", shown(row[2]))));
-        }
-        if !matches!(row[3], b"P" | b"M" | b"S") {
-            return Err((4, format!("right {} is not P, M or S", shown(row[3]))));
-        }
-        if amount(row[4]).is_none() {
-            let text = "is not a whole number from -1000000000000 to 1000000000000";
-            return Err((5, format!("amount {} {text}", shown(row[4]))));
+        let line = usage_line(row)?;
+        number += 1;
+        if !seen.insert(line) {
+            repeated.push(number);
         }
         Ok(())
     });
     sheet.fact("usage lines", count);
     if count == 0 {
         sheet.remark("there are no usage lines");
+    }
+    if let Some(places) = places_of("row", repeated.into_iter()) {
+        sheet.remark(&format!("rows that are the same as an earlier one: {places}"));
     }
 }
 
@@ -374,8 +451,17 @@ impl fmt::Display for Tally {
     }
 }
 
+/// The tally of each key, over pairs of a key and an amount.
+pub fn tallied<K: Ord>(amounts: impl Iterator<Item = (K, i64)>) -> BTreeMap<K, Tally> {
+    let mut tallies: BTreeMap<K, Tally> = BTreeMap::new();
+    for (key, amount) in amounts {
+        tallies.entry(key).or_default().add(amount);
+    }
+    tallies
+}
+
 /// Those whose amounts come to most, either way; of as much, first the lowest.
-pub fn greatest<K: Ord>(tallies: BTreeMap<K, Tally>) -> Vec<(K, Tally)> {
+fn greatest<K: Ord>(tallies: BTreeMap<K, Tally>) -> Vec<(K, Tally)> {
     let mut list: Vec<(K, Tally)> = tallies.into_iter().collect();
     // Those of the same size stay in order.
     list.sort_by_key(|(_, tally)| Reverse(tally.amount.abs()));
@@ -383,20 +469,103 @@ pub fn greatest<K: Ord>(tallies: BTreeMap<K, Tally>) -> Vec<(K, Tally)> {
     list
 }
 
-/// The reason of each usage line, and what goes to the residue of it.
-pub fn divided(input: &Input) -> (Vec<u8>, Vec<i64>) {
-    let lines = input.usage.lines.len();
-    let reasons: Vec<AtomicU8> = (0..lines).map(|_| AtomicU8::new(WORK)).collect();
-    let mut residue = vec![0; lines];
-    let mut scratch = Scratch::new();
-    for block in 0..lines.div_ceil(BLOCK) {
-        input.block(block, &reasons, &mut scratch, |account, line, portion| {
-            if account == 0 {
-                residue[line as usize] = portion;
-            }
-        });
+/// A line for each of those whose amounts come to most, and how many more there are of these.
+pub fn ranking<K: Ord>(
+    path: &str,
+    what: &str,
+    tallies: BTreeMap<K, Tally>,
+    line: impl Fn(K, Tally) -> String,
+) -> String {
+    let count = tallies.len();
+    let told = greatest(tallies).into_iter();
+    let text: String = told.map(|(key, tally)| format!("{path}: {}\n", line(key, tally))).collect();
+    text + &further(path, what, count, GREATEST)
+}
+
+/// What a run makes of each usage line.
+pub struct Divided {
+    reasons: Vec<u8>,
+    /// What goes to the residue of each.
+    residue: Vec<i64>,
+}
+
+impl Divided {
+    pub fn of(input: &Input) -> Divided {
+        let lines = input.usage.lines.len();
+        let reasons: Vec<AtomicU8> = (0..lines).map(|_| AtomicU8::new(WORK)).collect();
+        let mut residue = vec![0; lines];
+        let mut scratch = Scratch::new();
+        for block in 0..lines.div_ceil(BLOCK) {
+            input.block(block, &reasons, &mut scratch, |account, line, portion| {
+                if account == 0 {
+                    residue[line as usize] = portion;
+                }
+            });
+        }
+        let reasons = reasons.iter().map(|reason| reason.load(Relaxed)).collect();
+        Divided { reasons, residue }
     }
-    (reasons.iter().map(|reason| reason.load(Relaxed)).collect(), residue)
+
+    /// The lines of a reason, each with its place and what goes to the residue of it.
+    pub fn lines_of<'a>(
+        &'a self,
+        usage: &'a Usage,
+        reason: u8,
+    ) -> impl Iterator<Item = (usize, &'a Line, i64)> {
+        let lines = usage.lines.iter().zip(&self.residue).enumerate();
+        let lines = lines.filter(move |(place, _)| self.reasons[*place] == reason);
+        lines.map(|(place, (line, &portion))| (place, line, portion))
+    }
+
+    /// How many lines there are of a reason, and what they come to.
+    fn tally_of(&self, usage: &Usage, reason: u8) -> Tally {
+        let mut tally = Tally::default();
+        self.lines_of(usage, reason).for_each(|(_, line, _)| tally.add(line.amount));
+        tally
+    }
+
+    /// The lines of a reason, by their works.
+    pub fn works_of<'a>(&self, usage: &'a Usage, reason: u8) -> BTreeMap<&'a [u8], Tally> {
+        let lines = self.lines_of(usage, reason);
+        tallied(lines.map(|(_, line, _)| (usage.work(line), line.amount)))
+    }
+
+    /// Of the lines that are divided, what they leave to the residue, by their works.
+    fn left_open<'a>(&self, usage: &'a Usage) -> BTreeMap<&'a [u8], Tally> {
+        let lines = self.lines_of(usage, OPEN).filter(|(_, _, portion)| *portion != 0);
+        tallied(lines.map(|(_, line, portion)| (usage.work(line), portion)))
+    }
+}
+
+/// How many usage lines there are of each reason.
+fn reasons(path: &str, usage: &Usage, run: &Divided) -> String {
+    let of = |reason| run.tally_of(usage, reason);
+    let to_the_residue: i64 = run.lines_of(usage, OPEN).map(|(_, _, portion)| portion).sum();
+    let told = [
+        format!("divided: {}, to the residue {to_the_residue}", of(OPEN)),
+        format!("WORK, not registered: {}", of(WORK)),
+        format!("LAND, territory not in the table: {}", of(LAND)),
+        format!("OVER, claims over 100.06 per cent: {}", of(OVER)),
+    ];
+    told.iter().map(|line| format!("{path}: {line}\n")).collect()
+}
+
+/// The works and the territories with most money that nobody gets, or not all of it.
+fn most_money(path: &str, usage: &Usage, run: &Divided) -> String {
+    let unregistered = run.works_of(usage, WORK);
+    let mut text = ranking(path, "works that are not registered", unregistered, |work, tally| {
+        format!("work {} is not registered: {tally}", shown(work))
+    });
+    let lands = run.lines_of(usage, LAND).map(|(_, line, _)| (line.territory, line.amount));
+    let what = "territories that are not in the table";
+    text += &ranking(path, what, tallied(lands), |land, tally| {
+        format!("territory {land} is not in the table: {tally}")
+    });
+    let what = "works that are not claimed in full";
+    text + &ranking(path, what, run.left_open(usage), |work, Tally { lines, amount }| {
+        let work = shown(work);
+        format!("work {work} is not claimed in full: lines {lines}, to the residue {amount}")
+    })
 }
 
 /// What a run makes of the usage lines of files that have no fault. The paths are those of the territories, of what says which
@@ -404,39 +573,12 @@ pub fn divided(input: &Input) -> (Vec<u8>, Vec<i64>) {
 pub fn summary(
     [tis_path, works_path, usage_path]: [&str; 3],
     input: &Input,
-    (reasons, residue): &(Vec<u8>, Vec<i64>),
+    run: &Divided,
 ) -> String {
     let (tis, usage) = (input.tis, input.usage);
     let lines = &usage.lines;
-    let mut by_reason = [Tally::default(); 4];
-    let mut to_the_residue = 0;
-    let mut works: BTreeMap<&[u8], Tally> = BTreeMap::new();
-    let mut lands: BTreeMap<u16, Tally> = BTreeMap::new();
-    for ((line, &reason), portion) in lines.iter().zip(reasons).zip(residue) {
-        by_reason[reason as usize].add(line.amount);
-        match reason {
-            WORK => works.entry(usage.work(line)).or_default().add(line.amount),
-            LAND => lands.entry(line.territory).or_default().add(line.amount),
-            OPEN => to_the_residue += portion,
-            _ => {}
-        }
-    }
-
-    let of = |reason: u8| by_reason[reason as usize];
-    let mut told = vec![
-        format!("divided: {}, to the residue {to_the_residue}", of(OPEN)),
-        format!("WORK, not registered: {}", of(WORK)),
-        format!("LAND, territory not in the table: {}", of(LAND)),
-        format!("OVER, claims over 100.06 per cent: {}", of(OVER)),
-    ];
-    for (work, tally) in greatest(works) {
-        told.push(format!("work {} is not registered: {tally}", shown(work)));
-    }
-    for (land, tally) in greatest(lands) {
-        told.push(format!("territory {land} is not in the table: {tally}"));
-    }
-    let mut text: String = told.iter().map(|line| format!("{usage_path}: {line}\n")).collect();
-    if !lines.is_empty() && of(WORK).lines == lines.len() {
+    let mut text = reasons(usage_path, usage, run) + &most_money(usage_path, usage, run);
+    if !lines.is_empty() && run.reasons.iter().all(|&reason| reason == WORK) {
         text += &format!("{works_path}: remark: it has the work of no usage line\n");
     }
     if !lines.is_empty() && lines.iter().all(|line| tis.row(line.territory) == NONE) {
@@ -445,20 +587,30 @@ pub fn summary(
     text
 }
 
+/// What works are called in the report that are claimed over 100.06 per cent.
+pub const OVERCLAIMED: &str = "works that are claimed over 100.06 per cent";
+
+/// The beginning of the line of such a work.
+pub fn overclaimed_line(work: &[u8], tally: Tally) -> String {
+    format!("work {} is claimed over 100.06 per cent: {tally}", shown(work))
+}
+
 /// A file: its path and its bytes.
 pub type File<'a> = (&'a str, &'a [u8]);
 
-/// The faults of files, and what is in those that have none; and whether none has one.
+/// The faults of files, what is in those that have none, and what is odd in the form of any; and
+/// whether none has a fault.
 pub fn told(sheets: &[Sheet]) -> (String, bool) {
     let mut text = String::new();
     for sheet in sheets {
         text += &sheet.told;
-        if sheet.faults > TOLD {
-            text += &format!("{}: further faults: {}\n", sheet.path, sheet.faults - TOLD);
-        }
+        text += &further(sheet.path, "faults", sheet.faults, TOLD);
     }
-    for sheet in sheets.iter().filter(|sheet| sheet.is_sound()) {
-        text += &sheet.facts;
+    for sheet in sheets {
+        if sheet.is_sound() {
+            text += &sheet.facts;
+        }
+        text += &sheet.form;
     }
     (text, sheets.iter().all(Sheet::is_sound))
 }
@@ -482,6 +634,7 @@ pub fn check(tis: File, payees_file: Option<File>, cwr: File, usage_file: File) 
     }
     let mut sheet = Sheet::new(cwr.0, "line");
     let found = registrations(&mut sheet, cwr.1);
+    form::tell(&mut sheet, cwr.1);
     let in_force = parties(&mut sheet, &found, &table, all);
     let registered = sheet.is_sound();
     sheets.push(sheet);
@@ -503,7 +656,9 @@ pub fn check(tis: File, payees_file: Option<File>, cwr: File, usage_file: File) 
         let registry = Registry::read(cwr.1, &tis_table, &table, ACCOUNTS).unwrap();
         let usage = Usage::read(usage_file.1.to_vec(), crate::LARGEST_LIST.lines).unwrap();
         let input = Input { tis: &tis_table, registry: &registry, usage: &usage };
-        text += &summary([tis.0, cwr.0, usage_file.0], &input, &divided(&input));
+        let run = Divided::of(&input);
+        text += &summary([tis.0, cwr.0, usage_file.0], &input, &run);
+        text += &ranking(usage_file.0, OVERCLAIMED, run.works_of(&usage, OVER), overclaimed_line);
     }
     (text, sound)
 }

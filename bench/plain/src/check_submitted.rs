@@ -2,8 +2,8 @@
 //! and what each submitter claims of the works that are claimed over 100.06 per cent.
 
 use crate::check::{
-    Found, NAMED, Sheet, Tally, divided, greatest, party_and_payee, registrations, remark_on,
-    shown, summary, table, territories, told, unknown_territories, usage,
+    Divided, Found, OVERCLAIMED, Sheet, listed, overclaimed_line, party_and_payee, ranking,
+    registrations, remark_on, shown, summary, table, territories, told, unknown_territories, usage,
 };
 use crate::cwr::{Filing, Raw, SHORT, name};
 use crate::payees::{self, Payees};
@@ -13,7 +13,7 @@ use crate::submitters::{Accounts, Linked, MOST_ROWS, Submitter, Submitters};
 use crate::tis::{NONE, Tis};
 use crate::usage::{Line, Usage};
 use crate::works::{Works, is_work};
-use crate::{LARGEST_FILE, LARGEST_LIST, Several, Tables, load};
+use crate::{LARGEST_FILE, LARGEST_LIST, Several, Tables, form, load};
 use std::collections::{BTreeMap, HashSet};
 use std::process::ExitCode;
 
@@ -165,15 +165,10 @@ impl<'a> Links<'a> {
         let files = submitters.iter().zip(&self.unlinked);
         let some = files.filter(|(_, numbers)| !numbers.is_empty());
         let text = some.map(|(submitter, numbers)| {
-            let named: Vec<String> = numbers.iter().take(NAMED).map(|it| shown(it)).collect();
-            let others = if numbers.len() > NAMED {
-                " and others"
-            } else {
-                ""
-            };
+            let named: Vec<String> = numbers.iter().map(|it| shown(it)).collect();
             let what = "remark: registrations in force that no row links";
-            let (path, named) = (&submitter.path, named.join(", "));
-            format!("{path}: {what}: {}, {named}{others}\n", numbers.len())
+            let (path, named) = (&submitter.path, listed(&named));
+            format!("{path}: {what}: {}, {named}\n", numbers.len())
         });
         text.collect()
     }
@@ -213,41 +208,30 @@ fn claim_of(lines: &[Raw], line: &Line, tis: &Tis) -> u64 {
         .sum()
 }
 
-/// The works that are claimed over 100.06 per cent, and what each submitter claims.
+/// The works that are claimed over 100.06 per cent, and what each submitter claims on the first
+/// line of each.
 fn overclaimed(
     path: &str,
-    input: &Input,
-    reasons: &[u8],
+    usage: &Usage,
+    run: &Divided,
     submitters: &Submitters,
     claims: impl Fn(&[u8], &Line) -> BTreeMap<usize, u64>,
 ) -> String {
-    let mut works: BTreeMap<&[u8], Tally> = BTreeMap::new();
     let mut first: BTreeMap<&[u8], usize> = BTreeMap::new();
-    let lines = &input.usage.lines;
-    for (place, line) in lines
-        .iter()
-        .enumerate()
-        .filter(|(place, _)| reasons[*place] == OVER)
-    {
-        let work = input.usage.work(line);
-        works.entry(work).or_default().add(line.amount);
-        first.entry(work).or_insert(place);
+    for (place, line, _) in run.lines_of(usage, OVER) {
+        first.entry(usage.work(line)).or_insert(place);
     }
-    let mut text = String::new();
-    for (work, tally) in greatest(works) {
+    ranking(path, OVERCLAIMED, run.works_of(usage, OVER), |work, tally| {
         let place = first[work];
-        let claims = claims(work, &lines[place])
-            .into_iter()
-            .map(|(submitter, claim)| {
-                let name = &submitters.at(submitter).name;
-                format!("{name} claims {claim} of 10000")
-            });
+        let claims = claims(work, &usage.lines[place]).into_iter();
+        let claims = claims.map(|(submitter, claim)| {
+            let name = &submitters.at(submitter).name;
+            format!("{name} claims {claim} of 10000")
+        });
         let (row, claims) = (place + 1, claims.collect::<Vec<_>>().join(", "));
-        let work = shown(work);
-        text += &format!("{path}: work {work} is claimed over 100.06 per cent: {tally}");
-        text += &format!("; in row {row}: {claims}\n");
-    }
-    text
+        let line = overclaimed_line(work, tally);
+        format!("{line}; in row {row}: {claims}")
+    })
 }
 
 /// A report, as far as it goes.
@@ -307,6 +291,7 @@ impl<'a> Report<'a> {
             sheet.fact("registrations in force", found.in_force().len());
             sheet.fact("registrations replaced by later ones", found.replaced());
             found.remark(&mut sheet);
+            form::tell(&mut sheet, &bytes);
             if !sheet.is_sound() {
                 links = None;
             } else if self.sheets[0].is_sound() {
@@ -354,10 +339,10 @@ impl<'a> Report<'a> {
             registry: &registry,
             usage: &usage,
         };
-        let run = divided(&input);
+        let run = Divided::of(&input);
         let claims = |work: &[u8], line: &Line| links.claims(works, work, line, &tis);
         summary([&files.tis, &files.works, &files.usage], &input, &run)
-            + &overclaimed(&files.usage, &input, &run.0, &files.submitters, claims)
+            + &overclaimed(&files.usage, &usage, &run, &files.submitters, claims)
     }
 }
 

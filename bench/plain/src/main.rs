@@ -11,6 +11,7 @@ mod check;
 mod check_submitted;
 mod cwr;
 mod explain;
+mod form;
 mod linked;
 mod merge;
 mod payees;

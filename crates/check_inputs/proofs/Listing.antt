@@ -4,7 +4,7 @@ use Rattle.std.specs.List.{join_by}
 use Rattle.std.proofs.lemmas.List.{length-map, take-map}
 use Rattle.std.proofs.lemmas.List.Folds.{flat_map-map}
 use Rattle.check_inputs.specs.Messages.{remark_line}
-use Rattle.check_inputs.specs.Report.{items_line, others_text}
+use Rattle.check_inputs.specs.Items.{items_line, others_text}
 
 -- such a remark behind a text, put together from its parts
 in_parts : (text path what kind count named others one two three four five six seven eight nine ten : List ℕ)
@@ -12,6 +12,14 @@ in_parts : (text path what kind count named others one two three four five six s
     → seven ≡ six ++ kind → eight ≡ seven ++ named → nine ≡ eight ++ others → ten ≡ nine ++ codes "\n"
     → ten ≡ text ++ remark_line path (what ++ codes ": " ++ (count ++ codes ", " ++ kind ++ named ++ others))
 in_parts text path what kind count named others one two three four five six seven eight nine ten a b c d e f g h i j = rw (j, i, h, g, f, e, d, c, b, a) (simp (append_assoc) refl)
+
+-- a remark on a number of a trailer behind a text, put together from its parts
+pub difference_in_parts : (text path line trailer says part found one two three four five six seven eight nine : List ℕ)
+    → one ≡ text ++ (path ++ codes ": ") → two ≡ one ++ codes "remark: line " → three ≡ two ++ line → four ≡ three ++ codes ": " → five ≡ four ++ trailer → six ≡ five ++ says
+    → seven ≡ six ++ part → eight ≡ seven ++ found → nine ≡ eight ++ codes "\n"
+    → nine ≡ text ++ remark_line path (codes "line " ++ line ++ codes ": " ++ trailer ++ says ++ part ++ found)
+difference_in_parts text path line trailer says part found one two three four five six seven eight nine a b c d e f g h i =
+    rw (i, h, g, f, e, d, c, b, a) (simp (append_assoc) refl)
 
 module _ {X : Type 0} (words : X → List ℕ) (path what kind : List ℕ) where
   -- where there are none, there is no remark

@@ -12,8 +12,9 @@ use Rattle.run_inputs.specs.declared.inputs.Inputs.{Inputs}
 use Rattle.check_inputs.specs.Checked.{IsReportOn}
 use Rattle.check_inputs.specs.SoFar.{Adds, GoesOn}
 use Rattle.check_inputs.specs.Found.{AreRegistrationsWithout, Found, IsFoundIn, is_sound}
+use Rattle.check_inputs.specs.Form.{form_text, quote_if_given, quote_remark}
 use Rattle.check_inputs.specs.Report.{cwr_facts, cwr_line, fault_lines, payee_line, payees_facts, payees_path, payees_remark}
-use Rattle.check_inputs.specs.Report.{territories_remark, tis_facts, tis_line, totals_text, usage_facts, usage_line}
+use Rattle.check_inputs.specs.Report.{run_text, territories_remark, tis_facts, tis_line, usage_facts, usage_line}
 use Rattle.check_inputs.specs.declared.report.Sheet.{Sheet}
 
 -- whether all four hold, one after another
@@ -43,15 +44,16 @@ sound_of_four found none one two three four so_far first second third fourth =
 pub put_together : (paths files : Inputs (List ℕ)) (found : Found) (none one two three four five six seven : Sheet) (text : List ℕ) (sound : Bool)
     → (none.faults.items ≡ []) × (none.facts.items ≡ []) × (none.is_sound ≡ true)
     → GoesOn none one (length found.of_territories) (fault_lines (tis_line paths.territories) paths.territories found.of_territories)
-    (tis_facts paths.territories (length found.of_territories) found.table)
+    (tis_facts paths.territories (length found.of_territories) found.table ++ quote_remark paths.territories files.territories)
     → GoesOn one two (length found.of_payees) (fault_lines (payee_line (payees_path paths)) (payees_path paths) found.of_payees)
-    (option_map_or (λ path. payees_facts path (length found.of_payees) found.rows) paths.payees [])
+    (option_map_or (λ path. payees_facts path (length found.of_payees) found.rows) paths.payees [] ++ quote_if_given (payees_path paths) files.payees)
     → GoesOn two three (length found.of_registrations) (fault_lines (cwr_line paths.registrations) paths.registrations found.of_registrations)
-    (cwr_facts paths.registrations files.registrations (length found.of_registrations) (length found.of_payees) found.registered)
-    → GoesOn three four (length found.of_usage) (fault_lines (usage_line paths.usage) paths.usage found.of_usage) (usage_facts paths.usage (length found.of_usage) found.lines)
+    (cwr_facts paths.registrations files.registrations (length found.of_registrations) (length found.of_payees) found.registered ++ form_text paths.registrations files.registrations)
+    → GoesOn three four (length found.of_usage) (fault_lines (usage_line paths.usage) paths.usage found.of_usage)
+    (usage_facts paths.usage (length found.of_usage) found.lines ++ quote_remark paths.usage files.usage)
     → Adds four five (territories_remark paths.registrations files.registrations (length found.of_registrations) (length found.of_territories) found.table)
     → Adds five six (payees_remark (payees_path paths) (length found.of_payees) (length found.of_registrations) found.rows found.registered)
-    → Adds six seven (option_map_or (totals_text paths.usage paths.registrations paths.territories (length found.lines)) found.totals [])
+    → Adds six seven (option_map_or (run_text paths (length found.lines)) found.totals [])
     → IsFoundIn files found → (text ≡ seven.faults.items ++ seven.facts.items) × (sound ≡ seven.is_sound) → IsReportOn paths files text sound
 put_together paths files found none one two three four five six seven text sound begun first second third fourth fifth sixth last is (written, told) = record {
   found = found;

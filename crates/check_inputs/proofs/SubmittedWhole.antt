@@ -11,7 +11,7 @@ use Rattle.linked_works.specs.declared.works_fault.WorksFault.{WorksFault}
 use Rattle.submitted_inputs.specs.declared.inputs.SubmittedTables.{SubmittedTables}
 use Rattle.check_inputs.specs.Found.{AreTotalsIfSound}
 use Rattle.check_inputs.specs.LinksSoFar.{ArePaired, are_sound, finds_in_force}
-use Rattle.check_inputs.specs.Report.{totals_text}
+use Rattle.check_inputs.specs.Report.{further_over, totals_text}
 use Rattle.check_inputs.specs.SoFar.{PagesGoOn}
 use Rattle.check_inputs.specs.SubmittedFound.{AreLinked, IsFoundIn, SubmittedFound, are_linked, finds_of, has_no_fault, is_sound}
 use Rattle.check_inputs.specs.SubmittedOver.{over_text}
@@ -131,7 +131,7 @@ module _ (names file_paths : List (List ℕ)) (holds : ℕ → List ℕ → Type
       text : List (List ℕ) → Finds → Registered → List ℕ
       text n finds registered =
           option_map_or (λ totals. totals_text paths.usage paths.works paths.territories (length run.lines) totals
-          ++ over_text paths.usage found.table registered finds found.links n run.lines totals.over.items) run.totals []
+          ++ (over_text paths.usage found.table registered finds found.links n run.lines totals.over.first.items ++ further_over paths.usage totals)) run.totals []
 
   linked_remarks : cond (are_sound sources) (rows_remark paths.works (finds_in_force sources) found.links ++ sources.files.unlinked.items) []
       ≡ cond (are_linked found) (links_remarks paths.works names found.files found.links) []
@@ -141,13 +141,13 @@ module _ (names file_paths : List (List ℕ)) (holds : ℕ → List ℕ → Type
       ∙ ap (λ (b : Bool). cond b (links_remarks paths.works names found.files found.links) []) linked_is)
 
   pub written : before.sheet.faults.items ≡ [] → before.sheet.facts.items ≡ [] → before.remarks.items ≡ []
-      → after.sheet.faults.items ++ after.sheet.facts.items ++ after.remarks.items ≡ report_of names paths found
+      → after.sheet.faults.items ++ after.sheet.facts.items ++ after.remarks.items ≡ report_of names paths tables found
   written no_faults no_facts no_remarks =
       let (words, numbers, remarks) = four_on is.tables_read.on is.on run.links.on run.on in
       let first : after.sheet.faults.items ≡ faults_text paths found = rw (words, no_faults) (simp (append_assoc) refl) in
-      let second : after.sheet.facts.items ≡ facts_text paths found = rw (numbers, no_facts) (simp (append_assoc) refl) in
+      let second : after.sheet.facts.items ≡ facts_text paths tables found = rw (numbers, no_facts) (simp (append_assoc) refl) in
       let paid = option_map_or (payees_remark (payees_path paths) found.rows) run.registered [] in
-      rw (first, second, remarks, no_remarks) (parts (faults_text paths found) (facts_text paths found) paid _ _ _ _ _ _ files_remarks linked_remarks run_remarks)
+      rw (first, second, remarks, no_remarks) (parts (faults_text paths found) (facts_text paths tables found) paid _ _ _ _ _ _ files_remarks linked_remarks run_remarks)
     where
       parts : (x y p f g c d t u : List ℕ) → f ≡ g → c ≡ d → t ≡ u → x ++ y ++ (f ++ (p ++ c) ++ t) ≡ x ++ y ++ (g ++ p ++ d) ++ u
       parts x y p f g c d t u same_files same_links same_run = rw (same_files, same_links, same_run) (simp (append_assoc) refl)

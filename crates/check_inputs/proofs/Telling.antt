@@ -61,3 +61,13 @@ four_behind start one two three four first second third fourth a b c d = rw (d, 
 -- three texts behind another
 pub three_behind : (start one two three first second third : List ℕ) → one ≡ start ++ first → two ≡ one ++ second → three ≡ two ++ third → three ≡ start ++ (first ++ second ++ third)
 three_behind start one two three first second third a b c = rw (c, b, a) (simp (append_assoc) refl)
+
+-- two texts behind another
+pub two_behind : (start one two first second : List ℕ) → one ≡ start ++ first → two ≡ one ++ second → two ≡ start ++ (first ++ second)
+two_behind start one two first second a b = rw (b, a) (simp (append_assoc) refl)
+
+-- six texts behind another
+pub six_behind : (start one two three four five six first second third fourth fifth sixth : List ℕ) → one ≡ start ++ first → two ≡ one ++ second → three ≡ two ++ third → four ≡ three ++ fourth
+    → five ≡ four ++ fifth → six ≡ five ++ sixth
+    → six ≡ start ++ (first ++ second ++ third ++ fourth ++ fifth ++ sixth)
+six_behind start one two three four five six first second third fourth fifth sixth a b c d e f = rw (f, e, d, c, b, a) (simp (append_assoc) refl)

@@ -1,5 +1,7 @@
 pub mod Checked
+pub mod Form
 pub mod Found
+pub mod Items
 pub mod Messages
 pub mod Report
 pub mod SoFar

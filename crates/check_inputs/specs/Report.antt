@@ -2,7 +2,6 @@
 use Rattle.std.specs.Prelude.{ℕ, ◌-◌, ◌==◌, ◌&&◌, ◌++◌, ◌∷◌, [], List, Option, codes}
 use Rattle.std.specs.Prelude.{count_by, decimal, flat_map, if◌then◌else◌, length, nat_lt, not, take, unwrap_or}
 use Rattle.std.specs.Fmt.{signed_decimal}
-use Rattle.std.specs.List.{join_by}
 use Rattle.std.specs.Option.{option_map_or}
 use Rattle.cwr_share.specs.CwrFile as cwr
 use Rattle.cwr_share.specs.Lines.{lines_of}
@@ -18,9 +17,12 @@ use Rattle.line_split.specs.declared.line_fault.LineFault.{LineFault}
 use Rattle.run_inputs.specs.declared.inputs.Inputs.{Inputs}
 use Rattle.tis_tree.specs.TisRows as tis
 use Rattle.tis_tree.specs.declared.tis_fault.TisFault.{TisFault}
+use Rattle.usage_totals.specs.Repeats.{repeated_rows}
 use Rattle.usage_totals.specs.declared.total.Total.{Total}
 use Rattle.usage_totals.specs.declared.totals.Totals.{Totals}
+use Rattle.check_inputs.specs.Form.{form_text, quote_if_given, quote_remark}
 use Rattle.check_inputs.specs.Found.{Found}
+use Rattle.check_inputs.specs.Items.{further_line, ranked_text, tally_line}
 use Rattle.check_inputs.specs.Messages.{around, cwr_message, fact_line, fault_line, payee_message, remark_line}
 use Rattle.check_inputs.specs.Messages.{tis_message, total_line, usage_message}
 use Rattle.check_inputs.specs.declared.words.TheConstants.{MOST_FAULTS}
@@ -92,27 +94,8 @@ cwr_facts path bytes faults payee_faults registered =
 abbrev pub usage_facts : (path : List ℕ) → (faults : ℕ) → List UsageLine → List ℕ
 usage_facts path faults lines =
     if_none faults (fact_line path (codes "usage lines") (length lines)
-    ++ if_none (length lines) (remark_line path (codes "there are no usage lines")))
-
--- what is said of those behind the first ten
-abbrev pub others_text : (count : ℕ) → List ℕ
-others_text count = if nat_lt 10 count then codes " and others" else []
-
--- how many items there are, and the first ten of them
-abbrev pub items_text : {X : Type 0} → (words : X → List ℕ) → (kind : List ℕ) → List X → List ℕ
-items_text words kind items =
-    decimal (length items) ++ codes ", " ++ kind ++ join_by words (codes ", ") (take 10 items)
-    ++ others_text (length items)
-
--- a remark on items that a run passes over, where there are any
-abbrev pub items_line : {X : Type 0} → (words : X → List ℕ) → (path what kind : List ℕ) → List X → List ℕ
-items_line words path what kind [] = []
-items_line words path what kind (first ∷ later) =
-    remark_line path (what ++ codes ": " ++ items_text words kind (first ∷ later))
-
--- the same of a kind of lines or rows, by their numbers
-abbrev pub tally_line : (path what kind : List ℕ) → List ℕ → List ℕ
-tally_line = items_line decimal
+    ++ if_none (length lines) (remark_line path (codes "there are no usage lines"))
+    ++ tally_line path (codes "rows that are the same as an earlier one") (codes "in row ") (repeated_rows lines))
 
 -- a text about two files that have so many faults: there is one where neither has any
 abbrev pub if_neither : (faults others : ℕ) → List ℕ → List ℕ
@@ -140,6 +123,16 @@ work_line path e = total_line path (around (codes "work '") e.0 (codes "' is not
 abbrev pub territory_line : (path : List ℕ) → ℕ × Total → List ℕ
 territory_line path e = total_line path (codes "territory " ++ decimal e.0 ++ codes " is not in the table") e.1 []
 
+-- a work of which something stays open, and one whose lines are claimed over
+abbrev pub open_line : (path : List ℕ) → List ℕ × Total → List ℕ
+open_line path e =
+    path ++ codes ": " ++ around (codes "work '") e.0 (codes "' is not claimed in full: lines ")
+    ++ decimal e.1.lines ++ codes ", to the residue " ++ signed_decimal e.1.amount ++ codes "\n"
+
+abbrev pub claimed_over_line : (path : List ℕ) → List ℕ × Total → List ℕ
+claimed_over_line path e =
+    total_line path (around (codes "work '") e.0 (codes "' is claimed over 100.06 per cent")) e.1 []
+
 -- the lines that are divided, and what of them is the residue's
 abbrev pub divided_line : (path : List ℕ) → Totals → List ℕ
 divided_line path totals = total_line path (codes "divided") totals.divided
@@ -157,28 +150,42 @@ reasons_text path totals =
 abbrev pub totals_text : (usage registrations territories : List ℕ) → (lines : ℕ) → Totals → List ℕ
 totals_text usage registrations territories lines totals =
     reasons_text usage totals
-    ++ flat_map (work_line usage) totals.works.items
-    ++ flat_map (territory_line usage) totals.territories.items
+    ++ ranked_text (work_line usage) usage (codes "further works that are not registered") totals.works
+    ++ ranked_text (territory_line usage) usage (codes "further territories that are not in the table") totals.territories
+    ++ ranked_text (open_line usage) usage (codes "further works that are not claimed in full") totals.left_open
     ++ (if nat_lt 0 lines && (totals.unregistered.lines == lines)
     then remark_line registrations (codes "it has the work of no usage line") else [])
     ++ (if nat_lt 0 lines && not totals.knows_a_territory
     then remark_line territories (codes "it has the territory of no usage line") else [])
 
--- what is in the files that have no fault, and what of it a run passes over; nothing is said of a table of payees that
--- is not there
+-- how many more works are claimed over than are named
+abbrev pub further_over : (path : List ℕ) → Totals → List ℕ
+further_over path totals =
+    further_line path (codes "further works that are claimed over 100.06 per cent") totals.over.count
+
+-- what a run over one CWR file makes of the lines, with the works that are claimed over
+abbrev pub run_text : (paths : Inputs (List ℕ)) → (lines : ℕ) → Totals → List ℕ
+run_text paths lines totals =
+    totals_text paths.usage paths.registrations paths.territories lines totals
+    ++ flat_map (claimed_over_line paths.usage) totals.over.first.items ++ further_over paths.usage totals
+
+-- What is in the files that have no fault, what is unusual in their form, and what of them a run passes over. Nothing is
+-- said of a table of payees that is not there.
 abbrev pub facts_text : (paths files : Inputs (List ℕ)) → Found → List ℕ
 facts_text paths files found =
-    tis_facts paths.territories (length found.of_territories) found.table
-    ++ option_map_or (λ path. payees_facts path (length found.of_payees) found.rows) paths.payees []
-    ++ cwr_facts paths.registrations files.registrations (length found.of_registrations)
+    (tis_facts paths.territories (length found.of_territories) found.table
+    ++ quote_remark paths.territories files.territories)
+    ++ (option_map_or (λ path. payees_facts path (length found.of_payees) found.rows) paths.payees []
+    ++ quote_if_given (payees_path paths) files.payees)
+    ++ (cwr_facts paths.registrations files.registrations (length found.of_registrations)
     (length found.of_payees) found.registered
-    ++ usage_facts paths.usage (length found.of_usage) found.lines
+    ++ form_text paths.registrations files.registrations)
+    ++ (usage_facts paths.usage (length found.of_usage) found.lines ++ quote_remark paths.usage files.usage)
     ++ territories_remark paths.registrations files.registrations (length found.of_registrations)
     (length found.of_territories) found.table
     ++ payees_remark (payees_path paths) (length found.of_payees) (length found.of_registrations)
     found.rows found.registered
-    ++ option_map_or (totals_text paths.usage paths.registrations paths.territories (length found.lines))
-    found.totals []
+    ++ option_map_or (run_text paths (length found.lines)) found.totals []
 
 -- the report
 abbrev pub report_of : (paths files : Inputs (List ℕ)) → Found → List ℕ

@@ -12,7 +12,7 @@ pub record IsSubmittedReportOn (names file_paths : List (List ℕ)) (holds : ℕ
     (paths tables : SubmittedTables (List ℕ)) (text : List ℕ) (sound : Bool) : Type 0 where
   pub found : SubmittedFound
   pub inputs : IsFoundIn names file_paths holds tables found
-  pub written : text ≡ report_of names paths found
+  pub written : text ≡ report_of names paths tables found
   pub told : sound ≡ is_sound found
 
 -- the file at this place cannot be read, and those before it can; there are so many files

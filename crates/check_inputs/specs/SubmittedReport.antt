@@ -16,7 +16,9 @@ use Rattle.linked_works.specs.declared.works_fault.WorksFault.{WorksFault}
 use Rattle.submitted_inputs.specs.declared.inputs.SubmittedTables.{SubmittedTables}
 use Rattle.usage_totals.specs.declared.totals.Totals.{Totals}
 use Rattle.check_inputs.specs.Messages.{around, fact_line, fault_line, remark_line}
-use Rattle.check_inputs.specs.Report.{cwr_line, fault_lines, if_none, items_line, payees_facts, row_line, tally_line}
+use Rattle.check_inputs.specs.Form.{form_text, quote_if_given, quote_remark}
+use Rattle.check_inputs.specs.Items.{items_line, tally_line}
+use Rattle.check_inputs.specs.Report.{cwr_line, fault_lines, further_over, if_none, payees_facts, row_line}
 use Rattle.check_inputs.specs.Report.{territories_remark, tis_facts, tis_line, totals_text, usage_facts, usage_line}
 use Rattle.check_inputs.specs.SubmittedFound.{FileFound, SubmittedFound, are_linked, finds_of}
 use Rattle.check_inputs.specs.SubmittedOver.{over_text}
@@ -64,6 +66,7 @@ abbrev pub file_facts : FileFound → List ℕ
 file_facts file =
     if_none (length file.faults) (file_numbers file.path (count_by opens_registration (lines_of file.bytes))
     (length file.works))
+    ++ form_text file.path file.bytes
 
 -- what the links come to; the residue's account is one of the accounts
 abbrev pub linked_facts : (path : List ℕ) → Registered → List ℕ
@@ -72,15 +75,18 @@ linked_facts path registered =
     ++ fact_line path (codes "parties in force") (length registered.payees)
     ++ fact_line path (codes "accounts, the residue's included") (length registered.accounts)
 
--- what is in the inputs that have no fault; nothing is said of a table of payees that is not there
-abbrev pub facts_text : (paths : SubmittedTables (List ℕ)) → SubmittedFound → List ℕ
-facts_text paths found =
-    tis_facts paths.territories (length found.of_territories) found.table
-    ++ option_map_or (λ path. payees_facts path (length found.of_payees) found.rows) paths.payees []
-    ++ works_facts paths.works (length found.of_works) found.links
+-- what is in the inputs that have no fault, and what is unusual in their form; nothing is said of a table of payees that
+-- is not there
+abbrev pub facts_text : (paths tables : SubmittedTables (List ℕ)) → SubmittedFound → List ℕ
+facts_text paths tables found =
+    (tis_facts paths.territories (length found.of_territories) found.table
+    ++ quote_remark paths.territories tables.territories)
+    ++ (option_map_or (λ path. payees_facts path (length found.of_payees) found.rows) paths.payees []
+    ++ quote_if_given (payees_path paths) tables.payees)
+    ++ (works_facts paths.works (length found.of_works) found.links ++ quote_remark paths.works tables.works)
     ++ flat_map file_facts found.files
     ++ option_map_or (linked_facts paths.works) found.registered []
-    ++ usage_facts paths.usage (length found.of_usage) found.lines
+    ++ (usage_facts paths.usage (length found.of_usage) found.lines ++ quote_remark paths.usage tables.usage)
 
 -- share lines whose territory is not in the table, in a file
 abbrev pub file_remark : (tis_faults : ℕ) → List (ℕ × List ℕ) → FileFound → List ℕ
@@ -131,7 +137,9 @@ remarks_text names paths found =
 -- the works with most money of the lines that are claimed over, where a run makes something of the lines
 abbrev pub over_works : (names : List (List ℕ)) → (path : List ℕ) → SubmittedFound → Registered → Totals → List ℕ
 over_works names path found registered totals =
-    over_text path found.table registered (finds_of names found.files) found.links names found.lines totals.over.items
+    over_text path found.table registered (finds_of names found.files) found.links names found.lines
+    totals.over.first.items
+    ++ further_over path totals
 
 -- what a run makes of the lines; the table of works takes the place of the CWR file in a run over one file
 abbrev pub run_text : (names : List (List ℕ)) → (paths : SubmittedTables (List ℕ)) → SubmittedFound → Registered
@@ -141,8 +149,8 @@ run_text names paths found registered totals =
     ++ over_works names paths.usage found registered totals
 
 -- the report
-abbrev pub report_of : (names : List (List ℕ)) → (paths : SubmittedTables (List ℕ)) → SubmittedFound → List ℕ
-report_of names paths found =
-    faults_text paths found ++ facts_text paths found ++ remarks_text names paths found
+abbrev pub report_of : (names : List (List ℕ)) → (paths tables : SubmittedTables (List ℕ)) → SubmittedFound → List ℕ
+report_of names paths tables found =
+    faults_text paths found ++ facts_text paths tables found ++ remarks_text names paths found
     ++ option_map_or (λ registered. option_map_or (run_text names paths found registered) found.totals [])
     found.registered []

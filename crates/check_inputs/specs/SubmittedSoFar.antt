@@ -15,10 +15,11 @@ use Rattle.submitted_inputs.specs.declared.inputs.SubmittedTables.{SubmittedTabl
 use Rattle.tis_tree.specs.TisRows as tis
 use Rattle.tis_tree.specs.declared.tis_fault.TisFault.{TisFault}
 use Rattle.usage_totals.specs.declared.totals.Totals.{Totals}
+use Rattle.check_inputs.specs.Form.{quote_if_given, quote_remark}
 use Rattle.check_inputs.specs.Found.{AreTotalsIfSound}
 use Rattle.check_inputs.specs.LinksSoFar.{LinksGoOn, finds_in_force}
-use Rattle.check_inputs.specs.Report.{fault_lines, payees_facts, tis_facts, tis_line, totals_text, usage_facts}
-use Rattle.check_inputs.specs.Report.{usage_line}
+use Rattle.check_inputs.specs.Report.{fault_lines, further_over, payees_facts, tis_facts, tis_line, totals_text}
+use Rattle.check_inputs.specs.Report.{usage_facts, usage_line}
 use Rattle.check_inputs.specs.SoFar.{AreAllRead, PagesGoOn}
 use Rattle.check_inputs.specs.SubmittedFound.{AreLinksWithout, ArePayeesWithout, FileFound}
 use Rattle.check_inputs.specs.SubmittedOver.{over_text}
@@ -45,9 +46,11 @@ pub record AreTablesRead (names : List (List ℕ)) (paths tables : SubmittedTabl
       (fault_lines (tis_line paths.territories) paths.territories of_territories
       ++ fault_lines (submitter_payee_line (payees_path paths)) (payees_path paths) of_payees
       ++ fault_lines (works_line paths.works) paths.works of_works)
-      (tis_facts paths.territories (length of_territories) read.territories
-      ++ option_map_or (λ path. payees_facts path (length of_payees) read.payees) paths.payees []
-      ++ works_facts paths.works (length of_works) read.works.links)
+      ((tis_facts paths.territories (length of_territories) read.territories
+      ++ quote_remark paths.territories tables.territories)
+      ++ (option_map_or (λ path. payees_facts path (length of_payees) read.payees) paths.payees []
+      ++ quote_if_given (payees_path paths) tables.payees)
+      ++ (works_facts paths.works (length of_works) read.works.links ++ quote_remark paths.works tables.works))
       []
 
 -- so are the files
@@ -67,8 +70,9 @@ pub record AreSourcesOf (names file_paths : List (List ℕ)) (holds : ℕ → Li
 abbrev pub sources_text : (paths : SubmittedTables (List ℕ)) → Sources → List UsageLine → Registered → Totals → List ℕ
 sources_text paths sources lines registered totals =
     totals_text paths.usage paths.works paths.territories (length lines) totals
-    ++ over_text paths.usage sources.tables.territories registered (finds_in_force sources) sources.tables.works.links
-    sources.tables.works.names lines totals.over.items
+    ++ (over_text paths.usage sources.tables.territories registered (finds_in_force sources) sources.tables.works.links
+    sources.tables.works.names lines totals.over.first.items
+    ++ further_over paths.usage totals)
 
 -- the links are looked at, and the usage list is read, and the report goes on by what is said of them
 pub record IsRunTold (paths : SubmittedTables (List ℕ)) (usage_list : List ℕ) (sources : Sources)
@@ -84,6 +88,6 @@ pub record IsRunTold (paths : SubmittedTables (List ℕ)) (usage_list : List ℕ
   pub are_totals : AreTotalsIfSound (between.sheet.is_sound && (length of_usage == 0))
       sources.tables.territories registered lines totals
   pub on : PagesGoOn between after (length of_usage == 0) (fault_lines (usage_line paths.usage) paths.usage of_usage)
-      (usage_facts paths.usage (length of_usage) lines)
+      (usage_facts paths.usage (length of_usage) lines ++ quote_remark paths.usage usage_list)
       (option_map_or (λ registered. option_map_or (sources_text paths sources lines registered) totals [])
       registered [])

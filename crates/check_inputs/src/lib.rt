@@ -2,6 +2,7 @@
 //! makes of the usage lines where none has.
 #![tactic(auto)]
 
+mod form;
 pub mod laws;
 mod links;
 mod lists;

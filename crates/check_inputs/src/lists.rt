@@ -2,9 +2,9 @@
 
 ghost use Rattle.std.specs.Prelude.{◌≡◌, ◌++◌, ℕ, List, OnOk, codes, length, take};
 ghost use Rattle.std.specs.List.{join_by};
-ghost use Rattle.check_inputs.specs.Report.{items_line, others_text};
+ghost use Rattle.check_inputs.specs.Items.{further_line, items_line, others_text};
 
-use crate::words::{add, add_number, add_path};
+use crate::words::{add, add_fact, add_number, add_path};
 use cwr_share::MOST_NAMED;
 use std::alloc::AllocError;
 
@@ -71,12 +71,29 @@ pub(crate) fn add_items<T: Listed>(
     Ok(())
 }
 
-/// Says that there are others, where there are more than are named.
+/// Says how many there are behind those that are named.
 fn add_others(text: &mut Vec<u8>, count: u64) -> Result<(), AllocError>
     ensures { OnOk result (text.new.items ≡ text.old.items ++ others_text count) }
 {
     if count > MOST_NAMED as u64 {
-        add(text, " and others")?;
+        add(text, " and ")?;
+        add_number(text, count - MOST_NAMED as u64)?;
+        add(text, " more")?;
+    }
+    Ok(())
+}
+
+/// Says how many more there are of something than the first ten, which have a line each.
+pub(crate) fn add_further(
+    text: &mut Vec<u8>,
+    path: &str,
+    what: &str,
+    count: u64,
+) -> Result<(), AllocError>
+    ensures { OnOk result (text.new.items ≡ text.old.items ++ further_line path.now what.now count) }
+{
+    if count > MOST_NAMED as u64 {
+        add_fact(text, path, what, count - MOST_NAMED as u64)?;
     }
     Ok(())
 }

@@ -24,8 +24,8 @@ ghost use Rattle.check_inputs.specs.SubmittedOver.{over_line, over_text, row_tex
 
 use crate::lists::{Listed, add_list};
 use crate::submitted_sources::Sources;
-use crate::summary::add_lines;
-use crate::words::{add, add_around, add_number, add_path};
+use crate::summary::begin_claimed_over;
+use crate::words::{add, add_number};
 use cwr_share::{InForce, Registry, ShareRecord, claimed_in};
 use line_split::{Claims, Line, Reason, Right, Usage};
 use linked_works::WorksRow;
@@ -103,9 +103,7 @@ fn add_over_work(
         (finds_in_force sources.now) sources.now.tables.works.links sources.now.tables.works.names lines.now
         (work.now, total)) }
 {
-    add_path(text, path)?;
-    add_around(text, "work '", work, "' is claimed over 100.06 per cent")?;
-    add_lines(text, total)?;
+    begin_claimed_over(text, path, work, total)?;
     add_who_claims(alloc, text, sources, registry, lines, work)?;
     add(text, "\n")?;
     Ok(())

@@ -4,7 +4,8 @@ ghost use Rattle.std.specs.Prelude.{◌≡◌, ◌++◌, ℕ, List, OnOk};
 ghost use Rattle.cwr_share.specs.CwrFile.{AreSound};
 ghost use Rattle.cwr_share.specs.Lines.{lines_of};
 ghost use Rattle.cwr_share.specs.PassedOver.{IsTallyOf};
-ghost use Rattle.check_inputs.specs.Report.{payees_remark, tally_line, territories_remark};
+ghost use Rattle.check_inputs.specs.Items.{tally_line};
+ghost use Rattle.check_inputs.specs.Report.{payees_remark, territories_remark};
 
 use crate::lists::add_items;
 use cwr_share::{Payees, Registry, Tally, unknown_territories, unused_payees};

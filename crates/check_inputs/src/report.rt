@@ -15,16 +15,18 @@ ghost use Rattle.tis_tree.specs.TisRows as tis;
 ghost use Rattle.tis_tree.specs.declared.tis_fault.TisFault.{TisFault};
 ghost use Rattle.usage_totals.specs.declared.totals.Totals.{Totals};
 ghost use Rattle.check_inputs.specs.Checked.{IsReportOn, bytes_of, path_if_given, path_of, payee_facts};
+ghost use Rattle.check_inputs.specs.Form.{form_text, quote_if_given, quote_remark};
 ghost use Rattle.check_inputs.specs.Found.{ArePayeesWithout, AreRegistrationsWithout, AreTotalsIfSound};
 ghost use Rattle.check_inputs.specs.Messages.{fact_line, remark_line};
 ghost use Rattle.check_inputs.specs.SoFar.{Adds, GoesOn};
 ghost use Rattle.check_inputs.specs.Report.{cwr_facts, cwr_line, cwr_numbers, fault_lines, if_none, payee_line};
 ghost use Rattle.check_inputs.specs.Report.{payees_remark, territories_remark};
-ghost use Rattle.check_inputs.specs.Report.{tis_facts, tis_line, totals_text, usage_facts, usage_line};
+ghost use Rattle.check_inputs.specs.Report.{run_text, tis_facts, tis_line, usage_facts, usage_line};
 
+use crate::form::{add_form, add_quote_if_given, add_quote_remark};
 use crate::reading::{read_cwr, read_past_faults};
-use crate::remarks::{add_payees_remark, add_territories_remark};
-use crate::summary::add_totals;
+use crate::remarks::{add_payees_remark, add_tally, add_territories_remark};
+use crate::summary::{add_claimed_over, add_further_over, add_totals};
 use crate::told::Told;
 use crate::words::{add_fact, add_remark};
 use cwr_share::{Payees, Registry, count_registrations};
@@ -32,7 +34,7 @@ use line_split::Usage;
 use run_inputs::{Input, Inputs};
 use std::alloc::{AllocError, Global};
 use tis_tree::TisTable;
-use usage_totals::totals_of;
+use usage_totals::{repeated_rows, totals_of};
 
 /// A report on inputs.
 #[derive(Drop)]
@@ -111,7 +113,8 @@ impl Sheet {
             × tis.IsReadWithout (rows_of file.now.bytes.items) out read.0 × (read.1 ≡ length out)
             × GoesOn self.old self.new (length out)
             (fault_lines (tis_line (string_bytes file.now.path)) (string_bytes file.now.path) out)
-            (tis_facts (string_bytes file.now.path) (length out) read.0)) }
+            (tis_facts (string_bytes file.now.path) (length out) read.0
+            ++ quote_remark (string_bytes file.now.path) file.now.bytes.items)) }
     {
         let path = file.path.as_str();
         let (told, table) = read_past_faults(
@@ -128,6 +131,7 @@ impl Sheet {
             "territories",
             table.len() as u64,
         )?;
+        add_quote_remark(alloc, &mut self.facts, path, file.bytes.as_slice())?;
         Ok((table, told.count))
     }
 
@@ -141,7 +145,7 @@ impl Sheet {
     {
         let (told, rows) = read_payees_if_given(alloc, file)?;
         self.add_faults(&told)?;
-        add_payee_facts(&mut self.facts, file, told.count, rows.len() as u64)?;
+        add_payee_facts(alloc, &mut self.facts, file, told.count, rows.len() as u64)?;
         Ok((rows, told.count))
     }
 
@@ -157,11 +161,18 @@ impl Sheet {
             × AreRegistrationsWithout payees.now (lines_of file.now.bytes.items) out read.0 × (read.1 ≡ length out)
             × GoesOn self.old self.new (length out)
             (fault_lines (cwr_line (string_bytes file.now.path)) (string_bytes file.now.path) out)
-            (cwr_facts (string_bytes file.now.path) file.now.bytes.items (length out) payee_faults read.0)) }
+            (cwr_facts (string_bytes file.now.path) file.now.bytes.items (length out) payee_faults read.0
+            ++ form_text (string_bytes file.now.path) file.now.bytes.items)) }
     {
         let (told, registry) = read_cwr(alloc, file.path.as_str(), file.bytes.as_slice(), payees)?;
         self.add_faults(&told)?;
         add_cwr_facts(&mut self.facts, file, told.count, payee_faults, &registry)?;
+        add_form(
+            alloc,
+            &mut self.facts,
+            file.path.as_str(),
+            file.bytes.as_slice(),
+        )?;
         Ok((registry, told.count))
     }
 
@@ -171,7 +182,8 @@ impl Sheet {
             × usage.IsReadWithout (rows_of file.now.bytes.items) out lines
             × GoesOn self.old self.new (length out)
             (fault_lines (usage_line (string_bytes file.now.path)) (string_bytes file.now.path) out)
-            (usage_facts (string_bytes file.now.path) (length out) lines)) }
+            (usage_facts (string_bytes file.now.path) (length out) lines
+            ++ quote_remark (string_bytes file.now.path) file.now.bytes.items)) }
     {
         let path = file.path.as_str();
         let bytes = file.bytes.as_slice();
@@ -182,7 +194,8 @@ impl Sheet {
             Usage::with_room_for(alloc, bytes)?,
         )?;
         self.add_faults(&told)?;
-        add_usage_facts(&mut self.facts, told.count, path, lines.len() as u64)?;
+        add_usage_facts(alloc, &mut self.facts, told.count, path, &lines)?;
+        add_quote_remark(alloc, &mut self.facts, path, bytes)?;
         Ok(lines)
     }
 
@@ -238,9 +251,7 @@ impl Sheet {
         ensures { OnOk result ((totals : Option Totals)
             × AreTotalsIfSound self.old.is_sound table.now registry.now lines.now totals
             × Adds self.old self.new
-            (option_map_or (totals_text (string_bytes inputs.now.usage.path)
-            (string_bytes inputs.now.registrations.path)
-            (string_bytes inputs.now.territories.path) (length lines.now)) totals [])) }
+            (option_map_or (run_text (map_inputs path_of inputs.now) (length lines.now)) totals [])) }
     {
         if !self.is_sound {
             return Ok(());
@@ -257,6 +268,12 @@ impl Sheet {
             lines.len() as u64,
             &totals,
         )?;
+        add_claimed_over(
+            &mut self.facts,
+            inputs.usage.path.as_str(),
+            totals.over.first.as_slice(),
+        )?;
+        add_further_over(&mut self.facts, inputs.usage.path.as_str(), &totals)?;
         Ok(())
     }
 
@@ -347,8 +364,26 @@ pub(crate) fn path_or_none(file: &Option<File>) -> &str
     }
 }
 
-/// Adds what is in a table of payees, where there is one that has no fault.
+/// Adds what is in a table of payees, where there is one that has no fault, and a remark on its quotes.
 pub(crate) fn add_payee_facts(
+    alloc: Global,
+    text: &mut Vec<u8>,
+    file: &Option<File>,
+    faults: u64,
+    rows: u64,
+) -> Result<(), AllocError>
+    ensures { OnOk result (text.new.items ≡ text.old.items
+        ++ (option_map_or (λ path. if_none faults (fact_line path (codes "parties with a payee") rows))
+        (option_map path_of file.now) []
+        ++ quote_if_given (path_if_given file.now) (option_map bytes_of file.now))) }
+{
+    add_parties_fact(text, file, faults, rows)?;
+    add_quote_if_given(alloc, text, file)?;
+    Ok(())
+}
+
+/// Says how many parties have a payee, where there is a table of payees that has no fault.
+fn add_parties_fact(
     text: &mut Vec<u8>,
     file: &Option<File>,
     faults: u64,
@@ -431,19 +466,27 @@ fn add_cwr_numbers(
 
 /// Adds what is in a usage list, where it has no fault.
 fn add_usage_facts(
+    alloc: Global,
     text: &mut Vec<u8>,
     faults: u64,
     path: &str,
-    lines: u64,
+    lines: &Usage,
 ) -> Result<(), AllocError>
-    ensures { OnOk result (text.new.items ≡ text.old.items
-        ++ if_none faults (fact_line path.now (codes "usage lines") lines
-        ++ if_none lines (remark_line path.now (codes "there are no usage lines")))) }
+    ensures { OnOk result (text.new.items ≡ text.old.items ++ usage_facts path.now faults lines.now) }
 {
     if faults > 0 {
         return Ok(());
     }
-    add_fact(text, path, "usage lines", lines)?;
-    add_remark_if_none(text, lines, path, "there are no usage lines")?;
+    let count = lines.len() as u64;
+    add_fact(text, path, "usage lines", count)?;
+    add_remark_if_none(text, count, path, "there are no usage lines")?;
+    let repeated = repeated_rows(alloc, lines)?;
+    add_tally(
+        text,
+        path,
+        "rows that are the same as an earlier one",
+        "in row ",
+        &repeated,
+    )?;
     Ok(())
 }

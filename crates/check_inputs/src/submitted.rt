@@ -17,7 +17,7 @@ use crate::over::add_over;
 use crate::report::Sheet;
 use crate::submitted_files::Pages;
 use crate::submitted_sources::{Sources, read_sources};
-use crate::summary::add_totals;
+use crate::summary::{add_further_over, add_totals};
 use crate::{Checked, File};
 use cwr_share::Registry;
 use line_split::Usage;
@@ -121,8 +121,9 @@ impl Pages {
             sources,
             registry,
             lines,
-            totals.over.as_slice(),
+            totals.over.first.as_slice(),
         )?;
+        add_further_over(&mut self.remarks, path, &totals)?;
         Ok(())
     }
 

@@ -11,6 +11,7 @@ ghost use Rattle.check_inputs.specs.SubmittedChecked.{IsFirstUnread};
 ghost use Rattle.check_inputs.specs.SubmittedFound.{FileFound};
 ghost use Rattle.check_inputs.specs.SubmittedReport.{file_facts, file_faults, file_numbers, file_remark};
 
+use crate::form::add_form;
 use crate::reading::read_in_force;
 use crate::remarks::add_territories_remark;
 use crate::report::{Sheet, add_remark_if_none};
@@ -127,6 +128,7 @@ fn read_one(
         told.count,
         in_force.len() as u64,
     )?;
+    add_form(alloc, &mut pages.sheet.facts, path, bytes)?;
     add_territories_remark(
         &mut pages.remarks,
         path,

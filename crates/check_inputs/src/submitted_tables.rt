@@ -1,16 +1,18 @@
 //! The tables of several submitters, in a report.
 
 ghost use Rattle.std.specs.Option.{option_map};
-ghost use Rattle.std.specs.Prelude.{◌≡◌, ℕ, List, IfOk, Some, length, string_bytes};
+ghost use Rattle.std.specs.Prelude.{◌≡◌, ◌++◌, ℕ, List, IfOk, Some, length, string_bytes};
 ghost use Rattle.cwr_share.specs.declared.payee_fault.PayeeFault.{PayeeFault};
 ghost use Rattle.linked_works.specs.declared.works_fault.WorksFault.{WorksFault};
 ghost use Rattle.check_inputs.specs.Checked.{bytes_of, path_if_given, payee_facts};
+ghost use Rattle.check_inputs.specs.Form.{quote_remark};
 ghost use Rattle.check_inputs.specs.Report.{fault_lines};
 ghost use Rattle.check_inputs.specs.SoFar.{GoesOn};
 ghost use Rattle.check_inputs.specs.SubmittedFound.{AreLinksWithout, ArePayeesWithout};
 ghost use Rattle.check_inputs.specs.SubmittedReport.{submitter_payee_line, works_facts, works_line};
 
 use crate::File;
+use crate::form::add_quote_remark;
 use crate::reading::read_past_faults;
 use crate::report::{Sheet, add_fact_if_sound, add_payee_facts};
 use crate::told::Told;
@@ -34,7 +36,7 @@ impl Sheet {
     {
         let (told, rows) = read_payees(alloc, submitters, file)?;
         self.add_faults(&told)?;
-        add_payee_facts(&mut self.facts, file, told.count, rows.len() as u64)?;
+        add_payee_facts(alloc, &mut self.facts, file, told.count, rows.len() as u64)?;
         Ok((rows, told.count))
     }
 
@@ -49,7 +51,8 @@ impl Sheet {
             × AreLinksWithout submitters.entry.now file.now.bytes.items out read.0.links × (read.1 ≡ length out)
             × GoesOn self.old self.new (length out)
             (fault_lines (works_line (string_bytes file.now.path)) (string_bytes file.now.path) out)
-            (works_facts (string_bytes file.now.path) (length out) read.0.links)) }
+            (works_facts (string_bytes file.now.path) (length out) read.0.links
+            ++ quote_remark (string_bytes file.now.path) file.now.bytes.items)) }
         ensures names { IfOk result (λ read. read.0.names ≡ submitters.entry.now) }
     {
         let path = file.path.as_str();
@@ -63,6 +66,7 @@ impl Sheet {
             "registrations linked",
             works.len() as u64,
         )?;
+        add_quote_remark(alloc, &mut self.facts, path, bytes)?;
         Ok((works, told.count))
     }
 }

@@ -1,13 +1,16 @@
 //! What a run makes of usage lines, in words.
 
-ghost use Rattle.std.specs.Prelude.{◌≡◌, ◌++◌, ◌&&◌, [], OnOk, flat_map, if◌then◌else◌, nat_lt};
+ghost use Rattle.std.specs.Prelude.{◌≡◌, ◌++◌, ◌&&◌, [], OnOk, codes, flat_map, if◌then◌else◌, nat_lt};
 ghost use Rattle.std.specs.Fmt.{signed_decimal};
-ghost use Rattle.check_inputs.specs.Messages.{remark_line, total_line, total_text};
-ghost use Rattle.check_inputs.specs.Report.{divided_line, reasons_text, territory_line, totals_text, work_line};
+ghost use Rattle.check_inputs.specs.Items.{ranked_text};
+ghost use Rattle.check_inputs.specs.Messages.{around, remark_line, total_line, total_text};
+ghost use Rattle.check_inputs.specs.Report.{claimed_over_line, divided_line, further_over, open_line, reasons_text};
+ghost use Rattle.check_inputs.specs.Report.{territory_line, totals_text, work_line};
 
+use crate::lists::add_further;
 use crate::words::{add, add_amount, add_around, add_number, add_path, add_remark};
 use std::alloc::AllocError;
-use usage_totals::{Name, Total, Totals};
+use usage_totals::{Name, Ranked, Total, Totals};
 
 /// Adds what a run makes of so many lines, where the usage list, what has the registrations and the table of
 /// territories have these paths.
@@ -23,8 +26,9 @@ pub(crate) fn add_totals(
         ≡ text.old.items ++ totals_text usage.now registrations.now territories.now lines totals.now) }
 {
     add_reasons(text, usage, totals)?;
-    add_works(text, usage, totals.works.as_slice())?;
-    add_territories(text, usage, totals.territories.as_slice())?;
+    add_works(text, usage, &totals.works)?;
+    add_territories(text, usage, &totals.territories)?;
+    add_open_works(text, usage, &totals.left_open)?;
     add_remark_if_any(
         text,
         lines,
@@ -111,13 +115,21 @@ fn add_total(text: &mut Vec<u8>, path: &str, whose: &str, total: Total) -> Resul
     Ok(())
 }
 
-/// Adds a line about each work that nobody has registered.
-fn add_works(text: &mut Vec<u8>, path: &str, works: &[(Name<'_>, Total)]) -> Result<(), AllocError>
-    ensures { OnOk result (text.new.items ≡ text.old.items ++ flat_map (work_line path.now) works.now) }
+/// Adds a line about each of the first works that nobody has registered, and how many more there are.
+fn add_works(text: &mut Vec<u8>, path: &str, works: &Ranked<Name<'_>>) -> Result<(), AllocError>
+    ensures { OnOk result (text.new.items ≡ text.old.items
+        ++ ranked_text (work_line path.now) path.now (codes "further works that are not registered") works.now) }
 {
-    for place in 0..works.len() {
-        add_work(text, path, works[place].0.as_slice(), works[place].1)?;
+    let first = works.first.as_slice();
+    for place in 0..first.len() {
+        add_work(text, path, first[place].0.as_slice(), first[place].1)?;
     }
+    add_further(
+        text,
+        path,
+        "further works that are not registered",
+        works.count,
+    )?;
     Ok(())
 }
 
@@ -132,17 +144,26 @@ fn add_work(text: &mut Vec<u8>, path: &str, work: &[u8], total: Total) -> Result
     Ok(())
 }
 
-/// Adds a line about each territory that the table has not.
+/// Adds a line about each of the first territories that the table has not, and how many more there are.
 fn add_territories(
     text: &mut Vec<u8>,
     path: &str,
-    territories: &[(u16, Total)],
+    territories: &Ranked<u16>,
 ) -> Result<(), AllocError>
-    ensures { OnOk result (text.new.items ≡ text.old.items ++ flat_map (territory_line path.now) territories.now) }
+    ensures { OnOk result (text.new.items ≡ text.old.items
+        ++ ranked_text (territory_line path.now) path.now (codes "further territories that are not in the table")
+        territories.now) }
 {
-    for place in 0..territories.len() {
-        add_territory(text, path, territories[place].0, territories[place].1)?;
+    let first = territories.first.as_slice();
+    for place in 0..first.len() {
+        add_territory(text, path, first[place].0, first[place].1)?;
     }
+    add_further(
+        text,
+        path,
+        "further territories that are not in the table",
+        territories.count,
+    )?;
     Ok(())
 }
 
@@ -164,8 +185,116 @@ fn add_territory(
     Ok(())
 }
 
+/// Adds a line about each of the first works of which something stays open, and how many more there are.
+fn add_open_works(
+    text: &mut Vec<u8>,
+    path: &str,
+    works: &Ranked<Name<'_>>,
+) -> Result<(), AllocError>
+    ensures { OnOk result (text.new.items ≡ text.old.items
+        ++ ranked_text (open_line path.now) path.now (codes "further works that are not claimed in full") works.now) }
+{
+    let first = works.first.as_slice();
+    for place in 0..first.len() {
+        add_open_work(text, path, first[place].0.as_slice(), first[place].1)?;
+    }
+    add_further(
+        text,
+        path,
+        "further works that are not claimed in full",
+        works.count,
+    )?;
+    Ok(())
+}
+
+/// Adds a line about a work of which something stays open.
+fn add_open_work(
+    text: &mut Vec<u8>,
+    path: &str,
+    work: &[u8],
+    total: Total,
+) -> Result<(), AllocError>
+    ensures { OnOk result (text.new.items ≡ text.old.items ++ open_line path.now (work.now, total)) }
+{
+    add_path(text, path)?;
+    add_around(text, "work '", work, "' is not claimed in full: lines ")?;
+    add_number(text, total.lines)?;
+    add(text, ", to the residue ")?;
+    add_amount_of(text, total)?;
+    add(text, "\n")?;
+    Ok(())
+}
+
+/// Adds what lines come to.
+fn add_amount_of(text: &mut Vec<u8>, total: Total) -> Result<(), AllocError>
+    ensures { OnOk result (text.new.items ≡ text.old.items ++ signed_decimal total.amount) }
+{
+    add_amount(text, total.amount)
+}
+
+/// Adds a line about each of the first works whose lines are claimed over, in a run over one CWR file.
+pub(crate) fn add_claimed_over(
+    text: &mut Vec<u8>,
+    path: &str,
+    works: &[(Name<'_>, Total)],
+) -> Result<(), AllocError>
+    ensures { OnOk result (text.new.items ≡ text.old.items ++ flat_map (claimed_over_line path.now) works.now) }
+{
+    for place in 0..works.len() {
+        add_claimed_over_work(text, path, works[place].0.as_slice(), works[place].1)?;
+    }
+    Ok(())
+}
+
+/// Adds a line about a work whose lines are claimed over.
+fn add_claimed_over_work(
+    text: &mut Vec<u8>,
+    path: &str,
+    work: &[u8],
+    total: Total,
+) -> Result<(), AllocError>
+    ensures { OnOk result (text.new.items ≡ text.old.items ++ claimed_over_line path.now (work.now, total)) }
+{
+    begin_claimed_over(text, path, work, total)?;
+    add(text, "\n")?;
+    Ok(())
+}
+
+/// Begins a line about a work whose lines are claimed over.
+pub(crate) fn begin_claimed_over(
+    text: &mut Vec<u8>,
+    path: &str,
+    work: &[u8],
+    total: Total,
+) -> Result<(), AllocError>
+    ensures { OnOk result (text.new.items ≡ text.old.items
+        ++ (path.now ++ codes ": " ++ around (codes "work '") work.now (codes "' is claimed over 100.06 per cent")
+        ++ total_text total)) }
+{
+    add_path(text, path)?;
+    add_around(text, "work '", work, "' is claimed over 100.06 per cent")?;
+    add_lines(text, total)?;
+    Ok(())
+}
+
+/// Says how many more works are claimed over than are named.
+pub(crate) fn add_further_over(
+    text: &mut Vec<u8>,
+    path: &str,
+    totals: &Totals<'_>,
+) -> Result<(), AllocError>
+    ensures { OnOk result (text.new.items ≡ text.old.items ++ further_over path.now totals.now) }
+{
+    add_further(
+        text,
+        path,
+        "further works that are claimed over 100.06 per cent",
+        totals.over.count,
+    )
+}
+
 /// Adds how many usage lines there are, and what they come to.
-pub(crate) fn add_lines(text: &mut Vec<u8>, total: Total) -> Result<(), AllocError>
+fn add_lines(text: &mut Vec<u8>, total: Total) -> Result<(), AllocError>
     ensures { OnOk result (text.new.items ≡ text.old.items ++ total_text total) }
 {
     add(text, ": lines ")?;

@@ -8,8 +8,9 @@ use Rattle.std.proofs.lemmas.Simd.{map-map}
 use Rattle.line_split.proofs.IntSums.{int_sum_by-cons}
 use Rattle.line_split.specs.UsageLine.{UsageLine}
 use Rattle.usage_totals.specs.Greatest.{AreGreatest, AreTotals, amounts_at, total_if_any, total_of}
-use Rattle.usage_totals.specs.SoFar.{amount_at, line_at}
+use Rattle.usage_totals.specs.SoFar.{amount_at, counted_at, with_amount}
 use Rattle.usage_totals.specs.declared.by_key.Hashed.{Hashed}
+use Rattle.usage_totals.specs.declared.by_key.Ranked.{Ranked}
 use Rattle.usage_totals.specs.declared.total.Total.{Total}
 
 -- What lists with the same head agree on where their rests do, and does not change where two heads
@@ -90,13 +91,19 @@ module _ {K : Type 0} (eq : K → K → Bool) (xs ys : List (K × ℤ)) (moved :
     each = λ key. are.each key ∙ sym (same_if_any (amounts_at eq key xs) (amounts_at eq key ys) (same_total eq key xs ys moved));
   }
 
-  pub greatest_in_any_order : (cmp : K → K → Ordering) (most : ℕ) (shown : List (K × Total)) → AreGreatest eq cmp most ys shown → AreGreatest eq cmp most xs shown
-  greatest_in_any_order cmp most shown are = record { all = are.all; totals = totals_in_any_order are.all are.totals; greatest = are.greatest }
+  pub greatest_in_any_order : (cmp : K → K → Ordering) (most : ℕ) (ranked : Ranked K) → AreGreatest eq cmp most ys ranked → AreGreatest eq cmp most xs ranked
+  greatest_in_any_order cmp most ranked are =
+      record { all = are.all; totals = totals_in_any_order are.all are.totals; greatest = are.greatest; count = are.count }
 
 -- the amounts of lines, by their places in any order
-pub amounts_moved : {K : Type 0} (key : UsageLine → K) (lines these : List UsageLine) (places sorted : List Hashed) → map (λ (hashed : Hashed). line_at lines hashed.place) places ≡ these → IsPermutation places sorted
-    → IsPermutation (map (λ (line : UsageLine). (key line, line.amount)) these) (map (amount_at key lines) sorted)
-amounts_moved {K} key lines these places sorted are moved =
-    let of : UsageLine → K × ℤ = λ line. (key line, line.amount) in
-    let kept : map (amount_at key lines) places ≡ map of these = sym (map-map of (λ (hashed : Hashed). line_at lines hashed.place) places) ∙ ap (map of) are in
+pub amounts_moved : {K : Type 0} (key : UsageLine → K) (amount : UsageLine → ℤ) (lines these : List UsageLine) (places sorted : List Hashed)
+    → map (counted_at lines) places ≡ map (with_amount amount) these → IsPermutation places sorted
+    → IsPermutation (map (λ (line : UsageLine). (key line, amount line)) these) (map (amount_at key lines) sorted)
+amounts_moved {K} key amount lines these places sorted are moved =
+    let of : UsageLine × ℤ → K × ℤ = λ e. (key e.0, e.1) in
+    let keyed : UsageLine → K × ℤ = λ line. (key line, amount line) in
+    let kept : map (amount_at key lines) places ≡ map keyed these =
+    sym (map-map of (counted_at lines) places)
+    ∙ ap (map of) are
+    ∙ map-map of (with_amount amount) these in
     subst (λ (l : List (K × ℤ)). IsPermutation l (map (amount_at key lines) sorted)) kept (IsPermutation-map (amount_at key lines) places sorted moved)

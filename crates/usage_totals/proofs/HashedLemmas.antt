@@ -1,5 +1,5 @@
 -- Lines in order of a hash of their keys, and of these where that is the same.
-use Rattle.std.proofs.Common.{◌≡◌, ◌∙◌, ◌<◌, Bool, true, List, Less, Equal, Greater, ap, get_or, length, map, option_map, slice_get, sym}
+use Rattle.std.proofs.Common.{◌≡◌, ◌∙◌, ◌<◌, ◌≤◌, Bool, true, List, Less, Equal, Greater, ap, get_or, length, map, option_map, slice_get, sym, unsigned_abs}
 use Rattle.std.specs.Cmp.{IsEquivalence, IsTotalOrder, nat_cmp_total, on_total, then_total}
 use Rattle.std.specs.Cmp.Lexicographic.{options_total}
 use Rattle.std.specs.List.Sorted.{IsPermutation, IsSorted}
@@ -10,6 +10,7 @@ use Rattle.std.proofs.lemmas.Bool.{false≢true}
 use Rattle.std.proofs.lemmas.List.Sorted.{All-permutation}
 use Rattle.std.proofs.lemmas.Option.{slice_get-get_or}
 use Rattle.line_split.specs.UsageLine.{UsageLine}
+use Rattle.line_split.specs.declared.TheConstants.{MOST_AMOUNT}
 use Rattle.usage_totals.specs.SoFar.{AreHashed, StandTogether, amount_at, in_order_of_hash, line_at, some_line}
 use Rattle.usage_totals.specs.declared.by_key.Hashed.{Hashed}
 use Rattle.usage_totals.proofs.SameGreatestLemmas.{key_tie}
@@ -54,6 +55,7 @@ module _ {K : Type 0} (eq : K → K → Bool) (laws : IsEquivalence eq) (cmp : K
   brought_together places sorted moved hashed up =
       let still : AreHashed eq key lines sorted = record {
         within = All-permutation (λ (h : Hashed). h.place < length lines) places sorted moved hashed.within;
+        small = All-permutation (λ (h : Hashed). unsigned_abs h.amount ≤ MOST_AMOUNT) places sorted moved hashed.small;
         hash = hashed.hash;
         alike = hashed.alike;
         each = All-permutation (λ (h : Hashed). h.hash ≡ hashed.hash (key (line_at lines h.place))) places sorted moved hashed.each;

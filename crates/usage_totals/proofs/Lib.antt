@@ -1,10 +1,15 @@
+pub mod AmountLemmas
 pub mod AnyOrderLemmas
 pub mod ByKeyLemmas
 pub mod CountedLemmas
 pub mod FirstLemmas
 pub mod HashedLemmas
+pub mod KeyLemmas
+pub mod LeftLemmas
+pub mod MarkLemmas
 pub mod MostMoneyLemmas
 pub mod ReasonLemmas
+pub mod RepeatLemmas
 pub mod ResidueLemmas
 pub mod RestLemmas
 pub mod SameGreatestLemmas

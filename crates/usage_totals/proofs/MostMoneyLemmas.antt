@@ -16,6 +16,7 @@ use Rattle.std.specs.Option.{option_map}
 use Rattle.std.proofs.lemmas.Option.{slice_get-get_or, slice_get-map, slice_get_within}
 use Rattle.indexmap.proofs.MapLemmas.{distinct-take}
 use Rattle.usage_totals.specs.Greatest.{AreGreatest, HaveMostMoney, amounts_at, by_money, total_if_any, total_of}
+use Rattle.usage_totals.specs.declared.by_key.Ranked.{Ranked}
 use Rattle.usage_totals.specs.declared.total.Total.{Total}
 use Rattle.usage_totals.proofs.ByKeyLemmas.{money_ranks}
 
@@ -41,7 +42,10 @@ first_not_less Less other apart = apart
 first_not_less Equal other apart = refl
 first_not_less Greater other apart = refl
 
-module _ {K : Type 0} (eq : K → K → Bool) (laws : IsEquivalence eq) (cmp : K → K → Ordering) (order : IsTotalOrder cmp) (most : ℕ) (amounts : List (K × ℤ)) (shown : List (K × Total)) (are : AreGreatest eq cmp most amounts shown) where
+module _ {K : Type 0} (eq : K → K → Bool) (laws : IsEquivalence eq) (cmp : K → K → Ordering) (order : IsTotalOrder cmp) (most : ℕ) (amounts : List (K × ℤ)) (ranked : Ranked K) (are : AreGreatest eq cmp most amounts ranked) where
+  abbrev shown : List (K × Total)
+  shown = ranked.first.items
+
   abbrev sorted : List (K × Total)
   sorted = are.greatest.sorted
 

@@ -9,10 +9,11 @@ use Rattle.std.specs.declared.cmp.Ordering.{Ordering}
 use Rattle.std.proofs.lemmas.Bool.{false≢true}
 use Rattle.std.proofs.lemmas.List.{get_or-map, length-map}
 use Rattle.std.proofs.lemmas.List.Elements.{All-contains}
-use Rattle.std.proofs.lemmas.List.Sorted.{Contains-permutation, IsPermutation-map, IsPermutation-sym}
+use Rattle.std.proofs.lemmas.List.Sorted.{Contains-permutation, IsPermutation-map, IsPermutation-sym, length_permutation}
 use Rattle.std.proofs.lemmas.Map.Keys.{IsDistinct-IsPermutation, apart_from_distinct, sorted_from_all_adjacent, sorted_tail}
 use Rattle.std.proofs.lemmas.Map.Views.{All-after_first, Contains-from_lookup, lookup-from_Contains}
 use Rattle.usage_totals.specs.Greatest.{AreGreatest, by_money}
+use Rattle.usage_totals.specs.declared.by_key.Ranked.{Ranked}
 use Rattle.usage_totals.specs.declared.total.Total.{Total}
 
 -- two lists in a strict order that have the same items are the same
@@ -94,7 +95,7 @@ module _ {K : Type 0} (eq : K → K → Bool) (laws : IsEquivalence eq) (same : 
           let next = get_or-map key (d ∷ list) (k + 1) d d.0 below in
           absurd (false≢true (sym apart' ∙ (λ i. eq (at i) (next i)) ∙ laws.symm (get_or (d ∷ list) k d).0 (get_or (d ∷ list) (k + 1) d).0 ∙ alike))
 
-  module _ (shown : List (K × Total)) (are : AreGreatest eq cmp most amounts shown) where
+  module _ (ranked : Ranked K) (are : AreGreatest eq cmp most amounts ranked) where
     abbrev sorted : List (K × Total)
     sorted = are.greatest.sorted
 
@@ -107,14 +108,20 @@ module _ {K : Type 0} (eq : K → K → Bool) (laws : IsEquivalence eq) (same : 
     has_key : (e : K × Total) → Contains sorted e → lookup (eq e.0) are.all ≡ Some e.1
     has_key e has = lookup-from_Contains laws e.0 e.1 are.all are.totals.once (Contains-permutation sorted are.all e (IsPermutation-sym are.all sorted are.greatest.same) has)
 
-  module _ (shown other : List (K × Total)) (are : AreGreatest eq cmp most amounts shown) (also : AreGreatest eq cmp most amounts other) where
+    sorted_count : ranked.count ≡ length sorted
+    sorted_count = are.count ∙ sym (length_permutation are.all sorted are.greatest.same)
+
+  module _ (ranked other : Ranked K) (are : AreGreatest eq cmp most amounts ranked) (also : AreGreatest eq cmp most amounts other) where
     has_too : (e : K × Total) → Contains are.greatest.sorted e → Contains also.greatest.sorted e
     has_too e has =
-        let found : lookup (eq e.0) also.all ≡ Some e.1 = also.totals.each e.0 ∙ sym (are.totals.each e.0) ∙ has_key shown are e has in
+        let found : lookup (eq e.0) also.all ≡ Some e.1 = also.totals.each e.0 ∙ sym (are.totals.each e.0) ∙ has_key ranked are e has in
         Contains-permutation also.all also.greatest.sorted e also.greatest.same (Contains-from_lookup same e.0 e.1 also.all found)
 
-  pub one_greatest : (shown other : List (K × Total)) → AreGreatest eq cmp most amounts shown → AreGreatest eq cmp most amounts other → shown ≡ other
-  one_greatest shown other are also =
-      are.greatest.first
-      ∙ ap (λ (l : List (K × Total)). take most l) (same_items (by_money cmp) money_order are.greatest.sorted also.greatest.sorted (rises shown are) (rises other also) (has_too shown other are also) (has_too other shown also are))
-      ∙ sym also.greatest.first
+  pub one_greatest : (ranked other : Ranked K) → AreGreatest eq cmp most amounts ranked → AreGreatest eq cmp most amounts other
+      → (ranked.first.items ≡ other.first.items) × (ranked.count ≡ other.count)
+  one_greatest ranked other are also =
+      let alike : are.greatest.sorted ≡ also.greatest.sorted =
+      same_items (by_money cmp) money_order are.greatest.sorted also.greatest.sorted (rises ranked are) (rises other also) (has_too ranked other are also) (has_too other ranked also are) in (
+        are.greatest.first ∙ ap (λ (l : List (K × Total)). take most l) alike ∙ sym also.greatest.first,
+        sorted_count ranked are ∙ ap (λ (l : List (K × Total)). length l) alike ∙ sym (sorted_count other also),
+      )

@@ -1,3 +1,5 @@
 pub mod Greatest
+pub mod Repeats
+pub mod RepeatsSoFar
 pub mod SoFar
 pub mod Totals

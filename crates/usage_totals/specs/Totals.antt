@@ -1,5 +1,6 @@
 -- What a run makes of usage lines: how many have each reason, and what they come to.
-use Rattle.std.specs.Prelude.{ℕ, ℤ, ◌≡◌, Bool, true, false, List, filter, length, map, nat_eq, unwrap_or}
+use Rattle.std.specs.Prelude.{ℕ, ℤ, ◌≡◌, ◌&&◌, Bool, true, false, List, filter, length, map, nat_eq, nat_lt}
+use Rattle.std.specs.Prelude.{unsigned_abs, unwrap_or}
 use Rattle.std.specs.List.{list_any}
 use Rattle.std.specs.Ordering.{nat_cmp}
 use Rattle.std.specs.Cmp.Lexicographic.{pointwise, slice_cmp}
@@ -28,7 +29,8 @@ is_same _ _ = false
 
 -- the lines that have this reason
 abbrev pub lines_for : List (ℕ × List ℕ) → Registered → Reason → List UsageLine → List UsageLine
-lines_for table registered reason lines = filter (λ line. is_same reason (reason_of table registered line)) lines
+lines_for table registered reason lines =
+    filter (λ line. is_same reason (reason_of table registered line)) lines
 
 -- how many lines there are, and what their amounts come to
 abbrev pub total_of_lines : List UsageLine → Total
@@ -36,7 +38,13 @@ total_of_lines lines = record { lines = length lines; amount = int_sum_by (λ li
 
 -- the residue's portion of a line
 abbrev pub residue_of : List (ℕ × List ℕ) → Registered → UsageLine → ℤ
-residue_of table registered line = portion_for RESIDUE (signed_portions_of line.amount (claims_on table registered line))
+residue_of table registered line =
+    portion_for RESIDUE (signed_portions_of line.amount (claims_on table registered line))
+
+-- the line is divided, and something of it stays open
+abbrev pub stays_open : List (ℕ × List ℕ) → Registered → UsageLine → Bool
+stays_open table registered line =
+    is_same Open (reason_of table registered line) && nat_lt 0 (unsigned_abs (residue_of table registered line))
 
 -- amounts by work, and by territory
 abbrev pub amounts_by_work : List UsageLine → List (List ℕ × ℤ)
@@ -45,8 +53,14 @@ amounts_by_work lines = map (λ line. (line.work, line.amount)) lines
 abbrev pub amounts_by_territory : List UsageLine → List (ℕ × ℤ)
 amounts_by_territory lines = map (λ line. (line.territory, line.amount)) lines
 
+-- what stays open of these lines, by work
+abbrev pub open_by_work : List (ℕ × List ℕ) → Registered → List UsageLine → List (List ℕ × ℤ)
+open_by_work table registered lines =
+    map (λ line. (line.work, residue_of table registered line)) (filter (stays_open table registered) lines)
+
 -- What a run makes of these lines, by a table of territories and registrations.
-pub record AreTotalsOf (table : List (ℕ × List ℕ)) (registered : Registered) (lines : List UsageLine) (totals : Totals) : Type 0 where
+pub record AreTotalsOf (table : List (ℕ × List ℕ)) (registered : Registered) (lines : List UsageLine) (totals : Totals)
+    : Type 0 where
   pub divided : totals.divided ≡ total_of_lines (lines_for table registered Open lines)
   -- what is the residue's of the lines that are divided
   pub residue : totals.residue ≡ int_sum_by (residue_of table registered) (lines_for table registered Open lines)
@@ -54,9 +68,14 @@ pub record AreTotalsOf (table : List (ℕ × List ℕ)) (registered : Registered
   pub unknown : totals.unknown ≡ total_of_lines (lines_for table registered Land lines)
   pub claimed_over : totals.claimed_over ≡ total_of_lines (lines_for table registered Over lines)
   -- the ten works that nobody has registered, and the ten territories that the table has not, with most money
-  pub works : AreGreatest (pointwise nat_eq) (slice_cmp nat_cmp) 10 (amounts_by_work (lines_for table registered Work lines)) totals.works.items
-  pub territories : AreGreatest nat_eq nat_cmp 10 (amounts_by_territory (lines_for table registered Land lines)) totals.territories.items
-  -- the ten works with most money of the lines that are claimed over
-  pub over : AreGreatest (pointwise nat_eq) (slice_cmp nat_cmp) 10 (amounts_by_work (lines_for table registered Over lines)) totals.over.items
+  pub works : AreGreatest (pointwise nat_eq) (slice_cmp nat_cmp) 10
+      (amounts_by_work (lines_for table registered Work lines)) totals.works
+  pub territories : AreGreatest nat_eq nat_cmp 10
+      (amounts_by_territory (lines_for table registered Land lines)) totals.territories
+  -- the ten works with most money of the lines that are claimed over, and the ten of which most stays open
+  pub over : AreGreatest (pointwise nat_eq) (slice_cmp nat_cmp) 10
+      (amounts_by_work (lines_for table registered Over lines)) totals.over
+  pub left_open : AreGreatest (pointwise nat_eq) (slice_cmp nat_cmp) 10
+      (open_by_work table registered lines) totals.left_open
   -- whether the table has the territory of some line
   pub knows_a_territory : totals.knows_a_territory ≡ list_any (λ line. is_known table line.territory) lines

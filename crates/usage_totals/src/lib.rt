@@ -5,9 +5,12 @@ mod by_key;
 pub mod laws;
 mod name;
 mod reasons;
+mod repeats;
 mod total;
 mod totals;
 
+pub use by_key::Ranked;
 pub use name::Name;
+pub use repeats::repeated_rows;
 pub use total::Total;
 pub use totals::{MOST_KEYS, Totals, totals_of};

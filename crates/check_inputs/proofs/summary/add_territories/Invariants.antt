@@ -3,4 +3,4 @@ use Rattle.check_inputs.specs.Report.{territory_line}
 use Rattle.check_inputs.proofs.summary.add_territories.Given as goal
 
 abbrev pub invariant-loop-place : goal.invariant-loop-place
-invariant-loop-place l = l.text.items ≡ l.initial.text.items ++ flat_map (territory_line l.path) (take l.place l.territories)
+invariant-loop-place l = l.text.items ≡ l.initial.text.items ++ flat_map (territory_line l.path) (take l.place l.first)

@@ -3,4 +3,4 @@ use Rattle.check_inputs.specs.Report.{work_line}
 use Rattle.check_inputs.proofs.summary.add_works.Given as goal
 
 abbrev pub invariant-loop-place : goal.invariant-loop-place
-invariant-loop-place l = l.text.items ≡ l.initial.text.items ++ flat_map (work_line l.path) (take l.place l.works)
+invariant-loop-place l = l.text.items ≡ l.initial.text.items ++ flat_map (work_line l.path) (take l.place l.first)

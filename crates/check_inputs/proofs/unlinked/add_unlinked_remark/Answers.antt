@@ -3,7 +3,7 @@ use Rattle.std.proofs.lemmas.Fn.{filter_same}
 use Rattle.std.proofs.lemmas.List.{take_min}
 use Rattle.linked_works.specs.PassedOver.{is_linked, unlinked_numbers}
 use Rattle.starting_tables.specs.InForce.{Registration, number_of}
-use Rattle.check_inputs.specs.Report.{items_line}
+use Rattle.check_inputs.specs.Items.{items_line}
 use Rattle.check_inputs.specs.SubmittedReport.{numbers_in_force, quoted}
 use Rattle.check_inputs.proofs.Listing.{filter_map_is, items_map}
 use Rattle.check_inputs.proofs.unlinked.add_unlinked_remark.Goals as goal

@@ -1,0 +1,6 @@
+pub mod ControlLemmas
+pub mod LineBytes
+pub mod NumberLemmas
+pub mod QuoteLemmas
+pub mod ShiftedLemmas
+pub mod TypeLemmas
