@@ -10,10 +10,12 @@ pub mod ReadBack
 pub mod Steps
 pub mod WalkLemmas
 pub mod Taking
+pub mod Counting
 pub mod SoFar
 pub mod Endings
 pub mod Whole
 pub mod ReadThrough
+pub mod TooMany
 pub mod Refusing
 pub mod Chains
 pub mod FirstFault

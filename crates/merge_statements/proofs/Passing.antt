@@ -135,6 +135,11 @@ more_within old between new before middle after was first passed reads written =
     all : between.at.portions + 1 ≡ old.at.portions + length (was.portions ++ p.portion ∷ [])
     all = omega (arith, ap (λ (at : At). at.portions) was.at, length_push was.portions p.portion)
 
+-- each is counted
+pub portion_counted : (old new : Unread) → get_or old.line 0 0 ≡ 76 → Steps old new → new.at.portions ≡ old.at.portions + 1
+portion_counted old new first passed =
+    ap (λ (at : At). at.portions) (portion_passed old.at new.at passed.row passed.follows (ap (λ (text : List ℕ). get_or text 0 0) passed.line ∙ first)).leads
+
 -- ---- the end of a statement
 
 pub statement_written : (old between new : Unread) (before after : Option (List ℕ)) (count : ℕ) (total : ℤ) → IsWithin old between before after
@@ -223,6 +228,10 @@ more_rests old between new before middle after was first passed reads written =
       among = inr (count_at between.at.place + 1, sum_at between.at.place +ℤ r.what.amount, ap (λ (at : At). at.place) r.leads);
       reads = λ start read. reads start (was.reads start read);
     }
+
+pub rest_counted : (old new : Unread) → get_or old.line 0 0 ≡ 77 → Steps old new → new.at.portions ≡ old.at.portions + 1
+rest_counted old new first passed =
+    ap (λ (at : At). at.portions) (rest_passed old.at new.at passed.row passed.follows (ap (λ (text : List ℕ). get_or text 0 0) passed.line ∙ first)).leads
 
 pub rests_written : (old between new : Unread) (before after : Option (List ℕ)) (count : ℕ) (total : ℤ) → HasRests old between before after
     → PassesSum IsRestsSumAt between new count total → WritesRests old new before after count total

@@ -1,5 +1,6 @@
 -- A text is read through: its rows so far, and what is wrong with the rest.
-use Rattle.std.proofs.Common.{◌≡◌, ◌∙◌, ◌<◌, ◌+◌, ◌++◌, ◌∷◌, ◌||◌, [], ℕ, zero, suc, List, Option, Some, None, Bool, true, false, true≢false, length, get_or, take, ap, sym, refl, subst, append_assoc, arith}
+use Rattle.std.proofs.Common.{inl, inr, ◌≡◌, ◌∙◌, ◌≤◌, ◌<◌, ◌+◌, ◌^◌, ◌++◌, ◌∷◌, ◌||◌, [], ℕ, zero, suc, List, Option, Some, None, Bool, true, false}
+use Rattle.std.proofs.Common.{true≢false, length, get_or, take, ap, sym, refl, subst, append_assoc, arith}
 use Rattle.std.specs.Prelude.{IfSome, drop, ⊤}
 use Rattle.std.specs.Io.KnownBytes.{Consumes, IsAtEnd}
 use Rattle.std.specs.List.{list_any}
@@ -10,9 +11,9 @@ use Rattle.csv_table.specs.Written.{text_of, text_of_row}
 use Rattle.merge_statements.specs.Buffered.{is_feed}
 use Rattle.merge_statements.specs.Places.{At, Follows, at_first, row_of}
 use Rattle.merge_statements.specs.Reading.{IsFaultOf}
-use Rattle.merge_statements.specs.Refused.{AreRows, BeginsWithWrong, IsFaultFrom, IsRefusedFor, IsRefusedFrom, IsStatementText, refusal_of_field, refusal_of_line}
+use Rattle.merge_statements.specs.Refused.{AreRows, BeginsWithRows, BeginsWithWrong, HasTooManyRows, IsFaultFrom, IsRefusedFor, IsRefusedFrom, IsStatementText, refusal_of_field, refusal_of_line}
 use Rattle.merge_statements.specs.Refused.AreRows.{none as no_rows, more as more_rows}
-use Rattle.merge_statements.specs.SoFar.{FollowsAs, IsReadTo}
+use Rattle.merge_statements.specs.SoFar.{FollowsAs, IsRead, IsReadTo, Unread}
 use Rattle.merge_statements.specs.Wrong.{IsWrongAt}
 use Rattle.merge_statements.specs.declared.read_fault.ReadFault.{ReadFault}
 use Rattle.merge_statements.specs.declared.read_fault.ReadFault.TheVariants.{Refused, TooLong, Unended}
@@ -24,6 +25,7 @@ use Rattle.merge_statements.specs.declared.walk.Wrong.{Wrong}
 use Rattle.merge_statements.specs.declared.walk.Wrong.TheVariants as wrong
 use Rattle.merge_statements.proofs.FieldLemmas.{or-right}
 use Rattle.merge_statements.proofs.Passing.{text_more}
+use Rattle.merge_statements.proofs.Steps.{kind_of}
 
 -- ---- line feeds
 
@@ -155,6 +157,43 @@ pub nothing_claimed : (start : Option (List ℕ)) → IfSome start (λ text. ⊤
 nothing_claimed None = tt
 nothing_claimed (Some text) = tt
 
+-- ---- more rows than are counted
+
+pub begun : (start left : Option (List ℕ)) (at : At) (number : ℕ) (was : IsReadTo start at left number) → IfSome start (λ text. BeginsWithRows text (length was.rows))
+begun None left at number was = tt
+begun (Some text) None at number was = absurd was.consumed
+begun (Some text) (Some rest) at number was = record { rows = was.rows; at = at; rest = rest; are = was.are; bytes = was.consumed; counted = refl }
+
+pub too_many_read : (start left : Option (List ℕ)) (at : At) (number : ℕ) → IsReadTo start at left number → 10 ^ 18 + 1 < number → IfSome start HasTooManyRows
+too_many_read None left at number was many = tt
+too_many_read (Some text) left at number was many = (length was.rows, begun (Some text) left at number was, omega (arith, was.counted, many))
+
+-- a row is of one portion at most
+one_portion : (at next : At) (row : List (List ℕ)) → Follows at row next → next.portions ≤ at.portions + 1
+one_portion at next row follows = elim (kind_of at.place follows.kind follows.fits.kind_fits) [
+  | inl l ↦ let (amount, sound, written, leads) = follows.leads.portion l in omega (arith, ap (λ (a : At). a.portions) leads)
+  | inr others ↦ elim others [
+    | inl s ↦ omega (arith, ap (λ (a : At). a.portions) (follows.leads.sum s))
+    | inr more ↦ elim more [
+      | inl m ↦ let (amount, sound, written, leads) = follows.leads.rest m in omega (arith, ap (λ (a : At). a.portions) leads)
+      | inr last ↦ elim last [
+        | inl t ↦ omega (arith, ap (λ (a : At). a.portions) (follows.leads.rests t))
+        | inr r ↦ let (lines, few, written, leads) = follows.leads.run r in omega (arith, ap (λ (a : At). a.portions) leads)
+      ]
+    ]
+  ]
+]
+
+pub portions_are_rows : (at last : At) (rows : List (List (List ℕ))) → AreRows at rows last → last.portions ≤ at.portions + length rows
+portions_are_rows _ _ _ (no_rows at) = omega arith
+portions_are_rows _ _ _ (more_rows at next last row rows follows are) = omega (arith, one_portion at next row follows, portions_are_rows next last rows are)
+
+-- a text of which more portions were read than are counted
+pub too_many_portions : (start : Option (List ℕ)) (part : Unread) → IsRead start part → 10 ^ 18 < part.at.portions → IfSome start HasTooManyRows
+too_many_portions start part read many = too_many_read start part.left part.at part.number read (omega (arith, many, read.counted, portions_are_rows at_first part.at read.rows read.are))
+
+-- ---- what is refused further on
+
 pub rest_refused : (start left : Option (List ℕ)) (at : At) (number : ℕ) (why : Refusal) → IsReadTo start at left number → IsRefusedFrom at number left why
     → IfSome start (λ text. IsRefusedFor text why)
 rest_refused None left at number (refusal.Fault fault) was from = tt
@@ -168,6 +207,6 @@ rest_refused (Some text) (Some rest) at number (refusal.Fault fault) was from = 
   fault_from = subst (λ (k : ℕ). IsFaultFrom at k rest fault) was.counted from;
 }
 rest_refused start left at number refusal.Memory was from = nothing_claimed start
-rest_refused start left at number refusal.Many was from = nothing_claimed start
+rest_refused start left at number refusal.Many was from = too_many_read start left at number was from
 rest_refused start left at number (refusal.Read error) was from = nothing_claimed start
 rest_refused start left at number (refusal.Write error) was from = nothing_claimed start

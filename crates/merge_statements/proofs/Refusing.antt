@@ -12,7 +12,7 @@ use Rattle.csv_table.specs.Written.{text_of, text_of_row}
 use Rattle.merge_statements.specs.Buffered.{is_feed}
 use Rattle.merge_statements.specs.SoFar.{AreOpen, AreRead, CanEnd, FollowsAs, HavePassed, IsAmongRests, IsOfKind, IsRead, IsReadTo, IsWithinOne, NeedsRow, ReadsOn, RefusesRest, Unread}
 use Rattle.merge_statements.specs.Places.{At, IsPayeeAt, KindFits, at_first, row_of}
-use Rattle.merge_statements.specs.Refused.{IsFaultFrom, IsNoFault, IsRefusalOf, IsRefusedFor, IsRefusedFrom}
+use Rattle.merge_statements.specs.Refused.{HaveTooManyLines, HaveTooManyRows, IsFaultFrom, IsOfSystem, IsRefusalOf, IsRefusedFor, IsRefusedFrom}
 use Rattle.merge_statements.specs.Refused.AreRows.{none as no_rows}
 use Rattle.merge_statements.specs.Statements.{Statement}
 use Rattle.merge_statements.specs.SoFar.AreOpen.{none as no_open, more as more_open}
@@ -27,6 +27,7 @@ use Rattle.merge_statements.specs.declared.walk.Wrong.TheVariants as wrong
 use Rattle.merge_statements.proofs.Passing.{opened}
 use Rattle.merge_statements.proofs.Chains.{same_row}
 use Rattle.merge_statements.proofs.ReadThrough.{field_refused, more_read, none_read, nothing_claimed, rest_refused}
+use Rattle.merge_statements.proofs.TooMany.{one_has}
 
 -- ---- one text
 
@@ -42,7 +43,7 @@ refused_before at number None new bytes (refusal.Fault fault) takes from = tt
 refused_before at number (Some xs) None bytes (refusal.Fault fault) takes from = absurd takes
 refused_before at number (Some xs) (Some ys) bytes (refusal.Fault fault) takes from = subst (λ (text : List ℕ). IsFaultFrom at number text fault) (sym takes) from
 refused_before at number old new bytes refusal.Memory takes from = tt
-refused_before at number old new bytes refusal.Many takes from = tt
+refused_before at number old new bytes refusal.Many takes from = from
 refused_before at number old new bytes (refusal.Read error) takes from = tt
 refused_before at number old new bytes (refusal.Write error) takes from = tt
 
@@ -195,15 +196,15 @@ opened_is_read from part at number left = subst (λ (a : At). IsReadTo from a pa
 pub first_refused : (from left : Option (List ℕ)) (why : Refusal) → left ≡ from → IsRefusedFrom at_first 1 left why → IfSome from (λ text. IsRefusedFor text why)
 first_refused from left why same refused = rest_refused from from at_first 1 why (none_read from) (subst (λ (l : Option (List ℕ)). IsRefusedFrom at_first 1 l why) same refused)
 
-pub no_fault_refused : (start : Option (List ℕ)) (why : Refusal) → IsNoFault why → IfSome start (λ text. IsRefusedFor text why)
-no_fault_refused start (refusal.Fault fault) none = absurd none
-no_fault_refused start refusal.Memory none = nothing_claimed start
-no_fault_refused start refusal.Many none = nothing_claimed start
-no_fault_refused start (refusal.Read error) none = nothing_claimed start
-no_fault_refused start (refusal.Write error) none = nothing_claimed start
+pub system_refused : (start : Option (List ℕ)) (why : Refusal) → IsOfSystem why → IfSome start (λ text. IsRefusedFor text why)
+system_refused start (refusal.Fault fault) of = absurd of
+system_refused start refusal.Memory of = nothing_claimed start
+system_refused start refusal.Many of = absurd of
+system_refused start (refusal.Read error) of = nothing_claimed start
+system_refused start (refusal.Write error) of = nothing_claimed start
 
-pub no_fault_rest : (part : Unread) (why : Refusal) → IsNoFault why → RefusesRest part why
-no_fault_rest part why none = λ start read. no_fault_refused start why none
+pub system_rest : (part : Unread) (why : Refusal) → IsOfSystem why → RefusesRest part why
+system_rest part why of = λ start read. system_refused start why of
 
 -- ---- many
 
@@ -211,19 +212,22 @@ no_fault_rest part why none = λ start read. no_fault_refused start why none
 pub placed : (P : ℕ → Refusal → Type 0) (place was : ℕ) (why whom : Refusal) → place ≡ was → why ≡ whom → P was whom → P place why
 placed P place was why whom same is holds = subst (λ (p : ℕ). P p why) (sym same) (subst (P was) (sym is) holds)
 
-pub no_fault_of : (starts : List (Option (List ℕ))) (place : ℕ) (why : Refusal) → IsNoFault why → IsRefusalOf starts place why
-no_fault_of starts place (refusal.Fault fault) none = absurd none
-no_fault_of starts place refusal.Memory none = tt
-no_fault_of starts place refusal.Many none = tt
-no_fault_of starts place (refusal.Read error) none = tt
-no_fault_of starts place (refusal.Write error) none = tt
+pub system_of : (starts : List (Option (List ℕ))) (place : ℕ) (why : Refusal) → IsOfSystem why → IsRefusalOf starts place why
+system_of starts place (refusal.Fault fault) of = absurd of
+system_of starts place refusal.Memory of = tt
+system_of starts place refusal.Many of = absurd of
+system_of starts place (refusal.Read error) of = tt
+system_of starts place (refusal.Write error) of = tt
 
 pub refusal_of : (starts : List (Option (List ℕ))) (place : ℕ) (why : Refusal) → place < length starts → IfSome (get_or starts place None) (λ text. IsRefusedFor text why) → IsRefusalOf starts place why
 refusal_of starts place (refusal.Fault fault) low is = (low, is)
 refusal_of starts place refusal.Memory low is = tt
-refusal_of starts place refusal.Many low is = tt
+refusal_of starts place refusal.Many low is = inl (one_has starts place low is)
 refusal_of starts place (refusal.Read error) low is = tt
 refusal_of starts place (refusal.Write error) low is = tt
+
+pub many_refused : (starts : List (Option (List ℕ))) (place : ℕ) (why : Refusal) → why ≡ refusal.Many → HaveTooManyRows starts ⊎ HaveTooManyLines starts → IsRefusalOf starts place why
+many_refused starts place why is many = subst (IsRefusalOf starts place) (sym is) many
 
 record IsReadAt (starts : List (Option (List ℕ))) (parts : List Unread) (place : ℕ) (default : Unread) : Type 0 where
   pub low : place < length starts

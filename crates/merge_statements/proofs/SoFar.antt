@@ -13,14 +13,16 @@ use Rattle.std.proofs.KnownBytes.{Appends-nil, Appends-trans, Consumes-kept, Con
 use Rattle.std.proofs.lemmas.Int.{ints}
 use Rattle.std.proofs.lemmas.List.{append-nil, get_or-map, length-append, length-map}
 use Rattle.std.proofs.lemmas.List.Elements.{All-cons, All-head, All-nil, All-push, All-tail, filter-append}
-use Rattle.std.proofs.lemmas.List.Sums.{sum_by-append}
+use Rattle.std.proofs.lemmas.List.Sums.{sum_by-append, sum_by-cons}
 use Rattle.std.proofs.lemmas.Grind.{flat_map-append}
 use Rattle.std.proofs.lemmas.Map.Text.{is_eq-slice_cmp}
 use Rattle.std.proofs.lemmas.Slice.Eq.{bytes_eq-Decides}
 use Rattle.csv_table.specs.Written.{text_of, text_of_row}
 use Rattle.line_split.specs.Signs.{int_sum_by}
 use Rattle.line_split.proofs.IntSums.{int_sum_by-append, int_sum_by-cons, int_sum_by_push, none_plus, plus_none}
-use Rattle.merge_statements.specs.SoFar.{AreMergedSoFar, AreOpen, HasLeast, HasPassed, HavePassed, IsBehind, IsNext, IsNextSound, PassesStatement, TakesEach, TakesOne, Unread, WritesAll, last_payee, order, payees_of, portions_in, total_of_portions}
+use Rattle.merge_statements.specs.SoFar.{AreMergedSoFar, AreOpen, HasLeast, HasPassed, HavePassed, IsBehind, IsNext, IsNextSound, PassesStatement}
+use Rattle.merge_statements.specs.SoFar.{TakesEach, TakesOne, Unread, WritesAll, last_payee, order, payees_of, portions_in, portions_read}
+use Rattle.merge_statements.specs.SoFar.{total_of_portions}
 use Rattle.merge_statements.specs.SoFar.AreOpen.{none as no_open, more as more_open}
 use Rattle.merge_statements.specs.SoFar.HavePassed.{none as no_passed, more as more_passed}
 use Rattle.merge_statements.specs.SoFar.TakesEach.{none as none_of, more as more_of}
@@ -28,6 +30,7 @@ use Rattle.merge_statements.specs.SoFar.TakesOne.{taken as taken_of, left as lef
 use Rattle.merge_statements.specs.Places.{At}
 use Rattle.merge_statements.specs.Statements.{IsCount, IsStatement, Portion, Statement, portion_row, statement_rows, total_of, total_row}
 use Rattle.merge_statements.specs.declared.walk.Place.TheVariants.{Between}
+use Rattle.merge_statements.proofs.Counting.{each_counts, portions_counted}
 use Rattle.merge_statements.proofs.Passing.{text_more}
 use Rattle.merge_statements.proofs.ReadBack.{the_statement}
 
@@ -266,6 +269,13 @@ some_taken least _ _ _ (more_of old new olds news own others takes each) zero d 
 some_taken least _ _ _ (more_of old new olds news own others takes each) (suc k) d low is =
     omega (arith, some_taken least olds news others each k d (omega (arith, low)) is, length-append own others)
 
+-- so it has a portion in all
+pub some_paid : (least : List ℕ) (olds news : List Unread) (before after : Option (List ℕ)) (count : ℕ) (total : ℤ) → HasLeast olds least true → WritesAll least olds news before after count total
+    → 0 < count
+some_paid least olds news before after count total has wrote =
+    let at = found olds least (has.some refl) in
+    omega (arith, wrote.counted, some_taken least olds news wrote.portions wrote.taken at.place at.default at.low at.is)
+
 -- ---- a payee more
 
 pub payee_merged : (starts : List (Option (List ℕ))) (olds news : List Unread) (least : List ℕ) (before middle written after : Option (List ℕ)) (count own all : ℕ) (total sum whole : ℤ)
@@ -284,6 +294,7 @@ payee_merged starts olds news least before middle written after count own all to
   sum = comes ∙ ((λ i. was.sum i +ℤ wrote.sum i) ∙ sym (int_sum_by_push total_of was.whole statement));
   sums = int_sum_by_push total_of was.whole statement ∙ (ap (λ (n : ℤ). n +ℤ total_of statement) was.sums ∙ sym done.sums);
   few = few;
+  read = omega (arith, counted, was.read, wrote.counted, each_counts (TakesOne least) length (portions_counted least) olds news wrote.portions wrote.taken);
   written = subst (λ (t : List ℕ). Appends before after t) (rows_more was.whole statement)
       (Appends-trans before middle after (text_of (flat_map statement_rows was.whole)) (text_of (statement_rows statement)) was.written
       (subst (λ (t : List ℕ). Appends middle after t) whole_text (Appends-trans middle written after (text_of (map (portion_row least) wrote.portions)) (text_of_row (total_row (codes "S") least own sum)) wrote.written ended)));
@@ -336,9 +347,15 @@ none_merged starts parts before open_ = record {
   sum = refl;
   sums = nought starts parts open_;
   few = omega arith;
+  read = none_read starts parts open_;
   written = Appends-nil before;
 }
   where
+    none_read : (starts : List (Option (List ℕ))) (parts : List Unread) → AreOpen starts parts → 0 ≡ portions_read parts
+    none_read _ _ no_open = refl
+    none_read _ _ (more_open start part starts parts at left read looked others) =
+        omega (arith, none_read starts parts others, ap (λ (a : At). a.portions) at, sum_by-cons (λ (p : Unread). p.at.portions) part parts)
+
     dones : (starts : List (Option (List ℕ))) (parts : List Unread) → AreOpen starts parts → List (List Statement)
     dones _ _ no_open = []
     dones _ _ (more_open start part starts parts at left read looked others) = [] ∷ dones starts parts others

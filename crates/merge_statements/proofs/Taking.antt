@@ -14,6 +14,7 @@ use Rattle.line_split.proofs.IntSums.{int_sum_by-append}
 use Rattle.merge_statements.specs.SoFar.{HasLeast, HoldsOfFirst, IsNext, IsNextSound, TakesEach, TakesOne, Unread, WritesAll, WritesOne, WritesStatement, order}
 use Rattle.merge_statements.specs.SoFar.TakesEach.{none as none_of, more as more_of}
 use Rattle.merge_statements.specs.SoFar.TakesOne.{taken as taken_of, left as left_of}
+use Rattle.merge_statements.specs.Places.{At}
 use Rattle.merge_statements.specs.Statements.{IsCount, IsPortion, Portion, portion_row}
 use Rattle.merge_statements.proofs.Passing.{elements_more}
 
@@ -36,6 +37,7 @@ one_written payee old new before after count total next was =
       sound = was.passed.sound.portions;
       counted = was.counted;
       sum = was.sum;
+      few = omega (arith, was.counted, was.passed.few, ap (λ (at : At). at.portions) was.passed.at);
       written = subst (λ (p : List ℕ). Appends before after (text_of (map (portion_row p) was.statement.portions))) same was.written;
     }
 
@@ -46,6 +48,7 @@ none_written payee part before other = record {
   sound = All-nil IsPortion;
   counted = refl;
   sum = refl;
+  few = omega arith;
   written = Appends-nil before;
 }
 

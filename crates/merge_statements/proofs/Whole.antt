@@ -5,7 +5,7 @@ use Rattle.std.specs.Io.KnownBytes.{Appends, Consumes, Keeps, append_known}
 use Rattle.std.specs.List.Sorted.{IsStrictlySortedBy}
 use Rattle.std.proofs.KnownBytes.{Appends-trans, Consumes-trans, Consumes-whole}
 use Rattle.std.proofs.lemmas.List.{append-nil}
-use Rattle.std.proofs.lemmas.List.Elements.{All-append, All-cons, All-head, All-nil, All-tail, All-weaker}
+use Rattle.std.proofs.lemmas.List.Elements.{All-cons, All-head, All-nil, All-tail, All-weaker}
 use Rattle.std.proofs.lemmas.List.Folds.{flat_map-map}
 use Rattle.std.proofs.lemmas.List.Sums.{sum_by-cons}
 use Rattle.std.proofs.lemmas.Grind.{flat_map-append}
@@ -35,16 +35,16 @@ sum_small {X} amount (x ∷ xs) small =
     let both = size_plus (amount x) (int_sum_by amount xs) 1000000000000 (1000000000000 * length xs) first others in
     omega (arith, ap unsigned_abs (int_sum_by-cons amount x xs), both)
 
-portions_small : (portions : List Portion) → All IsPortion portions → unsigned_abs (total_of_portions portions) ≤ 1000000000000 * length portions
+pub portions_small : (portions : List Portion) → All IsPortion portions → unsigned_abs (total_of_portions portions) ≤ 1000000000000 * length portions
 portions_small portions sound = sum_small (λ (p : Portion). p.amount) portions (All-weaker IsPortion (λ p. unsigned_abs p.amount ≤ 1000000000000) (λ p is. is.1.1) portions sound)
 
-rests_small : (rests : List Rest) → All IsRest rests → unsigned_abs (total_of_rests rests) ≤ 1000000000000 * length rests
+pub rests_small : (rests : List Rest) → All IsRest rests → unsigned_abs (total_of_rests rests) ≤ 1000000000000 * length rests
 rests_small rests sound = sum_small (λ (r : Rest). r.amount) rests (All-weaker IsRest (λ r. unsigned_abs r.amount ≤ 1000000000000) (λ r is. is.2.1) rests sound)
 
 abbrev pub count_of : List Statement → ℕ
 count_of statements = sum_by (λ statement. length statement.portions) statements
 
-statements_small : (statements : List Statement) → All IsStatement statements → unsigned_abs (int_sum_by total_of statements) ≤ 1000000000000 * count_of statements
+pub statements_small : (statements : List Statement) → All IsStatement statements → unsigned_abs (int_sum_by total_of statements) ≤ 1000000000000 * count_of statements
 statements_small [] sound = omega arith
 statements_small (statement ∷ statements) sound =
     let first = portions_small statement.portions (All-head IsStatement statement statements sound).portions in
@@ -109,7 +109,6 @@ record AreParts (starts : List (Option (List ℕ))) (dones : List (List Statemen
   pub rests : flat_map (λ part. part.rests) parts ≡ rests_of endings
   pub lines : sum_by (λ part. part.lines) parts ≡ lines_of endings
   pub amount : int_sum_by (λ part. part.amount) parts ≡ int_sum_by (λ done. int_sum_by total_of done) dones +ℤ total_of_rests (rests_of endings)
-  pub rests_sound : All IsRest (rests_of endings)
 
 parts_of : (starts : List (Option (List ℕ))) (olds news : List Unread) (dones : List (List Statement)) (endings : List Ending) → HavePassed starts olds dones
     → TakesEach EndsOne olds news endings → AreParts starts dones endings
@@ -121,7 +120,6 @@ parts_of _ _ _ _ _ no_passed none_of = record {
   rests = refl;
   lines = refl;
   amount = refl;
-  rests_sound = All-nil IsRest;
 }
 parts_of _ _ _ _ _ (more_passed start part done starts parts dones has have) (more_of old new olds news own others (ending, is, ends) each) =
     let more = parts_of starts parts news dones others have each in
@@ -141,7 +139,6 @@ parts_of _ _ _ _ _ (more_passed start part done starts parts dones has have) (mo
           ∙ (ap (λ (n : ℤ). (int_sum_by total_of done +ℤ total_of_rests ending.rests) +ℤ n) more.amount
           ∙ (moved (int_sum_by total_of done) (total_of_rests ending.rests) (int_sum_by (λ (d : List Statement). int_sum_by total_of d) dones) (total_of_rests (rests_of others))
           ∙ (λ i. sym (int_sum_by-cons (λ (d : List Statement). int_sum_by total_of d) done dones) i +ℤ sym (int_sum_by-append (λ (r : Rest). r.amount) ending.rests (rests_of others)) i)));
-      rests_sound = All-append IsRest ending.rests (rests_of others) ends.sound more.rests_sound;
     }
 
 -- ---- the merged text
@@ -160,7 +157,7 @@ all_merged starts mid last before one two three after paid left all sum rest tot
     each = refl;
     whole = whole;
     together = record {
-      sound = sound_statements was.whole (rests_of ends.endings) lines total was.rising was.sound parts.rests_sound
+      sound = sound_statements was.whole (rests_of ends.endings) lines total was.rising was.sound ends.sound
           (subst IsCount (counted ∙ (λ i. was.counted i + ends.counted i)) few) ends.few_lines (sym (comes ∙ (λ i. was.sum i +ℤ ends.sum i)));
       portions = λ payee. was.portions payee ∙ (ap (flat_map (portions_in payee)) (sym parts.payees) ∙ flat_map-map (portions_in payee) (λ (s : Statements). s.payees) parts.parts);
       rests = sym parts.rests;

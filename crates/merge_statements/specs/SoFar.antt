@@ -220,6 +220,8 @@ pub record WritesRests (old new : Unread) (before after : Option (List ℕ)) (co
 pub record EndsText (old new : Unread) (lines : ℕ) : Type 0 where
   pub few : IsCount lines
   pub consumed : Consumes old.left new.left (text_of_row (total_row (codes "R") [] lines old.at.total))
+  pub place : new.at.place ≡ Ended lines
+  pub portions : new.at.portions ≡ old.at.portions
   pub ended : IsAtEnd new.left
 
 -- ---- texts that are passed over together
@@ -257,6 +259,7 @@ pub record WritesOne (payee : List ℕ) (old new : Unread) (before after : Optio
   pub sound : All IsPortion portions
   pub counted : count ≡ length portions
   pub sum : total ≡ total_of_portions portions
+  pub few : IsCount count
   pub written : Appends before after (text_of (map (portion_row payee) portions))
 
 pub record WritesAll (payee : List ℕ) (olds news : List Unread) (before after : Option (List ℕ)) (count : ℕ) (total : ℤ) : Type 0 where
@@ -285,6 +288,9 @@ pub record EndsAs (old new : Unread) (ending : Ending) : Type 0 where
   pub few : IsCount ending.lines
   pub few_rests : IsCount (old.at.portions + length ending.rests)
   pub consumed : Consumes old.left new.left (text_of (rests_rows ending.rests ++ total_row (codes "R") [] ending.lines (old.at.total +ℤ total_of_rests ending.rests) ∷ []))
+  pub place : new.at.place ≡ Ended ending.lines
+  pub portions : new.at.portions ≡ old.at.portions + length ending.rests
+  pub reads : ReadsOn old new
   pub ended : IsAtEnd new.left
 
 abbrev pub EndsOne : Unread → Unread → List Ending → Type 0
@@ -300,6 +306,7 @@ lines_of endings = sum_by (λ ending. ending.lines) endings
 pub record EndsEach (olds news : List Unread) (before after : Option (List ℕ)) (count : ℕ) (total : ℤ) (lines : ℕ) : Type 0 where
   pub endings : List Ending
   pub taken : TakesEach EndsOne olds news endings
+  pub sound : All IsRest (rests_of endings)
   pub counted : count ≡ length (rests_of endings)
   pub sum : total ≡ total_of_rests (rests_of endings)
   pub few : IsCount count
@@ -363,6 +370,10 @@ portions_in payee statements = flat_map (λ statement. statement.portions) (filt
 abbrev pub IsBehind : List ℕ → Unread → Type 0
 IsBehind last part = (part.at.payee ≡ last) ⊎ IfSome part.payee (λ payee. order last payee ≡ Less)
 
+-- how many portions were read of all texts
+abbrev pub portions_read : List Unread → ℕ
+portions_read parts = sum_by (λ part. part.at.portions) parts
+
 -- The statements up to a payee were passed over in all texts, and written as one; so many portions, which come to this.
 pub record AreMergedSoFar (starts : List (Option (List ℕ))) (parts : List Unread) (before after : Option (List ℕ)) (count : ℕ) (total : ℤ) : Type 0 where
   pub dones : List (List Statement)
@@ -376,6 +387,7 @@ pub record AreMergedSoFar (starts : List (Option (List ℕ))) (parts : List Unre
   pub sum : total ≡ int_sum_by total_of whole
   pub sums : int_sum_by total_of whole ≡ int_sum_by (λ done. int_sum_by total_of done) dones
   pub few : IsCount count
+  pub read : count ≡ portions_read parts
   pub written : Appends before after (text_of (flat_map statement_rows whole))
 
 -- the same of texts that stood before their first rows

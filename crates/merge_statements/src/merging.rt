@@ -1,11 +1,13 @@
 //! Texts of statements merged into one.
 
-ghost use Rattle.std.specs.Prelude.{◌≡◌, ◌+◌, ◌+ℤ◌, [], ℕ, All, List, None, Option, codes, IfErr, IfOk, OnOk, Some, false, map, true};
+ghost use Rattle.std.specs.Prelude.{◌≡◌, ◌<◌, ◌≤◌, ◌+◌, ◌^◌, ◌+ℤ◌, [], ℕ, All, List, None, Option, codes, IfErr};
+ghost use Rattle.std.specs.Prelude.{IfOk, OnOk, Some, false, map, true, unsigned_abs};
 ghost use Rattle.std.specs.Io.KnownBytes.{Appends};
 ghost use Rattle.csv_table.specs.Written.{text_of_row};
 ghost use Rattle.merge_statements.specs.SoFar.{AreOpen, CanEnd, EndsEach, HasLeast, HasNext, MergesOpen, MergesPayees, RefusesOne, RefusesOpen, RefusesRest};
 ghost use Rattle.merge_statements.specs.SoFar.{WritesAll, WritesEnding, WritesOne, output};
-ghost use Rattle.merge_statements.specs.Refused.{IsNoFault, IsRefusalOf};
+ghost use Rattle.merge_statements.specs.Refused.{IsOfSystem, IsRefusalOf};
+ghost use Rattle.merge_statements.specs.declared.refusal.Refusal.TheVariants as Refusal;
 ghost use Rattle.merge_statements.specs.Merged.{WritesMerge};
 ghost use Rattle.merge_statements.specs.Statements.{IsCount, total_row};
 
@@ -13,11 +15,11 @@ use crate::amount::MOST_COUNT;
 use crate::page::Page;
 use crate::part::Part;
 use crate::refusal::Refusal;
-use crate::walk::{is_before, replace};
+use crate::walk::{is_before, plus, replace};
 use std::alloc::{AllocError, Global};
 use std::io::{Read, Write};
 
-/// Which text is refused, counted from 0, and why.
+/// Which text is refused, counted from 0, and why. Too many portions or usage lines are those of all texts.
 #[derive(Debug, Drop)]
 pub struct TextRefusal {
     pub place: u64,
@@ -25,7 +27,8 @@ pub struct TextRefusal {
 }
 
 /// Merges texts of statements, in this order, and adds the merged text to an output. Each text is read once, through a small buffer.
-/// A text is refused for its first fault, so none that `check` accepts. Where one is refused, the output may have a beginning already.
+/// A text is refused for its first fault, so none that `check` accepts; or all are, where they have more portions, or
+/// are of more usage lines, than are counted. Then the output may have a beginning already.
 pub fn merge<R: Read + Drop, W: Write>(
     alloc: Global,
     from: Vec<R>,
@@ -159,13 +162,14 @@ fn merge_payees<R: Read + Drop, W: Write>(
     page: &mut Page,
     out: &mut W,
 ) -> Result<(u64, i128), TextRefusal>
+    requires { (starts : List (Option (List ℕ))) × AreOpen starts parts.old }
     ensures merged { IfOk result (λ sum. MergesPayees parts.old parts.new (output W.contents out.old page.old) (output W.contents out.new page.new) sum.0 sum.1) }
     ensures none { IfOk result (λ _. All (λ part. part.payee ≡ None) parts.new) }
     ensures refused { IfErr result (λ refused. RefusesOpen parts.old refused.place refused.refusal) }
 {
     let mut payee = Vec::new(alloc);
     let mut all = (0, 0);
-    for _ in 0..u64::MAX {
+    for _done in 0..u64::MAX {
         let found = has_payee(parts, &mut payee)?;
         if !found {
             return Ok(all);
@@ -180,7 +184,7 @@ fn merge_payees<R: Read + Drop, W: Write>(
 /// The least of the payees that come next, as above.
 fn has_payee<R: Read + Drop>(parts: &[Part<R>], least: &mut Vec<u8>) -> Result<bool, TextRefusal>
     ensures least { IfOk result (HasLeast parts.now least.new.items) }
-    ensures refused { IfErr result (λ refused. IsNoFault refused.refusal) }
+    ensures refused { IfErr result (λ refused. IsOfSystem refused.refusal) }
 {
     match least_payee(parts, least) {
         Ok(found) => Ok(found),
@@ -197,7 +201,7 @@ fn push_total<W: Write>(
     sum: (u64, i128),
 ) -> Result<(), TextRefusal>
     ensures pushed { OnOk result (Appends (output W.contents out.old page.old) (output W.contents out.new page.new) (text_of_row (total_row kind.now payee.now sum.0 sum.1))) }
-    ensures refused { IfErr result (λ refused. IsNoFault refused.refusal) }
+    ensures refused { IfErr result (λ refused. IsOfSystem refused.refusal) }
 {
     match page.push_total(out, kind, payee, sum.0, sum.1) {
         Ok(()) => Ok(()),
@@ -213,7 +217,7 @@ fn push_run<W: Write>(
     portions: (u64, i128),
 ) -> Result<(), TextRefusal>
     ensures pushed { OnOk result (Appends (output W.contents out.old page.old) (output W.contents out.new page.new) (text_of_row (total_row (codes "R") [] lines portions.1))) }
-    ensures refused { IfErr result (λ refused. IsNoFault refused.refusal) }
+    ensures refused { IfErr result (λ refused. IsOfSystem refused.refusal) }
 {
     push_total(page, out, "R", b"", (lines, portions.1))
 }
@@ -259,7 +263,7 @@ fn end_all<R: Read + Drop, W: Write>(
 fn more_lines(lines: u64, more: u64, place: usize) -> Result<u64, TextRefusal>
     ensures sum { IfOk result (λ all. all ≡ lines + more) }
     ensures few { IfOk result IsCount }
-    ensures refused { IfErr result (λ refused. IsNoFault refused.refusal) }
+    ensures refused { IfErr result (λ refused. (refused.refusal ≡ Refusal.Many) × (10 ^ 18 < lines + more)) }
 {
     match lines.checked_add(more) {
         Some(all) if all <= MOST_COUNT => Ok(all),
@@ -280,13 +284,15 @@ fn refused(place: usize, refusal: Refusal) -> TextRefusal
 
 /// The number and the sum of portions of two kinds, as long as they can be counted.
 fn both(own: (u64, i128), more: (u64, i128), place: usize) -> Result<(u64, i128), TextRefusal>
+    requires own { unsigned_abs own.1 ≤ 10 ^ 30 }
+    requires more { unsigned_abs more.1 ≤ 10 ^ 30 }
     ensures count { IfOk result (λ sum. sum.0 ≡ own.0 + more.0) }
     ensures sum { IfOk result (λ sum. sum.1 ≡ own.1 +ℤ more.1) }
     ensures few { IfOk result (λ sum. IsCount sum.0) }
-    ensures refused { IfErr result (λ refused. IsNoFault refused.refusal) }
+    ensures refused { IfErr result (λ refused. (refused.refusal ≡ Refusal.Many) × (10 ^ 18 < own.0 + more.0)) }
 {
-    match (own.0.checked_add(more.0), own.1.checked_add(more.1)) {
-        (Some(count), Some(sum)) if count <= MOST_COUNT => Ok((count, sum)),
+    match own.0.checked_add(more.0) {
+        Some(count) if count <= MOST_COUNT => Ok((count, plus(own.1, more.1))),
         _ => Err(refused(place, Refusal::Many)),
     }
 }

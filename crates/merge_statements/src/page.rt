@@ -3,7 +3,7 @@
 ghost use Rattle.std.specs.Io.KnownBytes.{Appends};
 ghost use Rattle.std.specs.Prelude.{◌≡◌, [], IfErr, IfOk, OnOk};
 ghost use Rattle.csv_table.specs.Written.{text_of_row};
-ghost use Rattle.merge_statements.specs.Refused.{IsNoFault};
+ghost use Rattle.merge_statements.specs.Refused.{IsOfSystem};
 ghost use Rattle.merge_statements.specs.SoFar.{output};
 ghost use Rattle.merge_statements.specs.Statements.{total_row};
 
@@ -46,7 +46,7 @@ impl Page {
     /// Adds a text.
     pub(crate) fn push<W: Write>(&mut self, out: &mut W, text: &[u8]) -> Result<(), Refusal>
         ensures pushed { OnOk result (Appends (output W.contents out.old self.old) (output W.contents out.new self.new) text.now) }
-        ensures refused { IfErr result IsNoFault }
+        ensures refused { IfErr result IsOfSystem }
     {
         if self.text.len() >= PAGE_BYTES {
             self.pass_on(out)?;
@@ -59,7 +59,7 @@ impl Page {
     pub(crate) fn pass_on<W: Write>(&mut self, out: &mut W) -> Result<(), Refusal>
         ensures empty { OnOk result (self.new ≡ []) }
         ensures passed { OnOk result (Appends (output W.contents out.old self.old) (W.contents out.new) []) }
-        ensures refused { IfErr result IsNoFault }
+        ensures refused { IfErr result IsOfSystem }
     {
         match out.write_all(self.text.as_slice()) {
             Ok(()) => {
@@ -80,7 +80,7 @@ impl Page {
         total: i128,
     ) -> Result<(), Refusal>
         ensures pushed { OnOk result (Appends (output W.contents out.old self.old) (output W.contents out.new self.new) (text_of_row (total_row kind.now payee.now count total))) }
-        ensures refused { IfErr result IsNoFault }
+        ensures refused { IfErr result IsOfSystem }
     {
         let text = total_text(self.alloc, kind, payee, count, total)?;
         self.push(out, text.as_slice())

@@ -6,7 +6,7 @@ ghost use Rattle.std.specs.Option.{option_map};
 ghost use Rattle.merge_statements.specs.SoFar.{CanEnd, EndsText, HasNext, IsAmongRests, IsLooked, IsNext, IsOfKind, IsRead, IsRestsSumAt, IsSumAt};
 ghost use Rattle.merge_statements.specs.SoFar.{IsWithinOne, NeedsRow, PassesSum, ReadsOn, RefusesRest, Steps, WritesRests, WritesStatement, output};
 ghost use Rattle.merge_statements.specs.Places.{KindFits, at_first};
-ghost use Rattle.merge_statements.specs.Refused.{IsNoFault, IsRefusedFor};
+ghost use Rattle.merge_statements.specs.Refused.{IsOfSystem, IsRefusedFor};
 ghost use Rattle.merge_statements.specs.declared.walk.Place.TheVariants as Place;
 
 use crate::checking::{advance, follow, row_of};
@@ -195,7 +195,7 @@ impl<R: Read + Drop> Part<R> {
         ensures refused { IfErr result (RefusesRest self.old) }
     {
         self.pass_row(page, out)?;
-        for _ in 0..u64::MAX {
+        for _passed in 0..u64::MAX {
             if !self.begins_with(b'L') {
                 let sum = self.end_statement()?;
                 return Ok(sum);
@@ -248,7 +248,7 @@ impl<R: Read + Drop> Part<R> {
         ensures reads { IfOk result (λ _. ReadsOn self.old self.new) }
         ensures refused { IfErr result (RefusesRest self.old) }
     {
-        for _ in 0..u64::MAX {
+        for _passed in 0..u64::MAX {
             if !self.begins_with(b'M') {
                 let sum = self.end_rests()?;
                 return Ok(sum);
@@ -262,6 +262,7 @@ impl<R: Read + Drop> Part<R> {
     pub(crate) fn finish(&mut self) -> Result<u64, Refusal>
         requires { self.old.at.place ≡ Place.Summed }
         ensures ended { IfOk result (λ lines. EndsText self.old self.new lines) }
+        ensures reads { IfOk result (λ _. ReadsOn self.old self.new) }
         ensures refused { IfErr result (RefusesRest self.old) }
     {
         self.step()?;
@@ -275,7 +276,7 @@ impl<R: Read + Drop> Part<R> {
 /// Adds a line with its line feed.
 fn push_line<W: Write>(page: &mut Page, out: &mut W, line: &[u8]) -> Result<(), Refusal>
     ensures passed { OnOk result (Appends (output W.contents out.old page.old) (output W.contents out.new page.new) (line.now ++ 10 ∷ [])) }
-    ensures refused { IfErr result IsNoFault }
+    ensures refused { IfErr result IsOfSystem }
 {
     page.push(out, line)?;
     page.push(out, b"\n")

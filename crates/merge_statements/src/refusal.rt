@@ -71,7 +71,8 @@ pub enum Refusal {
     /// Memory was refused.
     #[error("out of room")]
     Memory,
-    /// There are more portions or usage lines than are counted: 1,000,000,000,000,000,000.
+    /// There are more portions or usage lines than are counted, 1,000,000,000,000,000,000, in one text or in all
+    /// together. So they begin with more rows than that, or are of more usage lines.
     #[error("too many")]
     Many,
     /// A read was refused.

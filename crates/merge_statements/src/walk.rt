@@ -305,7 +305,7 @@ pub(crate) fn is_before(name: &[u8], other: &[u8]) -> bool
 }
 
 /// The sum of two numbers, neither of which is too large.
-fn plus(one: i128, other: i128) -> i128
+pub(crate) fn plus(one: i128, other: i128) -> i128
     requires one { unsigned_abs one ≤ 10 ^ 30 }
     requires other { unsigned_abs other ≤ 10 ^ 30 }
     ensures { result ≡ one +ℤ other }

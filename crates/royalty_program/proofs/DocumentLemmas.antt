@@ -141,6 +141,7 @@ module _ (holds : List ℕ → List ℕ → Type 0) (words : List (List ℕ)) (a
     fails_given (failures.Target path) is = given (failures.Target path) is
     fails_given (failures.Statement fault path) is = given (failures.Statement fault path) is
     fails_given failures.Many is = given failures.Many is
+    fails_given failures.ManyMerged is = given failures.ManyMerged is
     fails_given (failures.Changed path) is = given (failures.Changed path) is
     fails_given (failures.Replaces path) is = given (failures.Replaces path) is
     fails_given (failures.Names fault) is = given (failures.Names fault) is

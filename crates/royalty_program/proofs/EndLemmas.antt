@@ -11,7 +11,8 @@ use Rattle.royalty_program.specs.SubmittedFiles.{SubmittedPaths}
 use Rattle.royalty_program.proofs.SubmittedFileLemmas.{unread_or_room}
 use Rattle.std.specs.declared.io.ErrorKind.{ErrorKind}
 use Rattle.royalty_program.specs.declared.failure.Failure.{Failure}
-use Rattle.royalty_program.specs.declared.failure.Failure.TheVariants.{Words, NotText, Pairs, Input, Works, Registrations, Row, Room, File, Output, Target, Statement, Many, Changed, Replaces, Names, Taken}
+use Rattle.royalty_program.specs.declared.failure.Failure.TheVariants.{Words, NotText, Pairs, Input, Works, Registrations, Row, Room, File, Output}
+use Rattle.royalty_program.specs.declared.failure.Failure.TheVariants.{Target, Statement, Many, ManyMerged, Changed, Replaces, Names, Taken}
 
 -- a failure has no status of an answer
 pub fails_with : (failure : Failure) → status_of failure ≢ 0
@@ -28,6 +29,7 @@ fails_with Output is = cc is
 fails_with (Target path) is = cc is
 fails_with (Statement fault path) is = cc is
 fails_with Many is = cc is
+fails_with ManyMerged is = cc is
 fails_with (Changed path) is = cc is
 fails_with (Replaces path) is = cc is
 fails_with (Names fault) is = cc is
@@ -58,6 +60,7 @@ check_fails_with holds refuses words Output is = λ same. cc same
 check_fails_with holds refuses words (Target path) is = λ same. cc same
 check_fails_with holds refuses words (Statement fault path) is = λ same. neither (name_works words) _ _ (λ one. one.0) (no_fault holds refuses (submitted_given submitted_check_app words) (Statement fault path) (λ room. cc) (λ name file. cc)) is
 check_fails_with holds refuses words Many is = λ same. neither (name_works words) _ _ (λ one. one.0) (no_fault holds refuses (submitted_given submitted_check_app words) Many (λ room. cc) (λ name file. cc)) is
+check_fails_with holds refuses words ManyMerged is = λ same. cc same
 check_fails_with holds refuses words (Changed path) is = λ same. cc same
 check_fails_with holds refuses words (Replaces path) is = λ same. cc same
 check_fails_with holds refuses words (Names fault) is = λ same. neither (name_works words) _ _ (λ one. one.0) (no_fault holds refuses (submitted_given submitted_check_app words) (Names fault) (λ room. cc) (λ name file. cc)) is

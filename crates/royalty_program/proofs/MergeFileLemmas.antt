@@ -1,5 +1,5 @@
 -- Texts of statements over files, path by path.
-use Rattle.std.proofs.Common.{◌≡◌, ◌∙◌, ◌+◌, ◌<◌, ◌≤◌, ◌^◌, ◌++◌, ◌∷◌, ℕ, List, [], None, Option, ap, arith, length, map, refl, slice_index_or, subst, suc, sym, take, zero}
+use Rattle.std.proofs.Common.{inl, inr, ◌⊎◌, ◌≡◌, ◌∙◌, ◌+◌, ◌<◌, ◌≤◌, ◌^◌, ◌++◌, ◌∷◌, ℕ, List, [], None, Option, ap, arith, length, map, refl, slice_index_or, subst, suc, sym, take, zero}
 use Rattle.std.proofs.lemmas.List.{length-map, map-append, map_more, take-map}
 use Rattle.std.specs.Option.{IfSome}
 use Rattle.std.specs.List.{Contains}
@@ -8,14 +8,14 @@ use Rattle.std.specs.Prelude.{String, string_bytes}
 use Rattle.std.specs.declared.alloc.Global.{Global}
 use Rattle.std.specs.declared.io.ErrorKind.{ErrorKind}
 use Rattle.std.specs.declared.io.ErrorKind.TheVariants.{OutOfMemory}
-use Rattle.merge_statements.specs.Refused.{IsFaultIn, IsRefusalOf, IsRefusedFor}
+use Rattle.merge_statements.specs.Refused.{BeginsWithRows, HaveTogether, HaveTooManyLines, HaveTooManyRows, IsFaultIn, IsRefusalOf, IsRefusedFor, IsStatementText}
 use Rattle.merge_statements.specs.Merged.{AreTexts, WritesMerge}
 use Rattle.merge_statements.specs.Merged.AreTexts.{none as no_texts, more as more_texts}
 use Rattle.merge_statements.specs.declared.refusal.Refusal.{Refusal}
-use Rattle.royalty_program.specs.MergeFiles.{AreOpened, AreSoundTexts, AreTextsAt, Gives, HoldsOf, IsMergeOver, IsSoundText}
+use Rattle.royalty_program.specs.MergeFiles.{AreOpened, AreSoundTexts, AreTextsAt, AreTooMany, BeginWithRows, Gives, HoldsOf, IsMergeOver, IsSoundText}
 use Rattle.royalty_program.specs.Status.{IsAt, IsOfOne, IsOfPlace, IsOfRefusal, IsOfText, IsOfTexts, IsUnopened, IsUnreadable, failure_of_file}
 use Rattle.royalty_program.specs.declared.failure.Failure.{Failure}
-use Rattle.royalty_program.specs.declared.failure.Failure.TheVariants.{Room, File, Statement, Many, Changed}
+use Rattle.royalty_program.specs.declared.failure.Failure.TheVariants.{Room, File, Statement, Many, ManyMerged, Changed}
 
 -- an element of a list, as it is mapped
 mapped_at : {A : Type 0} (f : A → List ℕ) (xs : List A) (place : ℕ) (x : A) → place < length xs → x ≡ slice_index_or xs place x → slice_index_or (map f xs) place (f x) ≡ f x
@@ -54,6 +54,41 @@ module _ (gives : List ℕ → List ℕ → Type 0) where
   opened_at (p ∷ paths) (k ∷ knowns) zero path opened at = subst (λ (it : List ℕ). Gives (gives it) k) at.1 opened.0
   opened_at (p ∷ paths) (k ∷ knowns) (suc place) path opened at = opened_at paths knowns place path opened.1 (omega (arith, at.0), at.1)
 
+  -- rows of what readers have left are rows of what their files give
+  rows_over : (paths : List (List ℕ)) (knowns : List (Option (List ℕ))) (rows : ℕ) → AreOpened gives paths knowns → HaveTogether BeginsWithRows knowns rows → BeginWithRows gives paths rows
+  rows_over [] [] rows opened have = have
+  rows_over [] (known ∷ knowns) rows opened have = absurd opened
+  rows_over (path ∷ paths) [] rows opened have = absurd opened
+  rows_over (path ∷ paths) (known ∷ knowns) rows opened (own, others, begins, have, sum) =
+      (own, others, record { known = known; given = opened.0; holds_of = begins }, rows_over paths knowns others opened.1 have, sum)
+
+  -- and so are their statements, of the first so many
+  sound_over : (paths : List (List ℕ)) (knowns : List (Option (List ℕ))) (count lines : ℕ) → AreOpened gives paths knowns → HaveTogether IsStatementText (take count knowns) lines
+      → AreSoundTexts gives (take count paths) lines
+  sound_over [] [] zero lines opened have = have
+  sound_over [] [] (suc count) lines opened have = have
+  sound_over [] (known ∷ knowns) count lines opened have = absurd opened
+  sound_over (path ∷ paths) [] count lines opened have = absurd opened
+  sound_over (path ∷ paths) (known ∷ knowns) zero lines opened have = have
+  sound_over (path ∷ paths) (known ∷ knowns) (suc count) lines opened (own, others, sound, have, sum) =
+      (own, others, (record { known = known; given = opened.0; holds_of = sound }, sound_over paths knowns count others opened.1 have, sum))
+
+  opened_length : (paths : List (List ℕ)) (knowns : List (Option (List ℕ))) → AreOpened gives paths knowns → length knowns ≡ length paths
+  opened_length [] [] opened = refl
+  opened_length [] (known ∷ knowns) opened = absurd opened
+  opened_length (path ∷ paths) [] opened = absurd opened
+  opened_length (path ∷ paths) (known ∷ knowns) opened = omega (arith, opened_length paths knowns opened.1)
+
+  too_many_over : (paths : List (List ℕ)) (knowns : List (Option (List ℕ))) → AreOpened gives paths knowns → HaveTooManyRows knowns ⊎ HaveTooManyLines knowns → AreTooMany gives paths
+  too_many_over paths knowns opened (inl (rows, have, many)) = inr (inr (rows, rows_over paths knowns rows opened have, many))
+  too_many_over paths knowns opened (inr lines) = inl record {
+    count = lines.count;
+    inside = omega (arith, lines.inside, opened_length paths knowns opened);
+    lines = lines.lines;
+    sound = sound_over paths knowns lines.count lines.lines opened lines.sound;
+    many = lines.many;
+  }
+
   -- so the one in a place that is refused is one of them
   pub one_of_place : (paths : List (List ℕ)) (knowns : List (Option (List ℕ))) (place : ℕ) (was : Refusal) (failure : Failure) → AreOpened gives paths knowns → IsRefusalOf knowns place was → IsOfPlace paths place was failure
       → IsOfOne gives paths failure
@@ -66,6 +101,7 @@ module _ (gives : List ℕ → List ℕ → Type 0) where
         holds_of = (subst (IsRefusalOf knowns place) is.1.1 refused).1;
       } in
       ((place, is.0.0, is.0.1), (is.1.0, own))
+  one_of_place paths knowns place was ManyMerged opened refused is = too_many_over paths knowns opened (subst (IsRefusalOf knowns place) is refused)
   one_of_place paths knowns place was failure opened refused is = absurd is
 
   -- one more text
@@ -104,6 +140,7 @@ module _ (gives : List ℕ → List ℕ → Type 0) where
   refused_text path known was (File name) given for is = is.0
   refused_text path known was (Statement fault name) given for is =
       (is.0, record { known = known; given = given; holds_of = subst (λ (w : Refusal). IfSome known (λ text. IsRefusedFor text w)) is.1 for })
+  refused_text path known was Many given for is = record { known = known; given = given; holds_of = subst (λ (w : Refusal). IfSome known (λ text. IsRefusedFor text w)) is for }
   refused_text path known was failure given for is = absurd is
 
   -- and so all fail
@@ -127,6 +164,8 @@ module _ (gives : List ℕ → List ℕ → Type 0) where
     };
     fault_of = subst (λ (p : List ℕ). HoldsOf (gives p) (λ text. IsFaultIn text fault)) (sym is.0) is.1;
   }
+  refused_first paths place path lines Many inside there before is =
+      inr (inl record { path = path; first = record { place = place; inside = inside; there = there; lines = lines; before = before }; rows_of = is })
   refused_first paths place path lines failure inside there before is = absurd is
 
   -- of texts that are sound the first so many are
@@ -145,6 +184,7 @@ module _ (gives : List ℕ → List ℕ → Type 0) where
       let before : (some : ℕ) × AreSoundTexts gives (take is.0 paths) some = before_of paths lines is.0 sound in
       record { place = is.0; inside = is.1; there = is.2; lines = before.0; before = before.1 }
   one_of_sound paths lines (Changed name) sound few is = record { one = is.0; lines = lines; sound = sound; few = few; fault = is.1 }
+  one_of_sound paths lines ManyMerged sound few is = record { lines = lines; sound = sound; few = few; many = is }
   one_of_sound paths lines failure sound few is = absurd is
 
   -- the same of the paths so far and the next
@@ -164,7 +204,7 @@ module _ (gives : List ℕ → List ℕ → Type 0) where
   pub too_many_there : (paths : List (String Global)) (place : ℕ) (path : String Global) (lines own : ℕ) (failure : Failure) → place < length paths → path ≡ slice_index_or paths place path
       → AreSoundTexts gives (map string_bytes (take place paths)) lines → IsSoundText gives (string_bytes path) own → failure ≡ Many → 10 ^ 18 < lines + own → IsOfTexts gives (map string_bytes paths) failure
   too_many_there paths place path lines own failure inside is before sound many over =
-      let all : IsOfTexts gives (map string_bytes paths) Many = record {
+      let all : IsOfTexts gives (map string_bytes paths) Many = inl record {
         count = place + 1;
         inside = omega (arith, length-map paths (string_bytes {Z = Global}));
         lines = lines + own;

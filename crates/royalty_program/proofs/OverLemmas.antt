@@ -19,7 +19,8 @@ use Rattle.royalty_program.specs.DocumentsAnswered.{IsOfStatements}
 use Rattle.royalty_program.specs.Fails.{FailFor}
 use Rattle.royalty_program.specs.Status.{IsOfCheck, IsOfDivision, IsOfExplanation, IsOfMerge, IsOfPaths, IsOfRunOutput, IsOfFiles, IsOfSubmitted, IsOfTable, IsOfRun, IsRefusal, IsSaidOf, IsSubmittedUnchecked, IsSubmittedUnexplained, IsUnchecked, IsUnexplained, status_of}
 use Rattle.royalty_program.specs.declared.failure.Failure.{Failure}
-use Rattle.royalty_program.specs.declared.failure.Failure.TheVariants.{Words, NotText, Pairs, Input, Works, Registrations, Row, Room, File, Output, Target, Statement, Many, Changed, Replaces, Names, Taken}
+use Rattle.royalty_program.specs.declared.failure.Failure.TheVariants.{Words, NotText, Pairs, Input, Works, Registrations, Row, Room, File, Output}
+use Rattle.royalty_program.specs.declared.failure.Failure.TheVariants.{Target, Statement, Many, ManyMerged, Changed, Replaces, Names, Taken}
 use Rattle.run_inputs.specs.declared.inputs.Inputs.{Inputs}
 use Rattle.royalty_program.specs.declared.explain_command.ExplainWords.{ExplainWords}
 use Rattle.royalty_program.specs.declared.run_command.RunWords.{RunWords}
@@ -122,6 +123,7 @@ fails_given holds refuses words asked read failure is = as_run failure is
     as_run (Target path) named = sym read.output ∙ ap (option_map string_bytes) named
     as_run (Statement fault path) is = given (Statement fault path) is
     as_run Many is = given Many is
+    as_run ManyMerged is = given ManyMerged is
     as_run (Changed path) is = given (Changed path) is
     as_run (Replaces path) named = sym read.output ∙ ap (option_map string_bytes) named
     as_run (Names fault) is = given (Names fault) is
@@ -158,6 +160,7 @@ as_unexplained holds refuses paths row Output none = none
 as_unexplained holds refuses paths row (Target path) none = none
 as_unexplained holds refuses paths row (Statement fault path) none = none
 as_unexplained holds refuses paths row Many none = none
+as_unexplained holds refuses paths row ManyMerged none = none
 as_unexplained holds refuses paths row (Changed path) none = none
 as_unexplained holds refuses paths row (Replaces path) none = none
 as_unexplained holds refuses paths row (Names fault) none = none
@@ -179,6 +182,7 @@ as_submitted_unexplained holds refuses paths row Output is = is
 as_submitted_unexplained holds refuses paths row (Target path) is = is
 as_submitted_unexplained holds refuses paths row (Statement fault path) is = is
 as_submitted_unexplained holds refuses paths row Many is = is
+as_submitted_unexplained holds refuses paths row ManyMerged is = is
 as_submitted_unexplained holds refuses paths row (Changed path) is = is
 as_submitted_unexplained holds refuses paths row (Replaces path) is = is
 as_submitted_unexplained holds refuses paths row (Names fault) is = is
@@ -215,6 +219,7 @@ unexplained_given holds refuses words asked read failure is = as_asked failure i
     as_asked (Target path) is = given (Target path) is
     as_asked (Statement fault path) is = given (Statement fault path) is
     as_asked Many is = given Many is
+    as_asked ManyMerged is = given ManyMerged is
     as_asked (Changed path) is = given (Changed path) is
     as_asked (Replaces path) is = given (Replaces path) is
     as_asked (Names fault) is = given (Names fault) is
@@ -276,6 +281,7 @@ unchecked_given holds refuses words inputs read failure is = as_asked failure is
     as_asked (Target path) is = given (Target path) is
     as_asked (Statement fault path) is = given (Statement fault path) is
     as_asked Many is = given Many is
+    as_asked ManyMerged is = given ManyMerged is
     as_asked (Changed path) is = given (Changed path) is
     as_asked (Replaces path) is = given (Replaces path) is
     as_asked (Names fault) is = given (Names fault) is
@@ -315,6 +321,7 @@ no_table_given holds refuses words table asked read failure is = as_table failur
     as_table (Target path) is = is
     as_table (Statement fault path) is = is
     as_table Many is = is
+    as_table ManyMerged is = is
     as_table (Changed path) is = is
     as_table (Replaces path) is = is
     as_table (Names fault) is = is

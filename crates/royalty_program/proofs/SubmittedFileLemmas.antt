@@ -113,6 +113,7 @@ unread_or_room holds refuses submitted failures.Output (inr (inl none)) = absurd
 unread_or_room holds refuses submitted (failures.Target path) (inr (inl none)) = absurd none
 unread_or_room holds refuses submitted (failures.Statement fault path) (inr (inl none)) = absurd none
 unread_or_room holds refuses submitted failures.Many (inr (inl none)) = absurd none
+unread_or_room holds refuses submitted failures.ManyMerged (inr (inl none)) = absurd none
 unread_or_room holds refuses submitted (failures.Changed path) (inr (inl none)) = absurd none
 unread_or_room holds refuses submitted (failures.Replaces path) (inr (inl none)) = absurd none
 unread_or_room holds refuses submitted (failures.Names fault) (inr (inl none)) = absurd none

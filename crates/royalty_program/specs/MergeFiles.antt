@@ -1,7 +1,8 @@
 -- What a merge answers over files. `gives path text` says that the file of a path gives this text.
-use Rattle.std.specs.Prelude.{ℕ, Contains, ◌≡◌, ◌<◌, ◌≤◌, ◌+◌, ◌^◌, ◌∷◌, [], List, Option, IfSome, length, slice_index_or, take, ⊤}
+use Rattle.std.specs.Prelude.{ℕ, Contains, ◌≡◌, ◌<◌, ◌≤◌, ◌+◌, ◌^◌, ◌∷◌, ◌⊎◌, [], List, Option, IfSome, length}
+use Rattle.std.specs.Prelude.{slice_index_or, take, ⊤}
 use Rattle.merge_statements.specs.Merged.{IsMergeOf}
-use Rattle.merge_statements.specs.Refused.{IsFaultIn, IsStatementText}
+use Rattle.merge_statements.specs.Refused.{BeginsWithRows, HasTooManyRows, IsFaultIn, IsStatementText}
 use Rattle.merge_statements.specs.declared.refusal.StatementFault.{StatementFault}
 
 -- What a file of the system gives no contract can say.
@@ -59,12 +60,42 @@ pub record IsFaultAt (gives : List ℕ → List ℕ → Type 0) (paths : List (L
   pub fault_of : HoldsOf (gives path) (λ text. IsFaultIn text fault)
 
 -- The texts of the first so many paths are those of statements, and of too many usage lines.
-pub record AreTooMany (gives : List ℕ → List ℕ → Type 0) (paths : List (List ℕ)) : Type 0 where
+pub record AreOfTooManyLines (gives : List ℕ → List ℕ → Type 0) (paths : List (List ℕ)) : Type 0 where
   pub count : ℕ
   pub inside : count ≤ length paths
   pub lines : ℕ
   pub sound : AreSoundTexts gives (take count paths) lines
   pub many : 10 ^ 18 < lines
+
+-- or one is the first that is refused, since it begins with too many rows
+pub record OneHasTooManyRows (gives : List ℕ → List ℕ → Type 0) (paths : List (List ℕ)) : Type 0 where
+  pub path : List ℕ
+  pub first : IsFirstRefused gives paths path
+  pub rows_of : HoldsOf (gives path) HasTooManyRows
+
+-- the texts of all these paths begin with so many rows together
+abbrev pub BeginWithRows : (gives : List ℕ → List ℕ → Type 0) → List (List ℕ) → (rows : ℕ) → Type 0
+BeginWithRows gives [] rows = rows ≡ 0
+BeginWithRows gives (path ∷ paths) rows =
+    (own : ℕ) × (others : ℕ)
+    × HoldsOf (gives path) (λ text. BeginsWithRows text own) × BeginWithRows gives paths others × (rows ≡ own + others)
+
+-- which are too many
+abbrev pub BeginWithTooManyRows : (gives : List ℕ → List ℕ → Type 0) → List (List ℕ) → Type 0
+BeginWithTooManyRows gives paths = (rows : ℕ) × BeginWithRows gives paths rows × (10 ^ 18 < rows)
+
+-- the texts of paths are of too many usage lines, or have too many rows, one of them or all
+abbrev pub AreTooMany : (gives : List ℕ → List ℕ → Type 0) → List (List ℕ) → Type 0
+AreTooMany gives paths =
+    AreOfTooManyLines gives paths ⊎ OneHasTooManyRows gives paths ⊎ BeginWithTooManyRows gives paths
+
+-- The texts of all these paths were those of statements, and not of too many usage lines. They are too many all the
+-- same.
+pub record AreFoundTooMany (gives : List ℕ → List ℕ → Type 0) (paths : List (List ℕ)) : Type 0 where
+  pub lines : ℕ
+  pub sound : AreSoundTexts gives paths lines
+  pub few : lines ≤ 10 ^ 18
+  pub many : AreTooMany gives paths
 
 -- the text that a path gives has a fault
 abbrev pub GivesFault : (gives : List ℕ → Type 0) → Type 0

@@ -23,7 +23,7 @@ use Rattle.submitted_inputs.specs.declared.fault.SubmittedFault.{SubmittedFault}
 use Rattle.submitted_inputs.specs.declared.fault.SubmittedFault.TheVariants as submitted
 use Rattle.submitted_inputs.specs.declared.inputs.SubmittedTables.{SubmittedTables}
 use Rattle.line_split.specs.UsageTable as usage
-use Rattle.merge_statements.specs.Refused.{IsFaultIn}
+use Rattle.merge_statements.specs.Refused.{HasTooManyRows, IsFaultIn}
 use Rattle.merge_statements.specs.Refused as statement
 use Rattle.merge_statements.specs.declared.refusal.Refusal.{Refusal}
 use Rattle.merge_statements.specs.declared.refusal.Refusal.TheVariants as refusal
@@ -41,9 +41,13 @@ use Rattle.royalty_program.specs.SubmittedFiles.{AreTablesRead, HoldsAt, IsSubmi
 use Rattle.royalty_program.specs.SubmittedFiles.{SubmittedHaveNoRowOver, SubmittedPaths}
 use Rattle.starting_files.specs.declared.making.StartingTable.{StartingTable}
 use Rattle.submitted_inputs.specs.Files.{IsFaultOfFiles}
-use Rattle.royalty_program.specs.MergeFiles.{AreTooMany, GivesFault, HasChanged, HoldsOf, IsFaultAt, IsFirstRefused}
+use Rattle.royalty_program.specs.MergeFiles.{AreFoundTooMany, AreTooMany, GivesFault, HasChanged, HoldsOf, IsFaultAt}
+use Rattle.royalty_program.specs.MergeFiles.{IsFirstRefused}
 use Rattle.royalty_program.specs.declared.failure.Failure.{Failure}
-use Rattle.royalty_program.specs.declared.failure.Failure.TheVariants.{Words, NotText, Pairs, Input, Works, Registrations, Row, Room, File, Output, Target, Statement, Many, Changed, Replaces, Names, Taken}
+use Rattle.royalty_program.specs.declared.failure.Failure.TheVariants.{Words, NotText, Pairs, Input, Works}
+use Rattle.royalty_program.specs.declared.failure.Failure.TheVariants.{Registrations, Row, Room, File, Output, Target}
+use Rattle.royalty_program.specs.declared.failure.Failure.TheVariants.{Statement, Many, ManyMerged, Changed, Replaces}
+use Rattle.royalty_program.specs.declared.failure.Failure.TheVariants.{Names, Taken}
 use Rattle.run_inputs.specs.Inputs.{ThisOrLater}
 use Rattle.run_inputs.specs.declared.fault.Fault.{Fault}
 use Rattle.run_inputs.specs.declared.fault.Fault.TheVariants as input
@@ -67,6 +71,7 @@ status_of Output = 4
 status_of (Target path) = 4
 status_of (Statement fault path) = 1
 status_of Many = 1
+status_of ManyMerged = 4
 status_of (Changed path) = 4
 status_of (Replaces path) = 2
 status_of (Names fault) = 1
@@ -112,7 +117,9 @@ text_of Output = Some (codes "royalty_run: cannot write\n")
 text_of (Target path) = Some (codes "royalty_run: cannot write " ++ string_bytes path ++ codes "\n")
 text_of (Statement f path) =
     Some (codes "royalty_run: statement fault " ++ decimal (statement.number_of_fault f) ++ codes " at row " ++ decimal (statement.row_of_fault f) ++ codes " of " ++ string_bytes path ++ codes "\n")
-text_of Many = Some (codes "royalty_run: the statements are of more than 1000000000000000000 usage lines\n")
+text_of Many = Some (codes "royalty_run: the statements are of more than 1000000000000000000 portions or usage lines\n")
+text_of ManyMerged =
+    Some (codes "royalty_run: the statements are of more than 1000000000000000000 portions or usage lines\n")
 text_of (Changed path) = Some (codes "royalty_run: " ++ string_bytes path ++ codes " changed while it was read\n")
 text_of (Replaces path) = Some (codes "royalty_run: " ++ string_bytes path ++ codes " is an input, which the output would replace\n")
 text_of (Names f) = Some (fault_text (codes "names") (names.number_of_fault f) (codes "row ") (names.place_of_fault f))
@@ -132,6 +139,7 @@ IsRefusal (File path) = ⊤
 IsRefusal (Target path) = ⊤
 IsRefusal (Statement f path) = ⊤
 IsRefusal Many = ⊤
+IsRefusal ManyMerged = ⊤
 IsRefusal (Changed path) = ⊤
 IsRefusal (Replaces path) = ⊤
 IsRefusal (Names f) = f ≢ name_fault.Memory
@@ -272,20 +280,23 @@ IsOfExplanation holds refuses words failure =
     EitherRun (name_works words) (IsUnexplained holds refuses (inputs_given explain_app words) (row_given words) failure)
     (IsSubmittedUnexplained holds refuses (submitted_given submitted_explain_app words) (row_given words) failure)
 
--- A merge of the texts of these paths fails for the first fault of the first that has one, since they are of too many usage lines, for
--- lack of memory, for one that cannot be read, or since one changed after all were found to be sound.
+-- A merge of the texts of these paths fails for the first fault of the first that has one, since they have too many
+-- rows or are of too many usage lines, for lack of memory, for one that cannot be read, or since one changed after all
+-- were found to be sound.
 abbrev pub IsOfTexts : (gives : List ℕ → List ℕ → Type 0) → List (List ℕ) → Failure → Type 0
 IsOfTexts gives paths (Statement fault path) = IsFaultAt gives paths (string_bytes path) fault
 IsOfTexts gives paths Many = AreTooMany gives paths
+IsOfTexts gives paths ManyMerged = AreFoundTooMany gives paths
 IsOfTexts gives paths Room = ⊤
 IsOfTexts gives paths (File path) = IsFirstRefused gives paths (string_bytes path)
 IsOfTexts gives paths (Changed path) = HasChanged gives paths (string_bytes path)
 IsOfTexts gives paths _ = ⊥
 
--- one text alone fails for its first fault, for lack of memory, or since it cannot be read
+-- one text alone fails for its first fault, for lack of memory, or since it has too many rows or cannot be read
 abbrev pub IsOfText : (gives : List ℕ → List ℕ → Type 0) → List ℕ → Failure → Type 0
 IsOfText gives path (Statement fault name) = (string_bytes name ≡ path) × HoldsOf (gives path) (λ text. IsFaultIn text fault)
 IsOfText gives path Room = ⊤
+IsOfText gives path Many = HoldsOf (gives path) HasTooManyRows
 IsOfText gives path (File name) = string_bytes name ≡ path
 IsOfText gives path _ = ⊥
 
@@ -295,16 +306,18 @@ IsUnopened path Room = ⊤
 IsUnopened path (File name) = string_bytes name ≡ path
 IsUnopened path _ = ⊥
 
--- no fault was found, and memory was not refused
+-- no fault was found, there were not too many rows, and memory was not refused: so a read was
 abbrev pub IsUnreadable : Refusal → Type 0
 IsUnreadable (refusal.Fault fault) = ⊥
 IsUnreadable refusal.Memory = ⊥
+IsUnreadable refusal.Many = ⊥
 IsUnreadable _ = ⊤
 
 -- and that for what it is refused for
 abbrev pub IsOfRefusal : List ℕ → Refusal → Failure → Type 0
 IsOfRefusal path was (Statement fault name) = (string_bytes name ≡ path) × (was ≡ refusal.Fault fault)
 IsOfRefusal path was Room = ⊤
+IsOfRefusal path was Many = was ≡ refusal.Many
 IsOfRefusal path was (File name) = (string_bytes name ≡ path) × IsUnreadable was
 IsOfRefusal path was _ = ⊥
 
@@ -312,16 +325,18 @@ IsOfRefusal path was _ = ⊥
 abbrev pub IsAt : List (List ℕ) → (place : ℕ) → (path : List ℕ) → Type 0
 IsAt paths place path = (place < length paths) × (slice_index_or paths place path ≡ path)
 
--- the failure is of the path in a place, for what its text is refused for, or lack of memory
+-- the failure is of the path in a place, for what its text is refused for, or of all, or lack of memory
 abbrev pub IsOfPlace : List (List ℕ) → (place : ℕ) → Refusal → Failure → Type 0
 IsOfPlace paths place was Room = ⊤
+IsOfPlace paths place was ManyMerged = was ≡ refusal.Many
 IsOfPlace paths place was (File name) = IsAt paths place (string_bytes name) × IsUnreadable was
 IsOfPlace paths place was (Changed name) = IsAt paths place (string_bytes name) × ((fault : StatementFault) × (was ≡ refusal.Fault fault))
 IsOfPlace paths place was _ = ⊥
 
--- it is of one of these paths, which has a fault where it is said to have changed
+-- it is of one of these paths, which has a fault where it is said to have changed, or of all
 abbrev pub IsOfOne : (gives : List ℕ → List ℕ → Type 0) → List (List ℕ) → Failure → Type 0
 IsOfOne gives paths Room = ⊤
+IsOfOne gives paths ManyMerged = AreTooMany gives paths
 IsOfOne gives paths (File name) = Contains paths (string_bytes name)
 IsOfOne gives paths (Changed name) = Contains paths (string_bytes name) × GivesFault (gives (string_bytes name))
 IsOfOne gives paths _ = ⊥

@@ -43,8 +43,10 @@ pub enum Failure {
     Target(String),
     /// The text of statements in the file of a path is refused.
     Statement { fault: StatementFault, path: String },
-    /// Texts of statements are of more than 1,000,000,000,000,000,000 usage lines together.
+    /// Texts of statements are of more than 1,000,000,000,000,000,000 portions or usage lines.
     Many,
+    /// They are, which was seen only when their merge had begun.
+    ManyMerged,
     /// The file of this path changed between two readings.
     Changed(String),
     /// The statements of a run were to go to this path, which an input has too.
@@ -93,8 +95,8 @@ impl fmt::Display for Failure {
             Failure::Statement { fault, path } => {
                 write_statement_fault(f, fault.number(), fault.row(), path.as_str())
             }
-            Failure::Many => f.write_str(
-                "royalty_run: the statements are of more than 1000000000000000000 usage lines\n",
+            Failure::Many | Failure::ManyMerged => f.write_str(
+                "royalty_run: the statements are of more than 1000000000000000000 portions or usage lines\n",
             ),
             Failure::Changed(path) => {
                 write!(f, "royalty_run: {path} changed while it was read\n")
@@ -230,7 +232,11 @@ impl Failure {
             | Failure::Replaces(_)
             | Failure::Taken(_) => 2,
             Failure::Room => 3,
-            Failure::File(_) | Failure::Output | Failure::Target(_) | Failure::Changed(_) => 4,
+            Failure::File(_)
+            | Failure::Output
+            | Failure::Target(_)
+            | Failure::ManyMerged
+            | Failure::Changed(_) => 4,
         }
     }
 

@@ -21,7 +21,9 @@ const MOST_FILES: usize = 1024;
 const MERGE_HELP: &str = "\
 Each file has what `run` or `merge` wrote. The statements of consecutive parts of one usage list, each
 run over the same tables and registrations, merge to those of the whole list. Name the files one
-after another, in the order of the parts, and each once.
+after another, in the order of the parts, and each once. The statements of separate distributions
+merge to their sums. Never merge runs of one usage list over files that share works, since each of
+them pays the same use: name all files in one run, with `--works`.
 
 The answer is one text in the same form: each payee with its portions of the first file, then those
 of the second, and so on, and a sum of them all; then so for the residue, and all usage lines.
@@ -31,7 +33,8 @@ be a file and no pipe. Where a text is refused, nothing is printed but the fault
   royalty_run: statement fault 1 at row 3 of february.csv
 With `--output F` the statements go to a new file beside F, which takes the name F once it is whole;
 whatever fails before that, F stays as it was. Only where its folder cannot be brought to the disk
-behind the new name does status 4 leave F whole and new.
+behind the new name does status 4 leave F whole and new. F may be one of the files. Then it has what
+all of them merge to, and the same call once more adds the others to it again.
 
 Example:
   royalty_run merge --output year.csv january.csv february.csv march.csv";

@@ -203,7 +203,7 @@ fn unopened(alloc: Global, kind: ErrorKind, path: &str) -> Failure
     }
 }
 
-/// Why the text of a path is refused. A text of more rows than are counted cannot be read.
+/// Why the text of a path is refused.
 fn refused(alloc: Global, refusal: Refusal, path: &str) -> Failure
     ensures failure { IsRefusal result }
     ensures refused { IsOfRefusal path.now refusal result }
@@ -214,13 +214,13 @@ fn refused(alloc: Global, refusal: Refusal, path: &str) -> Failure
     match refusal {
         Refusal::Fault(fault) => Failure::Statement { fault, path },
         Refusal::Memory => Failure::Room,
-        Refusal::Many => Failure::File(path),
+        Refusal::Many => Failure::Many,
         Refusal::Read(error) | Refusal::Write(error) => unread(error.kind(), path),
     }
 }
 
 /// Why texts that were read through cannot be merged, where the one in a place is refused: it
-/// changed, or cannot be read any more, as one of more rows than are counted cannot.
+/// changed, or cannot be read any more, or all are of too many portions or usage lines.
 fn changed(alloc: Global, paths: &[String], place: u64, refusal: Refusal) -> Failure
     ensures failure { IsRefusal result }
     ensures one { IsOfPlace (map string_bytes paths.now) place refusal result }
@@ -235,7 +235,7 @@ fn changed(alloc: Global, paths: &[String], place: u64, refusal: Refusal) -> Fai
     match refusal {
         Refusal::Memory => Failure::Room,
         Refusal::Fault(_) => Failure::Changed(path),
-        Refusal::Many => Failure::File(path),
+        Refusal::Many => Failure::ManyMerged,
         Refusal::Read(error) | Refusal::Write(error) => unread(error.kind(), path),
     }
 }

@@ -1,4 +1,4 @@
-use Rattle.std.proofs.Common.{◌≡◌, ◌∙◌, ◌++◌, ◌∷◌, [], ℕ, List, Option, ap, subst, sym}
+use Rattle.std.proofs.Common.{arith, ◌≡◌, ◌∙◌, ◌++◌, ◌∷◌, [], ℕ, List, Option, ap, subst, sym}
 use Rattle.std.specs.Prelude.{IfSome}
 use Rattle.std.proofs.lemmas.Result.{IfErr-weaker, IfOk-weaker}
 use Rattle.merge_statements.specs.Places.{At, at_first}
@@ -8,7 +8,7 @@ use Rattle.merge_statements.specs.declared.refusal.Refusal.TheVariants as refusa
 use Rattle.merge_statements.specs.declared.refusal.StatementFault.TheVariants.{End}
 use Rattle.merge_statements.specs.declared.walk.Place.TheVariants.{Ended}
 use Rattle.merge_statements.specs.SoFar.{IsReadTo}
-use Rattle.merge_statements.proofs.ReadThrough.{all_read, end_refused, more_read, none_read, rest_refused}
+use Rattle.merge_statements.proofs.ReadThrough.{all_read, end_refused, more_read, none_read, rest_refused, too_many_read}
 use Rattle.merge_statements.proofs.checking.check.Goals as goal
 
 pub loop-number-init : goal.loop-number-init
@@ -46,3 +46,8 @@ loop-number-preserved g c =
     let l = c.loop-number in
     more_read (g.R.Read.remaining c.args.from) l.progress c.pass_next.new.progress l.rows.left c.pass_next.new.rows.left l.number (c.pass_next.new.rows.line ++ 10 ∷ []) l.invariant
     (c.in-Ok-true.ensures.row c.in-Ok-true.field-0-test) (c.in-Ok-true.ensures.passed c.in-Ok-true.field-0-test)
+
+pub returns-clause-refused : goal.returns-clause-refused
+returns-clause-refused g c =
+    let l = c.loop-number in
+    too_many_read (g.R.Read.remaining c.args.from) l.rows.left l.progress l.number l.invariant (omega (arith, c.loop-number-test.false))

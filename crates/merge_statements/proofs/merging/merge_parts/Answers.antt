@@ -1,7 +1,9 @@
 use Rattle.std.proofs.lemmas.Result.{err_from_is_err_and}
-use Rattle.merge_statements.specs.SoFar.{output}
-use Rattle.merge_statements.proofs.Refusing.{passed_read}
-use Rattle.merge_statements.proofs.Refusing.{all_can_end}
+use Rattle.std.proofs.Common.{arith, inl}
+use Rattle.merge_statements.specs.SoFar.{EndsOne, output}
+use Rattle.merge_statements.proofs.Counting.{count_of_rests, endings_counted}
+use Rattle.merge_statements.proofs.Refusing.{all_can_end, many_refused, passed_read}
+use Rattle.merge_statements.proofs.TooMany.{sum_of_ends_small, sum_so_far_small, too_many_passed}
 use Rattle.merge_statements.proofs.Whole.{all_merged}
 use Rattle.merge_statements.proofs.merging.merge_parts.Goals as goal
 
@@ -24,3 +26,27 @@ returns-in_err-left-clause-refused g c =
     rw (p.1, p.2) (λ starts are.
     let was = c.in_ok-paid.ensures.merged starts are in
     c.in_err-left.ensures.refused starts (passed_read starts c.merge_payees.new.parts was.dones was.passed))
+
+pub both-requires-clause-own : goal.both-requires-clause-own
+both-requires-clause-own g c =
+    sum_so_far_small c.requires.0 c.merge_payees.new.parts (output g.W.Write.contents c.args.out.now c.args.page.now) (output g.W.Write.contents c.merge_payees.new.out c.merge_payees.new.page)
+    c.in_ok-paid.paid.0 c.in_ok-paid.paid.1
+    (c.in_ok-paid.ensures.merged c.requires.0 c.requires.1)
+
+pub both-requires-clause-more : goal.both-requires-clause-more
+both-requires-clause-more g c =
+    sum_of_ends_small c.merge_payees.new.parts c.end_all.new.parts (output g.W.Write.contents c.merge_payees.new.out c.merge_payees.new.page)
+    (output g.W.Write.contents c.end_all.new.out c.end_all.new.page)
+    c.in_ok-left.left.0 c.in_ok-left.left.1 c.in_ok-left.lines c.in_ok-left.ensures.written
+
+pub returns-in_err-all-clause-refused : goal.returns-in_err-all-clause-refused
+returns-in_err-all-clause-refused g c =
+    let p = err_from_is_err_and c.from_residual-in_err-all.result c.from_residual-in_err-all.ensures.1 in
+    let refused = c.in_err-all.ensures.refused in
+    let ends = c.in_ok-left.ensures.written in
+    rw (p.1, p.2) (λ starts are.
+    let was = c.in_ok-paid.ensures.merged starts are in
+    many_refused starts c.in_err-all.field-0.0.place c.in_err-all.field-0.0.refusal refused.0
+    (inl (too_many_passed EndsOne count_of_rests endings_counted starts c.merge_payees.new.parts c.end_all.new.parts ends.endings
+    (passed_read starts c.merge_payees.new.parts was.dones was.passed) ends.taken
+    (omega (arith, refused.1, was.read, ends.counted)))))

@@ -11,13 +11,6 @@ returns-in-Fault-clause-one c = (
   (c.in-Fault.field-0, c.in-Fault.is),
 )
 
-pub returns-in-Many-clause-one : goal.returns-in-Many-clause-one
-returns-in-Many-clause-one c = (
-  subst (IsAt (map string_bytes c.args.paths.now) c.args.place) (sym c.in-Ok.ensures.cases)
-      (there_mapped string_bytes c.args.paths.now c.args.place c.in-Some.path.now c.in-Some.ensures.lookup.3.0 c.in-Some.ensures.lookup.1),
-  subst IsUnreadable (sym c.in-Many.is) tt,
-)
-
 pub returns-in-Read-clause-one : goal.returns-in-Read-clause-one
 returns-in-Read-clause-one c =
     let paths = map string_bytes c.args.paths.now in

@@ -1,6 +1,8 @@
-use Rattle.std.proofs.Common.{◌≡◌, ◌+◌, None, rules}
+use Rattle.std.proofs.Common.{◌≡◌, ◌<◌, ◌+◌, ◌^◌, None, rules, subst}
 use Rattle.std.proofs.lemmas.Result.{err_from_is_err_and}
-use Rattle.merge_statements.proofs.Refusing.{step_reads, step_refused}
+use Rattle.merge_statements.proofs.Refusing.{here_refused, step_reads, step_refused, with_row_refused}
+use Rattle.merge_statements.specs.SoFar.{Unread}
+use Rattle.merge_statements.specs.declared.refusal.Refusal.TheVariants.{Many}
 use Rattle.merge_statements.proofs.part.Part.step.Goals as goal
 
 pub returns-in_err-self-inside-clause-refused : goal.returns-in_err-self-inside-clause-refused
@@ -18,3 +20,16 @@ returns-clause-reads g c =
     let counted : c.in-Some.number ≡ inside.number + 1 = search rules in
     step_reads c.args.self.now inside.progress c.follow.new.progress inside.number c.in-Some.number inside.rows.line c.advance.new.rows.line inside.rows.left c.advance.new.rows.left _ None inside.has_row c.in_ok-self-inside.field-0
     c.self.view_is c.if-not-self.false c.in_ok-follow.ensures.follows counted c.in_ok-self-inside.ensures.found c.in_ok-self-inside.ensures.still
+
+pub returns-in_default-clause-refused : goal.returns-in_default-clause-refused
+returns-in_default-clause-refused g c =
+    let inside = c.self.inside in
+    let last : 10 ^ 18 + 1 < inside.number = search rules in
+    here_refused c.args.self.now Many (subst (λ (part : Unread). 10 ^ 18 + 1 < part.number) c.self.view_is last)
+
+pub returns-in_err-follow-clause-refused : goal.returns-in_err-follow-clause-refused
+returns-in_err-follow-clause-refused g c =
+    let inside = c.self.inside in
+    let p = err_from_is_err_and c.from_residual.result c.from_residual.ensures.1 in
+    rw (p.1, p.2) (with_row_refused c.args.self.now inside.progress inside.number inside.rows.line inside.rows.left _ inside.has_row _ c.self.view_is c.if-not-self.false
+    c.in_err-follow.ensures.refused)
