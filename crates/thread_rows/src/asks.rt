@@ -34,7 +34,7 @@ pub fn answer<R: Files + AllocGlobal + Threads + Wait + Sync>(
         "cut-told" => cut_told(rt, alloc, kind, &inputs, question),
         "takes" => takes(rt, alloc, kind, &inputs, question),
         "told" => told(rt, alloc, kind, &inputs, question),
-        "early" => early(rt, alloc, &inputs, question),
+        "early" if kind == "pool" => early(rt, alloc, &inputs, question),
         "workers-meet" => workers_meet(rt, alloc, kind, &inputs, question),
         "readers-meet" => readers_meet(rt, alloc, kind, &inputs, question),
         _ => bail!("nothing is asked so"),

@@ -3,6 +3,7 @@
 ghost use Rattle.std.specs.Prelude.{◌<◌, ◌≡◌, All, length};
 ghost use Rattle.payee_book.specs.Statement.{AreApart};
 
+use crate::shared::repeated;
 use line_split::{Account, MOST_AMOUNT, Reason, Usage};
 use payee_book::{Book, Journal};
 use small_run::{NO_USES, STATEMENTS_TAKEN_BACK, USES, USES_TAKEN_BACK};
@@ -182,23 +183,6 @@ fn takes_the_most_accounts(rt: HostRuntime) -> Result<(), Fail> {
     assert_eq!(rt; book.accounts(), 65_535);
     assert_statement(&rt, &book, 65_534, &[(3, 0)], 0);
     Ok(())
-}
-
-/// Texts before and after a row that stands so many times.
-fn repeated(
-    alloc: Global,
-    before: &str,
-    row: &str,
-    times: u64,
-    after: &str,
-) -> Result<String, Fail> {
-    let mut text = String::new(alloc);
-    text.push_str(before)?;
-    for _ in 0..times {
-        text.push_str(row)?;
-    }
-    text.push_str(after)?;
-    Ok(text)
 }
 
 /// Postings of 2 of the first so many lines to the residue.

@@ -33,6 +33,23 @@ impl Inputs {
     }
 }
 
+/// Texts before and after a row that stands so many times.
+pub fn repeated(
+    alloc: Global,
+    before: &str,
+    row: &str,
+    times: u64,
+    after: &str,
+) -> Result<String, Fail> {
+    let mut text = String::new(alloc);
+    text.push_str(before)?;
+    for _ in 0..times {
+        text.push_str(row)?;
+    }
+    text.push_str(after)?;
+    Ok(text)
+}
+
 /// The plan of so many workers, readers and nodes.
 pub fn plan_of(threads: (u64, u64, u64)) -> Result<Plan, Fail> {
     match Plan::new(threads.0, threads.1, threads.2) {

@@ -45,12 +45,20 @@ fn open_three(alloc: Global, nodes: u64) -> Result<([LaneSender; 3], [LaneReceiv
     Ok(([first, second, third], [to_first, to_second, to_third]))
 }
 
+/// The only drawer of so many blocks.
+pub fn drawer_alone(alloc: Global, blocks: u64) -> Result<Drawer, AllocError>
+    requires { blocks ≤ 15625 }
+    ensures { IfOk result (λ drawer. ((drawer_of drawer).blocks ≡ blocks) × ((drawer_of drawer).drawn ≡ [])) }
+{
+    let (_draw, mut drawers) = Draw::open(alloc, blocks, 1)?;
+    Ok(drawers.swap_remove(0))
+}
+
 /// The only drawer of the blocks of three lines.
 pub fn only_drawer(alloc: Global) -> Result<Drawer, AllocError>
     ensures { IfOk result (λ drawer. IsFresh 3 (drawer_of drawer)) }
 {
-    let (_draw, mut drawers) = Draw::open(alloc, 1, 1)?;
-    Ok(drawers.swap_remove(0))
+    drawer_alone(alloc, 1)
 }
 
 /// Asserts what the mailbox of an account gives: its only sender's items, and then nothing.
