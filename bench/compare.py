@@ -5,29 +5,31 @@ answer.
         [--submitters]
 
 Half of the inputs are small. The others are realistic, with up to 2,000 parties and 6,000 usage
-lines, so that some of them are read in parts. Half have a table of payees.
+lines, so that some of them are read in parts. Half have a table of payees. Some files have another
+form, which a report remarks on (`tools/forms.py`).
 
 Of each case it compares the status, the statements and the message of a run. It compares the
 explanations of a few usage lines, at times one past the last; each portion of an explanation has to
 be a row of the statements. And it compares the reports of `check`: half of them over files that
-were spoilt further, a quarter over usage lists with many lines of unknown works and territories.
-What a run is refused for has to be the first fault of the report, and where a run gives statements
-the report has no fault.
+were spoilt further, a seventh over usage lists with many lines of unknown works and territories,
+and as many over works that are claimed in part, in full or over 100.06 per cent. What a run is
+refused for has to be the first fault of the report, and where a run gives statements the report has
+no fault.
 
 With --submitters each case has the files of one to five submitters, and a third of the cases have a
 table, a file or the names of submitters damaged. Compared are a run, explanations and reports as
 above, the tables that `works` and `parties` print, and a run over these tables, which may not be
-refused for them. Half of the reports are over files that were spoilt further, and a quarter over
-usage lists with many lines of unknown works and territories, for half of which the registrations
-are linked to other works. In some cases all values stand behind a `=`. Where both programs refuse
-the words (status 2), their messages may differ.
+refused for them. Reports are over files that were changed in the same ways; for half of the usage
+lists with many lines of unknown works and territories the registrations are linked to other works.
+In some cases all values stand behind a `=`. Where both programs refuse the words (status 2), their
+messages may differ.
 """
 import os
 import random
 import sys
 import tempfile
 
-from tools import made_up_submitters, plain
+from tools import claimed, made_up_submitters, plain
 from tools.comparing import alike, contradicts, csv_rows, first_difference, missing, refuses_tables
 from tools.made_up import case
 from tools.running import NAMES, parser_of_program, run, run_options, words_of, written
@@ -42,6 +44,26 @@ def data_rows(path):
             return max(1, file.read().count(b"\n") - 1)
     except FileNotFoundError:
         return 1
+
+
+def changed(rng, files):
+    """The files of a case, by name, as a report is on them; none where they stay as they are."""
+    kind = rng.random()
+    if kind < 0.5:
+        return all_spoilt(rng, files)
+    if kind < 0.65:
+        return strange(rng, files, titles_in(files["cwr"]))
+    return claimed.one_file(rng, files) if kind < 0.8 else None
+
+
+def changed_submitted(rng, submitted):
+    """A case of several submitters as a report is on it; none where it stays as it is."""
+    kind = rng.random()
+    if kind < 0.5:
+        return made_up_submitters.all_spoilt(rng, submitted)
+    if kind < 0.65:
+        return made_up_submitters.strange_uses(rng, submitted)
+    return claimed.several(rng) if kind < 0.8 else None
 
 
 class Comparison:
@@ -110,12 +132,8 @@ class Comparison:
         for row in rows:
             self.compare_explanation(number, used, row, statements)
         for place in range(checked):
-            paths, kind = used, rng.random()
-            if kind < 0.5:
-                paths = written(os.path.join(folder, "spoilt"), all_spoilt(rng, files))
-            elif kind < 0.75:
-                made = strange(rng, files, titles_in(files["cwr"]))
-                paths = written(os.path.join(folder, "strange"), made)
+            made = changed(rng, files)
+            paths = written(os.path.join(folder, "changed"), made) if made else used
             self.compare_report(number, place, paths, plan)
 
     def compare_submitted(self, number, folder, command, options, are_joined):
@@ -182,11 +200,8 @@ class Comparison:
                 row = rng.choice([0, 1_000_000, 1_000_001, "+1", "x", ""])
             self.compare_explanation_over(number, folder, options, row, are_joined, ours)
         for _ in range(checked):
-            asked, kind = options, rng.random()
-            if kind < 0.75:
-                change = (made_up_submitters.all_spoilt if kind < 0.5
-                          else made_up_submitters.strange_uses)
-                made = change(rng, submitted)
+            asked, made = options, changed_submitted(rng, submitted)
+            if made:
                 asked = written_options(os.path.join(folder, "changed"), made, plan)
             self.compare_report_over(number, folder, asked, are_joined)
 

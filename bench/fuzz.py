@@ -5,9 +5,9 @@
     python3 -m bench.fuzz --program PATH --only N [--seed 1] [--submitters] [--keep FOLDER]
 
 A case starts from the example files, from small made-up inputs, or from small ones of a realistic
-shape; half of the cases have a table of payees. One to three files of each are damaged, one to six
-times each: cut off, or with bytes, fields or lines left out, doubled, swapped, changed, or put in
-from elsewhere or from another file.
+shape; half of the cases have a table of payees. Some files have another form (`tools/forms.py`).
+One to three files of each are damaged, one to six times each: cut off, or with bytes, fields or
+lines left out, doubled, swapped, changed, or put in from elsewhere or from another file.
 
 With --submitters each case has the files of one to five submitters, which are damaged in the same
 way. Beside a run, the tables that `works` and `parties` print are compared, the explanations of
@@ -28,7 +28,7 @@ from tools import made_up_submitters, plain, small_inputs
 from tools.comparing import alike, first_difference
 from tools.damage import in_bytes, in_fields, in_lines
 from tools.large_inputs import generate
-from tools.made_up import example, files_in, parties_of
+from tools.made_up import example, files_in, in_other_forms, parties_of
 from tools.running import NAMES, parser_of_program, run, run_options, words_of, written
 from tools.submitters import without_plan, written_options
 
@@ -70,6 +70,7 @@ def case(seed, number, folder):
         is_small = rng.random() < 0.3
         files.append(small_inputs.payees(rng).encode() if is_small else payees_of(rng, files[1]))
         places += [3, 3]
+    files = in_other_forms(rng, files)
     for place in {rng.choice(places) for _ in range(rng.choice([1, 1, 1, 2, 3]))}:
         for _ in range(rng.choice([1, 1, 1, 2, 3, 6])):
             damage = rng.choice([in_bytes, in_lines, in_fields])
