@@ -1,5 +1,5 @@
 //! What a worker of a pool sends that works alone.
-ghost use Rattle.std.specs.Prelude.{◌≡◌, ℕ, [], IfOk, false};
+ghost use Rattle.std.specs.Prelude.{◌≡◌, ◌≤◌, ◌*◌, ℕ, [], IfOk, false};
 ghost use Rattle.pool_box.specs.PoolViews.{sender_of};
 ghost use Rattle.block_draw.specs.Views.{drawer_of};
 ghost use Rattle.split_run.specs.Opening.{IsFresh};

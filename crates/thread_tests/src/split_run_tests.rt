@@ -1,5 +1,5 @@
 //! What a worker alone sends.
-ghost use Rattle.std.specs.Prelude.{◌≡◌, ◌<◌, ◌≤◌, IfOk, false, map};
+ghost use Rattle.std.specs.Prelude.{◌≡◌, ◌<◌, ◌≤◌, [], IfOk, false, map};
 ghost use Rattle.mail_box.specs.LaneViews.{sender_of};
 ghost use Rattle.mail_box.specs.Mails.{opened_sender};
 ghost use Rattle.block_draw.specs.Views.{drawer_of};
