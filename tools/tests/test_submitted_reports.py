@@ -293,8 +293,7 @@ class Reports(Answers):
             "works: remark: row 1: a quote opens in it that does not end",
             "submitted/0.cwr: registrations in force: 1",
             "submitted/0.cwr: registrations replaced by later ones: 0",
-            "submitted/0.cwr: remark: record types that CWR 2.2 does not have: 1, 'NEW' in 1 "
-            "records",
+            "submitted/0.cwr: remark: record types that CWR 2.2 does not have: 1, 'NEW' (1)",
             f"submitted/0.cwr: {no_number} transactions, and its group has 1",
             f"submitted/0.cwr: {no_number} records, and its group has 4",
             "submitted/1.cwr: remark: NWR, REV, SPT or SWT with a byte beyond ASCII before the "
