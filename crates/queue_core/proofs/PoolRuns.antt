@@ -20,13 +20,13 @@ use Rattle.queue_core.specs.Chain.{IsChain}
 use Rattle.queue_core.specs.StoredWords.{empty_node, link_to}
 use Rattle.queue_core.specs.Links.{IsAtHand, IsOwedByReader, IsOwedBySender, IsSending, IsTailAt, is_in_flight}
 use Rattle.queue_core.specs.Box.{HasStored, ShowsBox}
-use Rattle.queue_core.specs.Pool.{MayIn, Pool, PoolLeads, after_in, opening_pool}
+use Rattle.queue_core.specs.Pool.{Pool, PoolLeads, after_in, opening_pool}
 use Rattle.queue_core.specs.Pool.PoolLeads.{none as leads_none, more}
-use Rattle.queue_core.specs.Pooled.{IsPooled, Pooled, first_node, has_ended_in, head_in, is_held_in, is_mailbox, new_caller, new_reader, node_at, opening_pooled, point_in, reader_in, stub_in}
+use Rattle.queue_core.specs.Pooled.{Pooled, first_node, has_ended_in, head_in, is_held_in, is_mailbox, new_caller, new_reader, node_at, opening_pooled, point_in, reader_in, stub_in}
 use Rattle.queue_core.specs.PoolSteps.{Follows, stepped, stepped_in}
 use Rattle.queue_core.specs.PoolSteps.Follows.{none as no_step, more as one_more}
 use Rattle.queue_core.specs.PoolShows.{ShowsPool, box_in, links_in, node_in}
-use Rattle.queue_core.specs.PoolLaws.{AllPoolRunsShow, PoolOpeningShows, PoolStepShows, ShowsAfterIn, event_in, pool_events_along}
+use Rattle.queue_core.specs.PoolLaws.{AllPoolRunsShow, IsRunOf, PoolOpeningShows, PoolStepShows, ShowsAfterIn, event_in, pool_events_along}
 use Rattle.queue_core.proofs.PoolEnds.{pool_end_line}
 use Rattle.queue_core.proofs.PoolFill.{pool_load_turn}
 use Rattle.queue_core.proofs.PoolGive.{pool_give_back}
@@ -198,28 +198,36 @@ leads_along : (steps : List PoolStep) (a c : Pooled) → Follows steps a c → r
 leads_along _ a _ (no_step _) = refl
 leads_along _ a _ (one_more steps _ c n s before due) = run_more steps s a c n (leads_along steps a c before) due
 
--- some pool that these events lead to is shown
-abbrev IsShown : (ring : ℕ) → List (ℕ × Event) → Pooled → Type 0
-IsShown ring events n = (q : Pool) × PoolLeads ring events q × ShowsPool n q × IsPooled n
+-- some pool that these events lead to is shown, in a run of so many senders, mailboxes and ring nodes
+abbrev IsShown : (senders mailboxes ring : ℕ) → List (ℕ × Event) → Pooled → Type 0
+IsShown senders mailboxes ring events n = (q : Pool) × IsRunOf senders mailboxes ring events q n
 
 -- The steps go on from a core that shows what events lead to.
-goes_on : (ring : ℕ) (steps : List PoolStep) (events : List (ℕ × Event)) (q : Pool) (c n : Pooled) → c.ring ≡ ring → IsPooled c → PoolLeads ring events q → ShowsPool c q → run steps c ≡ Some n
-    → IsShown ring (events ++ pool_events_along steps c q) n
-goes_on ring [] events q c n same ok leads shows end =
-    let is : c ≡ n = cc in
-    (q, subst (λ xs. PoolLeads ring xs q) (sym (append-nil events)) leads, subst (λ k. ShowsPool k q) is shows, subst IsPooled is ok)
-goes_on ring (s ∷ steps) events q c n same ok leads shows end =
+goes_on : (senders mailboxes ring : ℕ) (steps : List PoolStep) (events : List (ℕ × Event)) (q : Pool) (c n : Pooled) → IsRunOf senders mailboxes ring events q c → run steps c ≡ Some n
+    → IsShown senders mailboxes ring (events ++ pool_events_along steps c q) n
+goes_on senders mailboxes ring [] events q c n is end =
+    let same : c ≡ n = cc in
+    (q, subst (λ xs. IsRunOf senders mailboxes ring xs q n) (sym (append-nil events)) (subst (IsRunOf senders mailboxes ring events q) same is))
+goes_on senders mailboxes ring (s ∷ steps) events q c n is end =
     by (stepped c s)
-    (λ k due. let at = due_in c k s due in step_shows_in s.mailbox s.step events q c k at.0 ok (subst (λ r. PoolLeads r events q) (sym same) leads) shows at.1)
+    (λ k due. let at = due_in c k s due in step_shows_in s.mailbox s.step events q c k at.0 is.pooled is.leads is.shows at.1)
     (λ k due events' q' leads' shows' e.
     let at = due_in c k s due in
-    goes_on ring steps events' q' k n ((shape_kept c s.mailbox k s.step at.1).0 ∙ same) (keeps_step_in c k s.mailbox s.step ok at.0 at.1) leads' shows' e)
+    let kept = shape_kept c s.mailbox k s.step at.1 in
+    goes_on senders mailboxes ring steps events' q' k n record {
+      senders_are = kept.2 ∙ is.senders_are;
+      mailboxes_are = kept.1 ∙ is.mailboxes_are;
+      ring_is = kept.0 ∙ is.ring_is;
+      pooled = keeps_step_in c k s.mailbox s.step is.pooled at.0 at.1;
+      leads = subst (λ (r : ℕ). PoolLeads r events' q') (sym kept.0) leads';
+      shows = shows';
+    } e)
     end
   where
     by : (o : Option Pooled) → ((k : Pooled) → o ≡ Some k → ShowsAfterIn (event_in c q s.mailbox s.step) c.ring s.mailbox q k)
-        → ((k : Pooled) → o ≡ Some k → (events' : List (ℕ × Event)) (q' : Pool) → PoolLeads ring events' q' → ShowsPool k q' → run steps k ≡ Some n → IsShown ring (events' ++ pool_events_along steps k q') n)
+        → ((k : Pooled) → o ≡ Some k → (events' : List (ℕ × Event)) (q' : Pool) → PoolLeads c.ring events' q' → ShowsPool k q' → run steps k ≡ Some n → IsShown senders mailboxes ring (events' ++ pool_events_along steps k q') n)
         → then_run steps o ≡ Some n
-        → IsShown ring (events ++ elim o [
+        → IsShown senders mailboxes ring (events ++ elim o [
           | None ↦ []
           | Some k ↦ elim (event_in c q s.mailbox s.step) [
             | None ↦ pool_events_along steps k q
@@ -230,20 +238,28 @@ goes_on ring (s ∷ steps) events q c n same ok leads shows end =
     by (Some k) law rest e = on (event_in c q s.mailbox s.step) (law k refl) (λ events' q' leads' shows'. rest k refl events' q' leads' shows' e)
       where
         on : (event : Option Event) → ShowsAfterIn event c.ring s.mailbox q k
-            → ((events' : List (ℕ × Event)) (q' : Pool) → PoolLeads ring events' q' → ShowsPool k q' → IsShown ring (events' ++ pool_events_along steps k q') n)
-            → IsShown ring (events ++ elim event [
+            → ((events' : List (ℕ × Event)) (q' : Pool) → PoolLeads c.ring events' q' → ShowsPool k q' → IsShown senders mailboxes ring (events' ++ pool_events_along steps k q') n)
+            → IsShown senders mailboxes ring (events ++ elim event [
               | None ↦ pool_events_along steps k q
               | Some event ↦ (s.mailbox, event) ∷ pool_events_along steps k (after_in s.mailbox event q)
             ]) n
-        on None law rest = rest events q leads law
+        on None law rest = rest events q is.leads law
         on (Some event) law rest =
-            let may = subst (λ r. MayIn r q s.mailbox event) same law.0 in
-            subst (λ xs. IsShown ring xs n) (append_assoc events ((s.mailbox, event) ∷ []) (pool_events_along steps k (after_in s.mailbox event q)))
-            (rest (events ++ (s.mailbox, event) ∷ []) (after_in s.mailbox event q) (more events q s.mailbox event leads may) law.1)
+            subst (λ xs. IsShown senders mailboxes ring xs n) (append_assoc events ((s.mailbox, event) ∷ []) (pool_events_along steps k (after_in s.mailbox event q)))
+            (rest (events ++ (s.mailbox, event) ∷ []) (after_in s.mailbox event q) (more events q s.mailbox event is.leads law.0) law.1)
 
 pub all_pool_runs : AllPoolRunsShow
 all_pool_runs senders mailboxes ring most some_senders few_senders some_mailboxes few_mailboxes some_nodes few_nodes few_posts steps c follows =
     let start = opening_pooled senders mailboxes ring most in
-    let shown = goes_on ring steps [] opening_pool start c refl (opening_keeps senders mailboxes ring most some_senders few_senders some_mailboxes few_mailboxes some_nodes few_nodes few_posts) leads_none
-    (opening_shown senders mailboxes ring most some_senders few_senders some_mailboxes few_mailboxes some_nodes few_nodes few_posts) (leads_along steps start c follows) in
-    (shown.0, shown.1, shown.2, shown.3, λ b. (each_mailbox_leads ring some_nodes (pool_events_along steps start opening_pool) shown.0 shown.1 b).1)
+    let events = pool_events_along steps start opening_pool in
+    let shown = goes_on senders mailboxes ring steps [] opening_pool start c record {
+      senders_are = many_senders senders mailboxes ring most some_senders few_senders some_mailboxes few_mailboxes some_nodes few_nodes few_posts;
+      mailboxes_are = many_heads senders mailboxes ring most some_senders few_senders some_mailboxes few_mailboxes some_nodes few_nodes few_posts;
+      ring_is = refl;
+      pooled = opening_keeps senders mailboxes ring most some_senders few_senders some_mailboxes few_mailboxes some_nodes few_nodes few_posts;
+      leads = leads_none;
+      shows = opening_shown senders mailboxes ring most some_senders few_senders some_mailboxes few_mailboxes some_nodes few_nodes few_posts;
+    } (leads_along steps start c follows) in
+    let q = shown.0 in
+    let is = shown.1 in
+    (q, is, λ b. (each_mailbox_leads ring some_nodes events q (subst (λ (r : ℕ). PoolLeads r events q) is.ring_is is.leads) b).1)

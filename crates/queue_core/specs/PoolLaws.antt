@@ -100,16 +100,31 @@ abbrev pub PoolOpeningShows : Type 0
 PoolOpeningShows = (senders mailboxes ring most : ℕ) → 0 < senders → senders ≤ MOST_SENDERS → 0 < mailboxes → mailboxes ≤ MOST_MAILBOXES → 0 < ring → ring ≤ MOST_NODES → most ≤ MOST_POOL_POSTS
     → ShowsPool (opening_pooled senders mailboxes ring most) opening_pool
 
--- Whatever steps are made in whichever mailboxes from the opening on: their events lead to a pool, the core shows it and is one of those that the laws speak of, and each mailbox is received in order.
-abbrev pub AllPoolRunsShow : Type 0
-AllPoolRunsShow = (senders mailboxes ring most : ℕ) → 0 < senders → senders ≤ MOST_SENDERS → 0 < mailboxes → mailboxes ≤ MOST_MAILBOXES → 0 < ring → ring ≤ MOST_NODES → most ≤ MOST_POOL_POSTS
-    → (steps : List PoolStep) (c : Pooled) → Follows steps (opening_pooled senders mailboxes ring most) c
-    → (q : Pool) × PoolLeads ring (pool_events_along steps (opening_pooled senders mailboxes ring most) opening_pool) q × ShowsPool c q × IsPooled c × ((b : ℕ) → IsReceivedInOrder ring (q.boxes b))
+-- What steps from an opening on come to: as many senders and mailboxes as were opened, and as many ring nodes. The core
+-- is one of those that the laws speak of, and it shows a pool that events lead to. So every law of a step holds of what
+-- comes next.
+pub record IsRunOf (senders mailboxes ring : ℕ) (events : List (ℕ × Event)) (q : Pool) (c : Pooled) : Type 0 where
+  pub senders_are : length c.senders ≡ senders
+  pub mailboxes_are : length c.heads ≡ mailboxes
+  pub ring_is : c.ring ≡ ring
+  pub pooled : IsPooled c
+  pub leads : PoolLeads c.ring events q
+  pub shows : ShowsPool c q
 
--- A mailbox alone is a pool of one. Whatever steps are made in it from the opening on: their events lead to it by the
--- rule of a mailbox alone, the core shows it and is one of those that the laws speak of, and it is received in order.
+-- Whatever steps are made in whichever mailboxes from the opening on: their events lead to a pool, the core shows it,
+-- and each mailbox is received in order.
+abbrev pub AllPoolRunsShow : Type 0
+AllPoolRunsShow = (senders mailboxes ring most : ℕ) → 0 < senders → senders ≤ MOST_SENDERS
+    → 0 < mailboxes → mailboxes ≤ MOST_MAILBOXES → 0 < ring → ring ≤ MOST_NODES → most ≤ MOST_POOL_POSTS
+    → (steps : List PoolStep) (c : Pooled) → Follows steps (opening_pooled senders mailboxes ring most) c
+    → let events = pool_events_along steps (opening_pooled senders mailboxes ring most) opening_pool in
+    (q : Pool) × IsRunOf senders mailboxes ring events q c × ((b : ℕ) → IsReceivedInOrder ring (q.boxes b))
+
+-- A mailbox alone is a pool of one. Whatever steps are made in it from the opening on: their events lead to a pool, the
+-- core shows it, and what is in its one mailbox follows the rule of a mailbox alone and is received in order.
 abbrev pub AllRunsShow : Type 0
 AllRunsShow = (senders ring : ℕ) → 0 < senders → senders ≤ MOST_SENDERS → 0 < ring → ring ≤ MOST_NODES
     → (steps : List Step) (c : Pooled) → Follows (map in_first steps) (opening_pooled senders 1 ring MOST_POSTS) c
-    → (q : Pool) × Leads ring (events_in 0 (pool_events_along (map in_first steps) (opening_pooled senders 1 ring MOST_POSTS) opening_pool)) (q.boxes 0)
-    × ShowsPool c q × IsPooled c × IsReceivedInOrder ring (q.boxes 0)
+    → let events = pool_events_along (map in_first steps) (opening_pooled senders 1 ring MOST_POSTS) opening_pool in
+    (q : Pool) × IsRunOf senders 1 ring events q c × Leads ring (events_in 0 events) (q.boxes 0)
+    × IsReceivedInOrder ring (q.boxes 0)
