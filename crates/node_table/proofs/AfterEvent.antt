@@ -1,27 +1,26 @@
 -- The pool after the event of a step, or after none, and the events that lead to it.
-use Rattle.std.proofs.Common.{◌≡◌, ◌++◌, ◌∷◌, [], ℕ, List, None, Some, Option, refl, sym, subst, inl, inr}
+use Rattle.std.proofs.Common.{◌≡◌, ℕ, List, None, Some, Option, refl, sym, subst, inl, inr}
 use Rattle.std.proofs.lemmas.Bool.{cases_eq}
 use Rattle.queue_core.specs.Mailbox.{IsHeld, Mailbox}
 use Rattle.queue_core.specs.Events.{Event, after}
-use Rattle.queue_core.specs.Pool.{Pool, PoolLeads, after_in}
+use Rattle.queue_core.specs.Pool.{Pool, PoolLeads}
 use Rattle.queue_core.specs.Pool.PoolLeads.{more}
 use Rattle.queue_core.specs.Pooled.{Pooled}
 use Rattle.queue_core.specs.PoolShows.{ShowsPool}
 use Rattle.queue_core.specs.PoolLaws.{ShowsAfterIn}
 use Rattle.queue_core.proofs.PoolPosts.{box_other, box_own, same_field}
+use Rattle.atomic_table.specs.Table.{State}
+use Rattle.queue_core.specs.declared.step.Step.{Step}
+use Rattle.queue_core.specs.PoolLaws.{event_in}
+use Rattle.queue_core.specs.PoolSteps.{stepped_in}
+use Rattle.node_table.specs.declared.seats.Known.{Known}
+use Rattle.node_table.specs.declared.seats.Posting.{Posting}
+use Rattle.node_table.specs.declared.seats.Shape.{Shape}
+use Rattle.node_table.specs.Rule.{KeepsAs, KeepsNodes, KeepsOn, events_after, later_in}
 
 abbrev pub later : Option Event → Mailbox → Mailbox
 later None m = m
 later (Some event) m = after event m
-
-abbrev pub later_in : (event : Option Event) (b : ℕ) → Pool → Pool
-later_in None b q = q
-later_in (Some event) b q = after_in b event q
-
--- the events, with that of a step in the mailbox
-abbrev pub events_after : (event : Option Event) (b : ℕ) → List (ℕ × Event) → List (ℕ × Event)
-events_after None b events = events
-events_after (Some event) b events = events ++ (b, event) ∷ []
 
 module _ (q : Pool) (b : ℕ) where
   -- in its mailbox it is what comes of the event
@@ -54,3 +53,16 @@ module _ (q : Pool) (b : ℕ) where
   pub told_shows : (event : Option Event) (ring : ℕ) (n : Pooled) → ShowsAfterIn event ring b q n → ShowsPool n (later_in event b q)
   told_shows None ring n told = told
   told_shows (Some event) ring n told = told.1
+
+-- ---- the rule after a step
+
+-- Where a step is due and has this event, what is under the rule by the events with that one is so by the step.
+pub on_event : (shape : Shape) (s : State Posting Known) (kept : KeepsNodes shape s) (b : ℕ) (x : Step) (event : Option Event) (n : Pooled) (t : State Posting Known)
+    → stepped_in kept.core b x ≡ Some n → event_in kept.core kept.pool b x ≡ event
+    → KeepsAs shape (events_after event b kept.events) (later_in event b kept.pool) n t → KeepsOn shape s kept b x t
+on_event shape s kept b x event n t due is keeps =
+    (n, due, subst (λ e. KeepsAs shape (events_after e b kept.events) (later_in e b kept.pool) n t) (sym is) keeps)
+
+-- What is under the rule stands so by its own events.
+pub as_it_is : (shape : Shape) (s : State Posting Known) (kept : KeepsNodes shape s) → KeepsAs shape kept.events kept.pool kept.core s
+as_it_is shape s kept = record { rule = kept; events_are = refl; pool_is = refl; core_is = refl }

@@ -2,18 +2,17 @@
 use Rattle.std.proofs.Common.{◌≡◌, ◌∙◌, ◌<◌, ◌++◌, ◌∷◌, ◌⊎◌, ◌+◌, ◌%◌, ◌^◌, ℕ, [], List, None, Some, true, false, length, not, get_or, set, ap, sym, refl, subst, inl, inr, arith}
 use Rattle.std.specs.Prelude.{if◌then◌else◌}
 use Rattle.std.proofs.lemmas.Bool.{cases_eq, false≢true}
-use Rattle.std.proofs.lemmas.List.{set-get_or}
 use Rattle.std.proofs.lemmas.Map.Views.{any-filter_same}
 use mathlib.Core.Option.{some}
 use lib.ListN.{get_elem?}
 use Rattle.atomic_table.specs.Table.{State}
-use Rattle.atomic_table.proofs.Lists.{set_again}
 use Rattle.queue_core.specs.declared.entry.Entry.{Entry}
 use Rattle.queue_core.specs.declared.entry.Entry.TheVariants.{Of, Stub}
 use Rattle.queue_core.specs.declared.item.Item.{Item}
 use Rattle.queue_core.specs.declared.words.Node.{Node as Word}
 use Rattle.queue_core.specs.declared.reader.Reader.{Reader}
 use Rattle.queue_core.specs.declared.reader.ReaderPoint.TheVariants as reads
+use Rattle.queue_core.specs.declared.step.Step.{Step}
 use Rattle.queue_core.specs.declared.step.Step.TheVariants as steps
 use Rattle.queue_core.specs.Box.{HoldsItem, IsStanding}
 use Rattle.queue_core.specs.Mailbox.{IsHeld, Mailbox, is_among, is_same, item_at, passed_entries}
@@ -21,7 +20,7 @@ use Rattle.queue_core.specs.Events.{Event, after}
 use Rattle.queue_core.specs.Events.Event.{GiveBack}
 use Rattle.queue_core.specs.StoredWords.{amount_word, line_word}
 use Rattle.queue_core.specs.Pool.{Pool, after_in}
-use Rattle.queue_core.specs.Pooled.{Pooled, node_at, with_holder, with_node}
+use Rattle.queue_core.specs.Pooled.{Pooled, node_at, reader_in, with_holder, with_node}
 use Rattle.queue_core.specs.PoolShows.{box_in, node_in}
 use Rattle.queue_core.specs.PoolLaws.{event_in, gives_back}
 use Rattle.queue_core.specs.PoolSteps.{may_use, stepped_in}
@@ -39,13 +38,13 @@ use Rattle.node_table.specs.declared.seats.Posting.{Posting}
 use Rattle.node_table.specs.declared.seats.ReceiverSeat.{ReceiverSeat}
 use Rattle.node_table.specs.declared.seats.Shape.{Shape}
 use Rattle.node_table.specs.Layout.{amount_word_of, line_word_of, turn_word}
-use Rattle.node_table.specs.Rule.{KeepsNodes}
+use Rattle.node_table.specs.Rule.{KeepsNodes, KeepsOn}
 use Rattle.node_table.specs.Seats.{Owned, Has, IsAlone, IsHolding, IsReceiverSeat, own_entries}
 use Rattle.node_table.specs.Seats.Owned.{Node, Part}
 use Rattle.node_table.specs.Tells.{IsHeldAt, after_give}
 use Rattle.node_table.proofs.AfterEvent.{later_other, later_own}
-use Rattle.node_table.proofs.ReceiverFrame.{ButReader, but_reader, holds, low, moved, own, seat_after, still_holding}
-use Rattle.node_table.proofs.Words.{turn_words}
+use Rattle.node_table.proofs.ReceiverFrame.{ButReader, but_reader, gone_on, holds, low, moved, own, seat_after, still_holding}
+use Rattle.node_table.proofs.Words.{look_words, turn_words}
 
 -- ---- an entry of a sender, by what the receiver knows
 
@@ -94,10 +93,6 @@ module _ (shape : Shape) (id : ℕ) (v : ReceiverSeat) (s : State Posting Known)
   -- its mailbox is there
   there : b < length c.heads
   there = low shape s kept id v seen
-
-  -- a load changes neither a word nor what the receiver knows
-  pub look_kept : (i : ℕ) → KeepsNodes shape record { words = set s.words i (get_or s.words i 0); homes = s.homes; views = set s.views id (Receives v) }
-  look_kept i = subst (λ (x : List ℕ × List Known). KeepsNodes shape record { words = x.0; homes = s.homes; views = x.1 }) (λ j. (sym (set-get_or s.words i 0) j, sym (set_again s.views id (Receives v) seen) j)) kept
 
   module _ (h : Holding) (hand : v.at_hand ≡ Some h) where
     abbrev entry : Entry
@@ -162,9 +157,34 @@ module _ (shape : Shape) (id : ℕ) (v : ReceiverSeat) (s : State Posting Known)
       used : may_use reads.Rest b h.node c ≡ true
       used = ((kept.mail.shows.boxes b there).held h.node).1 (h.sender, h.place, held.0, held.1)
 
+      -- and may use it
+      uses : may_use (reader_in c b).point b h.node c ≡ true
+      uses = ap (λ point. may_use point b h.node c) (ap (λ (r : Reader). r.point) mine.its_mailbox.reader ∙ at) ∙ used
+
+      -- A load changes neither a word nor what the receiver knows.
+      loads : (x : Step) → stepped_in c b x ≡ Some c → event_in c q b x ≡ None → (i : ℕ) → KeepsOn shape s kept b x record { words = set s.words i (get_or s.words i 0); homes = s.homes; views = set s.views id (Receives v) }
+      loads x due still i = gone_on shape s kept id v seen x None c _ v.reader v.passed record {
+        due = due;
+        event_is = still;
+        same = but_reader shape s kept id v seen None c.heads c.nodes c.holders c.readers refl (λ d other. refl) refl refl;
+        are_words = look_words shape c s.words kept.words c i refl refl;
+        reader_is = mine.its_mailbox.reader;
+        passed_is = mine.its_mailbox.passed;
+        given_is = refl;
+        got_is = refl;
+        held = λ p k held. held;
+        alone = mine.alone;
+      }
+
+      pub line_kept : KeepsOn shape s kept b (steps.LoadLine h.node) record { words = set s.words (line_word_of h.node) (get_or s.words (line_word_of h.node) 0); homes = s.homes; views = set s.views id (Receives v) }
+      line_kept = loads (steps.LoadLine h.node) (ap (λ b. if b then Some c else None) uses) refl (line_word_of h.node)
+
+      pub amount_kept : KeepsOn shape s kept b (steps.LoadAmount h.node) record { words = set s.words (amount_word_of h.node) (get_or s.words (amount_word_of h.node) 0); homes = s.homes; views = set s.views id (Receives v) }
+      amount_kept = loads (steps.LoadAmount h.node) (ap (λ b. if b then Some c else None) uses) refl (amount_word_of h.node)
+
       -- and may give it back
       due : stepped_in c b (steps.GiveBack h.node) ≡ Some n
-      due = ap (λ b. if b then Some n else None) (ap (λ point. may_use point b h.node c) (ap (λ (r : Reader). r.point) mine.its_mailbox.reader ∙ at) ∙ used)
+      due = ap (λ b. if b then Some n else None) uses
 
       -- what is given back is what the receiver has at hand
       event_is : event_in c q b (steps.GiveBack h.node) ≡ Some event
@@ -203,7 +223,7 @@ module _ (shape : Shape) (id : ℕ) (v : ReceiverSeat) (s : State Posting Known)
       has_less (Node node) has = let none = has.1 in cc
 
       -- So the rule is kept.
-      pub give_kept : KeepsNodes shape record { words = set s.words (turn_word h.node) word; homes = s.homes; views = set s.views id (Receives (after_give (Some h) v)) }
+      pub give_kept : KeepsOn shape s kept b (steps.GiveBack h.node) record { words = set s.words (turn_word h.node) word; homes = s.homes; views = set s.views id (Receives (after_give (Some h) v)) }
       give_kept = moved shape s kept id v seen (steps.GiveBack h.node) (Some event) n _ (after_give (Some h) v) record {
         due = due;
         event_is = event_is;

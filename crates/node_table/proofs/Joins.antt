@@ -1,10 +1,10 @@
 -- Seats at a table of nodes are cut in two and put together: the core, the pool, the words and what all other seats know stay as they were.
-use Rattle.std.proofs.Common.{[], ap, arith, inl, inr, List, None, Option, set, Some, subst, sym, true, ℕ, ◌++◌, ◌+◌, ◌<◌, ◌∙◌, ◌∷◌, ◌≡◌, ◌≤◌, ◌⊎◌}
+use Rattle.std.proofs.Common.{[], ap, arith, inl, inr, List, None, Option, refl, set, Some, subst, sym, true, ℕ, ◌++◌, ◌+◌, ◌<◌, ◌∙◌, ◌∷◌, ◌≡◌, ◌≤◌, ◌⊎◌}
 use Rattle.std.proofs.lemmas.List.Elements.{All-cons}
 use Rattle.std.proofs.lemmas.Option.{none-some}
 use mathlib.Core.Option.{some}
 use lib.ListN.{get_elem?}
-use Rattle.atomic_table.specs.Table.{Me, State, Joins, Splits}
+use Rattle.atomic_table.specs.Table.{Me, State}
 use Rattle.atomic_table.proofs.Lists.{set_else}
 use Rattle.queue_core.specs.declared.reader.ReaderPoint.TheVariants as reads
 use Rattle.queue_core.specs.declared.sender.SenderPoint.TheVariants as sends
@@ -20,7 +20,7 @@ use Rattle.node_table.specs.declared.seats.Shape.{Shape}
 use Rattle.node_table.specs.declared.seats.TallySeat.{TallySeat}
 use Rattle.node_table.specs.Seats.{HasEndedEverywhere, Owned, Has, has_ended, KnowsMailbox, IsHolding, IsPartIn, IsPartOf, IsReceiverSeat, IsSeat, IsSenderSeat, IsTakenIn, IsTallySeat}
 use Rattle.node_table.specs.Seats.Owned.{Part, Node}
-use Rattle.node_table.specs.Rule.{KeepsNodes, opened_tally}
+use Rattle.node_table.specs.Rule.{JoinsStill, KeepsAs, KeepsNodes, SplitsStill, opened_tally}
 use Rattle.node_table.specs.Tells.{after_deal, after_hand, dealt, gathered, hand_of, handed, taken_back, taken_in, tallied, with_hand}
 use Rattle.node_table.specs.Asks.{IsTakingIn, IsDealing, IsGathering, IsHandingOut, IsTakingBack, IsTallying, holding_in, receiver_in, sender_in, tally_in}
 use Rattle.node_table.proofs.Owned.{apart_join, apart_split, read_join, read_split}
@@ -32,38 +32,48 @@ module _ (shape : Shape) (id : ℕ) (known : Known) (s : State Posting Known) (k
   Knows = IsSeat kept.core kept.pool s.homes
 
   cut_keeps : (left right : Known) → Knows left → Knows right → ((thing : Owned) → Has left thing → Has known thing) → ((thing : Owned) → Has right thing → Has known thing) → ((thing : Owned) → Has left thing → ¬ Has right thing)
-      → KeepsNodes shape record { words = s.words; homes = s.homes; views = set s.views id left ++ right ∷ [] }
+      → KeepsAs shape kept.events kept.pool kept.core record { words = s.words; homes = s.homes; views = set s.views id left ++ right ∷ [] }
   cut_keeps left right knows_left knows_right from_left from_right differ = record {
-    events = kept.events;
-    pool = kept.pool;
-    core = kept.core;
-    mail = kept.mail;
-    words = kept.words;
-    seats = λ j d e. elim (read_split s.views id left right j d e) [
-      | inl mine ↦ subst Knows mine.1 knows_left
-      | inr (inl old) ↦ kept.seats j d old.1
-      | inr (inr last) ↦ subst Knows last.1 knows_right
-    ];
-    apart = apart_split s.views kept.apart id known seen left right from_left from_right differ;
+    rule = record {
+      events = kept.events;
+      pool = kept.pool;
+      core = kept.core;
+      mail = kept.mail;
+      words = kept.words;
+      seats = λ j d e. elim (read_split s.views id left right j d e) [
+        | inl mine ↦ subst Knows mine.1 knows_left
+        | inr (inl old) ↦ kept.seats j d old.1
+        | inr (inr last) ↦ subst Knows last.1 knows_right
+      ];
+      apart = apart_split s.views kept.apart id known seen left right from_left from_right differ;
+    };
+    events_are = refl;
+    pool_is = refl;
+    core_is = refl;
   }
 
   -- the other seat's view is read after the own one has changed
   join_keeps : (other : ℕ) (was both : Known) → ¬ (other ≡ id) → get_elem? (set s.views id both) other ≡ some was → (Knows was → Knows both) → ((thing : Owned) → Has both thing → Has known thing ⊎ Has was thing)
-      → KeepsNodes shape record { words = s.words; homes = s.homes; views = set (set s.views id both) other Gone }
+      → KeepsAs shape kept.events kept.pool kept.core record { words = s.words; homes = s.homes; views = set (set s.views id both) other Gone }
   join_keeps other was both apart there knows from =
       let at : get_elem? s.views other ≡ some was = sym (set_else s.views id other both apart) ∙ there in
       record {
-        events = kept.events;
-        pool = kept.pool;
-        core = kept.core;
-        mail = kept.mail;
-        words = kept.words;
-        seats = λ j d e. elim (read_join s.views id other both Gone j d e) [
-          | inl mine ↦ subst Knows mine.1 (knows (kept.seats other was at))
-          | inr (inl old) ↦ kept.seats j d old.2
-          | inr (inr out) ↦ subst Knows out.1 tt
-        ];
-        apart = apart_join s.views kept.apart id known seen other was both at from;
+        rule = record {
+          events = kept.events;
+          pool = kept.pool;
+          core = kept.core;
+          mail = kept.mail;
+          words = kept.words;
+          seats = λ j d e. elim (read_join s.views id other both Gone j d e) [
+            | inl mine ↦ subst Knows mine.1 (knows (kept.seats other was at))
+            | inr (inl old) ↦ kept.seats j d old.2
+            | inr (inr out) ↦ subst Knows out.1 tt
+          ];
+          apart = apart_join s.views kept.apart id known seen other was both at from;
+        };
+        events_are = refl;
+        pool_is = refl;
+        core_is = refl;
       }
 
 -- ---- what the parts have
@@ -168,7 +178,7 @@ module _ (c : Pooled) (q : Pool) where
 
 module _ (shape : Shape) (id : ℕ) where
   seat_deals : (v : TallySeat) → v.dealt < v.shape.senders + v.shape.mailboxes → ((part : ℕ) → IsPartOf v.gathered part ⊎ IsPartIn v.taken_in part → part ≤ v.dealt)
-      → Splits (KeepsNodes shape) id (Tallies v) (after_deal (Tallies v)) (dealt (Tallies v))
+      → SplitsStill shape id (Tallies v) (after_deal (Tallies v)) (dealt (Tallies v))
   seat_deals v more early s kept seen =
       let was : IsTallySeat kept.core kept.pool s.homes v = kept.seats id (Tallies v) seen in
       cut_keeps shape id (Tallies v) s kept seen (after_deal (Tallies v)) (dealt (Tallies v))
@@ -176,18 +186,18 @@ module _ (shape : Shape) (id : ℕ) where
       record { shape_is = was.shape; within = more; new = was.waiting v.dealt (omega arith) more }
       (left_had v) (dealt_had v) (dealt_differ v early)
 
-  hands_out : (v : ReceiverSeat) (h : Holding) → v.at_hand ≡ Some h → Splits (KeepsNodes shape) id (Receives v) (after_hand (Receives v)) (hand_of (Receives v))
-  hands_out v h hand = subst (λ o. Splits (KeepsNodes shape) id (Receives v) (after_hand (Receives v)) (handed o)) (sym hand) (λ s kept seen.
+  hands_out : (v : ReceiverSeat) (h : Holding) → v.at_hand ≡ Some h → SplitsStill shape id (Receives v) (after_hand (Receives v)) (hand_of (Receives v))
+  hands_out v h hand = subst (λ o. SplitsStill shape id (Receives v) (after_hand (Receives v)) (handed o)) (sym hand) (λ s kept seen.
       let was : IsReceiverSeat kept.core kept.pool v = kept.seats id (Receives v) seen in
       cut_keeps shape id (Receives v) s kept seen (after_hand (Receives v)) (Holds h) (with_hand_is kept.core kept.pool v None (λ g none. absurd (none-some g none)) was) (was.at_hand h hand).0 (hand_left v) (hand_had v h hand) (hand_differ v h))
 
-  takes_back : (v : ReceiverSeat) (other : ℕ) (h : Holding) → h.mailbox ≡ v.mailbox → Joins (KeepsNodes shape) id (Receives v) other (Holds h) (taken_back (Receives v) (Holds h)) Gone
+  takes_back : (v : ReceiverSeat) (other : ℕ) (h : Holding) → h.mailbox ≡ v.mailbox → JoinsStill shape id (Receives v) other (Holds h) (taken_back (Receives v) (Holds h)) Gone
   takes_back v other h same s kept seen apart there =
       join_keeps shape id (Receives v) s kept seen other (Holds h) (taken_back (Receives v) (Holds h)) apart there
       (λ held. with_hand_is kept.core kept.pool v (Some h) (λ g is. subst (λ (x : Holding). IsHolding kept.core kept.pool x × (x.mailbox ≡ v.mailbox)) (some_same h g is) (held, same)) (kept.seats id (Receives v) seen))
       (back_from v h)
 
-  takes_in : (v : ReceiverSeat) (other : ℕ) (a : SenderSeat) → v.reader.point ≡ reads.Rest → a.caller.point ≡ sends.Rest → has_ended a v.mailbox ≡ true → Joins (KeepsNodes shape) id (Receives v) other (Sends a) (taken_in (Receives v) (Sends a)) Gone
+  takes_in : (v : ReceiverSeat) (other : ℕ) (a : SenderSeat) → v.reader.point ≡ reads.Rest → a.caller.point ≡ sends.Rest → has_ended a v.mailbox ≡ true → JoinsStill shape id (Receives v) other (Sends a) (taken_in (Receives v) (Sends a)) Gone
   takes_in v other a at rest over s kept seen apart there =
       let c : Pooled = kept.core in
       let q : Pool = kept.pool in
@@ -202,7 +212,7 @@ module _ (shape : Shape) (id : ℕ) where
       })
       (in_from v a)
 
-  gathers : (v : TallySeat) (other : ℕ) (a : ReceiverSeat) → Joins (KeepsNodes shape) id (Tallies v) other (Receives a) (gathered (Tallies v) (Receives a)) Gone
+  gathers : (v : TallySeat) (other : ℕ) (a : ReceiverSeat) → JoinsStill shape id (Tallies v) other (Receives a) (gathered (Tallies v) (Receives a)) Gone
   gathers v other a s kept seen apart there =
       let c : Pooled = kept.core in
       let q : Pool = kept.pool in
@@ -217,7 +227,7 @@ module _ (shape : Shape) (id : ℕ) where
       })
       (gathered_from v a)
 
-  tallies_in : (v : TallySeat) (other : ℕ) (a : SenderSeat) → a.caller.point ≡ sends.Rest → HasEndedEverywhere a → Joins (KeepsNodes shape) id (Tallies v) other (Sends a) (tallied (Tallies v) (Sends a)) Gone
+  tallies_in : (v : TallySeat) (other : ℕ) (a : SenderSeat) → a.caller.point ≡ sends.Rest → HasEndedEverywhere a → JoinsStill shape id (Tallies v) other (Sends a) (tallied (Tallies v) (Sends a)) Gone
   tallies_in v other a rest over s kept seen apart there =
       let c : Pooled = kept.core in
       let q : Pool = kept.pool in
@@ -239,36 +249,36 @@ known_is : (me : Me Posting Known) (known : Known) → me ≡ (known, []) → kn
 known_is me known is = ap (λ (x : Me Posting Known). x.0) (sym is)
 
 module _ (shape : Shape) (id : ℕ) (me : Me Posting Known) where
-  pub deals : IsDealing me → Splits (KeepsNodes shape) id me.0 (after_deal me.0) (dealt me.0)
+  pub deals : IsDealing me → SplitsStill shape id me.0 (after_deal me.0) (dealt me.0)
   deals at =
       let v = opened_tally (tally_in me.0).shape (tally_in me.0).dealt in
-      subst (λ (x : Known). Splits (KeepsNodes shape) id x (after_deal x) (dealt x)) (known_is me (Tallies v) at.is_tally) (seat_deals shape id v at.more (λ part has. elim has [
+      subst (λ (x : Known). SplitsStill shape id x (after_deal x) (dealt x)) (known_is me (Tallies v) at.is_tally) (seat_deals shape id v at.more (λ part has. elim has [
         | inl nobody ↦ absurd nobody
         | inr nobody ↦ absurd nobody
       ]))
 
-  pub hands : IsHandingOut me → Splits (KeepsNodes shape) id me.0 (after_hand me.0) (hand_of me.0)
+  pub hands : IsHandingOut me → SplitsStill shape id me.0 (after_hand me.0) (hand_of me.0)
   hands at =
-      subst (λ (x : Known). Splits (KeepsNodes shape) id x (after_hand x) (hand_of x)) (known_is me (Receives (receiver_in me.0)) at.is_receiver) (hands_out shape id (receiver_in me.0) at.holding at.hand)
+      subst (λ (x : Known). SplitsStill shape id x (after_hand x) (hand_of x)) (known_is me (Receives (receiver_in me.0)) at.is_receiver) (hands_out shape id (receiver_in me.0) at.holding at.hand)
 
   module _ (other : ℕ) (them : Me Posting Known) where
     -- of two seats by what each knows
-    both_known : (known was : Known) (both : Known → Known → Known) → me ≡ (known, []) → them ≡ (was, []) → Joins (KeepsNodes shape) id known other was (both known was) Gone
-        → Joins (KeepsNodes shape) id me.0 other them.0 (both me.0 them.0) Gone
+    both_known : (known was : Known) (both : Known → Known → Known) → me ≡ (known, []) → them ≡ (was, []) → JoinsStill shape id known other was (both known was) Gone
+        → JoinsStill shape id me.0 other them.0 (both me.0 them.0) Gone
     both_known known was both mine theirs joins =
         let own = known_is me known mine in
         let its = known_is them was theirs in
-        subst (λ (x : Known × Known). Joins (KeepsNodes shape) id x.0 other x.1 (both x.0 x.1) Gone) (λ i. (own i, its i)) joins
+        subst (λ (x : Known × Known). JoinsStill shape id x.0 other x.1 (both x.0 x.1) Gone) (λ i. (own i, its i)) joins
 
-    pub gets_back : IsTakingBack me them → Joins (KeepsNodes shape) id me.0 other them.0 (taken_back me.0 them.0) Gone
+    pub gets_back : IsTakingBack me them → JoinsStill shape id me.0 other them.0 (taken_back me.0 them.0) Gone
     gets_back at = both_known (Receives (receiver_in me.0)) (Holds (holding_in them.0)) taken_back at.is_receiver at.held (takes_back shape id (receiver_in me.0) other (holding_in them.0) at.same)
 
-    pub gets_in : IsTakingIn me them → Joins (KeepsNodes shape) id me.0 other them.0 (taken_in me.0 them.0) Gone
+    pub gets_in : IsTakingIn me them → JoinsStill shape id me.0 other them.0 (taken_in me.0 them.0) Gone
     gets_in at =
         both_known (Receives (receiver_in me.0)) (Sends (sender_in them.0)) taken_in at.receiver.is_receiver at.sender.is (takes_in shape id (receiver_in me.0) other (sender_in them.0) at.receiver.rest at.sender.rest at.ended)
 
-    pub gathers_in : IsGathering me them → Joins (KeepsNodes shape) id me.0 other them.0 (gathered me.0 them.0) Gone
+    pub gathers_in : IsGathering me them → JoinsStill shape id me.0 other them.0 (gathered me.0 them.0) Gone
     gathers_in at = both_known (Tallies (tally_in me.0)) (Receives (receiver_in them.0)) gathered at.is_tally at.receiver (gathers shape id (tally_in me.0) other (receiver_in them.0))
 
-    pub counts_in : IsTallying me them → Joins (KeepsNodes shape) id me.0 other them.0 (tallied me.0 them.0) Gone
+    pub counts_in : IsTallying me them → JoinsStill shape id me.0 other them.0 (tallied me.0 them.0) Gone
     counts_in at = both_known (Tallies (tally_in me.0)) (Sends (sender_in them.0)) tallied at.is_tally at.sender.is (tallies_in shape id (tally_in me.0) other (sender_in them.0) at.sender.rest at.ended)

@@ -48,7 +48,7 @@ use Rattle.node_table.specs.declared.seats.Posting.{Posting}
 use Rattle.node_table.specs.declared.seats.ReceiverSeat.{ReceiverSeat}
 use Rattle.node_table.specs.declared.seats.Shape.{Shape}
 use Rattle.node_table.specs.Layout.{next_word, nodes_in, stub_of}
-use Rattle.node_table.specs.Rule.{KeepsNodes}
+use Rattle.node_table.specs.Rule.{KeepsNodes, KeepsOn}
 use Rattle.queue_core.specs.Items.{IsInRange}
 use Rattle.node_table.specs.Seats.{AreTakenIn, Owned, Has, IsAlone, IsHolding, IsReceiverSeat}
 use Rattle.node_table.specs.Seats.Owned.{Node, Part}
@@ -214,7 +214,7 @@ module _ (shape : Shape) (id : ℕ) (v : ReceiverSeat) (s : State Posting Known)
 
   -- the rule where the seat knows more
   abbrev KeepsThen : ReceiverSeat → Type 0
-  KeepsThen w = KeepsNodes shape record { words = set s.words (next_word v.reader.tail) found; homes = s.homes; views = set s.views id (Receives w) }
+  KeepsThen w = KeepsOn shape s kept b steps.LoadNext record { words = set s.words (next_word v.reader.tail) found; homes = s.homes; views = set s.views id (Receives w) }
 
   -- ---- null is found
 
@@ -429,7 +429,7 @@ module _ (shape : Shape) (id : ℕ) (v : ReceiverSeat) (s : State Posting Known)
             ranged = All-get_or IsInRange (m.items p) k End stands.0 (kept.mail.ranged b p);
             fresh = not_taken m v.passed mine.its_mailbox.passed p k (left_unpassed c.ring m its p k is_left);
             kept = known_held (after Pass m) (v.passed ++ Of p k ∷ []) passed_is p k v.given mine.its_mailbox.given held_is;
-            begins = begins_now shape _ node_kept id (past_node (found - 1) h v) (set_here s.views id (Receives (past_node (found - 1) h v)) (at_within s.views id (Receives v) seen));
+            begins = begins_now shape _ node_kept.2.rule id (past_node (found - 1) h v) (set_here s.views id (Receives (past_node (found - 1) h v)) (at_within s.views id (Receives v) seen));
           }
 
   -- ---- what it tells

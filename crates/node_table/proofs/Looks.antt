@@ -1,5 +1,5 @@
 -- What looks at a word that nobody writes tell: what was received of a sender that was taken in is the first part of what that sent. And how a receiver that was dealt begins.
-use Rattle.std.proofs.Common.{[], ap, arith, inl, inr, refl, subst, sym, true, ℕ, ◌*◌, ◌+◌, ◌-◌, ◌<◌, ◌∙◌, ◌≡◌, ◌≤◌}
+use Rattle.std.proofs.Common.{[], ap, arith, get_or, inl, inr, refl, set, subst, sym, true, ℕ, ◌*◌, ◌+◌, ◌-◌, ◌<◌, ◌∙◌, ◌≡◌, ◌≤◌}
 use Rattle.std.specs.List.{filter_map}
 use Rattle.std.proofs.lemmas.List.{set-get_or}
 use Rattle.std.proofs.lemmas.List.Elements.{All-nil, All-weaker}
@@ -21,10 +21,11 @@ use Rattle.node_table.specs.declared.seats.TallySeat.{TallySeat}
 use Rattle.node_table.specs.Layout.{stub_of}
 use Rattle.node_table.specs.Seats.{got_in, Has, has_ended, HasShape, IsDealtSeat, KnowsMailbox, IsNewReceiver, IsReceiverSeat, IsSeat, IsTakenIn, IsTallySeat, items_in, Owned}
 use Rattle.node_table.specs.Seats.Owned.{Part, Node}
-use Rattle.node_table.specs.Rule.{KeepsNodes}
+use Rattle.node_table.specs.Rule.{KeepsAs, KeepsNodes}
 use Rattle.queue_core.specs.Items.{IsFirstOf}
 use Rattle.node_table.specs.Tells.{TallyBegins, new_receiver, tells_begin_receiving, tells_look, tells_tally}
 use Rattle.node_table.specs.Asks.{IsTally, IsDealtReceiver, tally_in, receiver_in}
+use Rattle.node_table.proofs.AfterEvent.{as_it_is}
 use Rattle.node_table.proofs.Owned.{apart_still}
 use Rattle.node_table.proofs.TakenIn.{begins_now, received_first}
 
@@ -73,26 +74,24 @@ new_had shape turn past (Node n) has = absurd (none-some has.0 has.1)
 
 -- ---- the steps
 
-module _ (key : Shape) (slots id : ℕ) where
-  looks : (v : ReceiverSeat) → Allows (KeepsNodes key) slots id (Receives v, []) 0 (λ n. n) (tells_look (step slots 0 0 0 none) (Receives v, []))
-  looks v s kept deep seen small = (Receives v, keeps, tt, rw (set-get_or s.words 0 0, set_again s.views id (Receives v) seen) kept, (v, refl, (refl, begins_now key s kept id v seen)))
+module _ (key : Shape) (id : ℕ) (s : State Posting Known) (kept : KeepsNodes key s) where
+  -- a seat that looks knows what it knew
+  pub looked : (known : Known) → get_elem? s.views id ≡ some known → KeepsAs key kept.events kept.pool kept.core record { words = set s.words 0 (get_or s.words 0 0); homes = s.homes; views = set s.views id known }
+  looked known seen = rw (set-get_or s.words 0 0, set_again s.views id known seen) (as_it_is key s kept)
 
-  tally_looks : (v : TallySeat) → Allows (KeepsNodes key) slots id (Tallies v, []) 0 (λ n. n) (tells_tally (step slots 0 0 0 none) (Tallies v, []))
-  tally_looks v s kept deep seen small = (Tallies v, keeps, tt, rw (set-get_or s.words 0 0, set_again s.views id (Tallies v) seen) kept, (refl, tally_begins key s kept id v seen))
-
-  begins : (shape : Shape) (turn : ℕ) → shape.senders ≤ turn → Allows (KeepsNodes key) slots id (Dealt shape turn, []) 0 (λ n. n) (tells_begin_receiving (step slots 0 0 0 none) (Dealt shape turn, []))
-  begins shape turn past s kept deep seen small =
+  -- a receiver that was dealt begins
+  pub begun : (shape : Shape) (turn : ℕ) → shape.senders ≤ turn → get_elem? s.views id ≡ some (Dealt shape turn)
+      → KeepsAs key kept.events kept.pool kept.core record { words = set s.words 0 (get_or s.words 0 0); homes = s.homes; views = set s.views id (Receives (new_receiver shape (turn - shape.senders))) }
+  begun shape turn past seen =
       let c : Pooled = kept.core in
       let q : Pool = kept.pool in
       let b : ℕ = turn - shape.senders in
       let w : Known = Receives (new_receiver shape b) in
       let was : IsDealtSeat c q s.homes shape turn = kept.seats id (Dealt shape turn) seen in
       let low : b < shape.mailboxes = omega (arith, was.within, past) in
-      let is : IsSeat c q s.homes w = new_receives c q shape b was.shape_is low (was.new.receiver b low (omega (arith, past))) in (
-        w,
-        keeps,
-        tt,
-        record {
+      let is : IsSeat c q s.homes w = new_receives c q shape b was.shape_is low (was.new.receiver b low (omega (arith, past))) in
+      record {
+        rule = record {
           events = kept.events;
           pool = q;
           core = c;
@@ -103,9 +102,21 @@ module _ (key : Shape) (slots id : ℕ) where
             | inr old ↦ kept.seats j d old.1
           ];
           apart = apart_still s.views kept.apart id (Dealt shape turn) seen w (new_had shape turn past);
-        },
-        refl,
-      )
+        };
+        events_are = refl;
+        pool_is = refl;
+        core_is = refl;
+      }
+
+module _ (key : Shape) (slots id : ℕ) where
+  looks : (v : ReceiverSeat) → Allows (KeepsNodes key) slots id (Receives v, []) 0 (λ n. n) (tells_look (step slots 0 0 0 none) (Receives v, []))
+  looks v s kept deep seen small = (Receives v, keeps, tt, (looked key id s kept (Receives v) seen).rule, (v, refl, (refl, begins_now key s kept id v seen)))
+
+  tally_looks : (v : TallySeat) → Allows (KeepsNodes key) slots id (Tallies v, []) 0 (λ n. n) (tells_tally (step slots 0 0 0 none) (Tallies v, []))
+  tally_looks v s kept deep seen small = (Tallies v, keeps, tt, (looked key id s kept (Tallies v) seen).rule, (refl, tally_begins key s kept id v seen))
+
+  begins : (shape : Shape) (turn : ℕ) → shape.senders ≤ turn → Allows (KeepsNodes key) slots id (Dealt shape turn, []) 0 (λ n. n) (tells_begin_receiving (step slots 0 0 0 none) (Dealt shape turn, []))
+  begins shape turn past s kept deep seen small = (Receives (new_receiver shape (turn - shape.senders)), keeps, tt, (begun key id s kept shape turn past seen).rule, refl)
 
   -- ---- the same as the functions ask for it
 

@@ -34,11 +34,11 @@ use Rattle.node_table.specs.declared.seats.SenderSeat.{SenderSeat}
 use Rattle.node_table.specs.declared.seats.Shape.{Shape}
 use Rattle.node_table.specs.declared.seats.TallySeat.{TallySeat}
 use Rattle.node_table.specs.Layout.{nodes_in, stub_of}
-use Rattle.node_table.specs.Rule.{AreWords, KeepsNodes}
+use Rattle.node_table.specs.Rule.{AreWords, KeepsNodes, KeepsOn, events_after, later_in}
 use Rattle.queue_core.specs.Items.{IsInRange}
 use Rattle.node_table.specs.Seats.{AreTakenIn, Owned, Has, HasShape, IsAlone, KnowsMailbox, IsHolding, IsNew, IsPartOf, IsReceiverSeat, IsSeat, IsSenderSeat, IsTakenIn, IsTallySeat, receiver_part}
 use Rattle.node_table.specs.Seats.Owned.{Node, Part}
-use Rattle.node_table.proofs.AfterEvent.{events_after, later, later_held, later_in, later_items, later_other, later_own, told_leads, told_shows}
+use Rattle.node_table.proofs.AfterEvent.{later, later_held, later_items, later_other, later_own, on_event, told_leads, told_shows}
 use Rattle.node_table.proofs.Owned.{apart_set, other_has_not}
 
 -- ---- where the receiver of one mailbox alone goes on
@@ -291,24 +291,29 @@ module _ (shape : Shape) (s : State Posting Known) (kept : KeepsNodes shape s) (
     ]
 
     -- So the rule is kept.
-    pub moved : KeepsNodes shape record { words = words; homes = s.homes; views = set s.views id (Receives w) }
-    moved = record {
-      events = events_after event b kept.events;
-      pool = q';
-      core = n;
-      mail = record {
-        fits = fits_on c n q q' b moves.same shape kept.mail.fits;
-        pooled = keeps_step_in c n b x kept.mail.pooled low moves.due;
-        leads = subst (λ (r : ℕ). PoolLeads r (events_after event b kept.events) q') (sym moves.same.ring) (told_leads q b event c.ring n kept.events kept.mail.leads told);
-        shows = told_shows q b event c.ring n told;
-        ranged = λ d p. subst (λ (items : ℕ → List Item). All IsInRange (items p)) (sym (moves.same.items d)) (kept.mail.ranged d p);
+    pub moved : KeepsOn shape s kept b x record { words = words; homes = s.homes; views = set s.views id (Receives w) }
+    moved = on_event shape s kept b x event n _ moves.due moves.event_is record {
+      rule = record {
+        events = events_after event b kept.events;
+        pool = q';
+        core = n;
+        mail = record {
+          fits = fits_on c n q q' b moves.same shape kept.mail.fits;
+          pooled = keeps_step_in c n b x kept.mail.pooled low moves.due;
+          leads = subst (λ (r : ℕ). PoolLeads r (events_after event b kept.events) q') (sym moves.same.ring) (told_leads q b event c.ring n kept.events kept.mail.leads told);
+          shows = told_shows q b event c.ring n told;
+          ranged = λ d p. subst (λ (items : ℕ → List Item). All IsInRange (items p)) (sym (moves.same.items d)) (kept.mail.ranged d p);
+        };
+        words = moves.are_words;
+        seats = λ j d e. elim (at_set s.views id j (Receives w) d e) [
+          | inl mine ↦ subst (IsSeat n q' s.homes) mine.1 moves.seat
+          | inr old ↦ stays j d old.0 old.1
+        ];
+        apart = apart_set s.views kept.apart id (Receives v) seen (Receives w) fresh;
       };
-      words = moves.are_words;
-      seats = λ j d e. elim (at_set s.views id j (Receives w) d e) [
-        | inl mine ↦ subst (IsSeat n q' s.homes) mine.1 moves.seat
-        | inr old ↦ stays j d old.0 old.1
-      ];
-      apart = apart_set s.views kept.apart id (Receives v) seen (Receives w) fresh;
+      events_are = refl;
+      pool_is = refl;
+      core_is = refl;
     }
 
   -- ---- what the receiver knows after a step
@@ -362,7 +367,7 @@ module _ (shape : Shape) (s : State Posting Known) (kept : KeepsNodes shape s) (
 
   -- So the rule is kept.
   pub gone_on : (x : Step) (event : Option Event) (n : Pooled) (words : List ℕ) (reader : Reader) (passed : List Entry) → GoesOn x event n words reader passed
-      → KeepsNodes shape record { words = words; homes = s.homes; views = set s.views id (Receives (seat_with reader passed v.given v.got v.at_hand)) }
+      → KeepsOn shape s kept b x record { words = words; homes = s.homes; views = set s.views id (Receives (seat_with reader passed v.given v.got v.at_hand)) }
   gone_on x event n words reader passed goes =
       let still : (g : Holding) → IsHolding c q g → IsHolding n (later_in event b q) g = λ g was. still_holding c n q (later_in event b q) b goes.same g was (later_held q b event goes.held g.mailbox g.sender g.place was.held) in
       moved x event n words (seat_with reader passed v.given v.got v.at_hand) record {

@@ -12,6 +12,7 @@ use Rattle.queue_core.specs.declared.words.Node.{Node}
 use Rattle.queue_core.specs.declared.reader.Reader.{Reader}
 use Rattle.queue_core.specs.declared.reader.ReaderPoint.{ReaderPoint}
 use Rattle.queue_core.specs.declared.reader.ReaderPoint.TheVariants as reads
+use Rattle.queue_core.specs.declared.step.Step.{Step}
 use Rattle.queue_core.specs.declared.step.Step.TheVariants as steps
 use Rattle.queue_core.specs.Mailbox.{Mailbox, is_among, left_entries, passed_entries, received_at}
 use Rattle.queue_core.specs.Events.{after}
@@ -37,10 +38,10 @@ use Rattle.node_table.specs.declared.seats.Posting.{Posting}
 use Rattle.node_table.specs.declared.seats.ReceiverSeat.{ReceiverSeat}
 use Rattle.node_table.specs.declared.seats.Shape.{Shape}
 use Rattle.node_table.specs.Layout.{amount_word_of, head_word, line_word_of, next_word, nodes_in, stub_of, turn_word}
-use Rattle.node_table.specs.Rule.{AreWords, KeepsNodes}
+use Rattle.node_table.specs.Rule.{AreWords, KeepsNodes, KeepsOn}
 use Rattle.node_table.specs.Seats.{IsAlone, IsReceiverSeat, got_in}
 use Rattle.node_table.specs.Tells.{HasLoadedHead, IsAwaitedAt, IsWholeAt, LoadsHead, LoadsNext, after_give, after_head, after_head_at, reading_at, tells_give_back, tells_load_amount, tells_load_head, tells_load_line, tells_load_next, tells_stub_link, tells_stub_null, tells_stub_swap, with_reader_at}
-use Rattle.node_table.proofs.AtHandSteps.{amount_found, give_kept, hand_held, line_found, look_kept}
+use Rattle.node_table.proofs.AtHandSteps.{amount_found, amount_kept, give_kept, hand_held, line_found, line_kept}
 use Rattle.node_table.proofs.LoadNextStep.{next_kept}
 use Rattle.node_table.proofs.ReceiverFrame.{but_reader, gone_on, holds, low, nodes_are, own, reader_else, reader_set, stub_is}
 use Rattle.node_table.proofs.TakenIn.{find_awaited, head_alone, known_sent, one_entry}
@@ -117,9 +118,9 @@ module _ (shape : Shape) (id : ℕ) (v : ReceiverSeat) (s : State Posting Known)
   else_is : (r : Reader) (d : ℕ) → ¬ (d ≡ b) → reader_in (with_reader b r c) d ≡ reader_in c d
   else_is = reader_else shape s kept id v seen
 
-  -- the rule where the reader is elsewhere, and a word is another
-  abbrev KeepsThen : Reader → (i word : ℕ) → Type 0
-  KeepsThen reader i word = KeepsNodes shape record { words = set s.words i word; homes = s.homes; views = set s.views id (Receives (with_reader_at reader v)) }
+  -- the rule after a step, where the reader is elsewhere, and a word is another
+  abbrev KeepsThen : Step → Reader → (i word : ℕ) → Type 0
+  KeepsThen x reader i word = KeepsOn shape s kept b x record { words = set s.words i word; homes = s.homes; views = set s.views id (Receives (with_reader_at reader v)) }
 
   -- ---- LoadHead
 
@@ -147,7 +148,7 @@ module _ (shape : Shape) (id : ℕ) (v : ReceiverSeat) (s : State Posting Known)
         ]
 
     -- the rule is kept
-    head_kept : KeepsThen (after_head found v.reader) (head_word shape b) found
+    pub head_kept : KeepsThen steps.LoadHead (after_head found v.reader) (head_word shape b) found
     head_kept =
         let r : Reader = after_head (head_in c b) reader in
         let n : Pooled = with_reader b r c in
@@ -187,7 +188,7 @@ module _ (shape : Shape) (id : ℕ) (v : ReceiverSeat) (s : State Posting Known)
 
   module _ (at : v.reader.point ≡ reads.Null) where
     -- the rule is kept: a word of the stub is written, and no event happens
-    null_kept : KeepsThen (record v.reader { point = reads.Swap }) (next_word (stub_of v.shape b)) null
+    pub null_kept : KeepsThen steps.StubNull (record v.reader { point = reads.Swap }) (next_word (stub_of v.shape b)) null
     null_kept =
         let node : Node = record (node_at c stub) { next = null } in
         let n : Pooled = goes_to b reads.Swap (with_node stub node c) in
@@ -224,7 +225,7 @@ module _ (shape : Shape) (id : ℕ) (v : ReceiverSeat) (s : State Posting Known)
     swap_may = (step_shows_in b steps.StubSwap kept.events q c swapped there kept.mail.pooled kept.mail.leads kept.mail.shows swap_due).0
 
     -- the rule is kept
-    swap_kept : KeepsThen (record v.reader { point = reads.Link (get_or s.words (head_word shape b) 0 - 1) }) (head_word shape b) (stub_of v.shape b + 1)
+    pub swap_kept : KeepsThen steps.StubSwap (record v.reader { point = reads.Link (get_or s.words (head_word shape b) 0 - 1) }) (head_word shape b) (stub_of v.shape b + 1)
     swap_kept =
         let its = holds shape s kept id v seen b in
         let passed : passed_entries (after StubIn m) ≡ passed_entries m = same_passed c.ring m its Stub swap_may in
@@ -253,7 +254,7 @@ module _ (shape : Shape) (id : ℕ) (v : ReceiverSeat) (s : State Posting Known)
 
   module _ (before : ℕ) (at : v.reader.point ≡ reads.Link before) where
     -- the rule is kept: the stub is linked
-    link_kept : KeepsThen (record v.reader { point = reads.Last }) (next_word before) (stub_of v.shape b + 1)
+    pub link_kept : KeepsThen steps.StubLink (record v.reader { point = reads.Last }) (next_word before) (stub_of v.shape b + 1)
     link_kept =
         let node : Node = record (node_at c before) { next = link_to stub } in
         let n : Pooled = goes_to b reads.Last (with_node before node c) in
@@ -273,41 +274,41 @@ module _ (shape : Shape) (id : ℕ) (v : ReceiverSeat) (s : State Posting Known)
 
 module _ (shape : Shape) (slots id : ℕ) (v : ReceiverSeat) where
   pub next_loads : LoadsNext v.reader.point → Allows (KeepsNodes shape) slots id (Receives v, []) (next_word v.reader.tail) (λ n. n) (tells_load_next (step slots (next_word v.reader.tail) 0 0 none) (Receives v, []))
-  next_loads at s kept deep seen small = let next = next_kept shape id v s kept seen at in (Receives next.0, keeps, tt, next.1, (next.0, refl, next.2))
+  next_loads at s kept deep seen small = let next = next_kept shape id v s kept seen at in (Receives next.0, keeps, tt, next.1.2.rule, (next.0, refl, next.2))
 
   pub head_loads : LoadsHead v.reader.point → Allows (KeepsNodes shape) slots id (Receives v, []) (head_word shape v.mailbox) (λ n. n) (tells_load_head (step slots (head_word shape v.mailbox) 0 0 none) (Receives v, []))
   head_loads at s kept deep seen small =
       let w : ReceiverSeat = with_reader_at (after_head (get_or s.words (head_word shape v.mailbox) 0) v.reader) v in
-      (Receives w, keeps, tt, head_kept shape id v s kept seen at, (w, refl, head_told shape id v s kept seen at))
+      (Receives w, keeps, tt, (head_kept shape id v s kept seen at).2.rule, (w, refl, head_told shape id v s kept seen at))
 
   pub stub_nulls : v.reader.point ≡ reads.Null
       → Allows (KeepsNodes shape) slots id (Receives v, []) (next_word (stub_of v.shape v.mailbox)) (λ _. null) (λ _. tells_stub_null (step slots (next_word (stub_of v.shape v.mailbox)) null 0 none) (Receives v, []) null)
   stub_nulls at s kept deep seen small =
       let w : ReceiverSeat = reading_at reads.Swap v in
-      (Receives w, keeps, tt, null_kept shape id v s kept seen at, (w, refl, refl))
+      (Receives w, keeps, tt, (null_kept shape id v s kept seen at).2.rule, (w, refl, refl))
 
   pub stub_swaps : v.reader.point ≡ reads.Swap
       → Allows (KeepsNodes shape) slots id (Receives v, []) (head_word shape v.mailbox) (λ _. stub_of v.shape v.mailbox + 1) (tells_stub_swap (step slots (head_word shape v.mailbox) (stub_of v.shape v.mailbox + 1) 0 none) (Receives v, []))
   stub_swaps at s kept deep seen small =
       let w : ReceiverSeat = reading_at (reads.Link (get_or s.words (head_word shape v.mailbox) 0 - 1)) v in
       let found = swap_found shape id v s kept seen at in
-      (Receives w, keeps, tt, swap_kept shape id v s kept seen at, (w, refl, (refl, found.0, found.1)))
+      (Receives w, keeps, tt, (swap_kept shape id v s kept seen at).2.rule, (w, refl, (refl, found.0, found.1)))
 
   pub stub_links : (before : ℕ) → v.reader.point ≡ reads.Link before
       → Allows (KeepsNodes shape) slots id (Receives v, []) (next_word before) (λ _. stub_of v.shape v.mailbox + 1) (λ _. tells_stub_link (step slots (next_word before) (stub_of v.shape v.mailbox + 1) 0 none) (Receives v, []) (stub_of v.shape v.mailbox + 1))
   stub_links before at s kept deep seen small =
       let w : ReceiverSeat = reading_at reads.Last v in
-      (Receives w, keeps, tt, link_kept shape id v s kept seen before at, (w, refl, refl))
+      (Receives w, keeps, tt, (link_kept shape id v s kept seen before at).2.rule, (w, refl, refl))
 
   -- what is at hand
   module _ (h : Holding) (hand : v.at_hand ≡ Some h) (at : v.reader.point ≡ reads.Rest) where
     pub line_loads : Allows (KeepsNodes shape) slots id (Receives v, []) (line_word_of h.node) (λ n. n) (tells_load_line (step slots (line_word_of h.node) 0 0 none) (Receives v, []))
-    line_loads s kept deep seen small = (Receives v, keeps, tt, look_kept shape id v s kept seen (line_word_of h.node), (v, refl, (refl, line_found shape id v s kept seen h hand)))
+    line_loads s kept deep seen small = (Receives v, keeps, tt, (line_kept shape id v s kept seen h hand at).2.rule, (v, refl, (refl, line_found shape id v s kept seen h hand)))
 
     pub amount_loads : Allows (KeepsNodes shape) slots id (Receives v, []) (amount_word_of h.node) (λ n. n) (tells_load_amount (step slots (amount_word_of h.node) 0 0 none) (Receives v, []))
-    amount_loads s kept deep seen small = (Receives v, keeps, tt, look_kept shape id v s kept seen (amount_word_of h.node), (v, refl, (refl, amount_found shape id v s kept seen h hand)))
+    amount_loads s kept deep seen small = (Receives v, keeps, tt, (amount_kept shape id v s kept seen h hand at).2.rule, (v, refl, (refl, amount_found shape id v s kept seen h hand)))
 
     pub turn_adds : Allows (KeepsNodes shape) slots id (Receives v, []) (turn_word h.node) (λ n. (n + 1) % 2 ^ 64) (tells_give_back (step slots (turn_word h.node) 1 0 none) (Receives v, []))
     turn_adds s kept deep seen small =
         let w : ReceiverSeat = after_give (Some h) v in
-        (Receives w, keeps, tt, give_kept shape id v s kept seen h hand at, (w, refl, (ap (λ o. after_give o v) (sym hand), hand_held shape id v s kept seen h hand)))
+        (Receives w, keeps, tt, (give_kept shape id v s kept seen h hand at).2.rule, (w, refl, (ap (λ o. after_give o v) (sym hand), hand_held shape id v s kept seen h hand)))

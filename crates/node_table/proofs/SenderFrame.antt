@@ -39,11 +39,11 @@ use Rattle.node_table.specs.declared.seats.Known.TheVariants.{Dealt, Sends, Rece
 use Rattle.node_table.specs.declared.seats.Posting.{Posting}
 use Rattle.node_table.specs.declared.seats.SenderSeat.{SenderSeat}
 use Rattle.node_table.specs.declared.seats.Shape.{Shape}
-use Rattle.node_table.specs.Rule.{AreWords, IsNodeMail, KeepsNodes}
+use Rattle.node_table.specs.Rule.{AreWords, IsNodeMail, KeepsAs, KeepsNodes, KeepsOn, events_after, later_in}
 use Rattle.queue_core.specs.Items.{IsInRange}
 use Rattle.node_table.specs.Seats.{Owned, Has, HasShape, KnowsMailbox, IsHolding, IsNew, IsPartIn, IsSeat, IsSenderSeat, IsTakenIn, items_in, known_in, sender_part}
 use Rattle.node_table.specs.Seats.Owned.{Part, Node}
-use Rattle.node_table.proofs.AfterEvent.{events_after, later_in, told_leads, told_shows}
+use Rattle.node_table.proofs.AfterEvent.{on_event, told_leads, told_shows}
 use Rattle.node_table.proofs.Owned.{apart_still, other_has_not}
 use Rattle.node_table.specs.declared.seats.ReceiverSeat.{ReceiverSeat}
 use Rattle.node_table.specs.Layout.{slot_of}
@@ -297,18 +297,23 @@ module _ (shape : Shape) (s : State Posting Known) (kept : KeepsNodes shape s) (
   -- the rule holds where the core shows what the events lead to, the words are the core's, and the sender knows its part
   pub put_together : (events : List (ℕ × Event)) (q' : Pool) (n : Pooled) → IsNodeMail shape events q' n → CoreButSender kept.core n p → PoolButSender kept.core.ring kept.pool q' p → (words : List ℕ) → AreWords shape n words
       → (homes : List (Slot Posting)) → ((r : ℕ) → ¬ (r ≡ p) → IsHome s.homes r → IsHome homes r) → (w : SenderSeat) → w.number ≡ p → IsSenderSeat n q' w
-      → KeepsNodes shape record { words = words; homes = homes; views = set s.views id (Sends w) }
+      → KeepsAs shape events q' n record { words = words; homes = homes; views = set s.views id (Sends w) }
   put_together events q' n mail core pool words are homes at_home w its own = record {
-    events = events;
-    pool = q';
-    core = n;
-    mail = mail;
-    words = are;
-    seats = λ j d e. elim (at_set s.views id j (Sends w) d e) [
-      | inl mine ↦ subst (IsSeat n q' homes) mine.1 own
-      | inr old ↦ stays_but_sender kept.core n kept.pool q' p core pool s.homes homes at_home in_table d (other_has_not s.views kept.apart id known seen j d old.0 old.1 (Part (sender_part p)) has) (kept.seats j d old.1)
-    ];
-    apart = apart_still s.views kept.apart id known seen (Sends w) (less w its);
+    rule = record {
+      events = events;
+      pool = q';
+      core = n;
+      mail = mail;
+      words = are;
+      seats = λ j d e. elim (at_set s.views id j (Sends w) d e) [
+        | inl mine ↦ subst (IsSeat n q' homes) mine.1 own
+        | inr old ↦ stays_but_sender kept.core n kept.pool q' p core pool s.homes homes at_home in_table d (other_has_not s.views kept.apart id known seen j d old.0 old.1 (Part (sender_part p)) has) (kept.seats j d old.1)
+      ];
+      apart = apart_still s.views kept.apart id known seen (Sends w) (less w its);
+    };
+    events_are = refl;
+    pool_is = refl;
+    core_is = refl;
   }
 
 -- ---- a step of the core
@@ -337,7 +342,8 @@ module _ (shape : Shape) (s : State Posting Known) (kept : KeepsNodes shape s) (
   its_posts = posts_after c.ring kept.mail.pooled.some_nodes kept.events q kept.mail.leads p
 
   -- where the core stands still
-  pub stood : (words : List ℕ) → AreWords shape c words → (homes : List (Slot Posting)) → ((r : ℕ) → ¬ (r ≡ p) → IsHome s.homes r → IsHome homes r) → KeepsNodes shape record { words = words; homes = homes; views = set s.views id (Sends v) }
+  pub stood : (words : List ℕ) → AreWords shape c words → (homes : List (Slot Posting)) → ((r : ℕ) → ¬ (r ≡ p) → IsHome s.homes r → IsHome homes r)
+      → KeepsAs shape kept.events q c record { words = words; homes = homes; views = set s.views id (Sends v) }
   stood words are homes at_home = put_together shape s kept id p (Sends v) seen refl its_within kept.events q c kept.mail (core_still c p) (pool_still c.ring q p) words are homes at_home v refl own
 
   -- where a step is due
@@ -362,18 +368,18 @@ module _ (shape : Shape) (s : State Posting Known) (kept : KeepsNodes shape s) (
       -- the sender is in another place of its call, it may have ended, and it may have filled an item
       module _ (caller : Caller) (ended : List Bool) (caller_is : sender_at n p ≡ caller) (flags : length ended ≡ v.shape.mailboxes) (ended_is : (d : ℕ) → d < v.shape.mailboxes → has_ended_in n d p ≡ slice_index_or ended d false) (words : List ℕ) (are : AreWords shape n words) where
         pub moved : (filled : List (ℕ × Item)) → ((d : ℕ) → ((later_in event b q).boxes d).items p ≡ items_in d filled) → ((d : ℕ) → All IsInRange (((later_in event b q).boxes d).items p))
-            → KeepsNodes shape record { words = words; homes = s.homes; views = set s.views id (Sends (record { shape = v.shape; number = p; caller = caller; ended = ended; filled = filled })) }
-        moved filled items ranged =
-            put_together shape s kept id p (Sends v) seen refl its_within (events_after event b kept.events) (later_in event b q) n (mail_now ranged) core pool words are s.homes (λ r other at. at) _ refl record {
+            → KeepsOn shape s kept b x record { words = words; homes = s.homes; views = set s.views id (Sends (record { shape = v.shape; number = p; caller = caller; ended = ended; filled = filled })) }
+        moved filled items ranged = on_event shape s kept b x event n _ due event_is
+            (put_together shape s kept id p (Sends v) seen refl its_within (events_after event b kept.events) (later_in event b q) n (mail_now ranged) core pool words are s.homes (λ r other at. at) _ refl record {
               shape = shape_stays c n q (later_in event b q) p core pool v.shape own.shape;
               within = own.within;
               caller = caller_is;
               flags = flags;
               ended = ended_is;
               items = items;
-            }
+            })
 
         -- where it fills nothing
         pub went_on : ((d : ℕ) → ((later_in event b q).boxes d).items p ≡ (q.boxes d).items p)
-            → KeepsNodes shape record { words = words; homes = s.homes; views = set s.views id (Sends (record { shape = v.shape; number = p; caller = caller; ended = ended; filled = v.filled })) }
+            → KeepsOn shape s kept b x record { words = words; homes = s.homes; views = set s.views id (Sends (record { shape = v.shape; number = p; caller = caller; ended = ended; filled = v.filled })) }
         went_on same = moved v.filled (λ d. same d ∙ own.items d) (λ d. subst (λ xs. All IsInRange xs) (sym (same d)) (kept.mail.ranged d p))

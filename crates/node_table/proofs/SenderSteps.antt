@@ -39,12 +39,11 @@ use Rattle.node_table.specs.declared.seats.Posting.{Posting}
 use Rattle.node_table.specs.declared.seats.SenderSeat.{SenderSeat}
 use Rattle.node_table.specs.declared.seats.Shape.{Shape}
 use Rattle.node_table.specs.Layout.{amount_word_of, head_word, line_word_of, next_word, nodes_in, slot_of, turn_word}
-use Rattle.node_table.specs.Rule.{AreWords, KeepsNodes}
+use Rattle.node_table.specs.Rule.{AreWords, KeepsAs, KeepsNodes, KeepsOn, later_in}
 use Rattle.queue_core.specs.Items.{IsInRange}
 use Rattle.node_table.specs.Seats.{IsDealtSeat, IsNewSender, IsSenderSeat, has_ended, items_in}
 use Rattle.node_table.specs.Tells.{after_amount_at, after_link_at, after_sending, after_turn, after_null_at, after_swap_at, at_point, filling, found_full, is_free_at, new_sender, node_of as seat_node, posting, tells_give_slot, tells_load_turn, tells_store_amount, tells_store_line, tells_store_link, tells_store_null, tells_swap_head, tells_take_slot}
 use Rattle.node_table.proofs.Owned.{at_within}
-use Rattle.node_table.proofs.AfterEvent.{later_in}
 use Rattle.node_table.proofs.SenderFrame.{CoreButSender, IsHome, PoolButSender, box_exchanged, box_holds, box_linked, core_but, core_still, its_posts, its_within, moved, own, pool_but, pool_filled, pool_still, put_together, stood, told, went_on}
 use Rattle.node_table.proofs.Words.{amount_words, head_words, line_words, look_words, next_words, stub_there}
 
@@ -130,7 +129,7 @@ module _ (shape d : Shape) (p : ℕ) (low : p < d.senders) (s : State Posting Kn
   dealt : IsDealtSeat kept.core kept.pool s.homes d p
   dealt = kept.seats id (Dealt d p) seen
 
-  new : IsNewSender kept.core kept.pool s.homes p
+  pub new : IsNewSender kept.core kept.pool s.homes p
   new = dealt.new.sender low
 
   -- it has done nothing, as it was dealt
@@ -144,7 +143,7 @@ module _ (shape d : Shape) (p : ℕ) (low : p < d.senders) (s : State Posting Kn
     items = new.items;
   }
 
-  takes_kept : KeepsNodes shape record { words = set s.words 0 (get_or s.words 0 0); homes = set s.homes (slot_of p) none; views = set s.views id (Sends (new_sender d p)) }
+  pub takes_kept : KeepsAs shape kept.events kept.pool kept.core record { words = set s.words 0 (get_or s.words 0 0); homes = set s.homes (slot_of p) none; views = set s.views id (Sends (new_sender d p)) }
   takes_kept =
       put_together shape s kept id p (Dealt d p) seen refl (omega (arith, low, dealt.shape_is.senders)) kept.events kept.pool kept.core kept.mail (core_still kept.core p) (pool_still kept.core.ring kept.pool p)
       (set s.words 0 (get_or s.words 0 0)) (look_words shape kept.core s.words kept.words kept.core 0 refl refl)
@@ -162,9 +161,9 @@ module _ (shape : Shape) (v : SenderSeat) (s : State Posting Known) (kept : Keep
   abbrev p : ℕ
   p = v.number
 
-  -- the rule holds of these words, where this is what the sender knows
-  abbrev Keeps : List ℕ → SenderSeat → Type 0
-  Keeps words w = KeepsNodes shape record { words = words; homes = s.homes; views = set s.views id (Sends w) }
+  -- by a step in a mailbox the rule holds of these words, where this is what the sender knows
+  abbrev Keeps : (b : ℕ) → Step → List ℕ → SenderSeat → Type 0
+  Keeps b x words w = KeepsOn shape s kept b x record { words = words; homes = s.homes; views = set s.views id (Sends w) }
 
   ok : IsPooled c
   ok = kept.mail.pooled
@@ -200,7 +199,7 @@ module _ (shape : Shape) (v : SenderSeat) (s : State Posting Known) (kept : Keep
     module _ (x : Step) (event : Option Event) (n : Pooled) (due : stepped_in c b x ≡ Some n) (event_is : event_in c q b x ≡ event) (core : CoreButSender c n p) (pool : PoolButSender c.ring q (later_in event b q) p)
         (point : SenderPoint) (caller_is : sender_at n p ≡ record (sender_at c p) { point = point; mailbox = b }) (ended : n.ended ≡ c.ended) (words : List ℕ) (are : AreWords shape n words) where
       -- its items are as they were
-      goes_on : v.caller.mailbox ≡ b → ((d : ℕ) → ((later_in event b q).boxes d).items p ≡ (q.boxes d).items p) → Keeps words (at_point point v)
+      goes_on : v.caller.mailbox ≡ b → ((d : ℕ) → ((later_in event b q).boxes d).items p ≡ (q.boxes d).items p) → Keeps b x words (at_point point v)
       goes_on mailbox same =
           went_on shape s kept id v seen b there x event n due event_is core pool (record v.caller { point = point }) v.ended
           (caller_is ∙ (λ i. record (mine.caller i) { point = point; mailbox = sym mailbox i })) mine.flags (still_ended n core ended) words are same
@@ -208,7 +207,7 @@ module _ (shape : Shape) (v : SenderSeat) (s : State Posting Known) (kept : Keep
     -- by the step an item is filled
     module _ (item : Item) (x : Step) (n : Pooled) (due : stepped_in c b x ≡ Some n) (event_is : event_in c q b x ≡ Some (Fill p item)) (core : CoreButSender c n p)
         (point : SenderPoint) (caller_is : sender_at n p ≡ record (sender_at c p) { point = point; mailbox = b }) (ended : n.ended ≡ c.ended) (words : List ℕ) (are : AreWords shape n words) where
-      fills : IsInRange item → Keeps words (filling point (posting b item) v)
+      fills : IsInRange item → Keeps b x words (filling point (posting b item) v)
       fills within =
           let may = (told shape s kept id v seen b there x (Some (Fill p item)) n due event_is).0 in
           let pool = pool_filled c.ring ok.some_nodes q b p (its_posts shape s kept id v seen) item may (box_holds shape s kept id v seen) in
@@ -232,31 +231,31 @@ module _ (shape : Shape) (v : SenderSeat) (s : State Posting Known) (kept : Keep
 
       -- a store of a word of its node
       stores : (x : Step) (node : Node) (point : SenderPoint) → stepped_in c b x ≡ Some (with_point b p point (with_node (node_of c b p item) node c)) → event_in c q b x ≡ None → (words : List ℕ)
-          → AreWords shape (with_point b p point (with_node (node_of c b p item) node c)) words → Keeps words (at_point point v)
+          → AreWords shape (with_point b p point (with_node (node_of c b p item) node c)) words → Keeps b x words (at_point point v)
       stores x node point due still words are =
           let n : Pooled = with_point b p point (with_node (node_of c b p item) node c) in
           goes_on x None n due still (core_but c n p (record (sender_at c p) { point = point; mailbox = b }) refl refl refl refl refl refl) (pool_still c.ring q p) point (get_or-set_same c.senders p _ _ in_table) refl words are mailbox (λ d. refl)
 
       -- a store of its line, of its amount, and of null as its next
-      line_kept : v.caller.point ≡ sends.Line item → Keeps (set s.words (line_word_of (seat_node v b item)) (line_word item)) (at_point (sends.Amount item) v)
+      pub line_kept : v.caller.point ≡ sends.Line item → Keeps b (steps.StoreLine p) (set s.words (line_word_of (seat_node v b item)) (line_word item)) (at_point (sends.Amount item) v)
       line_kept at = stores (steps.StoreLine p) _ (sends.Amount item) (ap (λ point. option_map (at_amount c b p) (line_due point)) (point_is (sends.Line item) at)) refl _
           (subst (λ (k : ℕ). AreWords shape (at_amount c b p item) (set s.words (line_word_of k) (line_word item))) (node_here item)
           (line_words shape c s.words kept.words (at_amount c b p item) (node_of c b p item) (node_there item) _ refl refl (line_word item) refl refl refl refl))
 
-      amount_kept : v.caller.point ≡ sends.Amount item → Keeps (set s.words (amount_word_of (seat_node v b item)) (amount_word item)) (at_point (sends.Null item) v)
+      pub amount_kept : v.caller.point ≡ sends.Amount item → Keeps b (steps.StoreAmount p) (set s.words (amount_word_of (seat_node v b item)) (amount_word item)) (at_point (sends.Null item) v)
       amount_kept at = stores (steps.StoreAmount p) _ (sends.Null item) (ap (λ point. option_map (at_null c b p) (amount_due point)) (point_is (sends.Amount item) at)) refl _
           (subst (λ (k : ℕ). AreWords shape (at_null c b p item) (set s.words (amount_word_of k) (amount_word item))) (node_here item)
           (amount_words shape c s.words kept.words (at_null c b p item) (node_of c b p item) (node_there item) _ refl refl (amount_word item) refl refl refl refl))
 
-      null_kept : v.caller.point ≡ sends.Null item → Keeps (set s.words (next_word (seat_node v b item)) null) (at_point (sends.Swap item) v)
+      pub null_kept : v.caller.point ≡ sends.Null item → Keeps b (steps.StoreNull p) (set s.words (next_word (seat_node v b item)) null) (at_point (sends.Swap item) v)
       null_kept at = stores (steps.StoreNull p) _ (sends.Swap item) (ap (λ point. option_map (at_swap c b p) (null_due point)) (point_is (sends.Null item) at)) refl _
           (subst (λ (k : ℕ). AreWords shape (at_swap c b p item) (set s.words (next_word k) null)) (node_here item)
           (next_words shape c s.words kept.words (at_swap c b p item) (node_of c b p item) (node_there item) _ refl refl null refl refl refl refl))
 
       -- ---- the exchange of the head
 
-      swap_kept : v.caller.point ≡ sends.Swap item
-          → Keeps (set s.words (head_word shape b) (seat_node v b item + 1)) (at_point (sends.Link item (get_or s.words (head_word shape b) 0 - 1)) v)
+      pub swap_kept : v.caller.point ≡ sends.Swap item
+          → Keeps b (steps.SwapHead p) (set s.words (head_word shape b) (seat_node v b item + 1)) (at_point (sends.Link item (get_or s.words (head_word shape b) 0 - 1)) v)
       swap_kept at =
           let n : Pooled = at_link c b p item in
           let due : swap_head b p c ≡ Some n = ap (λ point. option_map (at_link c b p) (swap_due point)) (point_is (sends.Swap item) at) in
@@ -291,7 +290,7 @@ module _ (shape : Shape) (v : SenderSeat) (s : State Posting Known) (kept : Keep
           readers = λ d. refl;
         }
 
-        link_kept : Keeps (set s.words (next_word before) (seat_node v b item + 1)) (after_sending item v)
+        pub link_kept : Keeps b (steps.StoreLink p) (set s.words (next_word before) (seat_node v b item + 1)) (after_sending item v)
         link_kept =
             let due : store_link b p c ≡ Some linked = ap (λ point. option_map (at_rest c b p) (link_due point)) (point_is (sends.Link item before) at) in
             went_on shape s kept id v seen b there (steps.StoreLink p) (Some (Link p)) linked due refl link_core (pool_but c.ring q b p (Link p) (box_linked (q.boxes b) p) refl)
@@ -317,7 +316,7 @@ module _ (shape : Shape) (v : SenderSeat) (s : State Posting Known) (kept : Keep
       going_there : has_ended_in c b p ≡ false
       going_there = mine.ended b exists ∙ going
 
-      end_kept : Keeps (set s.words (line_word_of (seat_node v b End)) (line_word End)) (filling (sends.Amount End) (posting b End) v)
+      pub end_kept : Keeps b (steps.EndLine p) (set s.words (line_word_of (seat_node v b End)) (line_word End)) (filling (sends.Amount End) (posting b End) v)
       end_kept =
           let n : Pooled = at_amount c b p End in
           let one : is_at_rest (sender_at c p).point ≡ true = ap is_at_rest at_its_rest in
@@ -384,7 +383,7 @@ module _ (shape : Shape) (v : SenderSeat) (s : State Posting Known) (kept : Keep
               rw (one, two, count, line_low, positive, small) refl
 
           -- its node is free
-          turn_fills : is_free_at found v ≡ true → Keeps (set s.words word found) (filling (sends.Line post) (posting b post) v)
+          turn_fills : is_free_at found v ≡ true → Keeps b (steps.LoadTurn p line amount) (set s.words word found) (filling (sends.Line post) (posting b post) v)
           turn_fills free =
               let is : is_free c b p post ≡ true = free_is ∙ free in
               let n : Pooled = at_line c b p post in
@@ -393,17 +392,24 @@ module _ (shape : Shape) (v : SenderSeat) (s : State Posting Known) (kept : Keep
               (look_now n refl refl) (omega (arith, low), above, omega (arith, within))
 
           -- it is not free yet
-          turn_full : is_free_at found v ≡ false → Keeps (set s.words word found) (found_full v)
+          turn_full : is_free_at found v ≡ false → Keeps b (steps.LoadTurn p line amount) (set s.words word found) (found_full v)
           turn_full busy =
               let is : is_free c b p post ≡ false = free_is ∙ busy in
               went_on shape s kept id v seen b there (steps.LoadTurn p line amount) None full (turn_due ∙ ap (λ t. Some (if t then at_line c b p post else full)) is) (ap (λ t. if t then Some (Fill p post) else None) is)
               (core_but c full p (record (sender_at c p) { last = Some Full }) refl refl refl refl refl refl) (pool_still c.ring q p) (record v.caller { last = Some Full }) v.ended
               (get_or-set_same c.senders p _ _ in_table ∙ (λ i. record (mine.caller i) { last = Some Full })) mine.flags mine.ended _ (look_now full refl refl) (λ d. refl)
 
+          -- and so it knows what it found
+          pub turn_kept : Keeps b (steps.LoadTurn p line amount) (set s.words word found) (after_turn found (posting b post) v)
+          turn_kept = elim (cases_Bool (is_free_at found v)) [
+            | inl free ↦ rw free (turn_fills free)
+            | inr busy ↦ rw busy (turn_full busy)
+          ]
+
   -- ---- the sender gives its slot back
 
   -- each slot that was at home is so, and so is its own
-  gives_kept : (slot : ℕ) (laid : Posting) → KeepsNodes shape record { words = set s.words 0 (get_or s.words 0 0); homes = set s.homes slot (some laid); views = set s.views id (Sends v) }
+  pub gives_kept : (slot : ℕ) (laid : Posting) → KeepsAs shape kept.events q c record { words = set s.words 0 (get_or s.words 0 0); homes = set s.homes slot (some laid); views = set s.views id (Sends v) }
   gives_kept slot laid = stood shape s kept id v seen _ (look_words shape c s.words kept.words c 0 refl refl) (set s.homes slot (some laid)) (λ r other at. home_there r at)
     where
       home_there : (r : ℕ) → IsHome s.homes r → IsHome (set s.homes slot (some laid)) r
@@ -418,7 +424,7 @@ module _ (shape : Shape) (slots id : ℕ) where
   pub slot_takes : (d : Shape) (p : ℕ) → p < d.senders → Allows (KeepsNodes shape) slots id (Dealt d p, []) 0 (λ n. n) (tells_take_slot (step slots 0 0 0 none) (Dealt d p, []))
   slot_takes d p low s kept deep seen small =
       let slot = (new shape d p low s kept id seen).slot in
-      (Sends (new_sender d p), takes (slot_of p) slot.0, slot.1, takes_kept shape d p low s kept id seen, (slot.0, refl))
+      (Sends (new_sender d p), takes (slot_of p) slot.0, slot.1, (takes_kept shape d p low s kept id seen).rule, (slot.0, refl))
 
   module _ (v : SenderSeat) (carried : List (ℕ × Posting)) (b : ℕ) (exists : b < v.shape.mailboxes) (mailbox : v.caller.mailbox ≡ b) (item : Item) where
     abbrev node : ℕ
@@ -428,32 +434,32 @@ module _ (shape : Shape) (slots id : ℕ) where
         → Allows (KeepsNodes shape) slots id (Sends v, carried) (line_word_of node) (λ _. line_word item) (λ _. tells_store_line (step slots (line_word_of node) (line_word item) 0 none) (Sends v, carried) (line_word item))
     line_stores at s kept deep seen small =
         let w : SenderSeat = at_point (sends.Amount item) v in
-        (Sends w, keeps, tt, line_kept shape v s kept id seen b exists mailbox item at, (w, refl, rw at refl))
+        (Sends w, keeps, tt, (line_kept shape v s kept id seen b exists mailbox item at).2.rule, (w, refl, rw at refl))
 
     pub amount_stores : v.caller.point ≡ sends.Amount item
         → Allows (KeepsNodes shape) slots id (Sends v, carried) (amount_word_of node) (λ _. amount_word item) (λ _. tells_store_amount (step slots (amount_word_of node) (amount_word item) 0 none) (Sends v, carried) (amount_word item))
     amount_stores at s kept deep seen small =
         let w : SenderSeat = at_point (sends.Null item) v in
-        (Sends w, keeps, tt, amount_kept shape v s kept id seen b exists mailbox item at, (w, refl, ap (λ point. after_amount_at point v) (sym at)))
+        (Sends w, keeps, tt, (amount_kept shape v s kept id seen b exists mailbox item at).2.rule, (w, refl, ap (λ point. after_amount_at point v) (sym at)))
 
     pub null_stores : v.caller.point ≡ sends.Null item
         → Allows (KeepsNodes shape) slots id (Sends v, carried) (next_word node) (λ _. null) (λ _. tells_store_null (step slots (next_word node) null 0 none) (Sends v, carried) null)
     null_stores at s kept deep seen small =
         let w : SenderSeat = at_point (sends.Swap item) v in
-        (Sends w, keeps, tt, null_kept shape v s kept id seen b exists mailbox item at, (w, refl, ap (λ point. after_null_at point v) (sym at)))
+        (Sends w, keeps, tt, (null_kept shape v s kept id seen b exists mailbox item at).2.rule, (w, refl, ap (λ point. after_null_at point v) (sym at)))
 
     pub head_swaps : v.caller.point ≡ sends.Swap item → Allows (KeepsNodes shape) slots id (Sends v, carried) (head_word shape b) (λ _. node + 1) (tells_swap_head (step slots (head_word shape b) (node + 1) 0 none) (Sends v, carried))
     head_swaps at s kept deep seen small =
         let found : ℕ = get_or s.words (head_word shape b) 0 in
         let w : SenderSeat = at_point (sends.Link item (found - 1)) v in
         let head = head_small shape v s kept id seen b exists in
-        (Sends w, keeps, tt, swap_kept shape v s kept id seen b exists mailbox item at, (w, refl, (ap (λ point. after_swap_at point found v) (sym at), head.0, head.1)))
+        (Sends w, keeps, tt, (swap_kept shape v s kept id seen b exists mailbox item at).2.rule, (w, refl, (ap (λ point. after_swap_at point found v) (sym at), head.0, head.1)))
 
     pub link_stores : (before : ℕ) → v.caller.point ≡ sends.Link item before
         → Allows (KeepsNodes shape) slots id (Sends v, carried) (next_word before) (λ _. node + 1) (λ _. tells_store_link (step slots (next_word before) (node + 1) 0 none) (Sends v, carried) (node + 1))
     link_stores before at s kept deep seen small =
         let w : SenderSeat = after_sending item v in
-        (Sends w, keeps, tt, link_kept shape v s kept id seen b exists mailbox item before at, (w, refl, ap (λ point. after_link_at point v) (sym at)))
+        (Sends w, keeps, tt, (link_kept shape v s kept id seen b exists mailbox item before at).2.rule, (w, refl, ap (λ point. after_link_at point v) (sym at)))
 
   module _ (v : SenderSeat) (slot : ℕ) where
     module _ (rest : v.caller.point ≡ sends.Rest) (b : ℕ) (exists : b < v.shape.mailboxes) (going : has_ended v b ≡ false) where
@@ -461,7 +467,7 @@ module _ (shape : Shape) (slots id : ℕ) where
           (λ _. tells_store_line (step slots (line_word_of (seat_node v b End)) (line_word End) 0 none) (Sends v, (slot, posting b End) ∷ []) (line_word End))
       end_stores s kept deep seen small =
           let w : SenderSeat = filling (sends.Amount End) (posting b End) v in
-          (Sends w, keeps, tt, end_kept shape v s kept id seen b exists rest going, (w, refl, rw rest refl))
+          (Sends w, keeps, tt, (end_kept shape v s kept id seen b exists rest going).2.rule, (w, refl, rw rest refl))
 
       pub turn_loads : (line : ℕ) (amount : ℤ) → v.caller.count < MOST_POOL_POSTS → line < MOST_POSTS → 0 < unsigned_abs amount → unsigned_abs amount ≤ MOST_AMOUNT
           → Allows (KeepsNodes shape) slots id (Sends v, (slot, posting b (Post line amount)) ∷ []) (turn_word (seat_node v b (Post line amount))) (λ n. n)
@@ -470,11 +476,7 @@ module _ (shape : Shape) (slots id : ℕ) where
           let item : Item = Post line amount in
           let turn : ℕ = get_or s.words (turn_word (seat_node v b item)) 0 in
           let w : SenderSeat = after_turn turn (posting b item) v in
-          let kept_then : KeepsNodes shape record { words = set s.words (turn_word (seat_node v b item)) turn; homes = s.homes; views = set s.views id (Sends w) } = elim (cases_Bool (is_free_at turn v)) [
-            | inl free ↦ rw free (turn_fills shape v s kept id seen b exists rest going line amount few low above within free)
-            | inr busy ↦ rw busy (turn_full shape v s kept id seen b exists rest going line amount few low above within busy)
-          ] in
-          (Sends w, keeps, tt, kept_then, (w, refl, (refl, all_filled shape v s kept id seen b exists rest going line amount)))
+          (Sends w, keeps, tt, (turn_kept shape v s kept id seen b exists rest going line amount few low above within).2.rule, (w, refl, (refl, all_filled shape v s kept id seen b exists rest going line amount)))
 
     pub slot_gives : (laid : Posting) → Allows (KeepsNodes shape) slots id (Sends v, (slot, laid) ∷ []) 0 (λ n. n) (tells_give_slot (step slots 0 0 0 none) (Sends v, (slot, laid) ∷ []))
-    slot_gives laid s kept deep seen small = (Sends v, gives, tt, gives_kept shape v s kept id seen slot laid, refl)
+    slot_gives laid s kept deep seen small = (Sends v, gives, tt, (gives_kept shape v s kept id seen slot laid).rule, refl)

@@ -6,4 +6,4 @@ pub split_seat-requires : goal.split_seat-requires
 split_seat-requires c =
     let nodes = c.args.nodes.now in
     let tally = c.args.tally.now in
-    (c.requires.seat, omega (arith, nodes.table.wide), deals nodes.board.shared.key tally.id tally.me c.requires.at)
+    (c.requires.seat, omega (arith, nodes.table.wide), λ s kept seen. (deals nodes.board.shared.key tally.id tally.me c.requires.at s kept seen).rule)

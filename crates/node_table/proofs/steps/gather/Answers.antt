@@ -11,4 +11,4 @@ join_seat-requires c =
     let tally = c.args.tally.now in
     let other = c.args.receiver in
     let at = c.requires.at in
-    (c.requires.seat.0, c.requires.seat.1, ap (λ (x : Me Posting Known). x.1) at.receiver, omega (arith, nodes.table.wide), gathers_in nodes.board.shared.key tally.id tally.me other.id other.me at)
+    (c.requires.seat.0, c.requires.seat.1, ap (λ (x : Me Posting Known). x.1) at.receiver, omega (arith, nodes.table.wide), λ s kept seen apart there. (gathers_in nodes.board.shared.key tally.id tally.me other.id other.me at s kept seen apart there).rule)

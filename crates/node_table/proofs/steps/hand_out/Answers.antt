@@ -6,4 +6,4 @@ pub split_seat-requires : goal.split_seat-requires
 split_seat-requires c =
     let nodes = c.args.nodes.now in
     let receiver = c.args.receiver.now in
-    (c.requires.seat, omega (arith, nodes.table.wide), hands nodes.board.shared.key receiver.id receiver.me c.requires.at)
+    (c.requires.seat, omega (arith, nodes.table.wide), λ s kept seen. (hands nodes.board.shared.key receiver.id receiver.me c.requires.at s kept seen).rule)

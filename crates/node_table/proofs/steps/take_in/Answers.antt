@@ -11,4 +11,4 @@ join_seat-requires c =
     let receiver = c.args.receiver.now in
     let other = c.args.sender in
     let at = c.requires.at in
-    (c.requires.seat.0, c.requires.seat.1, ap (λ (x : Me Posting Known). x.1) at.sender.is, omega (arith, nodes.table.wide), gets_in nodes.board.shared.key receiver.id receiver.me other.id other.me at)
+    (c.requires.seat.0, c.requires.seat.1, ap (λ (x : Me Posting Known). x.1) at.sender.is, omega (arith, nodes.table.wide), λ s kept seen apart there. (gets_in nodes.board.shared.key receiver.id receiver.me other.id other.me at s kept seen apart there).rule)
