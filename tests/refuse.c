@@ -1,6 +1,7 @@
 // Stands between a program and the system, and refuses what the environment says:
 //   REFUSE=N          the allocation with this number, from 1
 //   REFUSE_FROM=N     all allocations from this number on
+//   END_FROM=N        nothing, but the process ends with status 99 where it asks for an allocation with this number
 //   REFUSE_THREAD=N   the thread with this number
 //   REFUSE_IO=N       the read or write with this number: an error of the device
 //   REFUSE_FILE=N     the file that is opened, given permissions, brought to the disk or renamed with this number, or
@@ -18,9 +19,10 @@
 #include <stdlib.h>
 #include <sys/stat.h>
 #include <sys/types.h>
+#include <unistd.h>
 
 static atomic_long allocations, threads, transfers, files;
-static long refused, refused_from, refused_thread, refused_io, refused_file, interrupted_io, short_io, skip_sync;
+static long refused, refused_from, end_from, refused_thread, refused_io, refused_file, interrupted_io, short_io, skip_sync;
 
 static long number_in(const char *name) {
     const char *number = getenv(name);
@@ -30,6 +32,7 @@ static long number_in(const char *name) {
 __attribute__((constructor)) static void begin(void) {
     refused = number_in("REFUSE");
     refused_from = number_in("REFUSE_FROM");
+    end_from = number_in("END_FROM");
     refused_thread = number_in("REFUSE_THREAD");
     refused_io = number_in("REFUSE_IO");
     refused_file = number_in("REFUSE_FILE");
@@ -39,8 +42,9 @@ __attribute__((constructor)) static void begin(void) {
 }
 
 static int is_refused(void) {
-    if (!refused && !refused_from) return 0;
+    if (!refused && !refused_from && !end_from) return 0;
     long number = atomic_fetch_add(&allocations, 1) + 1;
+    if (end_from && number >= end_from) _exit(99);
     return number == refused || (refused_from && number >= refused_from);
 }
 

@@ -1,8 +1,10 @@
 #!/usr/bin/env bash
-# Runs a build of refusal_runs with its memory and its threads refused. Each allocation and each thread in turn: each call answers as it does where nothing is
-# refused, or that memory was, and each is refused an allocation at some number. All allocations once a mailbox is open: its calls answer as they do with ample
-# memory. Each allocation and thread in turn of a run over mailboxes, and of one over a pool: if its workers came to all lines, all their postings and end marks
-# were taken, with a book or without.
+# Runs a build of refusal_runs with its memory and its threads refused.
+# - Each allocation and each thread in turn: each call answers as it does where nothing is refused, or that memory was,
+#   and each is refused an allocation at some number.
+# - All allocations once a mailbox or a pool is open: its calls ask for none, and answer as with ample memory.
+# - Each allocation and thread in turn of a run over mailboxes, and of one over a pool: if its workers came to all lines,
+#   all their postings and end marks were taken, with a book or without.
 # It takes a C compiler, and half a minute. Usage: tests/refuse_calls.sh PROGRAM
 set -euo pipefail
 program=$(realpath "$1")
@@ -21,6 +23,13 @@ answers() {
     local status=0
     printf '%s\n' "$1" | env "$2=$3" LD_PRELOAD="$room/refuse.so" timeout 60 "$program" > "$room/out" 2> "$room/err" || status=$?
     ((status < 2)) || fail "$1, $2=$3: status $status"
+}
+
+# ends_from WORD NUMBER: the same, where it ends as it asks for this allocation
+ends_from() {
+    local status=0
+    printf '%s\n' "$1" | timeout 60 env END_FROM="$2" LD_PRELOAD="$room/refuse.so" "$program" > "$room/out" 2> "$room/err" || status=$?
+    ((status == 0 || status == 99)) || fail "$1, END_FROM=$2: status $status"
 }
 
 # past the last one, if so many numbers in a row change nothing. A run that has no book anyway has some hundred allocations.
@@ -70,7 +79,7 @@ calls=$(wc -l < "$room/all") seen=$(sort -u "$room/refused" | wc -l)
 ((calls == seen)) || fail "only $seen of $calls calls were refused memory"
 sweep calls REFUSE_THREAD is_answered
 
-for word in links lanes 'linked sequence'; do
+for word in links lanes pool 'linked sequence'; do
     answers "$word" REFUSE 0
     cp "$room/out" "$room/all"
     from=1
@@ -79,7 +88,14 @@ for word in links lanes 'linked sequence'; do
         ((from < 1000)) || fail "$word: never opened"
     done
     cmp -s "$room/out" "$room/all" || fail "$word, REFUSE_FROM=$from"
-    echo "$word: the same with all allocations refused from number $from on"
+    # the first allocation behind the opening, if there were one: the program ends there, and has told that it opened
+    from=1
+    until ends_from "$word" "$from" && grep -q opened "$room/out"; do
+        from=$((from + 1))
+        ((from < 1000)) || fail "$word: never opened"
+    done
+    cmp -s "$room/out" "$room/all" || fail "$word: it asks for memory once it is open"
+    echo "$word: it asks for no memory once it is open, and is the same with all of it refused"
 done
 
 for word in counted 'counted pool'; do

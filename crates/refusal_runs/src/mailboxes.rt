@@ -17,6 +17,7 @@ pub fn exchange<M: Mail, R: Wait, W: Write>(
         return writeln!(out, "no memory");
     };
     writeln!(out, "opened")?;
+    out.flush()?;
     let mut other = senders.swap_remove(1);
     let mut sender = senders.swap_remove(0);
     post::<M, R, W>(rt, &mut sender, 3, 10, out)?;
@@ -106,7 +107,8 @@ fn take<M: Mail, R: Wait, W: Write>(
     }
 }
 
-fn tell<W: Write>(number: u64, item: Item, out: &mut W) -> io::Result<()> {
+/// Tells the sender's number and the item.
+pub fn tell<W: Write>(number: u64, item: Item, out: &mut W) -> io::Result<()> {
     match item {
         Item::Post { line, amount } => writeln!(out, "{number}: line {line}, {amount}"),
         Item::End => writeln!(out, "{number}: end"),

@@ -13,6 +13,7 @@ pub fn linked_sequence<W: Write>(alloc: Global, out: &mut W) -> io::Result<()> {
         return writeln!(out, "no memory");
     };
     writeln!(out, "opened")?;
+    out.flush()?;
     post_and_end(&mut receiver, &mut sender, out)?;
     take_all(receiver, sender, other, out)
 }

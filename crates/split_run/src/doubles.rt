@@ -2,8 +2,10 @@
 
 mod counting;
 mod meeting;
+mod roll;
 mod watched;
 
 pub use counting::{Counter, CountingMail, CountingPool};
 pub use meeting::{Meeting, MeetingGate, MeetingMail, MeetingPool};
+pub use roll::{ReaderRoll, RollMail, RollPool};
 pub use watched::{WatchedMail, WatchedPool, WatchedReceiver, Watcher};

@@ -24,7 +24,7 @@ mod working;
 pub use block_draw::{Draw, Drawer};
 pub use doubles::{
     Counter, CountingMail, CountingPool, Meeting, MeetingGate, MeetingMail, MeetingPool,
-    WatchedMail, WatchedPool, WatchedReceiver, Watcher,
+    ReaderRoll, RollMail, RollPool, WatchedMail, WatchedPool, WatchedReceiver, Watcher,
 };
 pub use fault::RunFault;
 pub use gate::{Gate, NoGate};

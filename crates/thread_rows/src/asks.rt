@@ -35,6 +35,7 @@ pub fn answer<R: Files + AllocGlobal + Threads + Wait + Sync>(
         "takes" => takes(rt, alloc, kind, &inputs, question),
         "told" => told(rt, alloc, kind, &inputs, question),
         "early" if kind == "pool" => early(rt, alloc, &inputs, question),
+        "opened" => opened(rt, alloc, kind, &inputs, question),
         "workers-meet" => workers_meet(rt, alloc, kind, &inputs, question),
         "readers-meet" => readers_meet(rt, alloc, kind, &inputs, question),
         _ => bail!("nothing is asked so"),
@@ -205,6 +206,18 @@ fn early<R: Threads + Wait + Sync>(
         number_at(question, 0)?,
     )?;
     Ok(format!(in alloc; "{told} lines, {late} with something taken")?)
+}
+
+/// How many nodes the mailboxes of a run by a plan are opened with, and how many readers take from them at once.
+fn opened<R: Threads + Wait + Sync>(
+    rt: &R,
+    alloc: Global,
+    kind: &str,
+    inputs: &Inputs,
+    question: &str,
+) -> Result<String> {
+    let (nodes, readers) = kinds::opened(rt, alloc, kind, inputs, plan_in(question)?)?;
+    Ok(format!(in alloc; "{nodes} nodes, {readers} readers")?)
 }
 
 /// The book of a run by a plan whose first worker is held at its first line until the other has come to so many

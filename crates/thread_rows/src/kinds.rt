@@ -7,8 +7,8 @@ use mail_box::{LaneMail, LinkMail, Mail, ShyMail};
 use payee_book::Book;
 use pool_box::{Pool, PoolMail};
 use split_run::{
-    CountingMail, CountingPool, Gate, MeetingMail, MeetingPool, NoGate, Plan, run, run_cut,
-    run_pool, run_pool_cut,
+    CountingMail, CountingPool, Gate, MeetingMail, MeetingPool, NoGate, Plan, RollMail, RollPool,
+    run, run_cut, run_pool, run_pool_cut,
 };
 use std::alloc::Global;
 use std::sync::Wait;
@@ -146,6 +146,51 @@ pub fn book_where_readers_meet<R: Threads + Wait + Sync>(
             let pool = MeetingPool::new(alloc, PoolMail)?;
             let book = over_pool(rt, alloc, &pool, inputs, plan, &NoGate)?;
             Ok((book, pool.has_met()))
+        }
+        _ => bail!("no such kind"),
+    }
+}
+
+/// How many nodes the mailboxes of a run are opened with, and how many readers take at once from the first so many, up to as
+/// many as there are accounts and 8.
+pub fn opened<R: Threads + Wait + Sync>(
+    rt: &R,
+    alloc: Global,
+    kind: &str,
+    inputs: &Inputs,
+    plan: Plan,
+) -> Result<(u64, u64)> {
+    let most = u64::from(inputs.registry.accounts()).min(8);
+    let mut found = (0, 0);
+    for readers in 1..=most {
+        let (nodes, have_met) = readers_at_once(rt, alloc, kind, inputs, plan, readers)?;
+        if !have_met {
+            break;
+        }
+        found = (nodes, readers);
+    }
+    Ok(found)
+}
+
+/// How many nodes the mailboxes of a run are opened with, and whether so many readers take at once.
+fn readers_at_once<R: Threads + Wait + Sync>(
+    rt: &R,
+    alloc: Global,
+    kind: &str,
+    inputs: &Inputs,
+    plan: Plan,
+    readers: u64,
+) -> Result<(u64, bool)> {
+    match kind {
+        "links" => {
+            let mail = RollMail::new(alloc, LinkMail, readers)?;
+            let _ = over_mail(rt, alloc, &mail, inputs, plan, &NoGate)?;
+            Ok((mail.nodes(), mail.has_met()))
+        }
+        "pool" => {
+            let pool = RollPool::new(alloc, PoolMail, readers)?;
+            let _ = over_pool(rt, alloc, &pool, inputs, plan, &NoGate)?;
+            Ok((pool.nodes(), pool.has_met()))
         }
         _ => bail!("no such kind"),
     }

@@ -23,6 +23,8 @@ impl Counter {
 }
 
 impl Watcher for Counter {
+    fn at_open(&self, _nodes: u64) {}
+
     fn before_take(&self, _mailbox: u64) {}
 
     fn after_item(&self) {

@@ -98,6 +98,8 @@ impl Gate for MeetingGate {
 }
 
 impl Watcher for Meeting {
+    fn at_open(&self, _nodes: u64) {}
+
     fn before_take(&self, mailbox: u64) {
         self.attend(mailbox % 2);
     }

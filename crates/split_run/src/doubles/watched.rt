@@ -7,8 +7,11 @@ use std::alloc::{AllocError, Global};
 use std::sync::atomic::{AtomicU64, Ordering};
 use std::sync::{Arc, Wait};
 
-/// What is told of each take from any of the mailboxes. It has no bearing on what is taken.
+/// What is told of the mailboxes as they are opened, and of each take from any of them. It has no bearing on what is taken.
 pub trait Watcher: Send + Sync + Drop {
+    /// A mailbox or a pool is about to be opened with so many nodes.
+    fn at_open(&self, nodes: u64);
+
     /// A take from the mailbox with this number, from 0, is about to begin.
     fn before_take(&self, mailbox: u64);
 
@@ -71,6 +74,7 @@ impl<M: Mail, W: Watcher> Mail for WatchedMail<M, W> {
         nodes: u64,
         most: u64,
     ) -> Result<(Vec<M::Sender>, WatchedReceiver<M::Receiver, W>), AllocError> {
+        self.watcher.at_open(nodes);
         let (senders, receiver) = self.mail.open(alloc, senders, nodes, most)?;
         let watcher = Arc::try_clone(&self.watcher)?;
         let mailbox = self.opened.fetch_add(1, Ordering::SeqCst);
@@ -178,6 +182,7 @@ impl<P: Pool, W: Watcher> Pool for WatchedPool<P, W> {
         ),
         AllocError,
     > {
+        self.watcher.at_open(nodes);
         let (senders, receivers, tally) = self.pool.open(alloc, senders, mailboxes, nodes, most)?;
         let receivers = all_watched(alloc, receivers, &self.watcher)?;
         Ok((senders, receivers, tally))
