@@ -6,7 +6,7 @@ help:
 	@echo 'make build    prove and build the program, leave it as out/royalty_run'
 	@echo 'make install  put the program that was built, its man page and its completions below PREFIX (/usr/local), or below DESTDIR and PREFIX; prove and build it first where it was not'
 	@echo 'make test     run every test over builds that are not proved, also with memory and threads refused: some minutes; make test NAME=cwr_share runs what stands on that crate'
-	@echo 'make prove    the proof: prove every crate from nothing, refuse wrong bodies, and run the programs as they were proved; what has passed on this machine before is left out, but for make prove ANEW=1'
+	@echo 'make prove    the proof: prove every crate from nothing, refuse wrong bodies, and run the programs as they were proved; a kit that keeps what has passed on this machine leaves it out, but for make prove ANEW=1'
 	@echo 'make edits    refuse the wrong bodies that the gate leaves out, of every crate or of one: make edits CRATE=mail_box; an hour for all'
 	@echo 'make compare  run the program and a plain Rust one on made-up inputs, good and bad, and compare'
 	@echo 'make fuzz     the same on 200000 damaged inputs, half of them of several submitters; some twenty minutes on four cores'

@@ -2,15 +2,15 @@
 
     python3 -m tools.prove [--jobs N] [--times FILE] [--anew]
 
-`rt ci` leaves out what it has passed on this machine before, by the checksums of all that it read;
-with --anew it leaves out nothing.
+Kits differ in what `rt ci` leaves out: one proves every crate each time, another leaves out what it
+has passed on this machine before, by the checksums of all that it read. With --anew nothing is left
+out, whatever the kit.
 
-It takes as many jobs as there are processors and as memory holds, 5 GB each, where neither --jobs
-nor RT_JOBS says.
+How many crates are proved at once is for `rt ci` to say, by the processors and the memory that it
+finds, unless --jobs or RT_JOBS does.
 """
 import argparse
 import os
-import re
 import resource
 import subprocess
 import sys
@@ -19,28 +19,9 @@ import time
 
 from tools.crates import ROOT
 
-# What a check may take, in bytes.
-MEMORY_OF_ONE = 5_000_000_000
-
 # The programs of the kit whose time is told, and the parts that it is told by.
 TOOLS = ("rattle", "clang", "clang-14", "rattle-x64")
 PARTS = ("proofs", "tests", "edits", "builds")
-
-
-def memory():
-    """The memory of this machine, in bytes."""
-    return os.sysconf("SC_PAGE_SIZE") * os.sysconf("SC_PHYS_PAGES")
-
-
-def jobs_for(processors, total):
-    """How many jobs so many processors and so much memory hold."""
-    return max(1, min(processors, total // MEMORY_OF_ONE))
-
-
-def jobs_said():
-    """How many jobs the environment says, if it does."""
-    said = os.environ.get("RT_JOBS", "")
-    return int(said) if re.fullmatch(r"[1-9]\d*", said) else None
 
 
 def part_of(words):
@@ -106,10 +87,21 @@ def table(found):
     return lines
 
 
-def prove(jobs, anew=False):
+def keeps_passed():
+    """Whether this kit's `rt ci` leaves out what it has passed before: then it takes --anew."""
+    told = subprocess.run(["rt", "help"], capture_output=True, text=True, check=False)
+    return "--anew" in told.stdout + told.stderr
+
+
+def command(anew, keeps):
+    """The words by which a kit proves all, or all anew."""
+    return ["rt", "ci", *["--anew"] * (anew and keeps)]
+
+
+def prove(jobs=None, anew=False):
     """Runs `rt ci`: its status and the times of the kit's programs."""
-    told = {**os.environ, "RT_JOBS": str(jobs)}
-    begun = subprocess.Popen(["rt", "ci", *["--anew"] * anew], cwd=ROOT, env=told)
+    told = {**os.environ, **({"RT_JOBS": str(jobs)} if jobs else {})}
+    begun = subprocess.Popen(command(anew, anew and keeps_passed()), cwd=ROOT, env=told)
     times, is_over = Times(begun.pid), threading.Event()
 
     def watch():
@@ -126,17 +118,16 @@ def prove(jobs, anew=False):
 
 def main():
     parser = argparse.ArgumentParser(prog="tools.prove", description=__doc__.splitlines()[0])
-    parser.add_argument("--jobs", type=int, help="how many crates at once")
+    parser.add_argument("--jobs", type=int, help="how many crates at once, if not as many as fit")
     parser.add_argument("--times", metavar="FILE", help="a file for the table of times")
     parser.add_argument("--anew", action="store_true",
                         help="prove what has passed on this machine before, too")
     words = parser.parse_args()
-    jobs = words.jobs or jobs_said() or jobs_for(os.cpu_count() or 1, memory())
     began = time.time()
-    status, times = prove(jobs, words.anew)
+    status, times = prove(words.jobs, words.anew)
     lines = table(times.by_crate())
     used = resource.getrusage(resource.RUSAGE_CHILDREN)
-    lines.append(f"{(time.time() - began) / 60:.1f} minutes with {jobs} jobs, "
+    lines.append(f"{(time.time() - began) / 60:.1f} minutes on {os.cpu_count()} processors, "
                  f"{(used.ru_utime + used.ru_stime) / 60:.1f} minutes of processor time")
     print("\n".join(lines))
     if words.times:

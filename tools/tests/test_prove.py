@@ -1,19 +1,18 @@
 """What `make prove` takes of a machine, and what it tells of the time."""
 import unittest
 
-from tools.prove import jobs_for, part_of, table
+from tools.prove import command, part_of, table
 
 
-class Jobs(unittest.TestCase):
-    """How many jobs there are."""
+class Command(unittest.TestCase):
+    """By which words a kit proves all."""
 
-    def test_processors_and_memory_both_bound_them(self):
-        self.assertEqual(jobs_for(4, 25_000_000_000), 4)
-        self.assertEqual(jobs_for(8, 25_000_000_000), 5)
-        self.assertEqual(jobs_for(2, 64_000_000_000), 2)
+    def test_a_kit_that_keeps_what_passed_is_told_to_prove_anew(self):
+        self.assertEqual(command(True, True), ["rt", "ci", "--anew"])
+        self.assertEqual(command(False, True), ["rt", "ci"])
 
-    def test_there_is_always_one(self):
-        self.assertEqual(jobs_for(4, 2_000_000_000), 1)
+    def test_a_kit_that_keeps_nothing_has_no_such_word(self):
+        self.assertEqual(command(True, False), ["rt", "ci"])
 
 
 class Parts(unittest.TestCase):
