@@ -1,29 +1,16 @@
 -- Each atomic step at a table of nodes adds its event, and nothing else adds one: what the steps' own proofs rest on.
-use Rattle.std.proofs.Common.{ℕ, refl}
-use Rattle.atomic_table.specs.Table.{Act, Me, State, Valid, stepped}
+use Rattle.std.proofs.Common.{refl}
 use Rattle.atomic_table.specs.Table.Act.{gives, keeps, takes}
-use lib.ListN.{get_elem?}
-use mathlib.Core.Option.{some}
-use Rattle.queue_core.specs.declared.item.Item.TheVariants.{End, Post}
-use Rattle.queue_core.specs.declared.reader.ReaderPoint.TheVariants as reads
-use Rattle.queue_core.specs.declared.sender.SenderPoint.TheVariants as sends
-use Rattle.queue_core.specs.declared.step.Step.{Step}
-use Rattle.node_table.specs.declared.seats.Known.{Known}
 use Rattle.node_table.specs.declared.seats.Known.TheVariants as known
-use Rattle.node_table.specs.declared.seats.Posting.{Posting}
-use Rattle.node_table.specs.declared.seats.Shape.{Shape}
 use Rattle.node_table.specs.Layout.{slot_of}
-use Rattle.node_table.specs.Rule.{KeepsAs, KeepsNodes, KeepsOn}
-use Rattle.node_table.specs.Seats.{IsDealtSeat}
-use Rattle.node_table.specs.Tells.{after_give, after_head, after_sending, after_turn, at_point, filling, new_receiver, new_sender, posting, reading_at, with_reader_at}
+use Rattle.node_table.specs.Tells.{new_sender}
 use Rattle.node_table.proofs.AtHandSteps.{amount_kept as hand_amount, give_kept, line_kept as hand_line}
 use Rattle.node_table.proofs.Joins.{counts_in, deals, gathers_in, gets_back, gets_in, hands}
 use Rattle.node_table.proofs.LoadNextStep.{next_kept}
 use Rattle.node_table.proofs.Looks.{begun, looked}
 use Rattle.node_table.proofs.ReceiverSteps.{head_kept, link_kept as stub_link_kept, null_kept as stub_null_kept, swap_kept as stub_swap_kept}
 use Rattle.node_table.proofs.SenderSteps.{amount_kept, end_kept, gives_kept, line_kept, link_kept, new, null_kept, swap_kept, takes_kept, turn_kept}
-use Rattle.node_laws.specs.States.{IsAt}
-use Rattle.node_laws.specs.Steps.{EachStepAddsItsEvent, Looks, Makes, NoJoinIsAnEvent, NoLookIsAnEvent, NoSplitIsAnEvent}
+use Rattle.node_laws.specs.Steps.{EachStepAddsItsEvent, NoJoinIsAnEvent, NoLookIsAnEvent, NoSplitIsAnEvent}
 use Rattle.node_laws.specs.Steps.Makes.{load_turn, end_line, store_line, store_amount, store_null, swap_head, store_link, load_next, load_head, stub_null, stub_swap, stub_link, load_line, load_amount, give_back}
 use Rattle.node_laws.specs.Steps.Looks.{take_slot, give_slot, begin_receiving, look, tally_look}
 

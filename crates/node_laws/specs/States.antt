@@ -5,7 +5,6 @@ use mathlib.Core.Option.{some}
 use lib.ListN.{get_elem?}
 use Rattle.atomic_table.specs.Table.{State}
 use Rattle.queue_core.specs.declared.entry.Entry.TheVariants.{Of}
-use Rattle.queue_core.specs.declared.item.Item.{Item}
 use Rattle.queue_core.specs.declared.item.Item.TheVariants.{End}
 use Rattle.queue_core.specs.Items.{is_end}
 use Rattle.queue_core.specs.Mailbox.{is_among}

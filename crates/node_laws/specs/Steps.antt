@@ -1,6 +1,6 @@
 -- What the steps at a table of nodes come to, under its rule: each kind of atomic step adds one event at most, of its
 -- kind, and whatever else a seat does adds none.
-use Rattle.std.specs.Prelude.{ℕ, ℤ, unsigned_abs, ◌≡◌, ◌<◌, ◌≤◌, ◌+◌, ◌%◌, ◌^◌, ◌∷◌, ◌-◌, [], List, Some, false, slice_index}
+use Rattle.std.specs.Prelude.{ℕ, ℤ, unsigned_abs, ◌≡◌, ◌<◌, ◌≤◌, ◌+◌, ◌%◌, ◌^◌, ◌∷◌, [], List, Some, false, slice_index}
 use Rattle.atomic_table.specs.Table.{Act, Me, State, Valid, stepped}
 use Rattle.atomic_table.specs.Table.Act.{keeps}
 use Rattle.queue_core.specs.declared.TheConstants.{MOST_AMOUNT, MOST_POOL_POSTS, MOST_POSTS}
@@ -37,31 +37,31 @@ pub data Makes (shape : Shape) : Me Posting Known → (mailbox : ℕ) → Step �
       → has_ended v b ≡ false → v.caller.count < MOST_POOL_POSTS → line < MOST_POSTS
       → 0 < unsigned_abs amount → unsigned_abs amount ≤ MOST_AMOUNT
       → Makes shape (Sends v, (slot, posting b (Post line amount)) ∷ []) b (step.LoadTurn v.number line amount)
-        (turn_word (node_of v b (Post line amount))) (λ n. n)
+      (turn_word (node_of v b (Post line amount))) (λ n. n)
   end_line : (v : SenderSeat) (slot b : ℕ) → v.caller.point ≡ sends.Rest → b < v.shape.mailboxes
       → has_ended v b ≡ false
       → Makes shape (Sends v, (slot, posting b End) ∷ []) b (step.EndLine v.number)
-        (line_word_of (node_of v b End)) (λ _. line_word End)
+      (line_word_of (node_of v b End)) (λ _. line_word End)
   store_line : (v : SenderSeat) (slots : List (ℕ × Posting)) (item : Item) → v.caller.mailbox < v.shape.mailboxes
       → v.caller.point ≡ sends.Line item
       → Makes shape (Sends v, slots) v.caller.mailbox (step.StoreLine v.number)
-        (line_word_of (node_of v v.caller.mailbox item)) (λ _. line_word item)
+      (line_word_of (node_of v v.caller.mailbox item)) (λ _. line_word item)
   store_amount : (v : SenderSeat) (slots : List (ℕ × Posting)) (item : Item) → v.caller.mailbox < v.shape.mailboxes
       → v.caller.point ≡ sends.Amount item
       → Makes shape (Sends v, slots) v.caller.mailbox (step.StoreAmount v.number)
-        (amount_word_of (node_of v v.caller.mailbox item)) (λ _. amount_word item)
+      (amount_word_of (node_of v v.caller.mailbox item)) (λ _. amount_word item)
   store_null : (v : SenderSeat) (slots : List (ℕ × Posting)) (item : Item) → v.caller.mailbox < v.shape.mailboxes
       → v.caller.point ≡ sends.Null item
       → Makes shape (Sends v, slots) v.caller.mailbox (step.StoreNull v.number)
-        (next_word (node_of v v.caller.mailbox item)) (λ _. null)
+      (next_word (node_of v v.caller.mailbox item)) (λ _. null)
   swap_head : (v : SenderSeat) (slots : List (ℕ × Posting)) (item : Item) → v.caller.mailbox < v.shape.mailboxes
       → v.caller.point ≡ sends.Swap item
       → Makes shape (Sends v, slots) v.caller.mailbox (step.SwapHead v.number)
-        (head_word shape v.caller.mailbox) (λ _. link_to (node_of v v.caller.mailbox item))
+      (head_word shape v.caller.mailbox) (λ _. link_to (node_of v v.caller.mailbox item))
   store_link : (v : SenderSeat) (slots : List (ℕ × Posting)) (item : Item) (before : ℕ)
       → v.caller.mailbox < v.shape.mailboxes → v.caller.point ≡ sends.Link item before
       → Makes shape (Sends v, slots) v.caller.mailbox (step.StoreLink v.number)
-        (next_word before) (λ _. link_to (node_of v v.caller.mailbox item))
+      (next_word before) (λ _. link_to (node_of v v.caller.mailbox item))
   load_next : (v : ReceiverSeat) → LoadsNext v.reader.point
       → Makes shape (Receives v, []) v.mailbox step.LoadNext (next_word v.reader.tail) (λ n. n)
   load_head : (v : ReceiverSeat) → LoadsHead v.reader.point
@@ -70,10 +70,10 @@ pub data Makes (shape : Shape) : Me Posting Known → (mailbox : ℕ) → Step �
       → Makes shape (Receives v, []) v.mailbox step.StubNull (next_word (stub_of v.shape v.mailbox)) (λ _. null)
   stub_swap : (v : ReceiverSeat) → v.reader.point ≡ reads.Swap
       → Makes shape (Receives v, []) v.mailbox step.StubSwap
-        (head_word shape v.mailbox) (λ _. link_to (stub_of v.shape v.mailbox))
+      (head_word shape v.mailbox) (λ _. link_to (stub_of v.shape v.mailbox))
   stub_link : (v : ReceiverSeat) (before : ℕ) → v.reader.point ≡ reads.Link before
       → Makes shape (Receives v, []) v.mailbox step.StubLink
-        (next_word before) (λ _. link_to (stub_of v.shape v.mailbox))
+      (next_word before) (λ _. link_to (stub_of v.shape v.mailbox))
   load_line : (v : ReceiverSeat) (h : Holding) → v.at_hand ≡ Some h → v.reader.point ≡ reads.Rest
       → Makes shape (Receives v, []) v.mailbox (step.LoadLine h.node) (line_word_of h.node) (λ n. n)
   load_amount : (v : ReceiverSeat) (h : Holding) → v.at_hand ≡ Some h → v.reader.point ≡ reads.Rest
