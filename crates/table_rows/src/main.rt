@@ -3,6 +3,7 @@
 //! `row_tables` says how a table is written. Which questions it has, its name says: each subject is a module here.
 #![tactic(auto)]
 
+mod amounts;
 mod asked;
 mod csv_tables;
 mod division;
@@ -110,6 +111,7 @@ fn add_answer_in(
         "territories.txt" => territories::add_answer(alloc, asked, answer),
         "usage_lines.txt" => usage_lines::add_answer(alloc, asked, answer),
         "pairs.txt" => pairs::add_answer(alloc, asked, answer),
+        "amounts.txt" => amounts::add_answer(asked, answer),
         "registrations.txt" => registrations::add_answer(alloc, asked, answer),
         "payees.txt" => payees::add_answer(alloc, asked, answer),
         "documents.txt" => documents::add_answer(alloc, asked, answer),
