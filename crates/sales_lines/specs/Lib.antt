@@ -1,0 +1,2 @@
+pub mod Sales
+pub mod Sources

@@ -1,0 +1,121 @@
+-- What becomes of a row of a sales report.
+use Rattle.std.specs.Prelude.{ℕ, ◌≡◌, ◌⊎◌, ◌++◌, ◌∷◌, [], All, List, None, Option, Some, IfSome, flat_map, length, ⊤}
+use Rattle.csv_table.specs.Forms.{IsPrintable}
+use Rattle.line_split.specs.declared.TheConstants.{MOST_TEXT_BYTES}
+use Rattle.decimal_amounts.specs.Decimals.{IsAmount, IsFaultOf}
+use Rattle.export_rows.specs.Places.{IsBlank}
+use Rattle.value_maps.specs.Maps.{IsValue, Values, value_of}
+use Rattle.value_maps.specs.declared.kind.Kind.{Kind}
+use Rattle.value_maps.specs.declared.kind.Kind.TheVariants.{Works, Territories, Rights}
+use Rattle.sales_lines.specs.declared.outcome.Outcome.{Outcome}
+use Rattle.sales_lines.specs.declared.outcome.Outcome.TheVariants.{Passed, Rejected, Line}
+use Rattle.sales_lines.specs.declared.outcome.SalesLine.{SalesLine}
+use Rattle.sales_lines.specs.declared.reason.Reason.{Reason}
+use Rattle.sales_lines.specs.declared.reason.Reason.TheVariants.{Fields, Usage, Unknown, Unfit, Amount}
+use Rattle.sales_lines.specs.declared.settings.Condition.{Condition}
+use Rattle.sales_lines.specs.declared.settings.Settings.{Settings}
+use Rattle.sales_lines.specs.declared.source.Source.{Source}
+use Rattle.sales_lines.specs.Sources.{IsThere, text_from}
+
+-- ---- which rows count
+
+-- a condition holds of a row
+abbrev pub Holds : (row : List (List ℕ)) → Condition → Type 0
+Holds row condition = text_from condition.source row ≡ condition.text.items
+
+-- a row is blank, or not one of those that are kept
+abbrev pub IsPassedOver : Settings → List (List ℕ) → Type 0
+IsPassedOver settings row = IsBlank row ⊎ (¬ All (Holds row) settings.conditions.items)
+
+-- ---- its values
+
+-- it has as many fields as a header says
+abbrev pub IsWide : Settings → List (List ℕ) → Type 0
+IsWide settings row = IfSome settings.width (λ width. length row ≡ width)
+
+-- and those that are asked for
+pub record HasFields (settings : Settings) (row : List (List ℕ)) : Type 0 where
+  pub wide : IsWide settings row
+  pub usage : All (IsThere row) settings.usage.items
+  pub work : IsThere row settings.work
+  pub territory : IsThere row settings.territory
+  pub right : IsThere row settings.right
+  pub amount : IsThere row settings.amount
+
+-- what its use is called: the values that are asked for, with `-` between them
+abbrev pub usage_of : List Source → (row : List (List ℕ)) → List ℕ
+usage_of [] row = []
+usage_of (first ∷ others) row = text_from first row ++ flat_map (λ other. 45 ∷ text_from other row) others
+
+abbrev pub usage_in : Settings → List (List ℕ) → List ℕ
+usage_in settings row = usage_of settings.usage.items row
+
+abbrev pub IsNamed : Settings → List (List ℕ) → Type 0
+IsNamed settings row = IsPrintable MOST_TEXT_BYTES (usage_in settings row)
+
+-- where a work, a territory or a right stands, and the table of what it becomes, if there is one
+abbrev pub source_of : Settings → Kind → Source
+source_of settings Works = settings.work
+source_of settings Territories = settings.territory
+source_of settings Rights = settings.right
+
+abbrev pub map_of : Settings → Kind → Option Values
+map_of settings Works = settings.works
+map_of settings Territories = settings.territories
+map_of settings Rights = settings.rights
+
+-- what a text becomes, where it has a row in the table; without a table it stays as it is
+abbrev pub mapped : Option Values → (text : List ℕ) → Option (List ℕ)
+mapped None text = Some text
+mapped (Some values) text = value_of values.rows text
+
+abbrev pub value_in : Settings → Kind → (row : List (List ℕ)) → Option (List ℕ)
+value_in settings kind row = mapped (map_of settings kind) (text_from (source_of settings kind) row)
+
+-- a row has a work, a territory or a right
+abbrev pub HasValue : Settings → (row : List (List ℕ)) → Kind → Type 0
+HasValue settings row kind = (value : List ℕ) × (value_in settings kind row ≡ Some value) × IsValue kind value
+
+-- and those that come before it in a usage line
+abbrev pub HasBefore : Settings → (row : List (List ℕ)) → Kind → Type 0
+HasBefore settings row Works = ⊤
+HasBefore settings row Territories = HasValue settings row Works
+HasBefore settings row Rights = HasValue settings row Works × HasValue settings row Territories
+
+-- ---- what becomes of it
+
+-- why a row has no work, territory or right
+abbrev pub Lacks : Settings → Kind → (row : List (List ℕ)) → Reason → Type 0
+Lacks settings kind row Fields = ⊥
+Lacks settings kind row Usage = ⊥
+Lacks settings kind row (Unknown of) = (of ≡ kind) × (value_in settings kind row ≡ None)
+Lacks settings kind row (Unfit of) =
+    (of ≡ kind) × (value : List ℕ) × (value_in settings kind row ≡ Some value) × (¬ IsValue kind value)
+Lacks settings kind row (Amount fault) = ⊥
+
+-- Why a row becomes no usage line: the first thing, in this order, that is wrong with it.
+abbrev pub IsRejectedFor : Settings → List (List ℕ) → Reason → Type 0
+IsRejectedFor settings row Fields = ¬ HasFields settings row
+IsRejectedFor settings row Usage = HasFields settings row × (¬ IsNamed settings row)
+IsRejectedFor settings row (Unknown kind) =
+    HasFields settings row × IsNamed settings row × HasBefore settings row kind × (value_in settings kind row ≡ None)
+IsRejectedFor settings row (Unfit kind) = HasFields settings row × IsNamed settings row × HasBefore settings row kind
+    × (value : List ℕ) × (value_in settings kind row ≡ Some value) × (¬ IsValue kind value)
+IsRejectedFor settings row (Amount fault) = HasFields settings row × IsNamed settings row
+    × HasBefore settings row Rights × HasValue settings row Rights
+    × IsFaultOf settings.mark (text_from settings.amount row) settings.places fault
+
+-- the line that a row becomes
+pub record IsLineOf (settings : Settings) (row : List (List ℕ)) (line : SalesLine) : Type 0 where
+  pub fields : HasFields settings row
+  pub usage : line.usage.now ≡ usage_in settings row
+  pub named : IsNamed settings row
+  pub work : (value_in settings Works row ≡ Some line.work.now) × IsValue Works line.work.now
+  pub territory : (value_in settings Territories row ≡ Some line.territory.now) × IsValue Territories line.territory.now
+  pub right : (value_in settings Rights row ≡ Some line.right.now) × IsValue Rights line.right.now
+  pub amount : IsAmount settings.mark (text_from settings.amount row) settings.places line.amount
+
+abbrev pub IsOutcomeOf : Settings → List (List ℕ) → Outcome → Type 0
+IsOutcomeOf settings row Passed = IsPassedOver settings row
+IsOutcomeOf settings row (Rejected reason) = (¬ IsPassedOver settings row) × IsRejectedFor settings row reason
+IsOutcomeOf settings row (Line line) = (¬ IsPassedOver settings row) × IsLineOf settings row line
