@@ -1,5 +1,6 @@
 -- Where the mark of a number stands, and what its digits write.
-use Rattle.std.proofs.Common.{◌≡◌, ◌∙◌, ◌≤◌, ◌<◌, ◌+◌, ◌-◌, ◌*◌, ◌%◌, ◌^◌, ◌++◌, ◌∷◌, ◌⊎◌, [], ℕ, Bool, List, All, true, false, cond, drop, get_or, length, suc, take, ap, arith, inl, inr, refl, subst, sym, append-nil}
+use Rattle.std.proofs.Common.{◌≡◌, ◌∙◌, ◌≤◌, ◌<◌, ◌+◌, ◌-◌, ◌*◌, ◌%◌, ◌^◌, ◌++◌, ◌∷◌, ◌⊎◌, [], ℕ, Bool, List, All, true, false, cond, drop, get_or, length, suc, take, ap, arith, inl, inr, refl, subst}
+use Rattle.std.proofs.Common.{sym, append-nil}
 use Rattle.std.specs.Prelude.{if◌then◌else◌}
 use Rattle.std.specs.Char.{digit_value}
 use Rattle.std.specs.List.{filter}
@@ -27,13 +28,17 @@ module _ (text : List ℕ) (i : ℕ) (within : i < length text) where
   -- one digit more
   pub value_digit : IsDigit (get_or text i 0) → value_of (take (i + 1) text) ≡ value_of (take i text) * 10 + (get_or text i 0 - 48)
   value_digit digit =
-      let more : filter is_digit (take (i + 1) text) ≡ filter is_digit (take i text) ++ get_or text i 0 ∷ [] = filter_more is_digit text i 0 within ∙ ap (λ b. filter is_digit (take i text) ++ cond b (get_or text i 0 ∷ []) []) (digit_true (get_or text i 0) digit) in
+      let more : filter is_digit (take (i + 1) text) ≡ filter is_digit (take i text) ++ get_or text i 0 ∷ [] =
+      filter_more is_digit text i 0 within
+      ∙ ap (λ b. filter is_digit (take i text) ++ cond b (get_or text i 0 ∷ []) []) (digit_true (get_or text i 0) digit) in
       omega (arith, ap (digits_value 10) more, digits_value_push 10 (filter is_digit (take i text)) (get_or text i 0), digit_value_digit (get_or text i 0) digit)
 
   -- or a byte that is none
   pub value_other : ¬ IsDigit (get_or text i 0) → value_of (take (i + 1) text) ≡ value_of (take i text)
   value_other none =
-      ap (digits_value 10) (filter_more is_digit text i 0 within ∙ (ap (λ b. filter is_digit (take i text) ++ cond b (get_or text i 0 ∷ []) []) (digit_false (get_or text i 0) none) ∙ append-nil (filter is_digit (take i text))))
+      ap (digits_value 10) (filter_more is_digit text i 0 within
+      ∙ (ap (λ b. filter is_digit (take i text) ++ cond b (get_or text i 0 ∷ []) []) (digit_false (get_or text i 0) none)
+      ∙ append-nil (filter is_digit (take i text))))
 
 -- ---- bytes that are not the mark
 

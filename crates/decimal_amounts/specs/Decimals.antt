@@ -1,7 +1,8 @@
 -- Amounts as decimal numbers in text: maybe a `-`, then digits, and maybe a mark with decimals behind it. Before a mark
 -- the digits may be left out, or stand in groups of three; without one they may not, since `1,234` is 1234 to some and
 -- 1.234 to others.
-use Rattle.std.specs.Prelude.{ℕ, ℤ, pos, neg_ℤ, ◌≡◌, ◌≤◌, ◌<◌, ◌-◌, ◌%◌, ◌⊎◌, ◌++◌, ◌∷◌, ◌&&◌, Bool, List, [], All, length, nat_le, slice_index, if◌then◌else◌}
+use Rattle.std.specs.Prelude.{ℕ, ℤ, pos, neg_ℤ, ◌≡◌, ◌≤◌, ◌<◌, ◌-◌, ◌%◌, ◌⊎◌, ◌++◌, ◌∷◌, ◌&&◌, Bool, List, [], All}
+use Rattle.std.specs.Prelude.{length, nat_le, slice_index, if◌then◌else◌}
 use Rattle.std.specs.List.{filter}
 use Rattle.std.specs.Str.Parse.{digits_value}
 use Rattle.csv_table.specs.Forms.{has_minus, without_minus}

@@ -2,7 +2,8 @@
 
 ghost use Rattle.std.specs.Prelude.{◌≡◌, ◌≤◌, ◌<◌, ℕ, IfErr, IfNone, IfOk, IfSome, IsTrue, length, slice_index};
 ghost use Rattle.csv_table.specs.Forms.{has_minus, without_minus};
-ghost use Rattle.decimal_amounts.specs.Decimals.{HasDecimals, HasNoSize, IsAmount, IsFaultOf, IsSize, group_byte, mark_byte};
+ghost use Rattle.decimal_amounts.specs.Decimals.{HasDecimals, HasNoSize, IsAmount, IsFaultOf, IsSize, group_byte};
+ghost use Rattle.decimal_amounts.specs.Decimals.{mark_byte};
 
 use crate::digits::{MOST_AMOUNT_BYTES, are_digits, digits_in, is_whole};
 use crate::scale::{Scaled, in_units};

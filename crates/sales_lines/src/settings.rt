@@ -108,7 +108,8 @@ impl Settings {
 
     /// The work, the territory or the right of a row.
     pub(crate) fn value<'a>(&'a self, kind: Kind, row: &'a Row) -> Result<&'a [u8], Reason>
-        ensures value { IfOk result (λ value. (value_in self.now kind row.now ≡ Some value.now) × IsValue kind value.now) }
+        ensures value { IfOk result (λ value.
+            (value_in self.now kind row.now ≡ Some value.now) × IsValue kind value.now) }
         ensures none { IfErr result (Lacks self.now kind row.now) }
     {
         let (source, map) = match kind {

@@ -1,6 +1,7 @@
--- A table of values as CSV: a header, and a row for each value of an export, which says what it becomes. Rows count from
--- 0, the header's.
-use Rattle.std.specs.Prelude.{ℕ, ◌≡◌, ◌∷◌, [], List, Contains, length, codes, map, nat_eq, slice_index_or, Option, Some, None}
+-- A table of values as CSV: a header, and a row for each value of an export, which says what it becomes. Rows count
+-- from 0, the header's.
+use Rattle.std.specs.Prelude.{ℕ, ◌≡◌, ◌∷◌, [], List, Contains, length, codes, map, nat_eq, slice_index_or, Option, Some}
+use Rattle.std.specs.Prelude.{None}
 use Rattle.std.specs.List.{find}
 use Rattle.std.specs.Option.{option_map}
 use Rattle.std.specs.Cmp.Lexicographic.{pointwise}

@@ -1,6 +1,7 @@
 //! A table of values.
 
-ghost use Rattle.std.specs.Prelude.{◌≡◌, ◌++◌, ◌∷◌, ◌↔◌, [], IfErr, IfNone, IfOk, IfSome, IsTrue, None, OnOk, Some, length};
+ghost use Rattle.std.specs.Prelude.{◌≡◌, ◌++◌, ◌∷◌, ◌↔◌, [], IfErr, IfNone, IfOk, IfSome, IsTrue, None, OnOk, Some};
+ghost use Rattle.std.specs.Prelude.{length};
 ghost use Rattle.csv_table.specs.Table.{rows_of};
 ghost use Rattle.value_maps.specs.Maps.{HasRow, IsFaultOf, IsTableOf, value_of};
 

@@ -4,7 +4,9 @@ use Rattle.std.proofs.lemmas.List.{length-drop, take_all}
 use Rattle.decimal_amounts.specs.Decimals.{ArePlain, IsWhole}
 use Rattle.decimal_amounts.proofs.Numbers.{behind, marked, unmarked}
 use Rattle.decimal_amounts.proofs.amount.decimals_of.Goals as goal
-use Rattle.decimal_amounts.proofs.amount.decimals_of.Goals.{then-is_empty-2-via-then-is_empty-2, then-is_empty-2-via-else-is_empty-2+then-not-are_digits, then-is_empty-2-via-else-is_empty-2+else-not-are_digits+then-not-is_whole}
+use Rattle.decimal_amounts.proofs.amount.decimals_of.Goals.{then-is_empty-2-via-then-is_empty-2}
+use Rattle.decimal_amounts.proofs.amount.decimals_of.Goals.{then-is_empty-2-via-else-is_empty-2+then-not-are_digits}
+use Rattle.decimal_amounts.proofs.amount.decimals_of.Goals.{then-is_empty-2-via-else-is_empty-2+else-not-are_digits+then-not-is_whole}
 
 -- what a slice from a place to the end is
 to_the_end : (text : List ℕ) (n : ℕ) → take (length text - n) (drop n text) ≡ drop n text

@@ -14,7 +14,13 @@ pub overflow_mul-value : goal.overflow_mul-value
 overflow_mul-value c = omega (arith, tens_fit c.loop-byte.value c.loop-byte.byte-index c.loop-byte.invariant.small (omega (arith, c.loop-byte-test.true, c.requires)))
 
 pub overflow_add-value : goal.overflow_add-value
-overflow_add-value c = omega (arith, tens_fit c.loop-byte.value c.loop-byte.byte-index c.loop-byte.invariant.small (omega (arith, c.loop-byte-test.true, c.requires)), c.from.ensures, (c.if-is_digit.ensures.0 refl).1)
+overflow_add-value c =
+    omega (
+      arith,
+      tens_fit c.loop-byte.value c.loop-byte.byte-index c.loop-byte.invariant.small (omega (arith, c.loop-byte-test.true, c.requires)),
+      c.from.ensures,
+      (c.if-is_digit.ensures.0 refl).1,
+    )
 
 pub loop-byte-preserved : goal.loop-byte-preserved
 loop-byte-preserved c =

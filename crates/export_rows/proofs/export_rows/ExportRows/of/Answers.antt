@@ -8,5 +8,6 @@ pub returns-clause-none : goal.returns-clause-none
 returns-clause-none g c =
     let remaining = g.R.Read.remaining in
     let reader = c.from_reader.result in
-    let configured : reader_config reader ≡ config_of c.args.delimiter = rw (c.from_reader.ensures.config, c.flexible.ensures, c.has_headers.ensures, c.delimiter.ensures, c.new.ensures.config, c.byte.ensures) refl in
+    let configured : reader_config reader ≡ config_of c.args.delimiter =
+    rw (c.from_reader.ensures.config, c.flexible.ensures, c.has_headers.ensures, c.delimiter.ensures, c.new.ensures.config, c.byte.ensures) refl in
     none_read c.args.delimiter (remaining c.args.from) (reader_config reader) (reader_state reader) (source_of remaining reader) configured c.from_reader.ensures.state c.from_reader.ensures.source

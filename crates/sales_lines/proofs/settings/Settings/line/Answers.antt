@@ -15,8 +15,7 @@ returns-in-Err-units_of-clause-reason c =
     let work = c.in-Ok.ensures.value in
     let territory = c.in-Ok-value.ensures.value in
     let right = c.in-Ok-value-2.ensures.value in
-    let fault = subst (λ (text : List ℕ). IsFaultOf settings.mark text settings.places c.in-Err-units_of.fault) c.text.ensures c.in-Err-units_of.ensures.fault in
-    (
+    let fault = subst (λ (text : List ℕ). IsFaultOf settings.mark text settings.places c.in-Err-units_of.fault) c.text.ensures c.in-Err-units_of.ensures.fault in (
       fields,
       named,
       ((c.in-Ok.work.now, work.0, work.1), (c.in-Ok-value.territory.now, territory.0, territory.1)),
