@@ -1,8 +1,6 @@
 -- Where the mark of a number stands, and what its digits write.
-use Rattle.std.proofs.Common.{◌≡◌, ◌∙◌, ◌≤◌, ◌<◌, ◌+◌, ◌-◌, ◌*◌, ◌%◌, ◌^◌, ◌++◌, ◌∷◌, ◌⊎◌, [], ℕ, Bool, List, All, true, false, cond, drop, get_or, length, suc, take, ap, arith, inl, inr, refl, subst}
+use Rattle.std.proofs.Common.{◌≡◌, ◌∙◌, ◌≤◌, ◌<◌, ◌+◌, ◌-◌, ◌*◌, ◌%◌, ◌++◌, ◌∷◌, [], ℕ, List, All, true, false, cond, drop, get_or, length, suc, take, ap, arith, inl, inr, refl, subst}
 use Rattle.std.proofs.Common.{sym, append-nil}
-use Rattle.std.specs.Prelude.{if◌then◌else◌}
-use Rattle.std.specs.Char.{digit_value}
 use Rattle.std.specs.List.{filter}
 use Rattle.std.specs.Str.Parse.{digits_value}
 use Rattle.std.proofs.Math.Seq.{drop-cons, get_or-append_seam}

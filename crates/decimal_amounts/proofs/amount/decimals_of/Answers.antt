@@ -1,4 +1,4 @@
-use Rattle.std.proofs.Common.{◌≡◌, ◌∙◌, ◌<◌, ◌≤◌, ◌+◌, ◌-◌, ℕ, List, ap, arith, drop, get_or, inl, inr, length, refl, subst, sym, take}
+use Rattle.std.proofs.Common.{◌≡◌, ◌∙◌, ◌<◌, ◌+◌, ◌-◌, ℕ, List, ap, arith, drop, get_or, inl, inr, length, refl, subst, sym, take}
 use Rattle.std.proofs.lemmas.Bool.{cases_eq, eq-eqb, eqb-true, false≢true}
 use Rattle.std.proofs.lemmas.List.{length-drop, take_all}
 use Rattle.decimal_amounts.specs.Decimals.{ArePlain, IsWhole}

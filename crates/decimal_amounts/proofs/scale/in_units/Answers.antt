@@ -1,4 +1,4 @@
-use Rattle.std.proofs.Common.{◌≡◌, ◌-◌, ◌*◌, ◌/◌, ◌%◌, ◌^◌, ℕ, ap, arith, subst, sym, ◌∙◌}
+use Rattle.std.proofs.Common.{◌-◌, ◌*◌, ◌/◌, ◌%◌, ℕ, ap, arith, subst, sym, ◌∙◌}
 use Rattle.decimal_amounts.specs.Scaled.{IsScaled}
 use Rattle.decimal_amounts.proofs.Powers.{fine_down, large_up, pow_fits, pow_some, scaled_down, scaled_up}
 use Rattle.decimal_amounts.proofs.scale.in_units.Goals as goal

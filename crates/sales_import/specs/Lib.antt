@@ -1,0 +1,2 @@
+pub mod Imported
+pub mod SoFar
