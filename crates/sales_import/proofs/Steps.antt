@@ -70,7 +70,8 @@ module _ (settings : Settings) (start place : Place) (old_lines lines last_lines
   told_so going ended passed_on rejects_on is delimiter from before read = by from read (going.read delimiter from before read)
     where
       by : (from : Option (List ℕ)) → HasRead delimiter from before start → HasRead delimiter from (before ++ going.below) place
-          → IfSome from (λ text. (rows : List (List (List ℕ))) × AreRowsOf delimiter text (before ++ rows) × IsImportOf settings rows old_lines last_lines old_rejects last_rejects (record told { rows = count }))
+          → IfSome from (λ text. (rows : List (List (List ℕ))) × AreRowsOf delimiter text (before ++ rows)
+          × IsImportOf settings rows old_lines last_lines old_rejects last_rejects (record told { rows = count }))
       by None old now = tt
       by (Some text) old now = (
         going.below,

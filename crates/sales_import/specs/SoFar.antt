@@ -23,8 +23,8 @@ pub record IsCounted (made : Made) (old new : Summary) : Type 0 where
 pub record IsAdded {W X : Type 0} (made : Made) (lines_in : W → Option (List ℕ)) (rejects_in : X → Option (List ℕ))
     (old : Going) (old_lines : W) (old_rejects : X) (new : Going) (new_lines : W) (new_rejects : X) : Type 0 where
   pub lines : Appends (output lines_in old_lines old.lines) (output lines_in new_lines new.lines) (lines_text made)
-  pub rejects :
-      Appends (output rejects_in old_rejects old.rejects) (output rejects_in new_rejects new.rejects) (rejects_text made)
+  pub rejects : Appends (output rejects_in old_rejects old.rejects) (output rejects_in new_rejects new.rejects)
+      (rejects_text made)
   pub counted : IsCounted made old.summary new.summary
 
 -- a summary of so many rows, and of what was made of them
@@ -47,14 +47,15 @@ pub record IsImportOf (settings : Settings) (below : List (List (List ℕ)))
 abbrev pub IsImported : Settings → Place → (old_lines new_lines old_rejects new_rejects : Option (List ℕ)) → Summary
     → Type 0
 IsImported settings place old_lines new_lines old_rejects new_rejects summary =
-    (delimiter : Delimiter) (from : Option (List ℕ)) (before : List (List (List ℕ))) → HasRead delimiter from before place
+    (delimiter : Delimiter) (from : Option (List ℕ)) (before : List (List (List ℕ)))
+    → HasRead delimiter from before place
     → IfSome from (λ text. (rows : List (List (List ℕ))) × AreRowsOf delimiter text (before ++ rows)
     × IsImportOf settings rows old_lines new_lines old_rejects new_rejects summary)
 
 -- Where an import stands: what was read since the start, what was made of it, and what both tables have, with the pages
 -- that are on their way to them.
-pub record IsGoing (settings : Settings) (start place : Place) (old_lines lines_now old_rejects rejects_now : Option (List ℕ))
-    (number : ℕ) (told : Summary) : Type 0 where
+pub record IsGoing (settings : Settings) (start place : Place)
+    (old_lines lines_now old_rejects rejects_now : Option (List ℕ)) (number : ℕ) (told : Summary) : Type 0 where
   pub below : List (List (List ℕ))
   pub made : Made
   pub are : AreMade settings 1 below made

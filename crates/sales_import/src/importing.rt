@@ -57,7 +57,8 @@ fn finish<W: Write, X: Write>(
     rejects: &mut X,
 ) -> Result<Summary, ImportFault>
     ensures lines { IfOk result (λ _. Appends (output W.contents lines.old going.lines) (W.contents lines.new) []) }
-    ensures rejects { IfOk result (λ _. Appends (output X.contents rejects.old going.rejects) (X.contents rejects.new) []) }
+    ensures rejects { IfOk result (λ _.
+        Appends (output X.contents rejects.old going.rejects) (X.contents rejects.new) []) }
     ensures summary { IfOk result (λ summary. summary ≡ record going.summary { rows = rows }) }
 {
     if let Err(error) = going.lines.write_to(lines) {

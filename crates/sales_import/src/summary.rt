@@ -20,7 +20,8 @@ impl Summary {
         requires few { self.old.lines + 1 < 2 ^ 64 }
         requires small { unsigned_abs self.old.amount ≤ 10 ^ 12 * self.old.lines }
         requires amount { unsigned_abs line.now.amount ≤ 10 ^ 12 }
-        ensures { self.new ≡ record self.old { lines = self.old.lines + 1; amount = self.old.amount +ℤ line.now.amount } }
+        ensures { self.new ≡
+            record self.old { lines = self.old.lines + 1; amount = self.old.amount +ℤ line.now.amount } }
     {
         self.lines += 1;
         self.amount = plus(self.amount, line.amount);
