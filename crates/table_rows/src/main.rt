@@ -8,6 +8,7 @@ mod asked;
 mod csv_tables;
 mod division;
 mod documents;
+mod imports;
 mod pairs;
 mod payees;
 mod registrations;
@@ -94,6 +95,7 @@ fn add_answer<R: Files + AllocGlobal>(
     };
     match table {
         "division.txt" => division::add_answer(rt.alloc(), &asked, answer),
+        "imports.txt" => imports::add_answer(rt.alloc(), &asked, answer),
         "written_rows.txt" => Ok(written_rows::add_answer(rt.alloc(), &asked, answer)?),
         _ => Ok(add_answer_in(rt.alloc(), table, &asked, answer)?),
     }
