@@ -4,6 +4,7 @@
 mod going;
 mod import_fault;
 mod importing;
+pub mod laws;
 mod page;
 mod reason_words;
 mod summary;
