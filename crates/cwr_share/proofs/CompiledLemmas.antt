@@ -19,7 +19,7 @@ use Rattle.cwr_share.specs.Payees.{payee_of}
 use Rattle.cwr_share.specs.Registered.{HasFewPayees, IsRegistered, Registered}
 use Rattle.cwr_share.specs.Registrations.{ShareLine}
 use Rattle.cwr_share.specs.declared.share_line.RegisteredShare.{RegisteredShare}
-use Rattle.cwr_share.specs.declared.TheConstants.{MOST_LINES}
+use Rattle.cwr_share.specs.declared.TheConstants.{MOST_SHARE_LINES}
 use Rattle.cwr_share.specs.declared.claim_line.ClaimLine.{ClaimLine}
 use Rattle.cwr_share.specs.declared.registrations.Extent.{Extent}
 use Rattle.cwr_share.proofs.InForceLemmas.{entry_at, found_at, is_work, other_text, same_text}
@@ -420,8 +420,8 @@ looked_up works registrations parties payees registered work place registration 
       works = found_at work (kept_lines names) works registrations place registration kept.paired index is ∙ ap (λ (names : List (List ℕ)). Some (kept_lines names registration)) as_names;
       kept = subst (λ (names : List (List ℕ)). IsKept names (accounts_of parties) registration) as_names (subst (IsKept names (accounts_of parties)) (sym is) (kept.kept place registration inside));
       rise = subst (λ (names : List (List ℕ)). InterestsRise (kept_lines names registration)) as_names (subst (λ (r : Kept). InterestsRise (kept_lines names r)) (sym is) (kept.rise place registration inside));
-      few = subst (λ (names : List (List ℕ)). length (kept_lines names registration) ≤ MOST_LINES) as_names
-          (entry_at (kept_lines names) (λ lines. length lines ≤ MOST_LINES) works registrations place registration kept.paired inside is sound.few);
+      few = subst (λ (names : List (List ℕ)). length (kept_lines names registration) ≤ MOST_SHARE_LINES) as_names
+          (entry_at (kept_lines names) (λ lines. length lines ≤ MOST_SHARE_LINES) works registrations place registration kept.paired inside is sound.few);
       few_payees = subst (λ (names : List (List ℕ)). HasFewPayees (payee_of (registered_as works registrations parties payees).payees) (kept_lines names registration)) as_names
           (entry_at (kept_lines names) (HasFewPayees (payee_of (registered_as works registrations parties payees).payees)) works registrations place registration kept.paired inside is sound.few_payees);
     })

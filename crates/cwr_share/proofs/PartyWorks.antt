@@ -17,7 +17,7 @@ use Rattle.cwr_share.specs.InForce.{AreShareLines, works_of}
 use Rattle.cwr_share.specs.Registered.{HasFewPayees, IsPartyOf, IsRegistered, IsShareLine}
 use Rattle.cwr_share.specs.RegistryOf.{HasTooManyPayees, IsPayeeAmong}
 use Rattle.cwr_share.specs.Registrations.{ShareLine, find_work}
-use Rattle.cwr_share.specs.declared.TheConstants.{MOST_LINES}
+use Rattle.cwr_share.specs.declared.TheConstants.{MOST_SHARE_LINES}
 use Rattle.cwr_share.specs.declared.cwr_fault.CwrFault.{CwrFault}
 use Rattle.cwr_share.specs.declared.cwr_fault.CwrFault.TheVariants.{Accounts, Memory}
 use Rattle.cwr_share.proofs.ClaimLemmas.{map_twice}
@@ -275,7 +275,7 @@ module _ (works : List WorkName) (lists : List (Vec ShareLine Global)) (paired :
 
     -- what is read is a registry's
     pub registered : All (λ lines. AreShareLines lines.items) lists → map (kept_lines (names_of parties)) registrations ≡ items_of lists
-        → ((work : List ℕ) (shares : List ShareLine) → find_work work (works_of works lists) ≡ Some shares → length shares ≤ MOST_LINES)
+        → ((work : List ℕ) (shares : List ShareLine) → find_work work (works_of works lists) ≡ Some shares → length shares ≤ MOST_SHARE_LINES)
         → ((work : List ℕ) (shares : List ShareLine) → find_work work (works_of works lists) ≡ Some shares → HasFewPayees (payee_of rows) shares)
         → IsRegistered (registered_as works registrations parties payees)
     registered sound same few few_payees =
@@ -283,7 +283,7 @@ module _ (works : List WorkName) (lists : List (Vec ShareLine Global)) (paired :
         (sym (registered_works works lists registrations parties payees same))
         (record {
           once = once_works;
-          few = each_found (λ lines. length lines ≤ MOST_LINES) few;
+          few = each_found (λ lines. length lines ≤ MOST_SHARE_LINES) few;
           few_payees = λ k d within. paid_alike (slice_index_or (works_of works lists) k d) (k, within, get_or_default (works_of works lists) k (slice_index_or (works_of works lists) k d) d within)
               (each_found (HasFewPayees (payee_of rows)) few_payees k d within);
           shares = each_work (All IsShareLine) (λ k d within. (sound k d within).sound);

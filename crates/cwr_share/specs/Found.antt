@@ -1,7 +1,7 @@
 -- What a registry has for a work, as a look-up finds it.
 use Rattle.std.specs.Prelude.{ℕ, ◌≡◌, ◌≤◌, List, Option, Some, None, length, map}
 use Rattle.cwr_share.specs.Compiled.{AreAccounts, InterestsRise, IsKept, Kept, kept_lines}
-use Rattle.cwr_share.specs.declared.TheConstants.{MOST_LINES}
+use Rattle.cwr_share.specs.declared.TheConstants.{MOST_SHARE_LINES}
 use Rattle.cwr_share.specs.declared.claim_line.ClaimLine.{ClaimLine}
 use Rattle.cwr_share.specs.declared.registry.Work.{Work}
 use Rattle.cwr_share.specs.Registered.{HasFewPayees, IsRegistered, Registered}
@@ -20,7 +20,7 @@ pub record LookedUp (registered : Registered) (work : List ℕ) (registration : 
   pub works : find_work work registered.works ≡ Some (kept_lines (names_in registered) registration)
   pub kept : IsKept (names_in registered) accounts registration
   pub rise : InterestsRise (kept_lines (names_in registered) registration)
-  pub few : length (kept_lines (names_in registered) registration) ≤ MOST_LINES
+  pub few : length (kept_lines (names_in registered) registration) ≤ MOST_SHARE_LINES
   pub few_payees : HasFewPayees (payee_of registered.payees) (kept_lines (names_in registered) registration)
 
 -- these are its share lines, as its claims are worked out

@@ -6,7 +6,7 @@ use Rattle.std.specs.Cmp.Lexicographic.{slice_cmp}
 use Rattle.std.specs.Ordering.{nat_cmp}
 use Rattle.line_split.specs.declared.TheConstants.{FULL_SHARE, MOST_CLAIMS}
 use Rattle.csv_table.specs.declared.forms.TheConstants.{MOST_CODE}
-use Rattle.cwr_share.specs.declared.TheConstants.{MOST_ACCOUNTS, MOST_LINES}
+use Rattle.cwr_share.specs.declared.TheConstants.{MOST_ACCOUNTS, MOST_SHARE_LINES}
 use Rattle.cwr_share.specs.Payees.{HasRow, IsPayeeIn, payee_of}
 use Rattle.cwr_share.specs.Registrations.{ShareLine}
 
@@ -38,7 +38,7 @@ IsPartyOf works party = (work : List ℕ) × (lines : List ShareLine) × Contain
 -- what every registry keeps to
 pub record IsRegistered (registered : Registered) : Type 0 where
   pub once : AllPairs (λ entry later. ¬ (entry.0 ≡ later.0)) registered.works
-  pub few : All (λ entry. length entry.1 ≤ MOST_LINES) registered.works
+  pub few : All (λ entry. length entry.1 ≤ MOST_SHARE_LINES) registered.works
   pub few_payees : All (λ entry. HasFewPayees (payee_of registered.payees) entry.1) registered.works
   pub shares : All (λ entry. All IsShareLine entry.1) registered.works
   -- each party of the works has one payee

@@ -9,7 +9,7 @@ ghost use Rattle.line_split.specs.declared.TheConstants.{MOST_CLAIMED, MOST_CLAI
 ghost use Rattle.cwr_share.specs.ClaimsOn.{deciding, share_for};
 ghost use Rattle.cwr_share.specs.Compiled.{AreClaimLines, AreInRuns, claim_line, claim_lines, claims_of_claimants, line_by, share_under};
 ghost use Rattle.cwr_share.specs.Registrations.{ShareLine};
-ghost use Rattle.cwr_share.specs.declared.TheConstants.{MOST_LINES};
+ghost use Rattle.cwr_share.specs.declared.TheConstants.{MOST_SHARE_LINES};
 
 use crate::share_line::{CollectionShares, RegisteredShare};
 use line_split::{Account, Claims, MOST_CLAIMED, Right};
@@ -73,7 +73,7 @@ pub(crate) fn claims(
     out: &mut Claims,
 ) -> bool
     requires lines { (named : List ShareLine) × (claimants : List (ℕ × List ℕ)) × AreClaimLines named claimants lines.now }
-    requires few { length lines.now ≤ MOST_LINES }
+    requires few { length lines.now ≤ MOST_SHARE_LINES }
     requires room { MOST_CLAIMS ≤ out.old.room }
     ensures within { (named : List ShareLine) (claimants : List (ℕ × List ℕ)) → AreClaimLines named claimants lines.now
         → result ≡ nat_le (total_of (claims_of_claimants tis.now land right named claimants)) MOST_CLAIMED }
@@ -103,8 +103,8 @@ pub(crate) fn claims(
 /// line whose territory contains the land decides.
 fn first_claim(lines: &[ClaimLine], tis: &TisTable, land: Code, right: Right) -> (u64, usize)
     requires some { 0 < length lines.now }
-    requires few { length lines.now ≤ MOST_LINES }
-    ensures small { result.0 ≤ MOST_LINES * u16.MAX }
+    requires few { length lines.now ≤ MOST_SHARE_LINES }
+    ensures small { result.0 ≤ MOST_SHARE_LINES * u16.MAX }
     ensures some { 0 < result.1 }
     ensures within { result.1 ≤ length lines.now }
     ensures claim { (account : ℕ) (first : List ShareLine) (others : List ClaimLine) → lines.now ≡ claim_lines account first ++ others → 0 < length first

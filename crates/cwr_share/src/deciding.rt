@@ -4,7 +4,7 @@ ghost use Rattle.std.specs.Prelude.{◌≡◌, ◌≤◌, ◌<◌, ◌+◌, ◌*
 ghost use Rattle.std.specs.List.{list_any};
 ghost use Rattle.cwr_share.specs.ClaimsOn.{claimed_in as claimed_by, covers, decides as is_deciding, is_alike, share_for};
 ghost use Rattle.cwr_share.specs.Registrations.{ShareLine};
-ghost use Rattle.cwr_share.specs.declared.TheConstants.{MOST_LINES};
+ghost use Rattle.cwr_share.specs.declared.TheConstants.{MOST_SHARE_LINES};
 
 use crate::share_line::ShareRecord;
 use line_split::Right;
@@ -12,7 +12,7 @@ use tis_tree::{Code, TisTable};
 
 /// What the share lines of a registration claim in a land for a right, in hundredths of a per cent, whoever is paid it.
 pub fn claimed_in(tis: &TisTable, land: Code, right: Right, shares: &[ShareRecord]) -> u64
-    requires few { length shares.now ≤ MOST_LINES }
+    requires few { length shares.now ≤ MOST_SHARE_LINES }
     ensures claimed { result ≡ claimed_by tis.now land right shares.now }
     ensures small { result ≤ u16.MAX * length shares.now }
 {

@@ -8,7 +8,7 @@ ghost use Rattle.cwr_share.specs.Registered.{HasFewPayees, IsRegistered};
 ghost use Rattle.cwr_share.specs.RegistryOf.{HasTooManyPayees, IsRegistryOf};
 ghost use Rattle.cwr_share.specs.Registrations.{ShareLine, find_work};
 ghost use Rattle.cwr_share.specs.Payees.{payee_of};
-ghost use Rattle.cwr_share.specs.declared.TheConstants.{MOST_LINES};
+ghost use Rattle.cwr_share.specs.declared.TheConstants.{MOST_SHARE_LINES};
 ghost use Rattle.cwr_share.specs.declared.cwr_fault.CwrFault.TheVariants.{Accounts, Memory};
 ghost use Rattle.cwr_share.specs.declared.numbers.TheConstants.{MOST_PARTY_BYTES, MOST_SUBMITTER_BYTES, MOST_WORK_NAME_BYTES};
 
@@ -158,7 +158,7 @@ impl InForce {
     /// The registry of these works, where what a party claims is paid to its payee.
     pub fn registry(self, alloc: Global, payees: &Payees) -> Result<Registry, CwrFault>
         requires lines { (work : List ℕ) (shares : List ShareLine) → find_work work self ≡ Some shares
-            → length shares ≤ MOST_LINES }
+            → length shares ≤ MOST_SHARE_LINES }
         requires payees { (work : List ℕ) (shares : List ShareLine) → find_work work self ≡ Some shares
             → HasFewPayees (payee_of payees.now) shares }
         ensures registry { IfOk result (IsRegistryOf payees.now (λ work. find_work work self)) }

@@ -49,7 +49,7 @@ pub use share_line::{ShareRecord, trimmed};
 pub const MOST_SHARES: usize = 256;
 
 /// The most share lines that one work has: of 1,048,576 registrations.
-pub const MOST_LINES: usize = 1_048_576 * MOST_SHARES;
+pub const MOST_SHARE_LINES: usize = 1_048_576 * MOST_SHARES;
 
 /// The most accounts that the payees of all registrations in force have.
 pub const MOST_ACCOUNTS: usize = 16_383;

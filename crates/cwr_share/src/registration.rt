@@ -4,7 +4,7 @@ ghost use Rattle.std.specs.Prelude.{ℕ, ◌≡◌, ◌≤◌, ◌<◌, ◌++◌
 ghost use Rattle.std.specs.List.{HoldsAt};
 ghost use Rattle.cwr_share.specs.Compiled.{AreInOrder, IsInOrder, IsKept, accounts_of, in_order, kept_lines, line_by, lines_of_parties, names_of, rank_of, whole};
 ghost use Rattle.std.specs.List.Sorted.{IsPermutation};
-ghost use Rattle.cwr_share.specs.declared.TheConstants.{MOST_LINES};
+ghost use Rattle.cwr_share.specs.declared.TheConstants.{MOST_SHARE_LINES};
 
 use crate::claim_line::ClaimLine;
 use crate::numbers::PartyName;
@@ -50,7 +50,7 @@ impl CompiledRegistration {
         shares: &[ShareRecord],
         accounts: &IndexMap<PartyName, Account>,
     ) -> Result<(), AllocError>
-        requires few { length shares.now ≤ MOST_LINES }
+        requires few { length shares.now ≤ MOST_SHARE_LINES }
         requires once { AllPairs (λ name later. ¬ (name ≡ later)) (names_of accounts.now.entries) }
         requires known { All (λ share. Contains (names_of accounts.now.entries) share.party) shares.now }
         ensures shares { OnOk result (kept_lines (names_of accounts.now.entries) (whole self.new) ≡ shares.now) }

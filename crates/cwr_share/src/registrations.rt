@@ -2,7 +2,7 @@
 
 ghost use Rattle.std.specs.Prelude.{◌≡◌, ◌≤◌, ◌<◌, ◌++◌, ◌∷◌, [], IfOk, length, slice_index_or};
 ghost use Rattle.cwr_share.specs.Compiled.{Kept, whole};
-ghost use Rattle.cwr_share.specs.declared.TheConstants.{MOST_LINES};
+ghost use Rattle.cwr_share.specs.declared.TheConstants.{MOST_SHARE_LINES};
 
 use crate::claim_line::ClaimLine;
 use crate::registration::CompiledRegistration;
@@ -62,7 +62,7 @@ impl Registrations {
         self,
         registration: &CompiledRegistration,
     ) -> Result<Registrations, AllocError>
-        requires few { length registration.now.lines.items ≤ MOST_LINES }
+        requires few { length registration.now.lines.items ≤ MOST_SHARE_LINES }
         ensures { IfOk result (λ registrations. registrations ≡ self ++ whole registration.now ∷ []) }
     {
         let Registrations {

@@ -6,7 +6,7 @@ use Rattle.cwr_share.specs.Filed.{IsFiled}
 use Rattle.cwr_share.specs.Lines.{lines_of}
 use Rattle.cwr_share.specs.Registered.{Registered}
 use Rattle.cwr_share.specs.Registrations.{ShareLine, find_work}
-use Rattle.cwr_share.specs.declared.TheConstants.{MOST_LINES}
+use Rattle.cwr_share.specs.declared.TheConstants.{MOST_SHARE_LINES}
 use Rattle.cwr_share.specs.declared.filed.FiledRegistration.{FiledRegistration}
 use Rattle.cwr_share.specs.declared.in_force.InForce.{InForce}
 use Rattle.line_split.specs.UsageLine.{UsageLine}
@@ -56,7 +56,7 @@ pub record IsFoundFor (files : List (List ℕ × List (List ℕ))) (links : List
   pub filed : AreFiledBy (λ row. file_by files row.name.now) rows found.filed.items
   pub all : length found.filed.items ≡ length rows
   pub linked : (work : List ℕ) → find_work work found.linked ≡ shares_linked (finds_in files) links work
-  pub few : (work : List ℕ) (shares : List ShareLine) → find_work work found.linked ≡ Some shares → length shares ≤ MOST_LINES
+  pub few : (work : List ℕ) (shares : List ShareLine) → find_work work found.linked ≡ Some shares → length shares ≤ MOST_SHARE_LINES
 
 -- and where it was found
 pub record IsFoundIn (names : List (List ℕ)) (holds : ℕ → List ℕ → Type 0) (payees : List (List ℕ × List ℕ)) (links : List Link) (rows : List WorksRow) (found : Found) : Type 0 where

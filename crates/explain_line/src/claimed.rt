@@ -4,7 +4,7 @@ ghost use Rattle.std.specs.Prelude.{◌≡◌, ◌≤◌, ◌<◌, ◌+◌, ℕ,
 ghost use Rattle.cwr_share.specs.ClaimsOn.{claim_of as claim_by};
 ghost use Rattle.cwr_share.specs.Payees.{payee_of};
 ghost use Rattle.cwr_share.specs.Registrations.{ShareLine};
-ghost use Rattle.cwr_share.specs.declared.TheConstants.{MOST_LINES};
+ghost use Rattle.cwr_share.specs.declared.TheConstants.{MOST_SHARE_LINES};
 ghost use Rattle.explain_line.specs.Claimed.{ArePayeesOf, claimed_by};
 
 use cwr_share::{Registry, ShareRecord, decides};
@@ -46,7 +46,7 @@ pub(crate) fn claim_of(
     payees: &[&[u8]],
     payee: &[u8],
 ) -> u64
-    requires few { length shares.now ≤ MOST_LINES }
+    requires few { length shares.now ≤ MOST_SHARE_LINES }
     requires payees { length payees.now ≡ length shares.now }
     ensures { (pay : List ℕ → List ℕ) → ArePayeesOf pay (map (λ p. p.now) payees.now) shares.now → result ≡ claim_by tis.now land right pay shares.now payee.now }
 {

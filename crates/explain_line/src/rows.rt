@@ -8,7 +8,7 @@ ghost use Rattle.cwr_share.specs.ClaimsOn.{claims_among};
 ghost use Rattle.cwr_share.specs.Filed.{IsFiled};
 ghost use Rattle.cwr_share.specs.Payees.{payee_of};
 ghost use Rattle.cwr_share.specs.Registrations.{ShareLine};
-ghost use Rattle.cwr_share.specs.declared.TheConstants.{MOST_LINES, MOST_SHARES};
+ghost use Rattle.cwr_share.specs.declared.TheConstants.{MOST_SHARE_LINES, MOST_SHARES};
 ghost use Rattle.explain_line.specs.Explanation.{AddsRow, AddsRows, base_row, claim_row, division_rows, line_row, mark_text, participant_fields};
 ghost use Rattle.explain_line.specs.Explanation.{participant_row, payee_at, registration_rows, right_text, share_fields, share_row, shown_of, yes_or_no};
 ghost use Rattle.explain_line.specs.Shares.{shown_by};
@@ -275,7 +275,7 @@ pub(crate) fn write_claims(
     right: Right,
     shares: &[ShareRecord],
 ) -> Result<(), AllocError>
-    requires { length shares.now ≤ MOST_LINES }
+    requires { length shares.now ≤ MOST_SHARE_LINES }
     ensures { OnOk result (AddsRows rows.old.text rows.new.text (map (claim_row registry.now)
         (claims_among tis.now land right (payee_of registry.now.payees) shares.now (drop 1 registry.now.accounts)))) }
 {

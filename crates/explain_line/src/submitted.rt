@@ -3,7 +3,7 @@
 ghost use Rattle.std.specs.Prelude.{◌≡◌, ◌⊎◌, ◌≤◌, ◌<◌, ◌-◌, ℕ, [], All, List, IfErr, IfNone, IfOk, IfSome, Ok, Some};
 ghost use Rattle.std.specs.Prelude.{length, slice_get, unwrap_or};
 ghost use Rattle.cwr_share.specs.Registrations.{ShareLine, find_work};
-ghost use Rattle.cwr_share.specs.declared.TheConstants.{MOST_LINES};
+ghost use Rattle.cwr_share.specs.declared.TheConstants.{MOST_SHARE_LINES};
 ghost use Rattle.std.specs.Option.{option_map};
 ghost use Rattle.csv_table.specs.Table.{rows_of};
 ghost use Rattle.csv_table.specs.Written.{text_of};
@@ -110,7 +110,7 @@ fn explain_row(
     usage: Result<Usage, LineFault>,
 ) -> Result<Option<Vec<u8>>, SubmittedFault>
     requires few { (work : List ℕ) (shares : List ShareLine) → find_work work found.now.linked ≡ Some shares
-        → length shares ≤ MOST_LINES }
+        → length shares ≤ MOST_SHARE_LINES }
     requires all { length found.now.filed.items ≡ length rows.now }
     ensures explained { IfOk result (λ answer. IfSome answer (λ text.
         IsRowExplained tis.now found.now rows.now usage row text.items)) }
@@ -157,7 +157,7 @@ fn submitted_explanation(
 ) -> Result<Vec<u8>, AllocError>
     requires line { IsUsageLine (usage_line_of line.now) }
     requires few { (work : List ℕ) (shares : List ShareLine) → find_work work found.now.linked ≡ Some shares
-        → length shares ≤ MOST_LINES }
+        → length shares ≤ MOST_SHARE_LINES }
     requires all { length found.now.filed.items ≡ length rows.now }
     ensures { (files : List (List ℕ × List (List ℕ))) (links : List Link)
         → AreRowsOf links line.now.work.now rows.now → IsFoundFor files links rows.now found.now

@@ -9,7 +9,7 @@ ghost use Rattle.cwr_share.specs.PassedOver.{IsTallyOf};
 ghost use Rattle.cwr_share.specs.Registered.{IsRegistered};
 ghost use Rattle.cwr_share.specs.RegistryOf.{IsRegistryOf};
 ghost use Rattle.cwr_share.specs.Registrations.{ShareLine, find_work};
-ghost use Rattle.cwr_share.specs.declared.TheConstants.{MOST_LINES};
+ghost use Rattle.cwr_share.specs.declared.TheConstants.{MOST_SHARE_LINES};
 ghost use Rattle.cwr_share.specs.declared.numbers.TheConstants.{MOST_SUBMITTER_BYTES, MOST_WORK_BYTES, MOST_WORK_NAME_BYTES};
 ghost use Rattle.cwr_share.specs.declared.payees.TheConstants.{MOST_NAME_BYTES};
 ghost use Rattle.linked_works.specs.Linked as linked;
@@ -198,7 +198,7 @@ impl<'a> Works<'a> {
         ensures works { IfOk result (λ joined. (work : List ℕ) → find_work work joined
             ≡ shares_linked (finds_among (zip self.now.names files.now)) self.now.links work) }
         ensures lines { IfOk result (λ joined. (work : List ℕ) (shares : List ShareLine)
-            → find_work work joined ≡ Some shares → length shares ≤ MOST_LINES) }
+            → find_work work joined ≡ Some shares → length shares ≤ MOST_SHARE_LINES) }
     {
         link_all(alloc, self.names, files, self.links.as_slice())
     }

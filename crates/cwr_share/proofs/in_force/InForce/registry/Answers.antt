@@ -6,7 +6,7 @@ use Rattle.cwr_share.specs.Compiled.{IsKept, Numbered, accounts_of, kept_lines, 
 use Rattle.cwr_share.specs.Parties.{AreAccountsOf}
 use Rattle.cwr_share.specs.Registered.{IsRegistered}
 use Rattle.cwr_share.specs.Registrations.{ShareLine, find_work}
-use Rattle.cwr_share.specs.declared.TheConstants.{MOST_LINES}
+use Rattle.cwr_share.specs.declared.TheConstants.{MOST_SHARE_LINES}
 use Rattle.cwr_share.proofs.PartyWorks.{as_party, have_accounts, kept_for_claims, known_in, list_at, lists_next, many_works, once_in, paid_rows, registered, registered_works}
 use Rattle.cwr_share.proofs.in_force.InForce.registry.Goals as goal
 use Rattle.cwr_share.proofs.in_force.InForce.registry.Goals.{After-loop-shares}
@@ -39,7 +39,7 @@ compile-requires-clause-few c =
     let within = rw c.deref-shares-items.ensures.value at c.loop-shares-test.true in
     let is = rw c.deref-shares-items.ensures.value at c.shares-item.is in
     rw c.as_slice-in-loop-shares.ensures.value
-    (list_at (c.self.inside).works.keys (c.self.inside).lists.items (c.self.invariant).paired c.len.ensures.unique (λ lines. length lines ≤ MOST_LINES)
+    (list_at (c.self.inside).works.keys (c.self.inside).lists.items (c.self.invariant).paired c.len.ensures.unique (λ lines. length lines ≤ MOST_SHARE_LINES)
     (λ work shares found. c.requires.lines work shares (ap (find_work work) (sym c.self.view_is) ∙ found)) c.loop-shares.shares-index c.shares-item.result within (sym is))
 
 pub compile-requires-clause-once : goal.compile-requires-clause-once
@@ -59,7 +59,7 @@ followed_by-requires c =
     let same : kept_lines parties registration ≡ c.shares-item.result.items = rw c.as_slice-in-loop-shares.ensures.value at c.in_ok-compile.ensures.shares in
     let inside : c.loop-shares.shares-index < length (c.self.inside).lists.items = rw c.deref-shares-items.ensures.value at c.loop-shares-test.true in
     let is = rw c.deref-shares-items.ensures.value at c.shares-item.is in
-    let few = list_at (c.self.inside).works.keys (c.self.inside).lists.items (c.self.invariant).paired c.len.ensures.unique (λ lines. length lines ≤ MOST_LINES)
+    let few = list_at (c.self.inside).works.keys (c.self.inside).lists.items (c.self.invariant).paired c.len.ensures.unique (λ lines. length lines ≤ MOST_SHARE_LINES)
     (λ work shares found. c.requires.lines work shares (ap (find_work work) (sym c.self.view_is) ∙ found)) c.loop-shares.shares-index c.shares-item.result inside (sym is) in
     omega (arith, c.in_ok-compile.ensures.paired, ap (λ (lines : List ShareLine). length lines) same, length-map registration.shares (line_by parties), few)
 

@@ -4,7 +4,7 @@ use Rattle.std.proofs.lemmas.List.Elements.{All-nil, All-push}
 use Rattle.std.specs.List.{HoldsAt}
 use Rattle.std.proofs.lemmas.List.Sorted.{IsPermutation-refl}
 use Rattle.std.specs.List.Sorted.{IsPermutation}
-use Rattle.cwr_share.specs.declared.TheConstants.{MOST_LINES}
+use Rattle.cwr_share.specs.declared.TheConstants.{MOST_SHARE_LINES}
 use Rattle.cwr_share.specs.Compiled.{AreInOrder, IsCompiled, IsInOrder, Numbered, in_order, accounts_of, line_by, lines_of_parties, names_of, with_place}
 use Rattle.cwr_share.specs.Registrations.{ShareLine}
 use Rattle.cwr_share.specs.declared.claim_line.ClaimLine.{ClaimLine}
@@ -32,7 +32,7 @@ loop-place-init c =
     })
 
 -- the claimants of share lines that are gathered are in order
-their_order : (parties : List (List ℕ)) (lines : List ShareLine) (order : List Placed) (gathered : IsGathered parties lines order) → length lines ≤ MOST_LINES → AreInOrder gathered.claimants
+their_order : (parties : List (List ℕ)) (lines : List ShareLine) (order : List Placed) (gathered : IsGathered parties lines order) → length lines ≤ MOST_SHARE_LINES → AreInOrder gathered.claimants
 their_order parties lines order gathered few = record {
   rising = gathered.compiled.rising;
   places = gathered.places;
@@ -80,7 +80,7 @@ as_many : (parties : List (List ℕ)) (lines : List ShareLine) (kept : List Regi
 as_many parties lines kept same = sym (length-map kept (line_by parties)) ∙ ap (λ (l : List ShareLine). length l) same
 
 -- the places as they are put in order
-put_now : (parties : List (List ℕ)) (lines : List ShareLine) (place : ℕ) (old new : List Placed) (gathered : IsGathered parties (take place lines) old) → length lines ≤ MOST_LINES
+put_now : (parties : List (List ℕ)) (lines : List ShareLine) (place : ℕ) (old new : List Placed) (gathered : IsGathered parties (take place lines) old) → length lines ≤ MOST_SHARE_LINES
     → place ≤ length lines → ((claimants : List (ℕ × List ℕ)) → AreInOrder claimants → IsPermutation old (in_order claimants) → new ≡ in_order claimants)
     → new ≡ in_order gathered.claimants
 put_now parties lines place old new gathered few within is =

@@ -2,7 +2,7 @@ use Rattle.std.proofs.Common.{◌∙◌, ◌≤◌, ℕ, List, ap, arith, length
 use Rattle.line_split.specs.UsageLine.{usage_line_of}
 use Rattle.cwr_share.specs.Compiled.{AreClaimLines, Kept, kept_lines}
 use Rattle.cwr_share.specs.Found.{IsFound, LookedUp, names_in}
-use Rattle.cwr_share.specs.declared.TheConstants.{MOST_LINES}
+use Rattle.cwr_share.specs.declared.TheConstants.{MOST_SHARE_LINES}
 use Rattle.cwr_share.specs.declared.claim_line.ClaimLine.{ClaimLine}
 use Rattle.cwr_share.specs.Registered.{Registered}
 use Rattle.cwr_share.proofs.ClaimLemmas.{against_land, against_work}
@@ -25,7 +25,7 @@ record Claimable (registered : Registered) (work : List ℕ) (lines : List Claim
   registration : Kept
   up : LookedUp registered work registration
   claim_lines : AreClaimLines (kept_lines (names_in registered) registration) (its_groups registered work registration up) lines
-  few : length lines ≤ MOST_LINES
+  few : length lines ≤ MOST_SHARE_LINES
 
 claimable : (registered : Registered) (work : List ℕ) (lines : List ClaimLine) → IsFound registered work lines → Claimable registered work lines
 claimable registered work lines found =
