@@ -53,13 +53,14 @@ def message_in(errors):
     return errors.split(b": ", 1)[-1]
 
 
-def run(words, seconds=None):
+def run(words, seconds=None, folder=None):
     """The status of a command line, what it printed, and its message.
 
-    Where it takes longer than `seconds` it is ended, and a text stands for its status.
+    Where it takes longer than `seconds` it is ended, and a text stands for its status. It runs in a
+    folder, if one is given.
     """
     try:
-        done = subprocess.run(words, capture_output=True, timeout=seconds)
+        done = subprocess.run(words, capture_output=True, timeout=seconds, cwd=folder)
     except subprocess.TimeoutExpired:
         return f"no end in {seconds} s", b"", b""
     return done.returncode, done.stdout, message_in(done.stderr)

@@ -1,4 +1,5 @@
-//! The arguments of the commands over several submitters' files, taken as `clap` takes them.
+//! The arguments of an import, and of the commands over several submitters' files, taken as
+//! `clap` takes them.
 
 use crate::submitters::Submitters;
 
@@ -9,12 +10,31 @@ impl Options {
     /// Each is `--name value` or `--name=value`; in the first form no value begins with `-`, unless
     /// it is `-` alone. A flag has no value. None where an argument is something else.
     pub fn of(
-        mut args: impl Iterator<Item = String>,
+        args: impl Iterator<Item = String>,
         names: &[&str],
         flags: &[&str],
     ) -> Option<Options> {
-        let mut options = Vec::new();
+        let (options, paths) = Options::and_paths(args, names, flags)?;
+        paths.is_empty().then_some(options)
+    }
+
+    /// The same, with the paths that stand between options. Of these none begins with `-`, unless
+    /// it is `-` alone or stands behind `--`.
+    pub fn and_paths(
+        mut args: impl Iterator<Item = String>,
+        names: &[&str],
+        flags: &[&str],
+    ) -> Option<(Options, Vec<String>)> {
+        let (mut options, mut paths) = (Vec::new(), Vec::new());
         while let Some(arg) = args.next() {
+            if arg == "-" || !arg.starts_with('-') {
+                paths.push(arg);
+                continue;
+            }
+            if arg == "--" {
+                paths.extend(args);
+                break;
+            }
             let arg = arg.strip_prefix("--")?;
             let (name, value) = match arg.split_once('=') {
                 Some((name, value)) => (name, value.into()),
@@ -30,7 +50,7 @@ impl Options {
             }
             options.push((name.into(), value));
         }
-        Some(Options(options))
+        Some((Options(options), paths))
     }
 
     /// The values of an option.

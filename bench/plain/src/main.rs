@@ -1,7 +1,7 @@
 //! `royalty_run run`, `explain` and `check` once more, as one would write them by hand in Rust, with no proofs. The words and the
 //! text that comes out are the same. And `merge`, with the paths of statement texts behind it, merges them, as
 //! `merge_statements` does. With `--works` the three are over the files of several submitters, for which `works` and `parties`
-//! print tables to begin with. `--mode` says how the book is filled: one (where there is no such word), threads, channels,
+//! print tables to begin with. `import` makes usage lines of a sales report. `--mode` says how the book is filled: one (where there is no such word), threads, channels,
 //! batches, linked, pool, rings or parked. With `--times` it says how long each phase took. With `--whole` the usage list may
 //! have any number of lines, and 4,294,967,295 bytes.
 
@@ -12,6 +12,7 @@ mod check_submitted;
 mod cwr;
 mod explain;
 mod form;
+mod import;
 mod linked;
 mod merge;
 mod payees;
@@ -365,6 +366,7 @@ fn main() -> ExitCode {
         Some("explain") => explain_main(),
         Some("check") => check_main(),
         Some("merge") => merge_main(),
+        Some("import") => import::main(),
         Some("works") => table_main(tables::works),
         Some("parties") => table_main(tables::parties),
         _ => run_main(),
