@@ -1,5 +1,5 @@
 -- Places in an export that is read row by row.
-use Rattle.std.specs.Prelude.{ℕ, ◌≡◌, ◌<◌, [], List, None, Option, Some, IfSome, length, slice_index_or, true}
+use Rattle.std.specs.Prelude.{ℕ, ◌≡◌, ◌⊎◌, ◌<◌, [], Any, List, None, Option, Some, IfSome, length, slice_index_or, true}
 use Rattle.csv.specs.Machine.{next_record}
 use Rattle.csv.specs.Reading.{AreRecords, Reached, ReadsNext, default_config, strip_bom}
 use Rattle.csv.specs.declared.parser.Config.{Config}
@@ -25,6 +25,13 @@ AreRowsOf delimiter text rows = AreRecords (config_of delimiter) StartRecord (st
 -- no field of a row has a byte
 abbrev pub IsBlank : List (List ℕ) → Type 0
 IsBlank row = (place : ℕ) → place < length row → slice_index_or row place [] ≡ []
+
+-- a byte that ends lines; within quotes it is one of a field
+abbrev pub IsLineBreak : ℕ → Type 0
+IsLineBreak byte = (byte ≡ 10) ⊎ (byte ≡ 13)
+
+abbrev pub HasLineBreak : List (List ℕ) → Type 0
+HasLineBreak row = (place : ℕ) × (place < length row) × Any IsLineBreak (slice_index_or row place [])
 
 -- The row at hand, how the export is read, how far the reader has come within a row, and what is unread, where it is
 -- known what there is to read.

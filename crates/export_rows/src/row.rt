@@ -1,7 +1,7 @@
 //! A row of an export.
 
-ghost use Rattle.std.specs.Prelude.{◌≡◌, ◌↔◌, [], IsTrue, length, slice_index_or};
-ghost use Rattle.export_rows.specs.Places.{IsBlank};
+ghost use Rattle.std.specs.Prelude.{◌≡◌, ◌↔◌, [], Any, IsTrue, length, slice_index_or};
+ghost use Rattle.export_rows.specs.Places.{HasLineBreak, IsBlank, IsLineBreak};
 
 use csv::ByteRecord;
 use std::alloc::Global;
@@ -49,6 +49,18 @@ impl Row {
         }
     }
 
+    /// Whether a field has a byte that ends lines, as it may within quotes.
+    pub fn has_line_break(&self) -> bool
+        ensures { IsTrue result ↔ HasLineBreak self.now }
+    {
+        for place in 0..self.len() {
+            if has_line_break(self.field(place)) {
+                return true;
+            }
+        }
+        false
+    }
+
     /// Whether no field has a byte.
     pub fn is_blank(&self) -> bool
         ensures { IsTrue result ↔ IsBlank self.now }
@@ -60,4 +72,11 @@ impl Row {
         }
         true
     }
+}
+
+/// Whether a field has a byte that ends lines.
+fn has_line_break(field: &[u8]) -> bool
+    ensures { IsTrue result ↔ Any IsLineBreak field.now }
+{
+    field.iter().any(|byte| *byte == b'\n' || *byte == b'\r')
 }

@@ -1,3 +1,6 @@
 pub mod Added
+pub mod Begun
+pub mod Counted
+pub mod Named
 pub mod Steps
 pub mod UsageRows

@@ -1,5 +1,5 @@
 -- The rows that are written of lines are usage lines.
-use Rattle.std.proofs.Common.{◌≡◌, ◌∙◌, ◌≤◌, ◌∷◌, [], ℕ, suc, ℤ, pos, negsuc, neg_ℤ, unsigned_abs, Bool, true, false, List, ap, arith, refl, subst, sym}
+use Rattle.std.proofs.Common.{◌≡◌, ◌≤◌, ◌∷◌, [], ℕ, suc, ℤ, pos, negsuc, neg_ℤ, unsigned_abs, Bool, true, false, List, ap, arith, refl, subst, sym}
 use Rattle.std.specs.Prelude.{decimal, if◌then◌else◌}
 use Rattle.std.specs.Fmt.{signed_decimal}
 use Rattle.std.specs.Str.Parse.{IsNumeral}

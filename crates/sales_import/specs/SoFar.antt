@@ -1,23 +1,41 @@
 -- An import as it goes on.
 use Rattle.std.specs.Io.KnownBytes.{Appends}
-use Rattle.std.specs.Prelude.{ℕ, ◌≡◌, ◌≤◌, ◌+◌, ◌*◌, ◌^◌, ◌++◌, ◌+ℤ◌, List, Option, IfSome, length, unsigned_abs}
+use Rattle.std.specs.List.{filter}
+use Rattle.std.specs.Prelude.{ℕ, ◌≡◌, ◌==◌, ◌+◌, ◌++◌, List, Option, IfSome, length, slice_index_or, ⊤}
 use Rattle.export_rows.specs.Places.{AreRowsOf, HasRead, Place}
 use Rattle.export_rows.specs.declared.delimiter.Delimiter.{Delimiter}
+use Rattle.sales_lines.specs.declared.reason.Reason.{Reason}
 use Rattle.sales_lines.specs.declared.settings.Settings.{Settings}
-use Rattle.sales_import.specs.Imported.{AreMade, Made, amount_of, lines_text, output, rejects_text}
+use Rattle.sales_import.specs.Imported.{AreMade, Made, Reject, both, line_amounts, lines_text, output}
+use Rattle.sales_import.specs.Imported.{reject_amounts, rejects_text}
+use Rattle.sales_import.specs.Tallies.{AreWithin, no_rows, place_of, tally_of}
 use Rattle.sales_import.specs.declared.going.Going.{Going}
+use Rattle.sales_import.specs.declared.import_fault.ImportFault.{ImportFault}
+use Rattle.sales_import.specs.declared.import_fault.ImportFault.TheVariants.{Headless, Column}
 use Rattle.sales_import.specs.declared.summary.Summary.{Summary}
+use Rattle.sales_import.specs.declared.tally.Tally.{Tally}
 
--- how many rows were counted
-abbrev pub count_of : Summary → ℕ
-count_of summary = summary.lines + summary.rejected + summary.passed
+-- the rows that were rejected for a reason
+abbrev pub rejected_for : Reason → List Reject → List Reject
+rejected_for reason = filter (λ reject. place_of reject.reason == place_of reason)
 
--- more was counted: what was made
-pub record IsCounted (made : Made) (old new : Summary) : Type 0 where
-  pub lines : new.lines ≡ old.lines + length made.lines
-  pub rejected : new.rejected ≡ old.rejected + length made.rejects
-  pub passed : new.passed ≡ old.passed + made.passed
-  pub amount : new.amount ≡ old.amount +ℤ amount_of made.lines
+-- how many rows were rejected for it, as it was counted
+abbrev pub tally_for : Reason → Summary → Tally
+tally_for reason told = slice_index_or told.reasons (place_of reason) no_rows
+
+-- what was made is counted, and its amounts are added: all rows, usage lines, rejected rows, these by reason, and rows
+-- that are passed over
+pub record AreCounted (made : Made) (told : Summary) : Type 0 where
+  pub all : told.all ≡ tally_of made.all
+  pub lines : told.lines ≡ tally_of (line_amounts made.lines)
+  pub rejected : told.rejected ≡ tally_of (reject_amounts made.rejects)
+  pub reasons : (reason : Reason)
+      → tally_for reason told ≡ tally_of (reject_amounts (rejected_for reason made.rejects))
+  pub passed : told.passed ≡ tally_of made.passed
+
+-- what is made of one row more is counted too
+abbrev pub IsCounted : (own : Made) → (old new : Summary) → Type 0
+IsCounted own old new = (made : Made) → AreCounted made old → AreCounted (both made own) new
 
 -- and the rows of it were added to both tables
 pub record IsAdded {W X : Type 0} (made : Made) (lines_in : W → Option (List ℕ)) (rejects_in : X → Option (List ℕ))
@@ -27,14 +45,6 @@ pub record IsAdded {W X : Type 0} (made : Made) (lines_in : W → Option (List �
       (rejects_text made)
   pub counted : IsCounted made old.summary new.summary
 
--- a summary of so many rows, and of what was made of them
-pub record IsSummaryOf (count : ℕ) (made : Made) (summary : Summary) : Type 0 where
-  pub rows : summary.rows ≡ count
-  pub lines : summary.lines ≡ length made.lines
-  pub rejected : summary.rejected ≡ length made.rejects
-  pub passed : summary.passed ≡ made.passed
-  pub amount : summary.amount ≡ amount_of made.lines
-
 -- The rows of an export below those that were read before: each became a usage line, or was rejected, or passed over.
 pub record IsImportOf (settings : Settings) (below : List (List (List ℕ)))
     (old_lines new_lines old_rejects new_rejects : Option (List ℕ)) (told : Summary) : Type 0 where
@@ -42,7 +52,7 @@ pub record IsImportOf (settings : Settings) (below : List (List (List ℕ)))
   pub are : AreMade settings 1 below made
   pub lines : Appends old_lines new_lines (lines_text made)
   pub rejects : Appends old_rejects new_rejects (rejects_text made)
-  pub summary : IsSummaryOf (length below) made told
+  pub counted : AreCounted made told
 
 abbrev pub IsImported : Settings → Place → (old_lines new_lines old_rejects new_rejects : Option (List ℕ)) → Summary
     → Type 0
@@ -64,9 +74,11 @@ pub record IsGoing (settings : Settings) (start place : Place)
       → HasRead delimiter from before start → HasRead delimiter from (before ++ below) place
   pub lines : Appends old_lines lines_now (lines_text made)
   pub rejects : Appends old_rejects rejects_now (rejects_text made)
-  pub line_count : told.lines ≡ length made.lines
-  pub reject_count : told.rejected ≡ length made.rejects
-  pub passed_count : told.passed ≡ made.passed
-  pub amount : told.amount ≡ amount_of made.lines
-  pub all : count_of told + 1 ≡ number
-  pub small : unsigned_abs told.amount ≤ 10 ^ 12 * told.lines
+  pub counted : AreCounted made told
+  pub within : AreWithin number told
+
+-- a read, a write or memory was refused
+abbrev pub IsOfRows : ImportFault → Type 0
+IsOfRows Headless = ⊥
+IsOfRows (Column fault word) = ⊥
+IsOfRows _ = ⊤

@@ -1,9 +1,9 @@
 //! An import that is going on.
 
-ghost use Rattle.std.specs.Prelude.{◌≡◌, ◌≤◌, ◌<◌, ◌+◌, ◌*◌, ◌^◌, OnOk, unsigned_abs};
-ghost use Rattle.sales_lines.specs.Sales.{IsOutcomeOf};
+ghost use Rattle.std.specs.Prelude.{◌≤◌, ◌<◌, ◌+◌, ◌^◌, IfErr, OnOk};
 ghost use Rattle.sales_import.specs.Imported.{IsMade, Made};
-ghost use Rattle.sales_import.specs.SoFar.{IsAdded, count_of};
+ghost use Rattle.sales_import.specs.SoFar.{IsAdded, IsOfRows};
+ghost use Rattle.sales_import.specs.Tallies.{AreWithin};
 
 use crate::page::{push_line, push_reject};
 use crate::{ImportFault, Summary};
@@ -35,24 +35,29 @@ impl Going {
         rejects: &mut X,
     ) -> Result<(), ImportFault>
         requires places { settings.now.places ≤ 9 }
-        requires few { count_of self.old.summary < number }
-        requires small { unsigned_abs self.old.summary.amount ≤ 10 ^ 12 * self.old.summary.lines }
+        requires number { number + 1 < 2 ^ 64 }
+        requires within { AreWithin number self.old.summary }
         ensures added { OnOk result ((made : Made) × IsMade settings.now number row.now made
             × IsAdded made W.contents X.contents self.old lines.old rejects.old self.new lines.new rejects.new) }
-        ensures few { OnOk result (count_of self.new.summary ≡ count_of self.old.summary + 1) }
-        ensures small { OnOk result (unsigned_abs self.new.summary.amount ≤ 10 ^ 12 * self.new.summary.lines) }
+        ensures within { OnOk result (AreWithin (number + 1) self.new.summary) }
+        ensures fault { IfErr result IsOfRows }
     {
+        let counted = settings.counted(row);
         match settings.outcome(row, &mut self.usage)? {
-            Outcome::Passed => self.summary.passed += 1,
+            Outcome::Passed => {
+                self.summary.add_passed(number, counted);
+                Ok(())
+            }
             Outcome::Rejected(reason) => {
                 push_reject(alloc, &mut self.rejects, rejects, number, reason, row)?;
-                self.summary.rejected += 1;
+                self.summary.add_rejected(number, counted, reason);
+                Ok(())
             }
             Outcome::Line(line) => {
                 push_line(&mut self.lines, lines, &line)?;
-                self.summary.add_line(&line);
+                self.summary.add_line(number, counted, &line);
+                Ok(())
             }
         }
-        Ok(())
     }
 }

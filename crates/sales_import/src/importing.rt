@@ -1,9 +1,9 @@
 //! All rows of a sales report.
 
 ghost use Rattle.std.specs.Io.KnownBytes.{Appends};
-ghost use Rattle.std.specs.Prelude.{◌≡◌, ◌≤◌, [], IfOk};
+ghost use Rattle.std.specs.Prelude.{◌≡◌, ◌≤◌, [], IfErr, IfOk};
 ghost use Rattle.sales_import.specs.Imported.{output};
-ghost use Rattle.sales_import.specs.SoFar.{IsImported};
+ghost use Rattle.sales_import.specs.SoFar.{IsImported, IsOfRows};
 
 use crate::going::Going;
 use crate::{ImportFault, Summary};
@@ -24,24 +24,19 @@ pub fn import<R: Read, W: Write, X: Write>(
     rejects: &mut X,
 ) -> Result<Summary, ImportFault>
     requires { settings.now.places ≤ 9 }
-    ensures { IfOk result (IsImported settings.now rows.old (W.contents lines.old) (W.contents lines.new)
+    ensures imported { IfOk result (IsImported settings.now rows.old (W.contents lines.old) (W.contents lines.new)
         (X.contents rejects.old) (X.contents rejects.new)) }
+    ensures fault { IfErr result IsOfRows }
 {
     let mut going = Going {
         lines: RowWriter::new(alloc),
         rejects: RowWriter::new(alloc),
         usage: Vec::new(alloc),
-        summary: Summary {
-            rows: 0,
-            lines: 0,
-            rejected: 0,
-            passed: 0,
-            amount: 0,
-        },
+        summary: Summary::none(),
     };
     for number in 1..u64::MAX {
         if !rows.next()? {
-            let summary = finish(going, number - 1, lines, rejects)?;
+            let summary = finish(going, lines, rejects)?;
             return Ok(summary);
         }
         going.add_row(alloc, settings, number, rows.row(), lines, rejects)?;
@@ -52,14 +47,14 @@ pub fn import<R: Read, W: Write, X: Write>(
 /// Passes on what is left of both tables.
 fn finish<W: Write, X: Write>(
     mut going: Going,
-    rows: u64,
     lines: &mut W,
     rejects: &mut X,
 ) -> Result<Summary, ImportFault>
     ensures lines { IfOk result (λ _. Appends (output W.contents lines.old going.lines) (W.contents lines.new) []) }
     ensures rejects { IfOk result (λ _.
         Appends (output X.contents rejects.old going.rejects) (X.contents rejects.new) []) }
-    ensures summary { IfOk result (λ summary. summary ≡ record going.summary { rows = rows }) }
+    ensures summary { IfOk result (λ summary. summary ≡ going.summary) }
+    ensures fault { IfErr result IsOfRows }
 {
     if let Err(error) = going.lines.write_to(lines) {
         return Err(ImportFault::Lines(error));
@@ -67,8 +62,5 @@ fn finish<W: Write, X: Write>(
     if let Err(error) = going.rejects.write_to(rejects) {
         return Err(ImportFault::Rejects(error));
     }
-    Ok(Summary {
-        rows,
-        ..going.summary
-    })
+    Ok(going.summary)
 }

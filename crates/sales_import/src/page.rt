@@ -1,9 +1,10 @@
 //! Rows on their way to a file.
 
 ghost use Rattle.std.specs.Io.KnownBytes.{Appends};
-ghost use Rattle.std.specs.Prelude.{◌≡◌, ◌∷◌, IfOk, OnOk, map};
+ghost use Rattle.std.specs.Prelude.{◌≡◌, ◌∷◌, IfErr, IfOk, OnOk, map};
 ghost use Rattle.csv_table.specs.Written.{text_of_row};
-ghost use Rattle.sales_import.specs.Imported.{line_row, output, reject_row, sold_of, words_of};
+ghost use Rattle.sales_import.specs.Imported.{line_header, line_row, output, reject_header, reject_row, sold_of};
+ghost use Rattle.sales_import.specs.SoFar.{IsOfRows};
 
 use crate::{ImportFault, words};
 use csv_table::RowWriter;
@@ -13,37 +14,26 @@ use sales_lines::{Reason, SalesLine};
 use std::alloc::{AllocError, Global};
 use std::io::{self, Write};
 
-/// Adds a row, and passes on a page that is full.
-fn push<W: Write>(page: &mut RowWriter, out: &mut W, fields: &[&[u8]]) -> io::Result<()>
-    ensures { OnOk result (Appends (output W.contents out.old page.old) (output W.contents out.new page.new)
-        (text_of_row (map (λ field. field.now) fields.now))) }
-{
-    page.row(fields)?;
-    page.write_full_page_to(out)
-}
-
-/// Adds the row of a usage line.
+/// Adds the row of a usage line, and passes on a page that is full.
 pub(crate) fn push_line<W: Write>(
     page: &mut RowWriter,
     out: &mut W,
     line: &SalesLine<'_>,
 ) -> Result<(), ImportFault>
-    ensures { OnOk result (Appends (output W.contents out.old page.old) (output W.contents out.new page.new)
+    ensures row { OnOk result (Appends (output W.contents out.old page.old) (output W.contents out.new page.new)
         (text_of_row (line_row (sold_of line.now)))) }
+    ensures fault { IfErr result IsOfRows }
 {
     let mut digits = Buffer::new();
     let amount = digits.format(line.amount).as_bytes();
-    match push(
-        page,
-        out,
-        &[line.usage, line.work, line.territory, line.right, amount],
-    ) {
+    page.row(&[line.usage, line.work, line.territory, line.right, amount])?;
+    match page.write_full_page_to(out) {
         Ok(()) => Ok(()),
         Err(error) => Err(ImportFault::Lines(error)),
     }
 }
 
-/// Adds the row of one that is rejected.
+/// Adds the row of one that is rejected, and passes on a page that is full.
 pub(crate) fn push_reject<W: Write>(
     alloc: Global,
     page: &mut RowWriter,
@@ -52,29 +42,74 @@ pub(crate) fn push_reject<W: Write>(
     reason: Reason,
     row: &Row,
 ) -> Result<(), ImportFault>
-    ensures { OnOk result (Appends (output W.contents out.old page.old) (output W.contents out.new page.new)
-        (text_of_row (reject_row (record { number = number; reason = reason; row = row.now })))) }
+    ensures row { OnOk result (Appends (output W.contents out.old page.old) (output W.contents out.new page.new)
+        (text_of_row (reject_row number reason row.now))) }
+    ensures fault { IfErr result IsOfRows }
 {
     let mut digits = Buffer::new();
-    let fields = fields_of(alloc, digits.format(number).as_bytes(), reason, row)?;
-    match push(page, out, fields.as_slice()) {
+    let number = digits.format(number).as_bytes();
+    let fields = fields_of(alloc, number, words(reason).as_bytes(), row)?;
+    page.row(fields.as_slice())?;
+    match page.write_full_page_to(out) {
         Ok(()) => Ok(()),
         Err(error) => Err(ImportFault::Rejects(error)),
     }
 }
 
-/// The fields of a row that is rejected: its number and the reason, and then those that it has.
+/// Writes the header of the usage lines.
+pub(crate) fn write_line_header<W: Write>(alloc: Global, out: &mut W) -> Result<(), ImportFault>
+    ensures header { OnOk result (Appends (W.contents out.old) (W.contents out.new) (text_of_row line_header)) }
+    ensures fault { IfErr result IsOfRows }
+{
+    match write_row(
+        alloc,
+        out,
+        &[b"usage", b"work", b"territory", b"right", b"amount"],
+    ) {
+        Ok(()) => Ok(()),
+        Err(error) => Err(ImportFault::Lines(error)),
+    }
+}
+
+/// Writes the header of the rejected rows, by that of the export.
+pub(crate) fn write_reject_header<W: Write>(
+    alloc: Global,
+    out: &mut W,
+    header: &Row,
+) -> Result<(), ImportFault>
+    ensures header { OnOk result (Appends (W.contents out.old) (W.contents out.new)
+        (text_of_row (reject_header header.now))) }
+    ensures fault { IfErr result IsOfRows }
+{
+    let fields = fields_of(alloc, b"rejected_row", b"rejected_since", header)?;
+    match write_row(alloc, out, fields.as_slice()) {
+        Ok(()) => Ok(()),
+        Err(error) => Err(ImportFault::Rejects(error)),
+    }
+}
+
+/// Writes a row.
+fn write_row<W: Write>(alloc: Global, out: &mut W, fields: &[&[u8]]) -> io::Result<()>
+    ensures { OnOk result (Appends (W.contents out.old) (W.contents out.new)
+        (text_of_row (map (λ field. field.now) fields.now))) }
+{
+    let mut page = RowWriter::new(alloc);
+    page.row(fields)?;
+    page.write_to(out)
+}
+
+/// Two fields, and then those of a row.
 fn fields_of<'a>(
     alloc: Global,
-    number: &'a [u8],
-    reason: Reason,
+    first: &'a [u8],
+    second: &'a [u8],
     row: &'a Row,
 ) -> Result<Vec<&'a [u8]>, AllocError>
-    ensures { IfOk result (λ fields. map (λ field. field.now) fields.items ≡ number.now ∷ words_of reason ∷ row.now) }
+    ensures { IfOk result (λ fields. map (λ field. field.now) fields.items ≡ first.now ∷ second.now ∷ row.now) }
 {
     let mut fields = Vec::new(alloc);
-    fields.push(number)?;
-    fields.push(words(reason).as_bytes())?;
+    fields.push(first)?;
+    fields.push(second)?;
     for place in 0..row.len() {
         fields.push(row.field(place))?;
     }

@@ -1,38 +1,100 @@
 //! What an import came to.
 
-ghost use Rattle.std.specs.Prelude.{◌≡◌, ◌≤◌, ◌<◌, ◌+◌, ◌+ℤ◌, ◌*◌, ◌^◌, unsigned_abs};
+ghost use Rattle.std.specs.Prelude.{◌≡◌, ◌≤◌, ◌<◌, ◌+◌, ◌^◌, IfSome, Some, slice_set, unsigned_abs};
+ghost use Rattle.sales_import.specs.SoFar.{tally_for};
+ghost use Rattle.sales_import.specs.Tallies.{AreWithin, no_rows, place_of, with_row};
+ghost use Rattle.sales_lines.specs.declared.reason.Reason.{Reason};
 
-use sales_lines::SalesLine;
+use crate::Tally;
+use crate::reasons::{REASON_COUNT, place};
+use sales_lines::{Reason, SalesLine};
 
-/// How many rows there were below the header, what became of them, and what the usage lines come to.
+/// What became of the rows below the header, and what their amounts come to.
 #[derive(Clone, Copy, Debug, PartialEq, Eq)]
 pub struct Summary {
-    pub rows: u64,
-    pub lines: u64,
-    pub rejected: u64,
-    pub passed: u64,
-    pub amount: i128,
+    /// All of them.
+    pub all: Tally,
+    /// Those that became usage lines.
+    pub lines: Tally,
+    /// Those that were rejected.
+    pub rejected: Tally,
+    /// Those that were rejected for each reason, in the order in which a row is looked at for them.
+    pub reasons: [Tally; REASON_COUNT],
+    /// Those that were passed over.
+    pub passed: Tally,
 }
 
 impl Summary {
-    /// Counts a usage line.
-    pub(crate) fn add_line(&mut self, line: &SalesLine<'_>)
-        requires few { self.old.lines + 1 < 2 ^ 64 }
-        requires small { unsigned_abs self.old.amount ≤ 10 ^ 12 * self.old.lines }
-        requires amount { unsigned_abs line.now.amount ≤ 10 ^ 12 }
-        ensures { self.new ≡
-            record self.old { lines = self.old.lines + 1; amount = self.old.amount +ℤ line.now.amount } }
+    /// Of no rows.
+    pub(crate) fn none() -> Summary
+        ensures all { result.all ≡ no_rows }
+        ensures lines { result.lines ≡ no_rows }
+        ensures rejected { result.rejected ≡ no_rows }
+        ensures reasons { (reason : Reason) → tally_for reason result ≡ no_rows }
+        ensures passed { result.passed ≡ no_rows }
+        ensures within { AreWithin 1 result }
     {
-        self.lines += 1;
-        self.amount = plus(self.amount, line.amount);
+        Summary {
+            all: Tally::none(),
+            lines: Tally::none(),
+            rejected: Tally::none(),
+            reasons: [Tally::none(); REASON_COUNT],
+            passed: Tally::none(),
+        }
     }
-}
 
-/// A sum with one amount more.
-fn plus(sum: i128, amount: i64) -> i128
-    requires sum { unsigned_abs sum ≤ 10 ^ 32 }
-    requires amount { unsigned_abs amount ≤ 10 ^ 12 }
-    ensures { result ≡ sum +ℤ amount }
-{
-    sum + i128::from(amount)
+    /// Counts a row that became a usage line.
+    pub(crate) fn add_line(&mut self, number: u64, counted: Option<i64>, line: &SalesLine<'_>)
+        requires number { number + 1 < 2 ^ 64 }
+        requires within { AreWithin number self.old }
+        requires counted { IfSome counted (λ amount. unsigned_abs amount ≤ 10 ^ 12) }
+        requires amount { unsigned_abs line.now.amount ≤ 10 ^ 12 }
+        ensures added { self.new ≡ record self.old {
+          all = with_row self.old.all counted;
+          lines = with_row self.old.lines (Some line.now.amount);
+        } }
+        ensures within { AreWithin (number + 1) self.new }
+    {
+        self.all.add(counted);
+        self.lines.add(Some(line.amount));
+    }
+
+    /// Counts a row that was rejected.
+    pub(crate) fn add_rejected(&mut self, number: u64, counted: Option<i64>, reason: Reason)
+        requires number { number + 1 < 2 ^ 64 }
+        requires within { AreWithin number self.old }
+        requires counted { IfSome counted (λ amount. unsigned_abs amount ≤ 10 ^ 12) }
+        ensures added { self.new ≡ record self.old {
+          all = with_row self.old.all counted;
+          rejected = with_row self.old.rejected counted;
+          reasons = slice_set self.old.reasons (place_of reason) (with_row (tally_for reason self.old) counted);
+        } }
+        ensures within { AreWithin (number + 1) self.new }
+    {
+        self.all.add(counted);
+        self.rejected.add(counted);
+        self.reasons[place(reason)].add(counted);
+    }
+
+    /// Counts a row that was passed over.
+    pub(crate) fn add_passed(&mut self, number: u64, counted: Option<i64>)
+        requires number { number + 1 < 2 ^ 64 }
+        requires within { AreWithin number self.old }
+        requires counted { IfSome counted (λ amount. unsigned_abs amount ≤ 10 ^ 12) }
+        ensures added { self.new ≡ record self.old {
+          all = with_row self.old.all counted;
+          passed = with_row self.old.passed counted;
+        } }
+        ensures within { AreWithin (number + 1) self.new }
+    {
+        self.all.add(counted);
+        self.passed.add(counted);
+    }
+
+    /// How many rows were rejected for a reason, and what they come to.
+    pub fn rejected_for(&self, reason: Reason) -> Tally
+        ensures { result ≡ tally_for reason self.now }
+    {
+        self.reasons[place(reason)]
+    }
 }

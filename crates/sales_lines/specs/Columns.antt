@@ -1,5 +1,5 @@
 -- Words that say where a value stands.
-use Rattle.std.specs.Prelude.{ℕ, ◌≡◌, ◌⊎◌, ◌<◌, ◌-◌, ◌∷◌, [], List, None, Option, Some, drop, length, slice_index_or}
+use Rattle.std.specs.Prelude.{ℕ, ◌≡◌, ◌⊎◌, ◌<◌, ◌-◌, ◌∷◌, [], IfSome, List, None, Option, Some, drop, length, slice_index_or}
 use Rattle.csv_table.specs.Forms.{IsNumber, number_of}
 use Rattle.sales_lines.specs.declared.column_fault.ColumnFault.{ColumnFault}
 use Rattle.sales_lines.specs.declared.column_fault.ColumnFault.TheVariants as fault
@@ -35,9 +35,13 @@ IsOnlyNamed header name place =
 abbrev pub IsNameWord : (word : List ℕ) → Type 0
 IsNameWord word = (¬ IsPlaceWord word) × (¬ IsTextWord word)
 
+-- a header has a field at this place, if there is one
+abbrev pub IsInHeader : (header : Option (List (List ℕ))) → (place : ℕ) → Type 0
+IsInHeader header place = IfSome header (λ fields. place < length fields)
+
 -- where a value stands by a word
 abbrev pub IsSourceOf : (header : Option (List (List ℕ))) → (word : List ℕ) → Source → Type 0
-IsSourceOf header word (Place place) = (IsPlaceWord word × (place ≡ place_of word))
+IsSourceOf header word (Place place) = (IsPlaceWord word × (place ≡ place_of word) × IsInHeader header place)
     ⊎ (IsNameWord word × (fields : List (List ℕ)) × (header ≡ Some fields) × IsOnlyNamed fields word place)
 IsSourceOf header word (Text text) = (¬ IsPlaceWord word) × (word ≡ 61 ∷ text.items)
 
@@ -54,6 +58,11 @@ abbrev pub IsNoColumn : (header : Option (List (List ℕ))) → (name : List ℕ
 IsNoColumn None name told = told ≡ fault.NoHeader
 IsNoColumn (Some fields) name told = IsNotOne fields name told
 
+-- it says a place that the header does not have
+abbrev pub IsBeyond : (header : Option (List (List ℕ))) → (word : List ℕ) → Type 0
+IsBeyond header word = IsPlaceWord word × (¬ IsInHeader header (place_of word))
+
 -- why a word says nothing; memory may run out at a text
 abbrev pub IsWordFault : (header : Option (List (List ℕ))) → (word : List ℕ) → ColumnFault → Type 0
-IsWordFault header word told = (told ≡ fault.Memory) ⊎ (IsNameWord word × IsNoColumn header word told)
+IsWordFault header word told = ((told ≡ fault.Memory) × IsTextWord word)
+    ⊎ ((told ≡ fault.None) × IsBeyond header word) ⊎ (IsNameWord word × IsNoColumn header word told)

@@ -1,9 +1,10 @@
 -- What becomes of a row of a sales report.
-use Rattle.std.specs.Prelude.{ℕ, ◌≡◌, ◌⊎◌, ◌++◌, ◌∷◌, [], All, List, None, Option, Some, IfSome, flat_map, length, ⊤}
+use Rattle.std.specs.Prelude.{ℕ, ℤ, ◌≡◌, ◌⊎◌, ◌++◌, ◌∷◌, [], All, List, None, Option, Some, IfSome, flat_map, length, ⊤}
 use Rattle.csv_table.specs.Forms.{IsPrintable}
 use Rattle.line_split.specs.declared.TheConstants.{MOST_TEXT_BYTES}
 use Rattle.decimal_amounts.specs.Decimals.{IsAmount, IsFaultOf}
-use Rattle.export_rows.specs.Places.{IsBlank}
+use Rattle.decimal_amounts.specs.declared.amount.AmountFault.{AmountFault}
+use Rattle.export_rows.specs.Places.{HasLineBreak, IsBlank}
 use Rattle.value_maps.specs.Maps.{IsValue, Values, value_of}
 use Rattle.value_maps.specs.declared.kind.Kind.{Kind}
 use Rattle.value_maps.specs.declared.kind.Kind.TheVariants.{Works, Territories, Rights}
@@ -11,7 +12,7 @@ use Rattle.sales_lines.specs.declared.outcome.Outcome.{Outcome}
 use Rattle.sales_lines.specs.declared.outcome.Outcome.TheVariants.{Passed, Rejected, Line}
 use Rattle.sales_lines.specs.declared.outcome.SalesLine.{SalesLine}
 use Rattle.sales_lines.specs.declared.reason.Reason.{Reason}
-use Rattle.sales_lines.specs.declared.reason.Reason.TheVariants.{Fields, Usage, Unknown, Unfit, Amount}
+use Rattle.sales_lines.specs.declared.reason.Reason.TheVariants.{Broken, Fields, Usage, Unknown, Unfit, Amount}
 use Rattle.sales_lines.specs.declared.settings.Condition.{Condition}
 use Rattle.sales_lines.specs.declared.settings.Settings.{Settings}
 use Rattle.sales_lines.specs.declared.source.Source.{Source}
@@ -19,21 +20,23 @@ use Rattle.sales_lines.specs.Sources.{IsThere, text_from}
 
 -- ---- which rows count
 
--- a condition holds of a row
-abbrev pub Holds : (row : List (List ℕ)) → Condition → Type 0
-Holds row condition = text_from condition.source row ≡ condition.text.items
-
--- a row is blank, or not one of those that are kept
-abbrev pub IsPassedOver : Settings → List (List ℕ) → Type 0
-IsPassedOver settings row = IsBlank row ⊎ (¬ All (Holds row) settings.conditions.items)
-
--- ---- its values
-
--- it has as many fields as a header says
+-- a row has as many fields as a header says
 abbrev pub IsWide : Settings → List (List ℕ) → Type 0
 IsWide settings row = IfSome settings.width (λ width. length row ≡ width)
 
--- and those that are asked for
+-- a condition holds of it
+abbrev pub Holds : (row : List (List ℕ)) → Condition → Type 0
+Holds row condition = IsThere row condition.source × (text_from condition.source row ≡ condition.text.items)
+
+-- It is blank, or it is whole and not one of those that are kept. In a row with a field too many or too few the fields of
+-- conditions may be others, and so may they be in one that a quote made of several.
+abbrev pub IsPassedOver : Settings → List (List ℕ) → Type 0
+IsPassedOver settings row = IsBlank row
+    ⊎ ((¬ HasLineBreak row) × IsWide settings row × (¬ All (Holds row) settings.conditions.items))
+
+-- ---- its values
+
+-- it has as many fields as a header says, and those that are asked for
 pub record HasFields (settings : Settings) (row : List (List ℕ)) : Type 0 where
   pub wide : IsWide settings row
   pub usage : All (IsThere row) settings.usage.items
@@ -86,6 +89,7 @@ HasBefore settings row Rights = HasValue settings row Works × HasValue settings
 
 -- why a row has no work, territory or right
 abbrev pub Lacks : Settings → Kind → (row : List (List ℕ)) → Reason → Type 0
+Lacks settings kind row Broken = ⊥
 Lacks settings kind row Fields = ⊥
 Lacks settings kind row Usage = ⊥
 Lacks settings kind row (Unknown of) = (of ≡ kind) × (value_in settings kind row ≡ None)
@@ -93,21 +97,26 @@ Lacks settings kind row (Unfit of) =
     (of ≡ kind) × (value : List ℕ) × (value_in settings kind row ≡ Some value) × (¬ IsValue kind value)
 Lacks settings kind row (Amount fault) = ⊥
 
+-- no field has a line break, and those that are asked for are there
+abbrev pub IsWhole : Settings → List (List ℕ) → Type 0
+IsWhole settings row = (¬ HasLineBreak row) × HasFields settings row
+
 -- Why a row becomes no usage line: the first thing, in this order, that is wrong with it.
 abbrev pub IsRejectedFor : Settings → List (List ℕ) → Reason → Type 0
-IsRejectedFor settings row Fields = ¬ HasFields settings row
-IsRejectedFor settings row Usage = HasFields settings row × (¬ IsNamed settings row)
+IsRejectedFor settings row Broken = HasLineBreak row
+IsRejectedFor settings row Fields = (¬ HasLineBreak row) × (¬ HasFields settings row)
+IsRejectedFor settings row Usage = IsWhole settings row × (¬ IsNamed settings row)
 IsRejectedFor settings row (Unknown kind) =
-    HasFields settings row × IsNamed settings row × HasBefore settings row kind × (value_in settings kind row ≡ None)
-IsRejectedFor settings row (Unfit kind) = HasFields settings row × IsNamed settings row × HasBefore settings row kind
+    IsWhole settings row × IsNamed settings row × HasBefore settings row kind × (value_in settings kind row ≡ None)
+IsRejectedFor settings row (Unfit kind) = IsWhole settings row × IsNamed settings row × HasBefore settings row kind
     × (value : List ℕ) × (value_in settings kind row ≡ Some value) × (¬ IsValue kind value)
-IsRejectedFor settings row (Amount fault) = HasFields settings row × IsNamed settings row
+IsRejectedFor settings row (Amount fault) = IsWhole settings row × IsNamed settings row
     × HasBefore settings row Rights × HasValue settings row Rights
     × IsFaultOf settings.mark (text_from settings.amount row) settings.places fault
 
 -- the line that a row becomes
 pub record IsLineOf (settings : Settings) (row : List (List ℕ)) (line : SalesLine) : Type 0 where
-  pub fields : HasFields settings row
+  pub whole : IsWhole settings row
   pub usage : line.usage.now ≡ usage_in settings row
   pub named : IsNamed settings row
   pub work : (value_in settings Works row ≡ Some line.work.now) × IsValue Works line.work.now
@@ -119,3 +128,12 @@ abbrev pub IsOutcomeOf : Settings → List (List ℕ) → Outcome → Type 0
 IsOutcomeOf settings row Passed = IsPassedOver settings row
 IsOutcomeOf settings row (Rejected reason) = (¬ IsPassedOver settings row) × IsRejectedFor settings row reason
 IsOutcomeOf settings row (Line line) = (¬ IsPassedOver settings row) × IsLineOf settings row line
+
+-- ---- what it counts with, whatever becomes of it
+
+-- its amount, where it can be read: the row is whole, and the text of its amount is one
+abbrev pub IsCountedWith : Settings → List (List ℕ) → Option ℤ → Type 0
+IsCountedWith settings row (Some amount) = (¬ HasLineBreak row) × IsWide settings row
+    × IsAmount settings.mark (text_from settings.amount row) settings.places amount
+IsCountedWith settings row None = HasLineBreak row ⊎ (¬ IsWide settings row)
+    ⊎ ((fault : AmountFault) × IsFaultOf settings.mark (text_from settings.amount row) settings.places fault)

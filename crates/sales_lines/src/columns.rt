@@ -1,7 +1,10 @@
 //! Words that say where a value stands.
 
 ghost use Rattle.std.specs.Prelude.{◌≡◌, ◌≤◌, ◌<◌, ◌+◌, ◌^◌, ◌∷◌, List, ℕ, IfErr, IfNone, IfOk, IfSome, option_map};
-ghost use Rattle.sales_lines.specs.Columns.{IsNamed, IsNotOne, IsOnlyNamed, IsPlaceWord, IsSourceOf, IsWordFault, place_of};
+ghost use Rattle.sales_lines.specs.Columns.{IsInHeader, IsNamed, IsNotOne, IsOnlyNamed, IsPlaceWord, IsSourceOf};
+ghost use Rattle.sales_lines.specs.Columns.{IsWordFault, place_of};
+ghost use Rattle.sales_lines.specs.declared.column_fault.ColumnFault.TheVariants as faults;
+ghost use Rattle.sales_lines.specs.declared.source.Source.TheVariants.{Place};
 
 use crate::{ColumnFault, Source};
 use csv_table::forms::number_up_to;
@@ -12,7 +15,7 @@ use std::alloc::Global;
 pub const MOST_COLUMNS: u64 = 65_536;
 
 impl Source {
-    /// Where a value stands, by a word: `#7` is the seventh field, `=TEXT` is this text in every row, and any other is
+    /// Where a value stands, by a word: `#7` is the seventh field, which a header has to have; `=TEXT` is this text in every row, and any other is
     /// the name of a column in the header. A name that begins with `=`, or is `#` and a number, has to be given by its
     /// place.
     pub fn of(alloc: Global, word: &[u8], header: Option<&Row>) -> Result<Source, ColumnFault>
@@ -20,7 +23,7 @@ impl Source {
         ensures fault { IfErr result (IsWordFault (option_map (λ row. row.now) header.entry) word.now) }
     {
         if let Some(place) = place_in(word) {
-            return Ok(Source::Place(place));
+            return within(place, header);
         }
         if let Some(text) = text_in(word) {
             return Ok(Source::Text(Vec::from_slice(alloc, text)?));
@@ -32,6 +35,19 @@ impl Source {
             Ok(place) => Ok(Source::Place(place)),
             Err(fault) => Err(fault),
         }
+    }
+}
+
+/// A place, which a header has to have.
+fn within(place: usize, header: Option<&Row>) -> Result<Source, ColumnFault>
+    ensures source { IfOk result (λ source. (source ≡ Place place)
+        × IsInHeader (option_map (λ row. row.now) header.entry) place) }
+    ensures fault { IfErr result (λ fault. (fault ≡ faults.None)
+        × ¬ IsInHeader (option_map (λ row. row.now) header.entry) place) }
+{
+    match header {
+        Some(row) if place >= row.len() => Err(ColumnFault::None),
+        _ => Ok(Source::Place(place)),
     }
 }
 

@@ -1,6 +1,7 @@
 //! What becomes of a row.
 
 ghost use Rattle.std.specs.Prelude.{◌≡◌, ◌≤◌, IfErr, IfOk};
+ghost use Rattle.export_rows.specs.Places.{HasLineBreak};
 ghost use Rattle.sales_lines.specs.Sales.{IsLineOf, IsOutcomeOf, IsRejectedFor, usage_in};
 
 use crate::{Reason, Settings};
@@ -24,7 +25,7 @@ pub struct SalesLine<'a> {
 /// What becomes of a row.
 #[derive(Clone, Copy)]
 pub enum Outcome<'a> {
-    /// Nothing: it is blank, or not one of those that are kept.
+    /// Nothing: it is blank, or whole and not one of those that are kept.
     Passed,
     /// It becomes no usage line, for this reason.
     Rejected(Reason),
@@ -42,6 +43,12 @@ impl Settings {
         requires { self.now.places ≤ 9 }
         ensures { IfOk result (IsOutcomeOf self.now row.now) }
     {
+        if row.is_blank() {
+            return Ok(Outcome::Passed);
+        }
+        if row.has_line_break() {
+            return Ok(Outcome::Rejected(Reason::Broken));
+        }
         if self.passes_over(row) {
             return Ok(Outcome::Passed);
         }
@@ -52,9 +59,10 @@ impl Settings {
         }
     }
 
-    /// The line of a row whose use is called so.
+    /// The line of a row without line breaks whose use is called so.
     fn line<'a>(&'a self, row: &'a Row, usage: &'a [u8]) -> Result<SalesLine<'a>, Reason>
         requires places { self.now.places ≤ 9 }
+        requires whole { ¬ HasLineBreak row.now }
         requires usage { usage.now ≡ usage_in self.now row.now }
         ensures line { IfOk result (IsLineOf self.now row.now) }
         ensures reason { IfErr result (IsRejectedFor self.now row.now) }

@@ -1,12 +1,14 @@
 //! How the rows of a sales report become usage lines.
 
-ghost use Rattle.std.specs.Prelude.{◌≡◌, ◌↔◌, All, IfErr, IfNone, IfOk, IfSome, IsTrue, None, OnOk, Some};
-ghost use Rattle.sales_lines.specs.Sales.{HasFields, Holds, IsPassedOver, IsWide, Lacks, mapped, usage_in, value_in};
+ghost use Rattle.std.specs.Prelude.{◌≡◌, ◌↔◌, ◌≤◌, ◌^◌, All, IfErr, IfNone, IfOk, IfSome, IsTrue, None, OnOk, Some};
+ghost use Rattle.std.specs.Prelude.{unsigned_abs};
+ghost use Rattle.sales_lines.specs.Sales.{HasFields, Holds, IsCountedWith, IsWide, Lacks, mapped, usage_in};
+ghost use Rattle.sales_lines.specs.Sales.{value_in};
 ghost use Rattle.value_maps.specs.Maps.{IsValue};
 
 use crate::source::are_there;
 use crate::{Reason, Source};
-use decimal_amounts::Mark;
+use decimal_amounts::{Mark, units_of};
 use export_rows::Row;
 use std::alloc::AllocError;
 use value_maps::{Kind, ValueMap};
@@ -46,7 +48,7 @@ impl Condition {
     fn holds(&self, row: &Row) -> bool
         ensures { IsTrue result ↔ Holds row.now self.now }
     {
-        self.source.text(row) == self.text.as_slice()
+        self.source.is_there(row) && self.source.text(row) == self.text.as_slice()
     }
 }
 
@@ -61,11 +63,27 @@ fn hold(conditions: &[Condition], row: &Row) -> bool
 }
 
 impl Settings {
-    /// Whether a row is passed over: it has no byte in any field, or a condition does not hold.
-    pub(crate) fn passes_over(&self, row: &Row) -> bool
-        ensures { IsTrue result ↔ IsPassedOver self.now row.now }
+    /// What a row counts with, whatever becomes of it: its amount in units, where that can be read.
+    pub fn counted(&self, row: &Row) -> Option<i64>
+        requires { self.now.places ≤ 9 }
+        ensures amount { IsCountedWith self.now row.now result }
+        ensures small { IfSome result (λ amount. unsigned_abs amount ≤ 10 ^ 12) }
     {
-        row.is_blank() || !hold(self.conditions.as_slice(), row)
+        if row.has_line_break() || !self.is_wide(row) {
+            return None;
+        }
+        match units_of(self.amount.text(row), self.mark, self.places) {
+            Ok(amount) => Some(amount),
+            Err(_) => None,
+        }
+    }
+
+    /// Whether a row without line breaks that is not blank is passed over: it has as many fields as a header says, and a
+    /// condition does not hold.
+    pub(crate) fn passes_over(&self, row: &Row) -> bool
+        ensures { IsTrue result ↔ (IsWide self.now row.now × ¬ All (Holds row.now) self.now.conditions.items) }
+    {
+        self.is_wide(row) && !hold(self.conditions.as_slice(), row)
     }
 
     /// Whether a row has as many fields as it has to, and all that are asked for.

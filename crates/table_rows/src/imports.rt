@@ -5,19 +5,18 @@
 
 use crate::asked::Asked;
 use decimal_amounts::{MOST_PLACES, Mark};
-use export_rows::{Delimiter, ExportRows, Row};
+use export_rows::Delimiter;
 use row_tables::text_of;
-use sales_import::{Summary, import};
-use sales_lines::{ColumnFault, Condition, Settings, Source};
+use sales_import::{Mapping, Maps, Wanted, import_export, summary_text};
 use std::alloc::{AllocError, Global};
 use value_maps::{Kind, MapFault, ValueMap};
 
-/// What an import gives.
+/// What an import gives: its two tables, and its summary as a text.
 #[derive(Drop)]
 struct Imported {
     lines: Vec<u8>,
     rejects: Vec<u8>,
-    summary: Summary,
+    summary: Vec<u8>,
 }
 
 pub fn add_answer(alloc: Global, asked: &Asked<'_>, answer: &mut String) -> anyhow::Result<()> {
@@ -39,73 +38,79 @@ fn add_map(alloc: Global, asked: &Asked<'_>, answer: &mut String) -> anyhow::Res
     Ok(())
 }
 
-/// Adds what is asked of an import.
+/// Adds what is asked of an import: a table whole, or the rows below its header.
 fn add_import(alloc: Global, asked: &Asked<'_>, answer: &mut String) -> anyhow::Result<()> {
     let imported = import_of(alloc, asked)?;
     match asked.ask {
-        "lines" => answer.push_str(text_of(imported.lines.as_slice()))?,
-        "rejects" => answer.push_str(text_of(imported.rejects.as_slice()))?,
-        "summary" => write!(answer, "{:?}", imported.summary)?,
+        "table" => answer.push_str(text_of(imported.lines.as_slice()))?,
+        "lines" => answer.push_str(below(text_of(imported.lines.as_slice())))?,
+        "rejected" => answer.push_str(text_of(imported.rejects.as_slice()))?,
+        "rejects" => answer.push_str(below(text_of(imported.rejects.as_slice())))?,
+        "summary" => answer.push_str(text_of(imported.summary.as_slice()))?,
         _ => asked.add_unknown(answer)?,
     }
     Ok(())
 }
 
+/// What stands below the first line of a text.
+fn below(text: &str) -> &str {
+    match text.split_once('\n') {
+        Some((_, rows)) => rows,
+        None => "",
+    }
+}
+
 /// What the words and the export of a question give.
 fn import_of(alloc: Global, asked: &Asked<'_>) -> anyhow::Result<Imported> {
     let (words, export) = asked.text().split_once(" / ").unwrap_or((asked.text(), ""));
-    let mut rows = ExportRows::of(alloc, Delimiter::Comma, export.as_bytes());
-    rows.next()?;
-    let mut settings = settings_of(alloc, asked, words, rows.row())?;
-    settings.places = settings.places.min(MOST_PLACES);
-    let mut lines = Vec::new(alloc);
-    let mut rejects = Vec::new(alloc);
-    let summary = import(alloc, &settings, &mut rows, &mut lines, &mut rejects)?;
-    Ok(Imported {
-        lines,
-        rejects,
-        summary,
-    })
-}
-
-/// The settings that words say, by a header.
-fn settings_of(
-    alloc: Global,
-    asked: &Asked<'_>,
-    words: &str,
-    header: &Row,
-) -> anyhow::Result<Settings> {
-    let mut settings = Settings {
-        width: Some(header.len()),
-        conditions: Vec::new(alloc),
-        usage: Vec::new(alloc),
-        work: Source::Place(0),
-        territory: Source::Place(0),
-        right: Source::Place(0),
-        amount: Source::Place(0),
+    let mut mapping = mapping_of(alloc, words)?;
+    mapping.places = mapping.places.min(MOST_PLACES);
+    let maps = Maps {
         works: map_in(alloc, Kind::Works, asked.file(0))?,
         territories: map_in(alloc, Kind::Territories, asked.file(1))?,
         rights: map_in(alloc, Kind::Rights, asked.file(2))?,
+    };
+    let mut lines = Vec::new(alloc);
+    let mut rejects = Vec::new(alloc);
+    let export = export.as_bytes();
+    let summary = import_export(alloc, &mapping, maps, export, &mut lines, &mut rejects)?;
+    Ok(Imported {
+        lines,
+        rejects,
+        summary: summary_text(alloc, "x", &summary)?,
+    })
+}
+
+/// The mapping that words say.
+fn mapping_of(alloc: Global, words: &str) -> Result<Mapping, AllocError> {
+    let mut mapping = Mapping {
+        delimiter: Delimiter::Comma,
+        has_header: true,
+        wanted: Vec::new(alloc),
+        usage: Vec::new(alloc),
+        work: String::new(alloc),
+        territory: String::new(alloc),
+        right: String::new(alloc),
+        amount: String::new(alloc),
         mark: Mark::Point,
         places: 2,
     };
     for word in words.split_whitespace() {
         let (key, value) = word.split_once(':').unwrap_or((word, ""));
         match key {
-            "usage" => settings.usage.push(source_in(alloc, value, header)?)?,
-            "work" => settings.work = source_in(alloc, value, header)?,
-            "territory" => settings.territory = source_in(alloc, value, header)?,
-            "right" => settings.right = source_in(alloc, value, header)?,
-            "amount" => settings.amount = source_in(alloc, value, header)?,
-            "where" => settings
-                .conditions
-                .push(condition_in(alloc, value, header)?)?,
-            "places" => settings.places = value.parse().unwrap_or(2),
-            "comma" => settings.mark = Mark::Comma,
-            _ => settings.width = None,
+            "usage" => mapping.usage.push(String::from_str(alloc, value)?)?,
+            "work" => mapping.work = String::from_str(alloc, value)?,
+            "territory" => mapping.territory = String::from_str(alloc, value)?,
+            "right" => mapping.right = String::from_str(alloc, value)?,
+            "amount" => mapping.amount = String::from_str(alloc, value)?,
+            "where" => mapping.wanted.push(wanted_in(alloc, value)?)?,
+            "places" => mapping.places = value.parse().unwrap_or(2),
+            "comma" => mapping.mark = Mark::Comma,
+            "between" => mapping.delimiter = delimiter_of(value),
+            _ => mapping.has_header = false,
         }
     }
-    Ok(settings)
+    Ok(mapping)
 }
 
 /// The table that bytes are, if there are any.
@@ -116,16 +121,21 @@ fn map_in(alloc: Global, kind: Kind, bytes: &[u8]) -> Result<Option<ValueMap>, M
     Ok(Some(ValueMap::read(alloc, kind, bytes)?))
 }
 
-/// Where a value stands, by a word.
-fn source_in(alloc: Global, word: &str, header: &Row) -> Result<Source, ColumnFault> {
-    Source::of(alloc, word.as_bytes(), Some(header))
+/// What stands between fields, by its name.
+fn delimiter_of(name: &str) -> Delimiter {
+    match name {
+        "semicolon" => Delimiter::Semicolon,
+        "tab" => Delimiter::Tab,
+        "pipe" => Delimiter::Pipe,
+        _ => Delimiter::Comma,
+    }
 }
 
-/// The condition of a column and a text.
-fn condition_in(alloc: Global, word: &str, header: &Row) -> anyhow::Result<Condition> {
+/// A column and the text that it has to have.
+fn wanted_in(alloc: Global, word: &str) -> Result<Wanted, AllocError> {
     let (column, text) = word.split_once('~').unwrap_or((word, ""));
-    Ok(Condition {
-        source: source_in(alloc, column, header)?,
-        text: Vec::from_slice(alloc, text.as_bytes())?,
+    Ok(Wanted {
+        column: String::from_str(alloc, column)?,
+        text: String::from_str(alloc, text)?,
     })
 }
