@@ -3,7 +3,6 @@ use Rattle.std.specs.Prelude.{ℕ, ◌≡◌, ◌≤◌, ◌<◌, ◌==◌, All,
 use Rattle.std.specs.List.{after_first, before_first}
 use Rattle.linked_works.specs.Submitters.{AreSubmitters}
 use Rattle.royalty_program.specs.declared.named_files.NamedFiles.{NamedFiles}
-use Rattle.royalty_program.specs.declared.named_files.TheConstants.{MOST_SUBMITTERS}
 
 -- what stands before the first `=` of a value, and what stands after it
 abbrev pub name_in : List ℕ → List ℕ
@@ -14,7 +13,7 @@ path_in value = after_first (λ byte. byte == 61) value
 
 -- The values name no more files than have a submitter each, with names of submitters that all differ, and a path each.
 pub record AreNamed (values : List (List ℕ)) : Type 0 where
-  pub few : length values ≤ MOST_SUBMITTERS
+  pub few : length values ≤ 256
   pub names : AreSubmitters (map name_in values)
   pub paths : All (λ value. 0 < length (path_in value)) values
 
