@@ -40,11 +40,13 @@ with_more amounts None = same_tally _ _ _ _ _ _
 
 -- ---- one row
 
-pub counts_line : (old new : Summary) (line : Sold) (amount : Option ℤ)
-    → new ≡ record old { all = with_row old.all amount; lines = with_row old.lines (Some line.amount) }
-    → IsCounted (record { lines = line ∷ []; rejects = []; passed = []; all = amount ∷ [] }) old new
-counts_line old new line amount is made counted = record {
-  all = ap (λ (s : Summary). s.all) is ∙ ap (λ (t : Tally). with_row t amount) counted.all ∙ sym (with_more made.all amount);
+pub counts_line : (old new : Summary) (line : Sold)
+    → new ≡ record old { all = with_row old.all (Some line.amount); lines = with_row old.lines (Some line.amount) }
+    → IsCounted (record { lines = line ∷ []; rejects = []; passed = []; all = Some line.amount ∷ [] }) old new
+counts_line old new line is made counted = record {
+  all =
+      ap (λ (s : Summary). s.all) is ∙ ap (λ (t : Tally). with_row t (Some line.amount)) counted.all
+      ∙ sym (with_more made.all (Some line.amount));
   lines =
       ap (λ (s : Summary). s.lines) is ∙ ap (λ (t : Tally). with_row t (Some line.amount)) counted.lines
       ∙ sym (with_more (line_amounts made.lines) (Some line.amount))

@@ -3,4 +3,6 @@ pub mod Begun
 pub mod Counted
 pub mod Named
 pub mod Steps
+pub mod Sums
 pub mod UsageRows
+pub mod UsageTable

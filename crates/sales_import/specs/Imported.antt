@@ -3,6 +3,7 @@ use Rattle.std.specs.Fmt.{signed_decimal}
 use Rattle.std.specs.Prelude.{ℕ, ℤ, ◌≡◌, ◌+◌, ◌++◌, ◌∷◌, [], List, codes, decimal, map, Option, Some}
 use Rattle.std.specs.Io.KnownBytes.{append_known}
 use Rattle.csv_table.specs.Written.{Page, text_of}
+use Rattle.line_split.specs.UsageTable.{header}
 use Rattle.decimal_amounts.specs.declared.amount.AmountFault.TheVariants as fault
 use Rattle.value_maps.specs.declared.kind.Kind.TheVariants.{Works, Territories, Rights}
 use Rattle.sales_lines.specs.Sales.{IsCountedWith, IsOutcomeOf}
@@ -85,7 +86,7 @@ made_by number row (Rejected reason) amount = record {
   all = amount ∷ [];
 }
 made_by number row (Line line) amount =
-    record { lines = sold_of line ∷ []; rejects = []; passed = []; all = amount ∷ [] }
+    record { lines = sold_of line ∷ []; rejects = []; passed = []; all = Some line.amount ∷ [] }
 
 abbrev pub IsMade : Settings → (number : ℕ) → List (List ℕ) → Made → Type 0
 IsMade settings number row made = (outcome : Outcome) × (amount : Option ℤ) × IsOutcomeOf settings row outcome
@@ -106,13 +107,13 @@ reject_amounts = map (λ reject. reject.amount)
 
 -- ---- the two tables
 
--- the header of the usage lines
+-- the header of the usage lines, as of any table of them
 abbrev pub line_header : List (List ℕ)
-line_header = codes "usage" ∷ codes "work" ∷ codes "territory" ∷ codes "right" ∷ codes "amount" ∷ []
+line_header = header
 
 -- and that of the rejected rows, by that of the export
-abbrev pub reject_header : List (List ℕ) → List (List ℕ)
-reject_header header = codes "rejected_row" ∷ codes "rejected_since" ∷ header
+abbrev pub reject_header : (fields : List (List ℕ)) → List (List ℕ)
+reject_header fields = codes "rejected_row" ∷ codes "rejected_since" ∷ fields
 
 -- the row of a usage line
 abbrev pub line_row : Sold → List (List ℕ)

@@ -1,14 +1,14 @@
 -- An import as it goes on.
 use Rattle.std.specs.Io.KnownBytes.{Appends}
-use Rattle.std.specs.List.{filter}
-use Rattle.std.specs.Prelude.{ℕ, ◌≡◌, ◌==◌, ◌+◌, ◌++◌, List, Option, IfSome, length, slice_index_or, ⊤}
+use Rattle.std.specs.List.{filter, sum_by}
+use Rattle.std.specs.Prelude.{ℕ, ◌≡◌, ◌==◌, ◌+◌, ◌+ℤ◌, ◌++◌, List, Option, IfSome, length, slice_index_or, ⊤}
 use Rattle.export_rows.specs.Places.{AreRowsOf, HasRead, Place}
 use Rattle.export_rows.specs.declared.delimiter.Delimiter.{Delimiter}
 use Rattle.sales_lines.specs.declared.reason.Reason.{Reason}
 use Rattle.sales_lines.specs.declared.settings.Settings.{Settings}
 use Rattle.sales_import.specs.Imported.{AreMade, Made, Reject, both, line_amounts, lines_text, output}
 use Rattle.sales_import.specs.Imported.{reject_amounts, rejects_text}
-use Rattle.sales_import.specs.Tallies.{AreWithin, no_rows, place_of, tally_of}
+use Rattle.sales_import.specs.Tallies.{AreWithin, all_reasons, no_rows, place_of, tally_of}
 use Rattle.sales_import.specs.declared.going.Going.{Going}
 use Rattle.sales_import.specs.declared.import_fault.ImportFault.{ImportFault}
 use Rattle.sales_import.specs.declared.import_fault.ImportFault.TheVariants.{Headless, Column}
@@ -32,6 +32,15 @@ pub record AreCounted (made : Made) (told : Summary) : Type 0 where
   pub reasons : (reason : Reason)
       → tally_for reason told ≡ tally_of (reject_amounts (rejected_for reason made.rejects))
   pub passed : told.passed ≡ tally_of made.passed
+
+-- The whole comes to its parts: rows that became usage lines, were rejected and were passed over, and so do the amounts,
+-- and the rows that have none that can be read. The rejected rows are those of all reasons.
+pub record AddsUp (count : ℕ) (told : Summary) : Type 0 where
+  pub all : told.all.rows ≡ count
+  pub rows : told.all.rows ≡ told.lines.rows + told.rejected.rows + told.passed.rows
+  pub without : told.all.without ≡ told.lines.without + told.rejected.without + told.passed.without
+  pub amount : told.all.amount ≡ told.lines.amount +ℤ told.rejected.amount +ℤ told.passed.amount
+  pub reasons : sum_by (λ reason. (tally_for reason told).rows) all_reasons ≡ told.rejected.rows
 
 -- what is made of one row more is counted too
 abbrev pub IsCounted : (own : Made) → (old new : Summary) → Type 0

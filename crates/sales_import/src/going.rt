@@ -42,20 +42,21 @@ impl Going {
         ensures within { OnOk result (AreWithin (number + 1) self.new.summary) }
         ensures fault { IfErr result IsOfRows }
     {
-        let counted = settings.counted(row);
         match settings.outcome(row, &mut self.usage)? {
             Outcome::Passed => {
+                let counted = settings.counted(row);
                 self.summary.add_passed(number, counted);
                 Ok(())
             }
             Outcome::Rejected(reason) => {
                 push_reject(alloc, &mut self.rejects, rejects, number, reason, row)?;
+                let counted = settings.counted(row);
                 self.summary.add_rejected(number, counted, reason);
                 Ok(())
             }
             Outcome::Line(line) => {
                 push_line(&mut self.lines, lines, &line)?;
-                self.summary.add_line(number, counted, &line);
+                self.summary.add_line(number, &line);
                 Ok(())
             }
         }

@@ -44,18 +44,17 @@ impl Summary {
     }
 
     /// Counts a row that became a usage line.
-    pub(crate) fn add_line(&mut self, number: u64, counted: Option<i64>, line: &SalesLine<'_>)
+    pub(crate) fn add_line(&mut self, number: u64, line: &SalesLine<'_>)
         requires number { number + 1 < 2 ^ 64 }
         requires within { AreWithin number self.old }
-        requires counted { IfSome counted (λ amount. unsigned_abs amount ≤ 10 ^ 12) }
         requires amount { unsigned_abs line.now.amount ≤ 10 ^ 12 }
         ensures added { self.new ≡ record self.old {
-          all = with_row self.old.all counted;
+          all = with_row self.old.all (Some line.now.amount);
           lines = with_row self.old.lines (Some line.now.amount);
         } }
         ensures within { AreWithin (number + 1) self.new }
     {
-        self.all.add(counted);
+        self.all.add(Some(line.amount));
         self.lines.add(Some(line.amount));
     }
 
