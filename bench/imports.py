@@ -10,9 +10,13 @@ the usage lines and the rejected rows, or what their paths had before, and that 
 there. Where both programs refuse the words (status 2), their messages may differ.
 
 What the program makes of a report is also looked at by itself. The counts and amounts of the
-summary have to add up, and to be those of the two tables. Each rejected row has to be that row of
-the report, as python3 reads it. And the rejected rows, imported in place of the report, have to be
-rejected for the same reasons.
+summary have to add up, and to be those of the two tables. No usage line counts without an amount,
+and no row counts with one that is rejected for a line break, below a header for its fields, or for
+its amount. Each rejected row has to be that row of the report, as python3 reads it, and those
+rejected for a line break, or below a header for their fields, have to be just the rows of the
+report with a line break, or with another number of fields than the header. And the rejected rows,
+imported in place of the report, have to be rejected for the same reasons, and to count with the
+same amounts.
 
 With --largest, tables of values with the most rows, and with one more, are tried as well, which
 takes a while. The files of cases that differ are left below FOLDER.
@@ -32,12 +36,22 @@ from tools.exports import FLAGS
 from tools.running import parser_of_program, run
 
 LINE = re.compile(r"(rows|usage lines|rejected rows|rejected since .+|rows passed over)"
-                  r": (0|[1-9]\d*), amount (0|-?[1-9]\d*)")
+                  r": (0|[1-9]\d*), amount (0|-?[1-9]\d*)"
+                  r"(?:, without the amounts of ([1-9]\d*))?")
 
 # Of the lines of a summary all are there but for those of reasons without rows.
 LINES = ["rows", "usage lines", "rejected rows", "rows passed over"]
 
 SINCE = "rejected since "
+
+# Why a row is rejected that has a line break, or another number of fields than the header; and the
+# beginning of the reasons for which a row has no amount.
+BREAK = "a field of it has a line break"
+FIELDS = "it does not have the fields that it should have"
+AMOUNT = "its amount "
+
+# The fields of the header of the rejected rows that stand before those of the report.
+HEADER = ["rejected_row", "rejected_since"]
 
 # The options whose values say where a value of a row stands.
 PLACES = ("usage", "work", "territory", "right", "amount")
@@ -78,22 +92,22 @@ def answered(program, folder, words):
 
 
 def summary_of(printed, export):
-    """The rows and amounts of a summary, by what they are of; none if it has another form."""
+    """The rows of a summary, their amounts, and how many have none, by what they are of; none if
+    it has another form."""
     found = {}
     for line in printed.decode().removesuffix("\n").split(f"\n{export}: "):
         fields = LINE.fullmatch(line.removeprefix(f"{export}: ") if not found else line)
         if not fields or fields[1] in found:
             return None
-        found[fields[1]] = int(fields[2]), int(fields[3])
+        found[fields[1]] = int(fields[2]), int(fields[3]), int(fields[4] or 0)
     begins = printed.startswith(f"{export}: rows: ".encode()) and printed.endswith(b"\n")
     kept = [what for what in found if not what.startswith(SINCE)]
     return found if begins and kept == LINES else None
 
 
-def added(pairs):
-    """The sums of rows and of amounts."""
-    rows, amounts = zip((0, 0), *pairs)
-    return sum(rows), sum(amounts)
+def added(counts):
+    """The sums of rows, of amounts, and of rows without one."""
+    return tuple(map(sum, zip((0, 0, 0), *counts)))
 
 
 def rows_of(text, delimiter):
@@ -109,7 +123,7 @@ def moved(word):
     number = re.fullmatch("#0*([1-9][0-9]{0,4})", word)
     if number and int(number[1]) <= 65536:
         return f"#{int(number[1]) + 2}" if int(number[1]) <= 65534 else None
-    return None if word in ("row", "reason") else word
+    return None if word in HEADER else word
 
 
 def words_again(options):
@@ -129,6 +143,25 @@ def words_again(options):
     return words
 
 
+def reasons_of(found):
+    """What a summary says of rejected rows, by their reasons."""
+    return {what[len(SINCE):]: counts for what, counts in found.items() if what.startswith(SINCE)}
+
+
+def faults_of(rows, wide):
+    """The rows of a report that are rejected whatever their fields are for, by their numbers, with
+    the reasons: those that have a line break, or fields that are not as many as those of a header.
+    """
+    found = {}
+    for number, row in enumerate(rows, 1):
+        text = "".join(row)
+        if "\n" in text or "\r" in text:
+            found[number] = BREAK
+        elif text and wide is not None and len(row) != wide:
+            found[number] = FIELDS
+    return found
+
+
 class Imported:
     """What a program made of a report in a folder."""
 
@@ -146,23 +179,31 @@ class Imported:
         """The rejected rows, with the numbers and reasons before them, and without the header."""
         return csv_rows(self.rejected)[self.has_header:]
 
+    def may_count(self, reason, rows, amount, without):
+        """Whether rows rejected for a reason may count with an amount, and so many without one."""
+        has_none = reason == BREAK or reason.startswith(AMOUNT)
+        if has_none or (reason == FIELDS and self.has_header):
+            return (amount, without) == (0, rows)
+        return without < rows or (amount, without) == (0, rows)
+
     def counts(self):
         """What is wrong in the summary, and in its numbers beside those of the two tables."""
         found = summary_of(self.printed, self.export)
         if found is None:
             return ["the summary has another form"]
-        reasons = {what[len(SINCE):]: pair for what, pair in found.items()
-                   if what.startswith(SINCE)}
+        reasons = reasons_of(found)
         wrong = []
         if added(found[what] for what in LINES[1:]) != found["rows"]:
             wrong.append("the rows do not add up")
         if added(reasons.values()) != found["rejected rows"]:
             wrong.append("the reasons do not add up")
         amounts = [int(amount) for *_, amount in self.lines[1:]]
-        if (len(amounts), sum(amounts)) != found["usage lines"]:
+        if (len(amounts), sum(amounts), 0) != found["usage lines"]:
             wrong.append("the usage lines are not those of the summary")
+        if not all(self.may_count(reason, *counts) for reason, counts in reasons.items()):
+            wrong.append("rows without an amount count with one")
         told = [reason for _, reason, *_ in self.rows()]
-        if {reason: count for reason, (count, _) in reasons.items()} != {
+        if {reason: count for reason, (count, *_) in reasons.items()} != {
                 reason: told.count(reason) for reason in told}:
             wrong.append("the rejected rows are not those of the summary")
         if self.status != (1 if told else 0) or self.message:
@@ -172,13 +213,18 @@ class Imported:
     def rows_are_those_of(self, report):
         """What is wrong in the rejected rows beside the report."""
         rows = rows_of(report, self.delimiter)
-        header = [["row", "reason", *rows[0]]] if self.has_header else []
+        header = [[*HEADER, *rows[0]]] if self.has_header else []
         below = rows[self.has_header:]
         made = [[number, reason, *below[int(number) - 1]] for number, reason, *_ in self.rows()]
         numbers = [int(number) for number, *_ in self.rows()]
         wrong = []
         if csv_rows(self.rejected) != header + made or numbers != sorted(set(numbers)):
             wrong.append("the rejected rows are not those of the report")
+        wide = len(rows[0]) if self.has_header else None
+        told = {int(number): reason for number, reason, *_ in self.rows()
+                if reason == BREAK or (reason == FIELDS and self.has_header)}
+        if told != faults_of(below, wide):
+            wrong.append("other rows have a line break, or too few or too many fields")
         found = summary_of(self.printed, self.export)
         if found and found["rows"][0] != len(below):
             wrong.append("the report has another number of rows")
@@ -195,10 +241,16 @@ class Imported:
         if (status, message) != (1 if rows else 0, b""):
             return [f"imported again, the rejected rows end with {status} {message!r}"]
         rejected = csv_rows(content(os.path.join(self.folder, AGAIN_REJECTS)))
-        found = summary_of(printed, AGAIN) or {}
-        counts = [found.get(what, (None,))[0] for what in LINES]
-        if rejected[self.has_header:] != rows or counts != [len(rows), 0, len(rows), 0]:
+        if rejected[self.has_header:] != rows:
             return ["imported again, the rejected rows are not rejected for the same reasons"]
+        before, found = summary_of(self.printed, self.export), summary_of(printed, AGAIN)
+        if before is None or found is None:
+            return ["imported again, the rejected rows have a summary of another form"]
+        all_rows = before["rejected rows"]
+        wanted = dict(zip(LINES, [all_rows, (0, 0, 0), all_rows, (0, 0, 0)]))
+        wanted |= {what: counts for what, counts in before.items() if what.startswith(SINCE)}
+        if found != wanted:
+            return ["imported again, the rejected rows count with something else"]
         return []
 
 

@@ -25,10 +25,11 @@ TABLES = {"work": "works", "territory": "territories", "right": "rights"}
 # Names of columns. Some look like other words, or stand in quotes.
 COLUMNS = ["Title", "Play ID", "title", "Work", "Territory", "Land", "Right", "Betrag", "Net (EUR)",
            "L\xe4nder\u00adcode", 'said "x"', "a=b", "=x", "a,b", "a;b", "c|d", "e\tf", " Work",
-           "#0", "#70000", "#65537", "#x", "#", "#+1", "row", "reason", "two\nlines", "-x",
-           "\U0001f3b5", "Kind", "1", ""]
+           "#0", "#70000", "#65537", "#x", "#", "#+1", "rejected_row", "rejected_since",
+           "two\nlines", "-x", "\U0001f3b5", "Kind", "1", ""]
 
-# What a report has in a column, by what it is for. A part of the name of a use may be empty.
+# What a report has in a column, by what it is for. A part of the name of a use may be empty. No
+# value has a line break, for which a row is rejected; those stand below.
 GOOD = {
     "usage": [b"Radio 1", b"club", b'say ""', b'"', b"a, b", b"a;b|c", b"x", b"0", b" ", b"-", b"~",
               b"12 May"] * 4 + [b"u" * 31, b"u" * 32, b"u" * 64],
@@ -36,8 +37,8 @@ GOOD = {
     "territory": [b"2136", b"276", b"0276", b"1", b"9999", b"0001", b"840"],
     "right": [b"P", b"M", b"S"],
     "where": [b"sale", b"refund", b"", b"x=y", b"caf\xc3\xa9", b'"', b"-"],
-    "other": [b"", b"", b"x", b"0", b"caf\xc3\xa9", b"\xff\xfe", b"\x00", b'a "b" c', b"two\nlines",
-              b"\r", b"a\r\nb", b"1,5", b"\xef\xbb\xbf", b"=1", b"a;b", b"tab\there", b"p|q"],
+    "other": [b"", b"", b"x", b"0", b"caf\xc3\xa9", b"\xff\xfe", b"\x00", b'a "b" c', b"1,5",
+              b"\xef\xbb\xbf", b"=1", b"a;b", b"tab\there", b"p|q", b"\x0b\x0c\xc2\x85"],
 }
 
 WRONG = {
@@ -47,10 +48,11 @@ WRONG = {
                   b"\xd9\xa1"],
     "right": [b"", b"p", b"PM", b" P", b"P ", b"\x00", b"X"],
     "where": [b"Sale", b"sale ", b"\xff", b"other"],
-    "other": [b"", b'"'],
+    "other": [b"two\nlines", b"\r", b"a\r\nb", b"\n", b'"\n"'],
 }
 
-# What stands on the left in a table of values.
+# What stands on the left in a table of values. One has a line break, which a text of all rows may
+# have, but no field of a row that is not rejected.
 SOURCES = {"work": [b"Song", b"Tune", b"song", b"", b'"Song"', b"a,b", b"\xff", b"two\nlines"],
            "territory": [b"DE", b"de", b"World", b"", b"\xc3\x96sterreich", b"US", b"276"],
            "right": [b"perf", b"mech", b"", b"Sync, other", b"P", b"\x00"]}
@@ -159,8 +161,9 @@ def no_amount(rng, form):
     """A text that comes near to an amount, and most of the time is none."""
     mark, parting = form.mark, form.parting
     near = [b"", b"-", mark, b"-" + mark, b"5" + mark, b"+1", b" 1", b"1 ", b"--1", b"- 1", b"1-",
-            b"1e3", b"0x10", b"12\x00", b"\xef\xbc\x91", b"EUR 1", b"NaN", b"(5)", b"\xe2\x88\x925",
-            b"1" + parting + b"234", b"1" + parting + b"234" + mark, b"1" + mark + b"5-",
+            b"1\n", b"1\r\n", b"\n1", b"1e3", b"0x10", b"12\x00", b"\xef\xbc\x91", b"EUR 1", b"NaN",
+            b"(5)", b"\xe2\x88\x925", b"1" + parting + b"234", b"1" + parting + b"234" + mark,
+            b"1" + mark + b"5-",
             b"1" + mark + b"2" + mark + b"3", parting + b"123" + mark + b"5",
             b"1234" + parting + b"567" + mark + b"5", b"12" + parting + b"34" + mark + b"5",
             b"1" + parting + parting + b"234" + mark + b"5", b"1" + parting + b"2345" + mark + b"5",
@@ -199,11 +202,18 @@ def table_of(rng, use):
     return [[source, rng.choice(GOOD[use])] for source in sources]
 
 
+def has_break(value):
+    """Whether a value has a line break."""
+    return b"\n" in value or b"\r" in value
+
+
 def column_of(rng, use, name, table):
     """A column of an export, with a few values; they have rows in a table, if there is one."""
     if table:
         sources = [source for source, _ in table]
-        return Column(use, name, sources, [b"no row", b"Song ", *GOOD[use][:1]])
+        wrong = [b"no row", b"Song ", *GOOD[use][:1], *filter(has_break, sources)]
+        good = [source for source in sources if not has_break(source)]
+        return Column(use, name, good or [b"no row"], wrong)
     good = GOOD.get(use, [])
     return Column(use, name, rng.sample(good, min(len(good), 4)), WRONG.get(use, []))
 
@@ -230,6 +240,8 @@ def text_word(rng, use, form, table):
     """A word that is the text of all rows."""
     is_wrong = rng.random() < 0.04
     column = column_of(rng, use, "", table)
+    if table:
+        column = column._replace(good=[source for source, _ in table])
     values = (value_of(rng, column, form, is_wrong) for _ in range(20))
     return "=" + next(iter(in_words(values)), "")
 
@@ -265,7 +277,7 @@ def text_of(rng, rows, delimiter):
 
 def odd_row(rng, row):
     """A row with fields too many or too few, or with none that has a byte."""
-    accident = rng.randrange(6)
+    accident = rng.randrange(7)
     if accident == 0:
         return [*row, *rng.choices([b"", b"x", b"1.00"], k=rng.randint(1, 3))]
     if accident == 1:
@@ -273,9 +285,9 @@ def odd_row(rng, row):
     if accident == 2:
         place = rng.randrange(len(row))
         return row[:place] + row[place + 1:] or [b"x"]
-    if accident == 3:
-        return [b""] * rng.choice([1, len(row), len(row) + 2])
-    if accident == 4:
+    if accident in (3, 4):
+        return [b""] * rng.choice([1, len(row), len(row), len(row) + 2])
+    if accident == 5:
         return [*row[:-1], b""]
     return [b"total"] + [b""] * (len(row) - 1)
 
@@ -285,7 +297,7 @@ class Made(NamedTuple):
 
     columns: list
     words: list  # of Word
-    conditions: list  # numbers of columns, with texts
+    conditions: list  # numbers of columns, maybe with one behind the last, with texts
     tables: dict  # rows, by what their values are for
     rows: list
     form: Form
@@ -332,16 +344,20 @@ def made(rng):
     asked = [n for n, column in enumerate(columns) if column.use == "where"]
     asked += [rng.randrange(len(columns))] if rng.random() < 0.05 else []
     conditions = [(n, condition_on(rng, columns[n])) for n in asked if rng.random() < 0.9]
+    has_header = rng.random() < 0.75
+    if not has_header and rng.random() < 0.15:
+        # A field that only some rows have.
+        conditions.append((len(columns), rng.choice(["", "", "x"])))
     part = rng.choice([0, 0, 0.02, 0.05, 0.1])
     rows = []
     for _ in range(rng.choice([0, 1, 3, 6, 12, 12, 30])):
         row = [value_of(rng, column, form, rng.random() < part) for column in columns]
         for place, text in conditions:
             if rng.random() < 0.6:
-                row[place] = text.encode()
+                row[place:place + 1] = [text.encode()]
         rows.append(odd_row(rng, row) if rng.random() < part else row)
     delimiter = rng.choice(["comma", "comma", *DELIMITERS])
-    return Made(columns, words, conditions, tables, rows, form, delimiter, rng.random() < 0.75)
+    return Made(columns, words, conditions, tables, rows, form, delimiter, has_header)
 
 
 def column_word(rng, case, place):
@@ -504,7 +520,7 @@ def wrong_paths(rng, case, options, files, export):
     other = {"output": REJECTS, "rejects": OUTPUT}[output]
     inputs = [export, *(f"{TABLES[use]}.csv" for use in case.tables)]
     source = rng.choice(inputs)
-    accident = rng.randrange(10)
+    accident = rng.randrange(12)
     if accident == 0:
         path = source
     elif accident == 1:
@@ -524,9 +540,23 @@ def wrong_paths(rng, case, options, files, export):
         path, files["kept"] = "kept", FOLDER
     elif accident == 8:
         path = f"./{other}"
+    elif accident == 9:
+        # Neither can be written.
+        path = "absent/usage.csv"
+        options = [(name, "absent/other.csv" if name in ("output", "rejects") else value)
+                   for name, value in options]
+    elif accident == 10:
+        # A file may be begun beside it, and never has its name.
+        path = ""
     else:
         path, files["link.csv"] = "link.csv", Soft(rng.choice(["nothing", "kept.csv"]))
         files["kept.csv"] = b"kept\n"
+    if accident in (6, 7, 9, 11) and rng.random() < 0.4:
+        # An export that has a fault of its own, which may be told of before or behind that of the
+        # path.
+        files[export] = rng.choice([FOLDER, b"", b"x\n"])
+        if rng.random() < 0.3:
+            del files[export]
     return [(name, path if name == output else value) for name, value in options]
 
 

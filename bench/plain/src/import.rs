@@ -5,7 +5,8 @@ use crate::arguments::Options;
 use crate::rows::{Fault, Field, MOST, Rows, code, quoted};
 use crate::{LARGEST_FILE, fail, load};
 use std::collections::HashMap;
-use std::io::Write;
+use std::fs::File;
+use std::io::{Read, Write};
 use std::os::unix::fs::MetadataExt;
 use std::path::{Path, PathBuf};
 use std::process::ExitCode;
@@ -22,7 +23,8 @@ const LONGEST_AMOUNT: usize = 38;
 const MOST_AMOUNT: i128 = 1_000_000_000_000;
 
 /// Why a row is rejected, by its place in the summary.
-const REASONS: [&str; 12] = [
+const REASONS: [&str; 13] = [
+    "a field of it has a line break",
     "it does not have the fields that it should have",
     "what its use is called is not 1 to 64 printable bytes",
     "its work has no row in the table of works",
@@ -38,15 +40,16 @@ const REASONS: [&str; 12] = [
 ];
 
 /// Places in `REASONS`. Behind that of a table's missing row stands that of a wrong value.
-const FIELDS: usize = 0;
-const USE: usize = 1;
-const WORK: usize = 2;
-const TERRITORY: usize = 4;
-const RIGHT: usize = 6;
-const LONG: usize = 8;
-const NO_NUMBER: usize = 9;
-const PLACES: usize = 10;
-const LARGE: usize = 11;
+const BREAK: usize = 0;
+const FIELDS: usize = 1;
+const USE: usize = 2;
+const WORK: usize = 3;
+const TERRITORY: usize = 5;
+const RIGHT: usize = 7;
+const LONG: usize = 9;
+const NO_NUMBER: usize = 10;
+const PLACES: usize = 11;
+const LARGE: usize = 12;
 
 /// What the words of an import say.
 struct Words {
@@ -122,7 +125,10 @@ impl Words {
             output: options.one("output")?,
             rejects: options.one("rejects")?,
             form: Form {
-                decimals: decimals.parse().ok().filter(|n| (0..=9).contains(n))?,
+                decimals: match decimals.as_bytes() {
+                    [digit @ b'0'..=b'9'] => usize::from(digit - b'0'),
+                    _ => return None,
+                },
                 mark,
                 parting,
             },
@@ -371,17 +377,20 @@ impl Place {
         if let Some(text) = word.strip_prefix('=') {
             return Ok(Place::Text(text.into()));
         }
-        if let Some(number) = number_of(word) {
-            return Ok(Place::Field(number - 1));
-        }
+        let number = number_of(word);
         let Some(header) = header else {
-            return Err(fail(
-                2,
-                format!("there is no header to find the column '{word}' in"),
-            ));
+            return number.map(|it| Place::Field(it - 1)).ok_or_else(|| {
+                fail(
+                    2,
+                    format!("there is no header to find the column '{word}' in"),
+                )
+            });
         };
         let places: Vec<_> = (0..header.len())
-            .filter(|&it| header[it] == word.as_bytes())
+            .filter(|&it| match number {
+                Some(number) => it == number - 1,
+                None => header[it] == word.as_bytes(),
+            })
             .collect();
         match places[..] {
             [place] => Ok(Place::Field(place)),
@@ -435,9 +444,25 @@ impl Value {
     }
 }
 
+/// Whether a field of a row has a line break.
+fn has_break(row: &Row) -> bool {
+    row.iter()
+        .flatten()
+        .any(|&byte| byte == b'\n' || byte == b'\r')
+}
+
+/// What becomes of a row.
+enum Fate {
+    /// A usage line with these fields.
+    Line([Vec<u8>; 5]),
+    /// A rejected row, for a reason.
+    Rejected(usize),
+    Passed,
+}
+
 /// What is done with the rows of an export.
 struct Import {
-    /// How many fields each row has to have.
+    /// How many fields each row has to have, where there is a header.
     width: Option<usize>,
     usage: Vec<Place>,
     /// Work, territory and right.
@@ -495,10 +520,32 @@ impl Import {
         })
     }
 
-    /// Whether a row has no bytes, or does not meet the conditions.
-    fn passes_over(&self, row: &Row) -> bool {
-        let holds = |(place, text): &(Place, Vec<u8>)| place.value(row).unwrap_or_default() == text;
-        row.iter().all(|field| field.is_empty()) || !self.conditions.iter().all(holds)
+    /// What becomes of a row. Conditions are looked at once a row has no line break, and has as
+    /// many fields as the header.
+    fn fate(&self, row: &Row) -> Fate {
+        if row.iter().all(|field| field.is_empty()) {
+            return Fate::Passed;
+        }
+        if has_break(row) {
+            return Fate::Rejected(BREAK);
+        }
+        if !self.is_wide(row) {
+            return Fate::Rejected(FIELDS);
+        }
+        // No condition holds of a field that the row does not have.
+        let holds = |(place, text): &(Place, Vec<u8>)| place.value(row) == Some(text);
+        if !self.conditions.iter().all(holds) {
+            return Fate::Passed;
+        }
+        match self.line(row) {
+            Ok(line) => Fate::Line(line),
+            Err(reason) => Fate::Rejected(reason),
+        }
+    }
+
+    /// Whether a row has as many fields as the header, if there is one.
+    fn is_wide(&self, row: &Row) -> bool {
+        self.width.is_none_or(|width| width == row.len())
     }
 
     /// The units of a row's amount, or why it is none.
@@ -506,7 +553,15 @@ impl Import {
         self.form.units(self.amount.value(row).unwrap_or_default())
     }
 
-    /// The usage line of a row, or why there is none.
+    /// What a row counts with in the summary, if it has an amount.
+    fn counted(&self, row: &Row) -> Option<i128> {
+        if has_break(row) || !self.is_wide(row) {
+            return None;
+        }
+        self.units(row).ok()
+    }
+
+    /// The usage line of a row that meets the conditions, or why there is none.
     fn line(&self, row: &Row) -> Result<[Vec<u8>; 5], usize> {
         let values = self.values.iter().map(|value| &value.place);
         let lacks_one = self
@@ -515,7 +570,7 @@ impl Import {
             .chain(values)
             .chain([&self.amount])
             .any(|place| place.value(row).is_none());
-        if lacks_one || self.width.is_some_and(|width| width != row.len()) {
+        if lacks_one {
             return Err(FIELDS);
         }
         let usage: Vec<_> = self
@@ -540,17 +595,19 @@ impl Import {
     }
 }
 
-/// How many rows there are of a kind, and what their amounts come to.
+/// How many rows there are of a kind, what their amounts come to, and how many have none.
 #[derive(Clone, Copy, Default)]
 struct Tally {
     rows: u64,
     amount: i128,
+    without: u64,
 }
 
 impl Tally {
-    fn add(&mut self, amount: i128) {
+    fn add(&mut self, amount: Option<i128>) {
         self.rows += 1;
-        self.amount += amount;
+        self.amount += amount.unwrap_or(0);
+        self.without += u64::from(amount.is_none());
     }
 }
 
@@ -573,7 +630,7 @@ impl Done {
             ..Done::default()
         };
         if let Some(header) = header {
-            done.reject("row", "reason", header);
+            done.reject("rejected_row", "rejected_since", header);
         }
         for (row, number) in rows.iter().zip(1..) {
             done.take(import, row, number);
@@ -589,18 +646,15 @@ impl Done {
     }
 
     fn take(&mut self, import: &Import, row: &Row, number: u64) {
-        let amount = import.units(row).unwrap_or(0);
+        let amount = import.counted(row);
         self.all.add(amount);
-        if import.passes_over(row) {
-            self.passed.add(amount);
-            return;
-        }
-        match import.line(row) {
-            Ok(line) => {
+        match import.fate(row) {
+            Fate::Passed => self.passed.add(amount),
+            Fate::Line(line) => {
                 self.lines.add(amount);
                 add_row(&mut self.output, &line);
             }
-            Err(reason) => {
+            Fate::Rejected(reason) => {
                 self.rejected.add(amount);
                 self.reasons[reason].add(amount);
                 self.reject(&number.to_string(), REASONS[reason], row);
@@ -609,8 +663,13 @@ impl Done {
     }
 
     fn summary(&self, export: &str) -> String {
-        let line = |what: &str, Tally { rows, amount }| {
-            format!("{export}: {what}: {rows}, amount {amount}\n")
+        let line = |what: &str, tally: Tally| {
+            let without = match tally.without {
+                0 => String::new(),
+                rows => format!(", without the amounts of {rows}"),
+            };
+            let Tally { rows, amount, .. } = tally;
+            format!("{export}: {what}: {rows}, amount {amount}{without}\n")
         };
         let mut text = line("rows", self.all)
             + &line("usage lines", self.lines)
@@ -626,42 +685,63 @@ impl Done {
     }
 }
 
-/// A new file beside a path that has nothing or a file, with a text in it.
-fn new_file(path: &str, text: &[u8]) -> std::io::Result<PathBuf> {
-    if std::fs::symlink_metadata(path).is_ok_and(|it| !it.is_file()) {
-        return Err(std::io::ErrorKind::AlreadyExists.into());
-    }
-    let mut new = PathBuf::from(format!("{path}.new"));
-    let mut number = 0;
-    while std::fs::symlink_metadata(&new).is_ok() {
-        number += 1;
-        new = format!("{path}.new{number}").into();
-    }
-    let written = std::fs::File::create_new(&new).and_then(|mut file| file.write_all(text));
-    written.map(|()| new)
+/// A new file beside a path, which takes its name at the end. It is removed if it does not.
+struct Begun<'a> {
+    path: &'a str,
+    new: PathBuf,
+    file: File,
 }
 
-/// Writes both tables, or neither.
-fn write(words: &Words, done: &Done) -> Result<(), ExitCode> {
-    let mut new: Vec<(PathBuf, &String)> = Vec::new();
-    let files = [
-        (&words.output, &done.output),
-        (&words.rejects, &done.rejects),
-    ];
-    let made = files.into_iter().try_for_each(|(path, text)| {
-        new.push((new_file(path, text).map_err(|_| path)?, path));
-        Ok(())
-    });
-    let named = made.and_then(|()| {
-        new.iter()
-            .try_for_each(|(file, path)| std::fs::rename(file, path).map_err(|_| *path))
-    });
-    named.map_err(|path| {
-        // What has no name of its own yet is removed.
-        for (file, _) in &new {
-            let _ = std::fs::remove_file(file);
+impl Begun<'_> {
+    /// Begins a file. At its path is nothing, or a file.
+    fn at(path: &str) -> Result<Begun<'_>, ExitCode> {
+        if std::fs::symlink_metadata(path).is_ok_and(|it| !it.is_file()) {
+            return Err(unwritten(path));
         }
-        fail(4, format!("cannot write {path}"))
+        let mut new = PathBuf::from(format!("{path}.new"));
+        let mut number = 0;
+        while std::fs::symlink_metadata(&new).is_ok() {
+            number += 1;
+            new = format!("{path}.new{number}").into();
+        }
+        let file = File::create_new(&new).map_err(|_| unwritten(path))?;
+        Ok(Begun { path, new, file })
+    }
+
+    /// Gives the file its name.
+    fn take_name(&self) -> Result<(), ExitCode> {
+        std::fs::rename(&self.new, self.path).map_err(|_| unwritten(self.path))
+    }
+}
+
+impl Drop for Begun<'_> {
+    fn drop(&mut self) {
+        // There is none that has taken the name of its path.
+        let _ = std::fs::remove_file(&self.new);
+    }
+}
+
+fn unwritten(path: &str) -> ExitCode {
+    fail(4, format!("cannot write {path}"))
+}
+
+/// Writes both tables, each into the file begun for it, or neither.
+fn write(mut files: [Begun; 2], done: &Done) -> Result<(), ExitCode> {
+    for (begun, text) in files.iter_mut().zip([&done.output, &done.rejects]) {
+        begun
+            .file
+            .write_all(text)
+            .map_err(|_| unwritten(begun.path))?;
+    }
+    let [output, rejects] = &files;
+    let before = std::fs::read(output.path).ok();
+    output.take_name()?;
+    rejects.take_name().inspect_err(|_| {
+        // The first path gets back what it had.
+        let _ = match before {
+            Some(text) => std::fs::write(output.path, text),
+            None => std::fs::remove_file(output.path),
+        };
     })
 }
 
@@ -682,7 +762,12 @@ pub fn main() -> Result<ExitCode, ExitCode> {
         table_at(rights, is_right, 4)?,
     ];
     let export = &words.export;
-    let text = std::fs::read(export).map_err(|_| fail(4, format!("cannot read {export}")))?;
+    let unread = |_| fail(4, format!("cannot read {export}"));
+    let mut file = File::open(export).map_err(unread)?;
+    // Both tables are begun before anything of the export is read.
+    let files = [Begun::at(&words.output)?, Begun::at(&words.rejects)?];
+    let mut text = Vec::new();
+    file.read_to_end(&mut text).map_err(unread)?;
     let rows = rows_of(&text, words.delimiter);
     let (header, rows) = match rows.split_first() {
         Some((header, rows)) if words.has_header => (Some(header), rows),
@@ -691,7 +776,7 @@ pub fn main() -> Result<ExitCode, ExitCode> {
     };
     let import = Import::of(&words, header, tables)?;
     let done = Done::of(&import, header, rows);
-    write(&words, &done)?;
+    write(files, &done)?;
     match std::io::stdout().write_all(done.summary(export).as_bytes()) {
         Ok(()) => Ok(ExitCode::from((done.rejected.rows > 0) as u8)),
         Err(_) => Err(fail(4, "cannot write".into())),
