@@ -693,9 +693,10 @@ struct Begun<'a> {
 }
 
 impl Begun<'_> {
-    /// Begins a file. At its path is nothing, or a file.
+    /// Begins a file. At its path is nothing, or a file; an empty path is none.
     fn at(path: &str) -> Result<Begun<'_>, ExitCode> {
-        if std::fs::symlink_metadata(path).is_ok_and(|it| !it.is_file()) {
+        let found = std::fs::symlink_metadata(path);
+        if path.is_empty() || found.is_ok_and(|it| !it.is_file()) {
             return Err(unwritten(path));
         }
         let mut new = PathBuf::from(format!("{path}.new"));
