@@ -3,6 +3,7 @@
 ghost use Rattle.std.specs.Prelude.{◌≡◌, [], IfOk, false, true};
 ghost use Rattle.export_rows.specs.Places.{HasEnded, HasRead, Takes};
 
+use crate::retrying::Retrying;
 use crate::{Delimiter, Row, RowFault};
 use csv::{ErrorKind, Reader, ReaderBuilder};
 use std::alloc::Global;
@@ -12,7 +13,7 @@ use std::marker::Model;
 /// The rows of an export, read one by one through a small buffer: the row at hand, and what is unread.
 #[derive(Drop)]
 pub struct ExportRows<R: Read> {
-    reader: Reader<R>,
+    reader: Reader<Retrying<R>>,
     row: Row,
 }
 
@@ -28,7 +29,7 @@ impl<R: Read> Model for ExportRows<R> {
       row = b.row;
       config = reader_config b.reader;
       state = reader_state b.reader;
-      unread = source_of R.remaining b.reader;
+      unread = source_of (λ from. R.remaining from.inner) b.reader;
     } };
 
     ghost invariant = { λ b. has_failed b.reader ≡ false → (reader_trim b.reader ≡ trim.None) × Ready b.reader };
@@ -45,7 +46,7 @@ impl<R: Read> ExportRows<R> {
                 .delimiter(delimiter.byte())
                 .has_headers(false)
                 .flexible(true)
-                .from_reader(alloc, from),
+                .from_reader(alloc, Retrying::of(from)),
             row: Row::none(alloc),
         }
     }

@@ -4,6 +4,7 @@
 mod delimiter;
 mod export_rows;
 pub mod laws;
+mod retrying;
 mod row;
 mod row_fault;
 

@@ -1,11 +1,10 @@
 -- What the words of a mapping say, one after another.
-use Rattle.std.proofs.Common.{◌++◌, ◌∷◌, [], ℕ, List, arith, map, refl, subst, sym}
-use Rattle.std.specs.Prelude.{Contains, string_bytes}
-use Rattle.std.proofs.lemmas.List.Elements.{Contains-append_left, Contains-append_right}
-use Rattle.sales_import.specs.Mapped.{AreConditions, AreSources, Header, IsConditionOf, IsFaultAmong, IsFaultOfWord, IsMappingFault, columns_wanted, words_of_mapping}
+use Rattle.std.proofs.Common.{◌≡◌, ◌++◌, ◌∷◌, ◌∙◌, [], ℕ, List, ap, map, refl, subst, sym}
+use Rattle.std.specs.Prelude.{string_bytes}
+use Rattle.std.proofs.lemmas.List.{append_assoc}
+use Rattle.sales_import.specs.Mapped.{AreConditions, AreSources, Header, IsConditionOf, IsFaultAmong, IsFaultOfWord, columns_wanted}
 use Rattle.sales_import.specs.declared.import_fault.ImportFault.{ImportFault}
 use Rattle.sales_import.specs.declared.import_fault.ImportFault.TheVariants.{Read, Lines, Rejects, Headless, Column, Memory}
-use Rattle.sales_import.specs.declared.mapping.Mapping.{Mapping}
 use Rattle.sales_import.specs.declared.mapping.Wanted.{Wanted}
 use Rattle.sales_lines.specs.Columns.{IsSourceOf, IsWordFault}
 use Rattle.sales_lines.specs.declared.settings.Condition.{Condition}
@@ -26,60 +25,66 @@ conditions_more header (first ∷ wanted) [] more condition are is = absurd are
 conditions_more header (first ∷ wanted) (other ∷ conditions) more condition (own, are) is =
     (own, conditions_more header wanted conditions more condition are is)
 
--- what is wrong with a word is wrong with one of many
-pub among : (header : Header) (words : List (List ℕ)) (word : List ℕ) (fault : ImportFault) → Contains words word
-    → IsFaultOfWord header word fault → IsFaultAmong header words fault
-among header words word (Read error) there is = absurd is
-among header words word (Lines error) there is = absurd is
-among header words word (Rejects error) there is = absurd is
-among header words word Headless there is = absurd is
-among header words word (Column fault named) there (same, is) =
-    (subst (Contains words) (sym same) there, subst (λ (w : List ℕ). IsWordFault header w fault) (sym same) is)
-among header words word Memory there is = tt
+pub sources_append : (header : Header) (words others : List (List ℕ)) (sources more : List Source) → AreSources header words sources
+    → AreSources header others more → AreSources header (words ++ others) (sources ++ more)
+sources_append header [] others [] more are rest = rest
+sources_append header [] others (source ∷ sources) more are rest = absurd are
+sources_append header (word ∷ words) others [] more are rest = absurd are
+sources_append header (word ∷ words) others (source ∷ sources) more (own, are) rest = (own, sources_append header words others sources more are rest)
 
--- and with one of more than these
-pub among_more : (header : Header) (words others : List (List ℕ)) (fault : ImportFault) → ((word : List ℕ) → Contains words word → Contains others word)
-    → IsFaultAmong header words fault → IsFaultAmong header others fault
-among_more header words others (Read error) more is = absurd is
-among_more header words others (Lines error) more is = absurd is
-among_more header words others (Rejects error) more is = absurd is
-among_more header words others Headless more is = absurd is
-among_more header words others (Column fault named) more (there, is) = (more (string_bytes named) there, is)
-among_more header words others Memory more is = tt
+-- what the columns of conditions say
+pub columns_of : (header : Header) (wanted : List Wanted) (conditions : List Condition) → AreConditions header wanted conditions
+    → AreSources header (columns_wanted wanted) (map (λ (each : Condition). each.source) conditions)
+columns_of header [] [] are = tt
+columns_of header [] (other ∷ conditions) are = absurd are
+columns_of header (first ∷ wanted) [] are = absurd are
+columns_of header (first ∷ wanted) (other ∷ conditions) (own, are) = (own.0, columns_of header wanted conditions are)
 
--- ---- the words of a mapping
+-- what is wrong with the first of words
+pub here : (header : Header) (word : List ℕ) (words : List (List ℕ)) (fault : ImportFault) → IsFaultOfWord header word fault → IsFaultAmong header (word ∷ words) fault
+here header word words (Read error) is = absurd is
+here header word words (Lines error) is = absurd is
+here header word words (Rejects error) is = absurd is
+here header word words Headless is = absurd is
+here header word words (Column fault named) (same, is) = record {
+  before = [];
+  after = words;
+  sources = [];
+  is = ap (λ (w : List ℕ). w ∷ words) (sym same);
+  read = tt;
+  at_fault = subst (λ (w : List ℕ). IsWordFault header w fault) (sym same) is;
+}
+here header word words Memory is = tt
 
-module _ (mapping : Mapping) where
-  abbrev usages : List (List ℕ)
-  usages = map string_bytes mapping.usage.items
+-- what is wrong with words, after others that say where values stand
+pub past : (header : Header) (words others : List (List ℕ)) (sources : List Source) (fault : ImportFault) → AreSources header words sources
+    → IsFaultAmong header others fault → IsFaultAmong header (words ++ others) fault
+past header words others sources (Read error) are is = absurd is
+past header words others sources (Lines error) are is = absurd is
+past header words others sources (Rejects error) are is = absurd is
+past header words others sources Headless are is = absurd is
+past header words others sources (Column fault named) are is = record {
+  before = words ++ is.before;
+  after = is.after;
+  sources = sources ++ is.sources;
+  is = ap (λ (w : List (List ℕ)). words ++ w) is.is ∙ sym (append_assoc words is.before (string_bytes named ∷ is.after));
+  read = sources_append header words is.before sources is.sources are is.read;
+  at_fault = is.at_fault;
+}
+past header words others sources Memory are is = tt
 
-  abbrev four : List (List ℕ)
-  four = string_bytes mapping.work ∷ string_bytes mapping.territory ∷ string_bytes mapping.right ∷ string_bytes mapping.amount ∷ []
-
-  abbrev columns : List (List ℕ)
-  columns = columns_wanted mapping.wanted.items
-
-  pub of_usage : (word : List ℕ) → Contains usages word → Contains (words_of_mapping mapping) word
-  of_usage word there = Contains-append_left usages (four ++ columns) word there
-
-  pub of_four : (word : List ℕ) → Contains four word → Contains (words_of_mapping mapping) word
-  of_four word there = Contains-append_right usages (four ++ columns) word (Contains-append_left four columns word there)
-
-  pub of_column : (word : List ℕ) → Contains columns word → Contains (words_of_mapping mapping) word
-  of_column word there = Contains-append_right usages (four ++ columns) word (Contains-append_right four columns word there)
-
-  pub of_work : Contains four (string_bytes mapping.work)
-  of_work = (0, omega arith, refl)
-
-  pub of_territory : Contains four (string_bytes mapping.territory)
-  of_territory = (1, omega arith, refl)
-
-  pub of_right : Contains four (string_bytes mapping.right)
-  of_right = (2, omega arith, refl)
-
-  pub of_amount : Contains four (string_bytes mapping.amount)
-  of_amount = (3, omega arith, refl)
-
-  -- what is wrong with one of the four is wrong with the mapping
-  pub of_word : (header : Header) (word : List ℕ) (fault : ImportFault) → Contains four word → IsFaultOfWord header word fault → IsMappingFault mapping header fault
-  of_word header word fault there is = among header (words_of_mapping mapping) word fault (of_four word there) is
+-- and before others
+pub before : (header : Header) (words others : List (List ℕ)) (fault : ImportFault) → IsFaultAmong header words fault → IsFaultAmong header (words ++ others) fault
+before header words others (Read error) is = absurd is
+before header words others (Lines error) is = absurd is
+before header words others (Rejects error) is = absurd is
+before header words others Headless is = absurd is
+before header words others (Column fault named) is = record {
+  before = is.before;
+  after = is.after ++ others;
+  sources = is.sources;
+  is = ap (λ (w : List (List ℕ)). w ++ others) is.is ∙ append_assoc is.before (string_bytes named ∷ is.after) others;
+  read = is.read;
+  at_fault = is.at_fault;
+}
+before header words others Memory is = tt

@@ -1,7 +1,8 @@
 -- What the words of a mapping say, by the header of an export, if it has one.
-use Rattle.std.specs.Prelude.{ℕ, ◌≡◌, ◌++◌, ◌∷◌, [], Contains, List, Option, length, map}
+use Rattle.std.specs.Prelude.{ℕ, ◌≡◌, ◌++◌, ◌∷◌, [], List, Option, length, map}
 use Rattle.std.specs.Prelude.{option_map, string_bytes, ⊤}
 use Rattle.sales_lines.specs.Columns.{IsSourceOf, IsWordFault}
+use Rattle.sales_lines.specs.declared.column_fault.ColumnFault.{ColumnFault}
 use Rattle.sales_lines.specs.declared.settings.Condition.{Condition}
 use Rattle.sales_lines.specs.declared.settings.Settings.{Settings}
 use Rattle.sales_lines.specs.declared.source.Source.{Source}
@@ -55,11 +56,19 @@ IsFaultOfWord header word (Column fault named) = (string_bytes named ≡ word) �
 IsFaultOfWord header word Memory = ⊤
 IsFaultOfWord header word _ = ⊥
 
--- or with one of these words
+-- This word says nothing, and each before it says where a value stands.
+pub record IsFirstFault (header : Header) (words : List (List ℕ)) (fault : ColumnFault) (word : List ℕ) : Type 0 where
+  pub before : List (List ℕ)
+  pub after : List (List ℕ)
+  pub sources : List Source
+  pub is : words ≡ before ++ word ∷ after
+  pub read : AreSources header before sources
+  pub at_fault : IsWordFault header word fault
+
+-- memory ran out, or this is what is wrong with the first of these words that says nothing
 abbrev pub IsFaultAmong : Header → (words : List (List ℕ)) → ImportFault → Type 0
+IsFaultAmong header words (Column fault named) = IsFirstFault header words fault (string_bytes named)
 IsFaultAmong header words Memory = ⊤
-IsFaultAmong header words (Column fault named) =
-    Contains words (string_bytes named) × IsWordFault header (string_bytes named) fault
 IsFaultAmong header words _ = ⊥
 
 abbrev pub columns_wanted : List Wanted → List (List ℕ)

@@ -1,10 +1,11 @@
-use Rattle.std.proofs.Common.{◌≡◌, ◌∙◌, ◌+◌, ◌<◌, ◌++◌, ◌∷◌, [], List, ap, arith, length, map, subst, sym, take, ℕ}
-use Rattle.std.specs.Prelude.{String, option_map, slice_index_or, string_bytes}
+use Rattle.std.proofs.Common.{◌≡◌, ◌∙◌, ◌+◌, ◌++◌, ◌∷◌, [], List, ap, drop, map, subst, suc, sym, take, ℕ}
+use Rattle.std.specs.Prelude.{String, option_map, string_bytes}
 use Rattle.std.specs.declared.alloc.Global.{Global}
-use Rattle.std.proofs.lemmas.List.{get_or-map, length-map, map-append, take_more}
+use Rattle.std.proofs.Math.Seq.{split_at}
+use Rattle.std.proofs.lemmas.List.{map-append, take_more}
 use Rattle.std.proofs.lemmas.Result.{err_from_is_err_and}
-use Rattle.sales_import.specs.Mapped.{AreSources}
-use Rattle.sales_import.proofs.Named.{among, sources_more}
+use Rattle.sales_import.specs.Mapped.{AreSources, IsFaultAmong}
+use Rattle.sales_import.proofs.Named.{here, past, sources_more}
 use Rattle.sales_import.proofs.mapping.sources.Goals as goal
 
 pub returns-in_err-source-clause-fault : goal.returns-in_err-source-clause-fault
@@ -12,11 +13,15 @@ returns-in_err-source-clause-fault c =
     let header = option_map (λ row. row.now) c.args.header in
     let words = c.args.words.now in
     let word = c.word-item.result in
-    let at : slice_index_or (map string_bytes words) c.loop-word.word-index (string_bytes word) ≡ string_bytes word =
-    get_or-map string_bytes words c.loop-word.word-index word (string_bytes word) c.loop-word-test.true ∙ ap string_bytes (sym c.word-item.is) in
-    let low : c.loop-word.word-index < length (map string_bytes words) = omega (arith, c.loop-word-test.true, length-map words string_bytes) in
+    let i = c.loop-word.word-index in
+    let cut : words ≡ take i words ++ word ∷ drop (suc i) words =
+    split_at words i word c.loop-word-test.true ∙ ap (λ (w : String Global). take i words ++ w ∷ drop (suc i) words) (sym c.word-item.is) in
+    let shown : map string_bytes words ≡ map string_bytes (take i words) ++ string_bytes word ∷ map string_bytes (drop (suc i) words) =
+    ap (map string_bytes) cut ∙ map-append string_bytes (take i words) (word ∷ drop (suc i) words) in
     let exit = err_from_is_err_and c.from_residual.result c.from_residual.ensures.1 in
-    rw (exit.1, exit.2) (among header (map string_bytes words) (string_bytes word) c.in_err-source.field-0.0 (c.loop-word.word-index, low, at) c.in_err-source.ensures.fault)
+    rw (exit.1, exit.2)
+    (subst (λ (w : List (List ℕ)). IsFaultAmong header w c.in_err-source.field-0.0) (sym shown)
+    (past header _ _ c.loop-word.sources.items _ c.loop-word.invariant (here header (string_bytes word) _ _ c.in_err-source.ensures.fault)))
 
 pub loop-word-preserved : goal.loop-word-preserved
 loop-word-preserved c =
