@@ -5,14 +5,15 @@
 # It divides one amount, checks the examples and explains a line of them, makes the tables to begin
 # with of three submitters' files, checks these and explains a line of them, runs on the examples
 # with several plans, and into an output file over one CWR file and over three, writes a folder of
-# documents, merges statements, to standard output and into a file, and runs on 2,000 usage lines,
-# whose rows are written by four threads.
+# documents, makes usage lines and rejected rows of a sales report, merges statements, to standard
+# output and into a file, and runs on 2,000 usage lines, whose rows are written by four threads.
 #
 # Each run has to end within a minute: with the whole answer; where memory or a thread was refused,
 # with status 3 and nothing printed, but that a merge may have begun; where a read, a write or a
 # file was, with status 4, what the output took, and a message that says which. An output file is
 # then as it was, or at the very end whole, and no new file is left beside it. A folder of documents
-# is not there, or at the very end whole, and no new folder is left beside it.
+# is not there, or at the very end whole, and no new folder is left beside it. Of the two tables of
+# an import, which rejects rows and so ends with status 1, each is as it was or whole.
 #
 # It takes a C compiler, and a minute; `quick`, all but the other plans, most allocations of the
 # documents and the many lines, half of it. Usage: tests/refuse.sh PROGRAM [quick]
@@ -31,10 +32,15 @@ past=40
 # Whether files are brought to the disk by the system is not asked here.
 export SKIP_SYNC=1
 
-# The words of the runs that follow, what they are called, the file or the folder that has their
-# whole answer, and the file or the folder that they write, if they do. A merge may have begun to
-# print where memory or a read is refused. Of allocations every one is refused, or one of so many.
-words=() name='' whole='' kept='' folder='' may_begin='' steps=1
+# The arguments of the runs that follow, what they are called, the file or the folder that has their
+# whole answer, and the file or the folder that they write, if they do; or the folder of the two
+# tables that they write beside what they print, and the folder that has these whole. A merge may
+# have begun to print where memory or a read is refused. Of allocations every one is refused, or one
+# of so many. The last so many refusals may leave something whole.
+words=() name='' whole='' kept='' folder='' tables='' whole_tables='' may_begin='' steps=1 late=2
+
+# The status of a run to which nothing is refused.
+ends=0
 
 fail() {
     echo "refuse.sh: $name, $1: status $status: $(cat "$room/err")"
@@ -49,16 +55,31 @@ answer() {
         echo before > "$kept"
     fi
     [[ -z $folder ]] || rm -rf "$folder" "$folder".new*
+    if [[ -n $tables ]]; then
+        rm -rf "$tables"
+        mkdir "$tables"
+        echo before | tee "$tables/usage.csv" > "$tables/rejects.csv"
+    fi
     env "$@" LD_PRELOAD="$room/refuse.so" timeout 60 "$program" "${words[@]}" > "$room/out" 2> "$room/err" || status=$?
 }
 
 # whether no new file or folder is left beside the one that is written
 is_alone() {
-    [[ ! -e ${kept:-$folder}.new ]]
+    if [[ -n $tables ]]; then
+        [[ $(ls -A "$tables") == rejects.csv$'\n'usage.csv ]]
+    else
+        [[ ! -e ${kept:-$folder}.new ]]
+    fi
+}
+
+# whether a table is as it was
+is_table_before() {
+    [[ $(head -c 100 "$tables/$1") == before ]]
 }
 
 is_as_before() {
-    is_alone && [[ -z $kept || $(< "$kept") == before ]] && [[ -z $folder || ! -e $folder ]]
+    is_alone && [[ -z $kept || $(< "$kept") == before ]] && [[ -z $folder || ! -e $folder ]] || return 1
+    [[ -z $tables ]] || { is_table_before usage.csv && is_table_before rejects.csv; }
 }
 
 # whether the file or the folder has the whole answer
@@ -70,8 +91,14 @@ has_whole() {
     fi
 }
 
+# whether a table is as it was or whole
+is_left() {
+    is_table_before "$1" || cmp -s "$tables/$1" "$whole_tables/$1"
+}
+
 is_whole() {
-    [[ $status == 0 && ! -s $room/err ]] && is_alone || return 1
+    [[ $status == "$ends" && ! -s $room/err ]] && is_alone || return 1
+    [[ -z $tables ]] || diff -r "$tables" "$whole_tables" > /dev/null || return 1
     if [[ -n $kept$folder ]]; then
         [[ ! -s $room/out ]] && has_whole
     else
@@ -95,8 +122,13 @@ is_out_of_room() {
 is_cut_off() {
     is_beginning || return 1
     case $status:$(< "$room/err") in
-        '4:royalty_run: cannot write') [[ -z $kept$folder ]] ;;
+        '4:royalty_run: cannot write')
+            [[ -z $kept$folder ]] && { [[ -z $tables ]] || diff -r "$tables" "$whole_tables" > /dev/null; }
+            ;;
         "4:royalty_run: cannot write $kept$folder") is_as_before || { is_alone && has_whole; } ;;
+        "4:royalty_run: cannot write $tables/"*)
+            [[ -n $tables && ! -s $room/out ]] && is_alone && is_left usage.csv && is_left rejects.csv
+            ;;
         '4:royalty_run: cannot read '*) is_as_before && [[ -n $may_begin || ! -s $room/out ]] ;;
         *) return 1 ;;
     esac
@@ -104,7 +136,8 @@ is_cut_off() {
 
 # sweep VARIABLE CHECK [STEP]: refuses one number after another, or one of so many; where the answer
 # is not whole, CHECK has to hold. `refusals` counts these. Only where one of the last two is refused
-# may the output be there, whole: it gets its name when its bytes are on the disk.
+# may the output be there, whole: it gets its name when its bytes are on the disk. The tables of an
+# import get theirs one after another, so there it is one of some more.
 sweep() {
     local step=${3-1} number answered=0 named=()
     number=$((1 - step)) refusals=0
@@ -122,7 +155,7 @@ sweep() {
     done
     ((refusals > 0)) || fail "$1: nothing was refused"
     for number in ${named[@]+"${named[@]}"}; do
-        ((number > refusals - 2)) || fail "$1: named at refusal $number of $refusals"
+        ((number > refusals - late)) || fail "$1: named at refusal $number of $refusals"
     done
 }
 
@@ -227,6 +260,21 @@ folder=$room/folder
 words+=(--to "$folder") name='a folder of documents' steps=$most_steps
 sweep_all 3 26
 folder='' steps=1
+
+# An import of the first rows of a report, of which two are rejected.
+head -n 62 "$several/sales.csv" > "$room/sales.csv"
+printf 'Reported,,x,y,NO,Mechanical,1\nReported,A,x,y,NO,Mechanical,1.001\n' >> "$room/sales.csv"
+tables=$room/tables whole_tables=$room/whole_tables whole=$room/summary ends=1 late=8
+words=(import "$room/sales.csv" --where Status=Reported --usage Use --work ISRC --territory Country
+    --right Right --amount 'Net EUR' --works "$several/recordings.csv"
+    --territories "$several/countries.csv" --rights "$several/rights.csv"
+    --output "$tables/usage.csv" --rejects "$tables/rejects.csv")
+mkdir "$tables"
+"$program" "${words[@]}" > "$whole" && fail 'no row was rejected'
+mv "$tables" "$whole_tables"
+name='an import'
+sweep_all 0
+tables='' ends=0 late=2
 
 [[ ${2-} != quick ]] || exit 0
 

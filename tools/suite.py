@@ -163,9 +163,11 @@ def steps_of(listed):
         "compared inputs": compared("bench.compare"),
         "compared inputs of submitters": compared("bench.compare", "--submitters"),
         "compared mergers": compared("bench.merges"),
+        "compared imports": compared("bench.imports"),
         "refusals of the program": script("tests/refuse.sh", PROGRAM, "quick"),
         "the program's script": script("tests/program.sh", PROGRAM),
         "its documents": script("tests/documents.sh", PROGRAM),
+        "its imports": script("tests/imports.sh", PROGRAM),
         "its installation": script("tests/install.sh", PROGRAM),
     }
     steps += [Step(name, act, built, (PROGRAM,)) for name, act in of_program.items()]

@@ -12,6 +12,7 @@ use run_inputs::Fault;
 use std::alloc::Global;
 use std::io;
 use tis_tree::TisFault;
+use value_maps::MapFault;
 
 /// The text of the failure of a name.
 pub fn text_of_failure(alloc: Global, name: &str) -> Result<String> {
@@ -42,6 +43,8 @@ fn failure_named(alloc: Global, name: &str) -> Result<Failure> {
         "the name of row 7" => Ok(Failure::from(NameFault::Twice(7))),
         "too many names" => Ok(Failure::from(NameFault::Rows)),
         "memory of names" => Ok(Failure::from(NameFault::Memory)),
+        "the value of row 7 of works.csv" => failure_of_map(alloc, MapFault::Twice(7)),
+        "too many values of works.csv" => failure_of_map(alloc, MapFault::Rows),
         "memory of a run" => Ok(Failure::from(Fault::Room)),
         _ => bail!("no failure has this name"),
     }
@@ -51,6 +54,12 @@ fn failure_named(alloc: Global, name: &str) -> Result<Failure> {
 fn failure_of_file(alloc: Global, fault: CwrFault) -> Result<Failure> {
     let path = String::from_str(alloc, "in/north.cwr")?;
     Ok(Failure::Registrations { fault, path })
+}
+
+/// The failure of a table of values that has a fault.
+fn failure_of_map(alloc: Global, fault: MapFault) -> Result<Failure> {
+    let path = String::from_str(alloc, "in/works.csv")?;
+    Ok(Failure::Map { fault, path })
 }
 
 /// Why there are no words, by the kind of the error.

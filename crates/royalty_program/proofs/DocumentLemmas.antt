@@ -51,7 +51,7 @@ answers_documents holds gives words text command = record {
   checked = λ check. absurd (differ (sym command ∙ check.command) refl);
   merged = λ merge. absurd (differ (sym command ∙ merge.command) refl);
   table = λ table asks. absurd (no_table refl refl table (sym command ∙ asks.command));
-  others = λ other. refl;
+  others = λ other no_import. refl;
   in_order = λ run. absurd (differ (sym command ∙ run.command) refl);
 }
 
@@ -146,6 +146,12 @@ module _ (holds : List ℕ → List ℕ → Type 0) (words : List (List ℕ)) (a
     fails_given (failures.Replaces path) is = given (failures.Replaces path) is
     fails_given (failures.Names fault) is = given (failures.Names fault) is
     fails_given (failures.Taken path) is = given (failures.Taken path) is
+    fails_given (failures.Map fault path) is = given (failures.Map fault path) is
+    fails_given (failures.Headless path) is = given (failures.Headless path) is
+    fails_given (failures.NoColumn word path) is = given (failures.NoColumn word path) is
+    fails_given (failures.ManyColumns word path) is = given (failures.ManyColumns word path) is
+    fails_given (failures.NoHeader word) is = given (failures.NoHeader word) is
+    fails_given (failures.BothTables path) is = given (failures.BothTables path) is
 
 -- words that are no documents' for clap are not accepted
 pub not_accepted_statements : (words : List (List ℕ)) (error : Error) → kind_of error ≢ kinds.OutOfMemory → IsStatementsError words error → ¬ AreStatementsAccepted words

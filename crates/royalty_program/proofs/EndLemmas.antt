@@ -1,5 +1,5 @@
 -- How the program ends, by what its words were answered with.
-use Rattle.std.proofs.Common.{◌≡◌, ◌≢◌, ◌⊎◌, ◌∙◌, ◌≤◌, ℕ, List, arith, Bool, true, false, Err, Ok, Result, Option, Some, None, inl, inr, sym}
+use Rattle.std.proofs.Common.{◌≡◌, ◌≢◌, ◌⊎◌, ◌∙◌, ◌≤◌, ℕ, List, arith, Bool, true, false, Err, Ok, Result, Option, Some, None, inl, inr, refl, sym}
 use Rattle.std.specs.Prelude.{String, if◌then◌else◌}
 use Rattle.std.specs.declared.alloc.Global.{Global}
 use Rattle.std.specs.Io.KnownBytes.{Appends, Keeps}
@@ -13,6 +13,7 @@ use Rattle.std.specs.declared.io.ErrorKind.{ErrorKind}
 use Rattle.royalty_program.specs.declared.failure.Failure.{Failure}
 use Rattle.royalty_program.specs.declared.failure.Failure.TheVariants.{Words, NotText, Pairs, Input, Works, Registrations, Row, Room, File, Output}
 use Rattle.royalty_program.specs.declared.failure.Failure.TheVariants.{Target, Statement, Many, ManyMerged, Changed, Replaces, Names, Taken}
+use Rattle.royalty_program.specs.declared.failure.Failure.TheVariants.{Map, Headless, NoColumn, ManyColumns, NoHeader, BothTables}
 
 -- a failure has no status of an answer
 pub fails_with : (failure : Failure) → status_of failure ≢ 0
@@ -34,6 +35,12 @@ fails_with (Changed path) is = cc is
 fails_with (Replaces path) is = cc is
 fails_with (Names fault) is = cc is
 fails_with (Taken path) is = cc is
+fails_with (Map fault path) is = cc is
+fails_with (Headless path) is = cc is
+fails_with (NoColumn word path) is = cc is
+fails_with (ManyColumns word path) is = cc is
+fails_with (NoHeader word) is = cc is
+fails_with (BothTables path) is = cc is
 
 -- what neither comes to does not come
 neither : (several : Bool) (One All : Type 0) → ¬ One → ¬ All → ¬ EitherRun several One All
@@ -65,6 +72,12 @@ check_fails_with holds refuses words (Changed path) is = λ same. cc same
 check_fails_with holds refuses words (Replaces path) is = λ same. cc same
 check_fails_with holds refuses words (Names fault) is = λ same. neither (name_works words) _ _ (λ one. one.0) (no_fault holds refuses (submitted_given submitted_check_app words) (Names fault) (λ room. cc) (λ name file. cc)) is
 check_fails_with holds refuses words (Taken path) is = λ same. cc same
+check_fails_with holds refuses words (Map fault path) is = λ same. neither (name_works words) _ _ (λ one. one.0) (no_fault holds refuses (submitted_given submitted_check_app words) (Map fault path) (λ room. cc) (λ name file. cc)) is
+check_fails_with holds refuses words (Headless path) is = λ same. neither (name_works words) _ _ (λ one. one.0) (no_fault holds refuses (submitted_given submitted_check_app words) (Headless path) (λ room. cc) (λ name file. cc)) is
+check_fails_with holds refuses words (NoColumn word path) is = λ same. neither (name_works words) _ _ (λ one. one.0) (no_fault holds refuses (submitted_given submitted_check_app words) (NoColumn word path) (λ room. cc) (λ name file. cc)) is
+check_fails_with holds refuses words (ManyColumns word path) is = λ same. neither (name_works words) _ _ (λ one. one.0) (no_fault holds refuses (submitted_given submitted_check_app words) (ManyColumns word path) (λ room. cc) (λ name file. cc)) is
+check_fails_with holds refuses words (NoHeader word) is = λ same. cc same
+check_fails_with holds refuses words (BothTables path) is = λ same. cc same
 
 -- what was printed stays as it is sent on
 pub sent_on : (old mid new : Option (List ℕ)) (text : List ℕ) → Appends old mid text → Keeps mid new → Appends old new text
@@ -116,6 +129,22 @@ module _ {T E : Type 0} where
   silent_then (Ok (t, false)) status Report Merge Same mid new (inr (told, ok, kept)) others is same (inl (one, none)) = cc (others none)
   silent_then (Ok (t, false)) status Report Merge Same mid new (inr (told, ok, kept)) others is same (inr (inl two)) = cc
   silent_then (Ok (t, false)) status Report Merge Same mid new (inr (told, ok, kept)) others is same (inr (inr (three, no_merge))) = cc
+
+  -- Status 1, where it is not of a report: an answer of which something was rejected was printed whole, and nothing was said beside it; or something failed, and
+  -- nothing was printed.
+  pub rejected_then : (r : Result (Result T E × Bool) Failure) (status : ℕ) (Put : Option (List ℕ) → List ℕ → Type 0) (Answers : Bool → List ℕ → Type 0) (IsOf : Failure → Type 0) (Quiet Silent : Type 0)
+      (mid new : Option (List ℕ)) → ((text : List ℕ) → Put mid text → Keeps mid new → Put new text) → IfOk r (λ done. done.1 ≡ false → OnOk done.0 ((text : List ℕ) × Put mid text × Answers done.1 text))
+      → IfOk r (IsThrough status mid new) → IfOk r (λ _. status ≢ 4 → Quiet) → IfErr r (λ failure. status ≡ status_of failure) → IfErr r (λ failure. (status_of failure ≤ 2) → Silent) → IfErr r IsOf
+      → status ≡ 1 → (((text : List ℕ) × Put new text × Answers false text) × Quiet) ⊎ ((failure : Failure) × (status_of failure ≡ 1) × Silent × IsOf failure)
+  rejected_then (Err failure) status Put Answers IsOf Quiet Silent mid new sent answered through quiet is silent of one =
+      let same : status_of failure ≡ 1 = sym is ∙ one in
+      inr (failure, same, silent (omega (arith, same)), of)
+  rejected_then (Ok (t, was)) status Put Answers IsOf Quiet Silent mid new sent answered (inl refused) quiet is silent of one = cc
+  rejected_then (Ok (t, true)) status Put Answers IsOf Quiet Silent mid new sent answered (inr (told, ok, kept)) quiet is silent of one = cc
+  rejected_then (Ok (Err e, false)) status Put Answers IsOf Quiet Silent mid new sent answered (inr (told, ok, kept)) quiet is silent of one = cc ok
+  rejected_then (Ok (Ok t, false)) status Put Answers IsOf Quiet Silent mid new sent answered (inr (told, ok, kept)) quiet is silent of one =
+      let printed = answered refl in
+      inl ((printed.0, sent printed.0 printed.1 kept, printed.2), quiet (λ four. cc))
 
 -- an output that is left alone, and then left alone where something holds, is as it was where that holds
 pub left_alone : {X W : Type 0} (r : Result X Failure) (P : Failure → Type 0) (old mid new : W) → OnErr r (new ≡ mid) → IfErr r (λ failure. P failure → mid ≡ old) → IfErr r (λ failure. P failure → new ≡ old)

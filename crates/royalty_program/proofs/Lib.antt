@@ -25,3 +25,5 @@ pub mod MergeFileLemmas
 pub mod OutputLemmas
 pub mod NamesLemmas
 pub mod DocumentLemmas
+pub mod ImportLemmas
+pub mod ImportFileLemmas

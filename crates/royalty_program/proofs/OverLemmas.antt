@@ -1,10 +1,12 @@
 -- The statements of the files that a run names, by the words that name them.
-use Rattle.std.proofs.Common.{◌≡◌, ◌≢◌, ◌∙◌, ◌⊎◌, ℕ, List, Bool, true, false, Option, Err, Ok, Result, ap, arith, codes, drop, inl, inr, length, map, refl, subst, sym}
+use Rattle.std.proofs.Common.{◌≡◌, ◌≢◌, ◌∙◌, ◌⊎◌, ℕ, List, Bool, true, false, Option, Some, Err, Ok, Result, ap, arith, codes, drop, inl, inr, length, map, refl, subst, sym}
 use Rattle.std.proofs.lemmas.List.{length-map}
 use Rattle.std.specs.Option.{option_map}
 use Rattle.std.specs.Result.{IfErr, IfOk}
-use Rattle.std.specs.Prelude.{string_bytes}
+use Rattle.std.specs.Prelude.{String, string_bytes}
+use Rattle.std.specs.declared.alloc.Global.{Global}
 use Rattle.std.specs.declared.io.ErrorKind.{ErrorKind}
+use Rattle.std.specs.declared.io.ErrorKind.TheVariants.{OutOfMemory}
 use Rattle.pair_split.specs.Pair.{word_at}
 use Rattle.royalty_program.specs.RunCommand.{run_app}
 use Rattle.royalty_program.specs.Answered.{AreCheckedFrom, AreExplainedFrom, AreMergeFrom, AreOneFile, AreReadFrom, AreStarting, AreSubmitted}
@@ -17,10 +19,12 @@ use Rattle.royalty_program.specs.ExplainCommand.{explain_app}
 use Rattle.royalty_program.specs.Files.{AreStatementsOver, IsExplanationOver, IsReportOver}
 use Rattle.royalty_program.specs.DocumentsAnswered.{IsOfStatements}
 use Rattle.royalty_program.specs.Fails.{FailFor}
-use Rattle.royalty_program.specs.Status.{IsOfCheck, IsOfDivision, IsOfExplanation, IsOfMerge, IsOfPaths, IsOfRunOutput, IsOfFiles, IsOfSubmitted, IsOfTable, IsOfRun, IsRefusal, IsSaidOf, IsSubmittedUnchecked, IsSubmittedUnexplained, IsUnchecked, IsUnexplained, status_of}
+use Rattle.royalty_program.specs.ImportAnswered.{IsOfImport}
+use Rattle.royalty_program.specs.Status.{IsOfCheck, IsOfDivision, IsOfExplanation, IsOfMerge, IsOfPaths, IsOfRunOutput, IsOfFiles, IsOfSubmitted, IsOfTable, IsOfRun, IsRefusal, IsSaidOf, IsSubmittedUnchecked, IsSubmittedUnexplained, IsUnchecked, IsUnexplained, failure_of_target, status_of}
 use Rattle.royalty_program.specs.declared.failure.Failure.{Failure}
 use Rattle.royalty_program.specs.declared.failure.Failure.TheVariants.{Words, NotText, Pairs, Input, Works, Registrations, Row, Room, File, Output}
 use Rattle.royalty_program.specs.declared.failure.Failure.TheVariants.{Target, Statement, Many, ManyMerged, Changed, Replaces, Names, Taken}
+use Rattle.royalty_program.specs.declared.failure.Failure.TheVariants.{Map, Headless, NoColumn, ManyColumns, NoHeader, BothTables}
 use Rattle.run_inputs.specs.declared.inputs.Inputs.{Inputs}
 use Rattle.royalty_program.specs.declared.explain_command.ExplainWords.{ExplainWords}
 use Rattle.royalty_program.specs.declared.run_command.RunWords.{RunWords}
@@ -128,6 +132,12 @@ fails_given holds refuses words asked read failure is = as_run failure is
     as_run (Replaces path) named = sym read.output ∙ ap (option_map string_bytes) named
     as_run (Names fault) is = given (Names fault) is
     as_run (Taken path) is = given (Taken path) is
+    as_run (Map fault path) is = given (Map fault path) is
+    as_run (Headless path) is = given (Headless path) is
+    as_run (NoColumn word path) is = given (NoColumn word path) is
+    as_run (ManyColumns word path) is = given (ManyColumns word path) is
+    as_run (NoHeader word) is = given (NoHeader word) is
+    as_run (BothTables path) is = given (BothTables path) is
 
 -- the merge is that of the paths that the words name
 pub merged_given : (gives : List ℕ → List ℕ → Type 0) (words : List (List ℕ)) (asked : MergeWords) (text : List ℕ) → AreMergeFrom words asked
@@ -165,6 +175,12 @@ as_unexplained holds refuses paths row (Changed path) none = none
 as_unexplained holds refuses paths row (Replaces path) none = none
 as_unexplained holds refuses paths row (Names fault) none = none
 as_unexplained holds refuses paths row (Taken path) none = none
+as_unexplained holds refuses paths row (Map fault path) none = none
+as_unexplained holds refuses paths row (Headless path) none = none
+as_unexplained holds refuses paths row (NoColumn word path) none = none
+as_unexplained holds refuses paths row (ManyColumns word path) none = none
+as_unexplained holds refuses paths row (NoHeader word) none = none
+as_unexplained holds refuses paths row (BothTables path) none = none
 
 -- so is what the tables and files of several submitters fail for
 pub as_submitted_unexplained : (holds : List ℕ → List ℕ → Type 0) (refuses : List ℕ → ErrorKind → Type 0) (paths : SubmittedPaths) (row : ℕ) (failure : Failure)
@@ -187,6 +203,12 @@ as_submitted_unexplained holds refuses paths row (Changed path) is = is
 as_submitted_unexplained holds refuses paths row (Replaces path) is = is
 as_submitted_unexplained holds refuses paths row (Names fault) is = is
 as_submitted_unexplained holds refuses paths row (Taken path) is = is
+as_submitted_unexplained holds refuses paths row (Map fault path) is = is
+as_submitted_unexplained holds refuses paths row (Headless path) is = is
+as_submitted_unexplained holds refuses paths row (NoColumn word path) is = is
+as_submitted_unexplained holds refuses paths row (ManyColumns word path) is = is
+as_submitted_unexplained holds refuses paths row (NoHeader word) is = is
+as_submitted_unexplained holds refuses paths row (BothTables path) is = is
 
 -- and its words fail for that
 pub unexplained_given : (holds : List ℕ → List ℕ → Type 0) (refuses : List ℕ → ErrorKind → Type 0) (words : List (List ℕ)) (asked : ExplainWords) → AreExplainedFrom words asked → (failure : Failure)
@@ -224,6 +246,12 @@ unexplained_given holds refuses words asked read failure is = as_asked failure i
     as_asked (Replaces path) is = given (Replaces path) is
     as_asked (Names fault) is = given (Names fault) is
     as_asked (Taken path) is = given (Taken path) is
+    as_asked (Map fault path) is = given (Map fault path) is
+    as_asked (Headless path) is = given (Headless path) is
+    as_asked (NoColumn word path) is = given (NoColumn word path) is
+    as_asked (ManyColumns word path) is = given (ManyColumns word path) is
+    as_asked (NoHeader word) is = given (NoHeader word) is
+    as_asked (BothTables path) is = given (BothTables path) is
 
 -- a check reports on the paths that the options are given
 pub reported_given : (holds : List ℕ → List ℕ → Type 0) (words : List (List ℕ)) (inputs : RunInputs) (sound : Bool) (text : List ℕ) → AreCheckedFrom words inputs
@@ -286,6 +314,12 @@ unchecked_given holds refuses words inputs read failure is = as_asked failure is
     as_asked (Replaces path) is = given (Replaces path) is
     as_asked (Names fault) is = given (Names fault) is
     as_asked (Taken path) is = given (Taken path) is
+    as_asked (Map fault path) is = given (Map fault path) is
+    as_asked (Headless path) is = given (Headless path) is
+    as_asked (NoColumn word path) is = given (NoColumn word path) is
+    as_asked (ManyColumns word path) is = given (ManyColumns word path) is
+    as_asked (NoHeader word) is = given (NoHeader word) is
+    as_asked (BothTables path) is = given (BothTables path) is
 
 -- a table to begin with is of the files that the option names
 pub table_given : (holds : List ℕ → List ℕ → Type 0) (words : List (List ℕ)) (table : StartingTable) (asked : StartingWords) (text : List ℕ) → AreStarting table words asked
@@ -326,18 +360,32 @@ no_table_given holds refuses words table asked read failure is = as_table failur
     as_table (Replaces path) is = is
     as_table (Names fault) is = is
     as_table (Taken path) is = is
+    as_table (Map fault path) is = is
+    as_table (Headless path) is = is
+    as_table (NoColumn word path) is = is
+    as_table (ManyColumns word path) is = is
+    as_table (NoHeader word) is = is
+    as_table (BothTables path) is = is
 
--- how the program ends: an answer ends with 0, a report that tells of a fault with 1, both with 4 where the output refuses them, and a failure with its status
+-- how the program ends: an answer ends with 0, a report that tells of a fault and an import that rejected rows with 1, both with 4 where the output refuses them, and a failure with its status
 pub ends_with : {T E : Type 0} (r : Result (Result T E × Bool) Failure) (status : ℕ) (holds gives : List ℕ → List ℕ → Type 0) (refuses : List ℕ → ErrorKind → Type 0) (words : List (List ℕ)) (mid new : Option (List ℕ))
-    → IfErr r (λ failure. status ≡ status_of failure) → IfOk r (IsThrough {T = T} {E = E} status mid new) → IfOk r (λ done. ¬ (word_at words 1 ≡ codes "check") → done.1 ≡ true) → IfErr r IsRefusal → (IsDivision words → IfErr r (IsOfDivision words))
+    → IfErr r (λ failure. status ≡ status_of failure) → IfOk r (IsThrough {T = T} {E = E} status mid new) → IfOk r (λ done. ¬ (word_at words 1 ≡ codes "check") → ¬ (word_at words 1 ≡ codes "import") → done.1 ≡ true) → IfErr r IsRefusal → (IsDivision words → IfErr r (IsOfDivision words))
     → (word_at words 1 ≡ codes "run" → IfErr r (IsOfRun holds refuses (drop 1 words))) → (word_at words 1 ≡ codes "explain" → IfErr r (IsOfExplanation holds refuses (drop 1 words)))
     → (word_at words 1 ≡ codes "check" → IfErr r (IsOfCheck holds refuses (drop 1 words))) → (word_at words 1 ≡ codes "merge" → IfErr r (IsOfMerge gives (drop 1 words)))
     → ((table : StartingTable) → word_at words 1 ≡ starting_name table → IfErr r (IsOfTable holds refuses table (drop 1 words)))
     → (word_at words 1 ≡ codes "statements" → IfErr r (IsOfStatements holds refuses (drop 1 words)))
-    → status ≢ 0 → ¬ ((status ≡ 1) × (word_at words 1 ≡ codes "check")) → (failure : Failure) × (status ≡ status_of failure) × ((failure ≡ Output) ⊎ FailFor holds gives refuses words failure)
-ends_with (Ok done) status holds gives refuses words mid new is (inl refused) others refusal division run explanation checked merge table documents failed no_report = (Output, refused, inl refl)
-ends_with (Ok (printed, true)) status holds gives refuses words mid new is (inr (told, ok, kept)) others refusal division run explanation checked merge table documents failed no_report = absurd (failed told)
-ends_with (Ok (printed, false)) status holds gives refuses words mid new is (inr (told, ok, kept)) others refusal division run explanation checked merge table documents failed no_report =
-    cc (others (λ check. no_report (told, check)))
-ends_with (Err failure) status holds gives refuses words mid new is through others refusal division run explanation checked merge table documents failed no_report =
-    (failure, is, inr (record { refusal = refusal; division = division; run = run; explanation = explanation; checked = checked; merge = merge; table = table; documents = documents }))
+    → (word_at words 1 ≡ codes "import" → IfErr r (IsOfImport holds gives refuses (drop 1 words)))
+    → status ≢ 0 → ¬ ((status ≡ 1) × (word_at words 1 ≡ codes "check")) → ¬ ((status ≡ 1) × (word_at words 1 ≡ codes "import")) → (failure : Failure) × (status ≡ status_of failure) × ((failure ≡ Output) ⊎ FailFor holds gives refuses words failure)
+ends_with (Ok done) status holds gives refuses words mid new is (inl refused) others refusal division run explanation checked merge table documents import failed no_report no_rejects = (Output, refused, inl refl)
+ends_with (Ok (printed, true)) status holds gives refuses words mid new is (inr (told, ok, kept)) others refusal division run explanation checked merge table documents import failed no_report no_rejects = absurd (failed told)
+ends_with (Ok (printed, false)) status holds gives refuses words mid new is (inr (told, ok, kept)) others refusal division run explanation checked merge table documents import failed no_report no_rejects =
+    cc (others (λ check. no_report (told, check)) (λ named. no_rejects (told, named)))
+ends_with (Err failure) status holds gives refuses words mid new is through others refusal division run explanation checked merge table documents import failed no_report no_rejects =
+    (failure, is, inr (record { refusal = refusal; division = division; run = run; explanation = explanation; checked = checked; merge = merge; table = table; documents = documents; import = import }))
+
+-- a file for statements that cannot be begun is why a run fails, or lack of memory
+pub unkept_of_run : (holds : List ℕ → List ℕ → Type 0) (refuses : List ℕ → ErrorKind → Type 0) (inputs : RunInputs) (path : String Global) (kind : ErrorKind)
+    → IsOfRunOutput (Some path) (IsOfInputs holds refuses inputs) (failure_of_target kind path)
+unkept_of_run holds refuses (OneFile inputs) path OutOfMemory = tt
+unkept_of_run holds refuses (Submitted inputs) path OutOfMemory = inl refl
+unkept_of_run holds refuses inputs path kind = refl

@@ -32,7 +32,8 @@ use Rattle.royalty_program.specs.declared.inputs.RunInputs.{RunInputs}
 use Rattle.royalty_program.specs.declared.inputs.RunInputs.TheVariants.{OneFile, Submitted}
 use Rattle.royalty_program.specs.declared.commands.Asked.{Asked}
 use Rattle.royalty_program.specs.declared.commands.Asked.TheVariants.{Check, Division, Explanation, Merge, Run, Starting}
-use Rattle.royalty_program.specs.declared.commands.Asked.TheVariants.{Statements}
+use Rattle.royalty_program.specs.ImportCommand.{AreImportFrom}
+use Rattle.royalty_program.specs.declared.commands.Asked.TheVariants.{Import, Statements}
 use Rattle.royalty_program.specs.declared.explain_command.ExplainWords.{ExplainWords}
 use Rattle.royalty_program.specs.declared.merge_command.MergeWords.{MergeWords}
 use Rattle.royalty_program.specs.declared.run_command.RunWords.{RunWords}
@@ -47,11 +48,13 @@ IsNamedBy word (Explanation asked) = word ≡ codes "explain"
 IsNamedBy word (Check asked) = word ≡ codes "check"
 IsNamedBy word (Merge asked) = word ≡ codes "merge"
 IsNamedBy word (Starting asked) = word ≡ starting_name asked.table
+IsNamedBy word (Import asked) = word ≡ codes "import"
 
--- an amount that is divided is in range, and so are the decimal places of documents
+-- an amount that is divided is in range, and so are the decimal places of documents and of an import
 abbrev pub IsInRange : Asked → Type 0
 IsInRange (Division asked) = asked.amount ≤ MOST_AMOUNT
 IsInRange (Statements asked) = asked.decimals ≤ MOST_DECIMALS
+IsInRange (Import asked) = asked.mapping.places ≤ 9
 IsInRange _ = ⊤
 
 -- the amount and the pairs are those of the words
@@ -152,6 +155,10 @@ abbrev pub IsTableAsked : (table : StartingTable) → List (List ℕ) → Asked 
 IsTableAsked table words (Starting asked) = AreStarting table (drop 1 words) asked
 IsTableAsked table words _ = ⊥
 
+abbrev pub IsImportAsked : List (List ℕ) → Asked → Type 0
+IsImportAsked words (Import asked) = AreImportFrom (drop 1 words) asked
+IsImportAsked words _ = ⊥
+
 -- the text answers the division that the words ask for, and nothing is wrong with them
 pub record IsAnswerTo (words : List (List ℕ)) (text : List ℕ) : Type 0 where
   pub in_range : amount_of words ≤ MOST_AMOUNT
@@ -174,7 +181,7 @@ pub record IsAnswered (holds gives : List ℕ → List ℕ → Type 0) (words : 
       (IsSubmittedReportOver holds (submitted_given submitted_check_app (drop 1 words)) sound text)
   pub merged : AskForMerge words → IsMergeOver gives (paths_given merge_app (codes "statements") (drop 1 words)) text
   pub table : (table : StartingTable) → AskForTable table words → IsTableOver holds table (files_given (starting_app table) (drop 1 words)) text
-  pub others : ¬ (word_at words 1 ≡ codes "check") → sound ≡ true
+  pub others : ¬ (word_at words 1 ≡ codes "check") → ¬ (word_at words 1 ≡ codes "import") → sound ≡ true
   pub in_order : (asked : IsRun words) → AreStatementsOver holds (paths_in_order asked.options) text
 
 -- the words of a run or of a merge name a file for the text

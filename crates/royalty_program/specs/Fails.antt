@@ -4,6 +4,7 @@ use Rattle.std.specs.declared.io.ErrorKind.{ErrorKind}
 use Rattle.pair_split.specs.Pair.{word_at}
 use Rattle.royalty_program.specs.Asked.{IsDivision}
 use Rattle.royalty_program.specs.DocumentsAnswered.{IsOfStatements}
+use Rattle.royalty_program.specs.ImportAnswered.{IsOfImport}
 use Rattle.royalty_program.specs.StartingCommand.{starting_name}
 use Rattle.royalty_program.specs.Status.{IsOfCheck, IsOfDivision, IsOfExplanation, IsOfMerge, IsOfRun, IsOfTable}
 use Rattle.royalty_program.specs.Status.{IsRefusal}
@@ -22,3 +23,4 @@ pub record FailFor (holds gives : List ℕ → List ℕ → Type 0) (refuses : L
   pub table : (table : StartingTable) → word_at words 1 ≡ starting_name table
       → IsOfTable holds refuses table (drop 1 words) failure
   pub documents : word_at words 1 ≡ codes "statements" → IsOfStatements holds refuses (drop 1 words) failure
+  pub import : word_at words 1 ≡ codes "import" → IsOfImport holds gives refuses (drop 1 words) failure

@@ -8,11 +8,14 @@ pub mod ExplainCommand
 pub mod Fails
 pub mod Files
 pub mod Folders
+pub mod ImportAnswered
+pub mod ImportCommand
+pub mod ImportFiles
 pub mod InputCommand
-pub mod OutputPath
 pub mod MergeCommand
 pub mod MergeFiles
 pub mod NamedFiles
+pub mod OutputPath
 pub mod PlanWords
 pub mod RunCommand
 pub mod RunInputs

@@ -47,7 +47,9 @@ use Rattle.royalty_program.specs.declared.failure.Failure.{Failure}
 use Rattle.royalty_program.specs.declared.failure.Failure.TheVariants.{Words, NotText, Pairs, Input, Works}
 use Rattle.royalty_program.specs.declared.failure.Failure.TheVariants.{Registrations, Row, Room, File, Output, Target}
 use Rattle.royalty_program.specs.declared.failure.Failure.TheVariants.{Statement, Many, ManyMerged, Changed, Replaces}
-use Rattle.royalty_program.specs.declared.failure.Failure.TheVariants.{Names, Taken}
+use Rattle.royalty_program.specs.declared.failure.Failure.TheVariants.{Names, Taken, Map, Headless, NoColumn}
+use Rattle.royalty_program.specs.declared.failure.Failure.TheVariants.{ManyColumns, NoHeader, BothTables}
+use Rattle.value_maps.specs.Maps as maps
 use Rattle.run_inputs.specs.Inputs.{ThisOrLater}
 use Rattle.run_inputs.specs.declared.fault.Fault.{Fault}
 use Rattle.run_inputs.specs.declared.fault.Fault.TheVariants as input
@@ -76,15 +78,25 @@ status_of (Changed path) = 4
 status_of (Replaces path) = 2
 status_of (Names fault) = 1
 status_of (Taken path) = 2
+status_of (Map fault path) = 1
+status_of (Headless path) = 1
+status_of (NoColumn word path) = 1
+status_of (ManyColumns word path) = 1
+status_of (NoHeader word) = 2
+status_of (BothTables path) = 2
 
 -- the status says that a report tells of a fault, which is no failure
 abbrev pub IsReportOfFault : (status : ℕ) → List (List ℕ) → Type 0
 IsReportOfFault status words = (status ≡ 1) × (word_at words 1 ≡ codes "check")
 
--- The status says that nothing was printed. A report tells of its faults, and a merge that memory was refused may have begun.
+-- The status says that an import rejected rows, which is no failure, or that it failed.
+abbrev pub IsOfRejects : (status : ℕ) → List (List ℕ) → Type 0
+IsOfRejects status words = (status ≡ 1) × (word_at words 1 ≡ codes "import")
+
+-- The status says that nothing was printed. A report tells of its faults, an import of the rows that it rejected, and a merge that memory was refused may have begun.
 abbrev pub IsStatusOfSilence : (status : ℕ) → List (List ℕ) → Type 0
 IsStatusOfSilence status words =
-    ((status ≡ 1) × ¬ (word_at words 1 ≡ codes "check")) ⊎ ((status ≡ 2) ⊎ ((status ≡ 3) × ¬ (word_at words 1 ≡ codes "merge")))
+    ((status ≡ 1) × ¬ (word_at words 1 ≡ codes "check") × ¬ (word_at words 1 ≡ codes "import")) ⊎ ((status ≡ 2) ⊎ ((status ≡ 3) × ¬ (word_at words 1 ≡ codes "merge")))
 
 -- a fault of a number, and of a place where it has one, as a line of text
 abbrev pub fault_text : (what : List ℕ) → ℕ → (where_is : List ℕ) → Option ℕ → List ℕ
@@ -97,6 +109,16 @@ abbrev pub file_fault_text : ℕ → Option ℕ → (path : List ℕ) → List �
 file_fault_text number (Some line) path =
     codes "royalty_run: cwr fault " ++ decimal number ++ codes " at line " ++ decimal line ++ codes " of " ++ path ++ codes "\n"
 file_fault_text number None path = codes "royalty_run: cwr fault " ++ decimal number ++ codes " of " ++ path ++ codes "\n"
+
+-- and one of a table of values
+abbrev pub map_fault_text : ℕ → Option ℕ → (path : List ℕ) → List ℕ
+map_fault_text number (Some row) path =
+    codes "royalty_run: map fault " ++ decimal number ++ codes " at row " ++ decimal row ++ codes " of " ++ path ++ codes "\n"
+map_fault_text number None path = codes "royalty_run: map fault " ++ decimal number ++ codes " of " ++ path ++ codes "\n"
+
+-- what is wrong with the column of a report that a word names
+abbrev pub column_text : (path what word : List ℕ) → List ℕ
+column_text path what word = codes "royalty_run: " ++ path ++ codes " " ++ what ++ codes " '" ++ word ++ codes "'\n"
 
 -- the text of a failure: that of refused words is clap's
 abbrev pub text_of : Failure → Option (List ℕ)
@@ -124,6 +146,14 @@ text_of (Changed path) = Some (codes "royalty_run: " ++ string_bytes path ++ cod
 text_of (Replaces path) = Some (codes "royalty_run: " ++ string_bytes path ++ codes " is an input, which the output would replace\n")
 text_of (Names f) = Some (fault_text (codes "names") (names.number_of_fault f) (codes "row ") (names.place_of_fault f))
 text_of (Taken path) = Some (codes "royalty_run: " ++ string_bytes path ++ codes " is there already\n")
+text_of (Map f path) = Some (map_fault_text (maps.number_of_fault f) (maps.place_of_fault f) (string_bytes path))
+text_of (Headless path) = Some (codes "royalty_run: " ++ string_bytes path ++ codes " has no header\n")
+text_of (NoColumn word path) = Some (column_text (string_bytes path) (codes "has no column") (string_bytes word))
+text_of (ManyColumns word path) =
+    Some (column_text (string_bytes path) (codes "has more than one column") (string_bytes word))
+text_of (NoHeader word) =
+    Some (codes "royalty_run: there is no header to find the column '" ++ string_bytes word ++ codes "' in\n")
+text_of (BothTables path) = Some (codes "royalty_run: " ++ string_bytes path ++ codes " is named for both tables\n")
 
 -- words and inputs are refused for what is wrong with them: lack of memory is a failure of its own, and help is none
 abbrev pub IsRefusal : Failure → Type 0
@@ -144,6 +174,12 @@ IsRefusal (Changed path) = ⊤
 IsRefusal (Replaces path) = ⊤
 IsRefusal (Names f) = f ≢ name_fault.Memory
 IsRefusal (Taken path) = ⊤
+IsRefusal (Map f path) = ⊤
+IsRefusal (Headless path) = ⊤
+IsRefusal (NoColumn word path) = ⊤
+IsRefusal (ManyColumns word path) = ⊤
+IsRefusal (NoHeader word) = ⊤
+IsRefusal (BothTables path) = ⊤
 IsRefusal _ = ⊥
 
 -- lack of memory is no failure of a file, which any other error leaves unread

@@ -10,8 +10,9 @@ ghost use Rattle.starting_files.specs.declared.making.StartingTable.{StartingTab
 ghost use Rattle.royalty_program.specs.DocumentsAnswered.{AreDocumentsAnswered, AskForDocuments, IsOfStatements, folder_given};
 ghost use Rattle.royalty_program.specs.Fails.{FailFor};
 ghost use Rattle.royalty_program.specs.Folders.{IsLeftOrHasFolder};
+ghost use Rattle.royalty_program.specs.ImportAnswered.{AskForImport, IsImportPrinted, IsLeftByImport, IsOfImport, NameImport};
 ghost use Rattle.distribution_documents.specs.Documents.{File};
-ghost use Rattle.royalty_program.specs.Status.{IsOfCheck, IsOfDivision, IsOfExplanation, IsOfMerge, IsOfRun, IsOfTable, IsRefusal, IsReportOfFault, IsStatusOfSilence, failure_of_kind, status_of};
+ghost use Rattle.royalty_program.specs.Status.{IsOfCheck, IsOfDivision, IsOfExplanation, IsOfMerge, IsOfRejects, IsOfRun, IsOfTable, IsRefusal, IsReportOfFault, IsStatusOfSilence, failure_of_kind, status_of};
 ghost use Rattle.royalty_program.specs.declared.failure.Failure.{Failure};
 ghost use Rattle.royalty_program.specs.declared.failure.Failure.TheVariants.{Output, Room};
 ghost use Rattle.pair_split.specs.Pair.{word_at};
@@ -23,6 +24,7 @@ use crate::document_files::document_out;
 use crate::failure::Failure;
 use crate::files::{check_files, explain_files, settle_out};
 use crate::folders::Folders;
+use crate::import_files::import_out;
 use crate::merge_files::merge_out;
 use crate::sources::{Source, Texts};
 use crate::submitted_files::starting_table;
@@ -87,7 +89,8 @@ pub fn program<
     ensures quiet { (result ≡ 0) ⊎ IsReportOfFault result (map string_bytes words.now) → err.new ≡ err.old }
     ensures silent { IsStatusOfSilence result (map string_bytes words.now) → out.new ≡ out.old }
     ensures accepted { AreRun (map string_bytes words.now) → run_output (drop 1 (map string_bytes words.now)) ≡ None → result ≢ 2 }
-    ensures failed { result ≢ 0 → ¬ IsReportOfFault result (map string_bytes words.now) → (failure : Failure) × (result ≡ status_of failure)
+    ensures failed { result ≢ 0 → ¬ IsReportOfFault result (map string_bytes words.now)
+        → ¬ IsOfRejects result (map string_bytes words.now) → (failure : Failure) × (result ≡ status_of failure)
         × ((failure ≡ Output) ⊎ FailFor (S.holds files.now) (S.gives files.now) (S.refuses files.now) (map string_bytes words.now) failure) }
     ensures left { (path : List ℕ) → NameOutput (map string_bytes words.now) path → IsLeftOrHas (T.keeps target.old path) (T.keeps target.new path)
         (IsAnswered (S.holds files.now) (S.gives files.now) (map string_bytes words.now) true) }
@@ -98,8 +101,18 @@ pub fn program<
         (T.keeps_folder target.old (folder_given (drop 1 (map string_bytes words.now))))
         (T.keeps_folder target.new (folder_given (drop 1 (map string_bytes words.now))))
         (AreDocumentsAnswered (S.holds files.now) (drop 1 (map string_bytes words.now))) }
+    ensures imported { result ≡ 0 → AskForImport (map string_bytes words.now) → IsImportPrinted (T.keeps target.new)
+        (S.holds files.now) (S.gives files.now) (map string_bytes words.now) true (W.contents out.old) (W.contents out.new) }
+    ensures rejected { result ≡ 1 → NameImport (map string_bytes words.now)
+        → (IsImportPrinted (T.keeps target.new) (S.holds files.now) (S.gives files.now) (map string_bytes words.now) false
+        (W.contents out.old) (W.contents out.new) × (err.new ≡ err.old))
+        ⊎ ((failure : Failure) × (status_of failure ≡ 1) × (out.new ≡ out.old) × IsOfImport (S.holds files.now)
+        (S.gives files.now) (S.refuses files.now) (drop 1 (map string_bytes words.now)) failure) }
+    ensures left_by_import { NameImport (map string_bytes words.now) → IsLeftByImport (T.keeps target.old)
+        (T.keeps target.new) (S.gives files.now) (map string_bytes words.now) }
     ensures unused { ((path : List ℕ) → ¬ NameOutput (map string_bytes words.now) path)
-        → ¬ (word_at (map string_bytes words.now) 1 ≡ codes "statements") → target.new ≡ target.old }
+        → ¬ (word_at (map string_bytes words.now) 1 ≡ codes "statements") → ¬ NameImport (map string_bytes words.now)
+        → target.new ≡ target.old }
 {
     let printed = answer(rt, alloc, files, target, words, out);
     end(printed, out, err)
@@ -141,7 +154,8 @@ pub fn answer<R: Threads + Wait + Sync, S: Source + Texts + Sync, T: Target + Fo
 ) -> Result<(io::Result<()>, bool), Failure>
     ensures answered { IfOk result (λ done. OnOk done.0 ((text : List ℕ) × IsDelivered (T.keeps target.new) (map string_bytes words.now) (W.contents out.old) (W.contents out.new) text
         × IsAnswered (S.holds files.now) (S.gives files.now) (map string_bytes words.now) done.1 text)) }
-    ensures others { IfOk result (λ done. ¬ (word_at (map string_bytes words.now) 1 ≡ codes "check") → done.1 ≡ true) }
+    ensures others { IfOk result (λ done. ¬ (word_at (map string_bytes words.now) 1 ≡ codes "check")
+        → ¬ NameImport (map string_bytes words.now) → done.1 ≡ true) }
     ensures failure { IfErr result IsRefusal }
     ensures run { word_at (map string_bytes words.now) 1 ≡ codes "run" → IfErr result (IsOfRun (S.holds files.now) (S.refuses files.now) (drop 1 (map string_bytes words.now))) }
     ensures explanation { word_at (map string_bytes words.now) 1 ≡ codes "explain"
@@ -162,8 +176,17 @@ pub fn answer<R: Threads + Wait + Sync, S: Source + Texts + Sync, T: Target + Fo
         (T.keeps_folder target.old (folder_given (drop 1 (map string_bytes words.now))))
         (T.keeps_folder target.new (folder_given (drop 1 (map string_bytes words.now))))
         (AreDocumentsAnswered (S.holds files.now) (drop 1 (map string_bytes words.now))) }
+    ensures imported { NameImport (map string_bytes words.now) → IfOk result (λ done.
+        AskForImport (map string_bytes words.now) ⊎ (done.1 ≡ false) → OnOk done.0 (IsImportPrinted (T.keeps target.new)
+        (S.holds files.now) (S.gives files.now) (map string_bytes words.now) done.1 (W.contents out.old)
+        (W.contents out.new))) }
+    ensures unimported { NameImport (map string_bytes words.now) → IfErr result (IsOfImport (S.holds files.now)
+        (S.gives files.now) (S.refuses files.now) (drop 1 (map string_bytes words.now))) }
+    ensures left_by_import { NameImport (map string_bytes words.now) → IsLeftByImport (T.keeps target.old)
+        (T.keeps target.new) (S.gives files.now) (map string_bytes words.now) }
     ensures unused { ((path : List ℕ) → ¬ NameOutput (map string_bytes words.now) path)
-        → ¬ (word_at (map string_bytes words.now) 1 ≡ codes "statements") → target.new ≡ target.old }
+        → ¬ (word_at (map string_bytes words.now) 1 ≡ codes "statements") → ¬ NameImport (map string_bytes words.now)
+        → target.new ≡ target.old }
 {
     match read_words(alloc, words) {
         Ok(Asked::Division(asked)) => {
@@ -188,6 +211,10 @@ pub fn answer<R: Threads + Wait + Sync, S: Source + Texts + Sync, T: Target + Fo
         Ok(Asked::Starting(asked)) => {
             let text = starting_table(alloc, files, asked)?;
             Ok((out.write_all(text.as_slice()), true))
+        }
+        Ok(Asked::Import(asked)) => {
+            let imported = import_out(alloc, files, target, asked)?;
+            Ok((out.write_all(imported.text.as_slice()), imported.is_whole))
         }
         Ok(Asked::Merge(asked)) => Ok((merge_out(alloc, files, target, asked, out)?, true)),
         Err(error) if error.kind() == ErrorKind::OutOfMemory => Err(Failure::Room),

@@ -9,11 +9,13 @@ ghost use Rattle.royalty_program.specs.SplitCommand.{split_app};
 ghost use Rattle.royalty_program.specs.StartingCommand.{starting_app, starting_name};
 ghost use Rattle.starting_files.specs.declared.making.StartingTable.{StartingTable};
 ghost use Rattle.royalty_program.specs.Answered.{IsCheckAsked, IsDivisionOf, IsExplanationAsked, IsInRange, IsMergeAsked, IsNamedBy, IsRunInOrder, IsRunOf, IsTableAsked};
-ghost use Rattle.royalty_program.specs.Answered.{IsStatementsAsked};
+ghost use Rattle.royalty_program.specs.Answered.{IsImportAsked, IsStatementsAsked};
+ghost use Rattle.royalty_program.specs.ImportCommand.{IsImportError};
 ghost use Rattle.pair_split.specs.Pair.{word_at};
 
 use crate::check_command::{check_command, read_check};
 use crate::explain_command::{ExplainWords, explain_command, read_explain};
+use crate::import_command::{ImportWords, import_command, read_import};
 use crate::inputs::RunInputs;
 use crate::merge_command::{MergeWords, merge_command, read_merge};
 use crate::run_command::{RunWords, read_run, run_command};
@@ -32,7 +34,8 @@ const VERSION: &str = "0.1.0\nlogic dac8208d650f15bf";
 
 /// What stands below the help of the whole program.
 const HELP: &str = "\
-`royalty_run run --help` says what the files of a distribution run have in them,
+`royalty_run import --help` says how usage lines are made of a sales report,
+`royalty_run run --help` what the files of a distribution run have in them,
 `royalty_run statements --help` how its statements are written as documents that people read,
 `royalty_run works --help` and `royalty_run parties --help` which tables a run over several
 submitters' files begins with, `royalty_run merge --help` how the statements of several runs are merged,
@@ -44,7 +47,7 @@ words, and the table of faults in docs/FORMATS.md what to correct, in statements
 
 Exit status:
   0  the answer was printed, or help, or the version
-  1  an input file is refused for what is in it, or a check tells of a fault
+  1  an input file is refused for what is in it, a check tells of a fault, or an import rejected a row
   2  the words are refused
   3  memory, or a thread, was refused
   4  a file cannot be read or written, or the output refused a write";
@@ -66,6 +69,8 @@ pub enum Asked {
     Merge(MergeWords),
     /// A table to begin with.
     Starting(StartingWords),
+    /// The usage lines of a sales report.
+    Import(ImportWords),
 }
 
 /// Reads the words of the command line, the first of which is the program's own name.
@@ -86,6 +91,8 @@ pub fn read_words(alloc: Global, words: &[String]) -> Result<Asked, Error>
     ensures unmerged { word_at (map string_bytes words.now) 1 ≡ codes "merge" → IfErr result (IsMergeError (drop 1 (map string_bytes words.now))) }
     ensures table { (table : StartingTable) → word_at (map string_bytes words.now) 1 ≡ starting_name table → IfOk result (IsTableAsked table (map string_bytes words.now)) }
     ensures no_table { (table : StartingTable) → word_at (map string_bytes words.now) 1 ≡ starting_name table → IfErr result (IsSubmittedError (starting_app table) (drop 1 (map string_bytes words.now))) }
+    ensures imported { word_at (map string_bytes words.now) 1 ≡ codes "import" → IfOk result (IsImportAsked (map string_bytes words.now)) }
+    ensures unimported { word_at (map string_bytes words.now) 1 ≡ codes "import" → IfErr result (IsImportError (drop 1 (map string_bytes words.now))) }
     ensures in_order { (run : IsRun (map string_bytes words.now)) → IfOk result (IsRunInOrder (map string_bytes words.now) run.options) }
     ensures error { word_at (map string_bytes words.now) 1 ≡ codes "run" → IfErr result (IsRunError (drop 1 (map string_bytes words.now))) }
     ensures undivided { word_at (map string_bytes words.now) 1 ≡ codes "split" → IfErr result (IsErrorOf split_app (drop 1 (map string_bytes words.now))) }
@@ -102,6 +109,7 @@ pub fn read_words(alloc: Global, words: &[String]) -> Result<Asked, Error>
         "check" => Ok(Asked::Check(read_check(alloc, &words[1..])?)),
         "merge" => Ok(Asked::Merge(read_merge(alloc, &words[1..])?)),
         "works" => { Ok(Asked::Starting(read_starting(alloc, StartingTable::Works, &words[1..])?)) }
+        "import" => Ok(Asked::Import(read_import(alloc, &words[1..])?)),
         "parties" => {
             Ok(Asked::Starting(read_starting(alloc, StartingTable::Parties, &words[1..])?))
         }
@@ -118,6 +126,7 @@ fn refusal(alloc: Global, words: &[String]) -> Result<Error, AllocError> {
         .after_help(HELP)
         .subcommand_required(true)
         .arg_required_else_help(true)
+        .subcommand(import_command(alloc)?)?
         .subcommand(run_command(alloc)?)?
         .subcommand(statements_command(alloc)?)?
         .subcommand(merge_command(alloc)?)?

@@ -3,7 +3,7 @@
 ghost use Rattle.std.specs.Io.KnownBytes.{Appends};
 ghost use Rattle.std.specs.Prelude.{◌≡◌, ◌++◌, IfSome, OnOk, codes, decimal};
 ghost use Rattle.std.specs.Fmt.{WritesOnOk};
-ghost use Rattle.royalty_program.specs.Status.{fault_text, file_fault_text};
+ghost use Rattle.royalty_program.specs.Status.{column_text, fault_text, file_fault_text, map_fault_text};
 
 use csv_table::FileFault;
 use cwr_share::CwrFault;
@@ -14,6 +14,7 @@ use pair_split::PairFault;
 use run_inputs::Fault;
 use std::fmt;
 use std::io::{self, Write};
+use value_maps::MapFault;
 
 /// Why there is no answer. Its text is what the program writes to standard error, with its end of
 /// line.
@@ -55,6 +56,18 @@ pub enum Failure {
     Names(NameFault),
     /// Documents were to go to a new folder of this path, which something has already.
     Taken(String),
+    /// The table of values in the file of a path is refused.
+    Map { fault: MapFault, path: String },
+    /// The export of this path has no first row, and so no header.
+    Headless(String),
+    /// No column of the export of a path has the name that a word is, or stands in the place that it says.
+    NoColumn { word: String, path: String },
+    /// More than one column has it.
+    ManyColumns { word: String, path: String },
+    /// A word is the name of a column, where there is no header.
+    NoHeader(String),
+    /// The usage lines and the rejected rows of an import were to go to the file of this path.
+    BothTables(String),
 }
 
 impl fmt::Display for Failure {
@@ -109,6 +122,23 @@ impl fmt::Display for Failure {
                 write_fault(f, "names", fault.number(), "row ", fault.place())
             }
             Failure::Taken(path) => write!(f, "royalty_run: {path} is there already\n"),
+            Failure::Map { fault, path } => {
+                write_map_fault(f, fault.number(), fault.place(), path.as_str())
+            }
+            Failure::Headless(path) => write!(f, "royalty_run: {path} has no header\n"),
+            Failure::NoColumn { word, path } => {
+                write_column(f, path.as_str(), "has no column", word.as_str())
+            }
+            Failure::ManyColumns { word, path } => {
+                write_column(f, path.as_str(), "has more than one column", word.as_str())
+            }
+            Failure::NoHeader(word) => write!(
+                f,
+                "royalty_run: there is no header to find the column '{word}' in\n"
+            ),
+            Failure::BothTables(path) => {
+                write!(f, "royalty_run: {path} is named for both tables\n")
+            }
         }
     }
 }
@@ -145,6 +175,36 @@ fn write_file_fault<W: fmt::Write>(
         ),
         None => write!(f, "royalty_run: cwr fault {number} of {path}\n"),
     }
+}
+
+/// Says which fault the table of values of a path has, and in which row, if it has one.
+fn write_map_fault<W: fmt::Write>(
+    f: &mut fmt::Formatter<W>,
+    number: u8,
+    row: Option<u64>,
+    path: &str,
+) -> fmt::Result
+    ensures { WritesOnOk W.write_str_gives f.old result (map_fault_text number row path.now) f.new }
+{
+    match row {
+        Some(row) => write!(
+            f,
+            "royalty_run: map fault {number} at row {row} of {path}\n"
+        ),
+        None => write!(f, "royalty_run: map fault {number} of {path}\n"),
+    }
+}
+
+/// Says what is wrong with the column of the export of a path that a word names.
+fn write_column<W: fmt::Write>(
+    f: &mut fmt::Formatter<W>,
+    path: &str,
+    what: &str,
+    word: &str,
+) -> fmt::Result
+    ensures { WritesOnOk W.write_str_gives f.old result (column_text path.now what.now word.now) f.new }
+{
+    write!(f, "royalty_run: {path} {what} '{word}'\n")
 }
 
 /// Says which fault a text of statements has, in which row, and in the file of which path.
@@ -224,13 +284,19 @@ impl Failure {
             | Failure::Registrations { .. }
             | Failure::Statement { .. }
             | Failure::Many
-            | Failure::Names(_) => 1,
+            | Failure::Names(_)
+            | Failure::Map { .. }
+            | Failure::Headless(_)
+            | Failure::NoColumn { .. }
+            | Failure::ManyColumns { .. } => 1,
             Failure::Words(_)
             | Failure::NotText
             | Failure::Pairs(_)
             | Failure::Row(_)
             | Failure::Replaces(_)
-            | Failure::Taken(_) => 2,
+            | Failure::Taken(_)
+            | Failure::NoHeader(_)
+            | Failure::BothTables(_) => 2,
             Failure::Room => 3,
             Failure::File(_)
             | Failure::Output

@@ -9,6 +9,8 @@ mod explain_command;
 mod failure;
 mod files;
 mod folders;
+mod import_command;
+mod import_files;
 mod inputs;
 mod merge_command;
 mod merge_files;

@@ -1,7 +1,7 @@
 //! Texts that are kept in files: whole, or not at all.
 
 ghost use Rattle.std.specs.Io.KnownBytes.{Appends};
-ghost use Rattle.std.specs.Prelude.{◌≡◌, ◌⊎◌, ℕ, List, None, Option, Some, Err, IfErr, IfOk, IsOk, IsOkAnd, OnErr, OnOk, string_bytes, true};
+ghost use Rattle.std.specs.Prelude.{◌≡◌, ◌≢◌, ◌⊎◌, ℕ, List, None, Option, Some, Err, IfErr, IfOk, IsOk, IsOkAnd, OnErr, OnOk, string_bytes, true};
 ghost use Rattle.royalty_program.specs.Status.{failure_of_target};
 ghost use Rattle.royalty_program.specs.Targets.{IsLeft, IsLeftOrWhole, in_any_file};
 
@@ -41,22 +41,23 @@ pub trait Target {
     /// A draft of what a path is to have.
     fn begin(&mut self, alloc: Global, path: &str) -> io::Result<Self::Draft>
         ensures blank { IfOk result (λ draft. Self.Draft.contents draft ≡ blank) }
-        ensures left { IsLeft (keeps self.old path.now) (keeps self.new path.now) };
+        ensures left { (any : List ℕ) → IsLeft (keeps self.old any) (keeps self.new any) };
 
     /// Brings a draft to the disk. Where that cannot be done it is thrown away.
     fn store(&mut self, draft: Self::Draft, path: &str) -> io::Result<Self::Stored>
         ensures stored { IfOk result (λ text. stored text ≡ Self.Draft.contents draft) }
-        ensures left { IsLeft (keeps self.old path.now) (keeps self.new path.now) };
+        ensures left { (any : List ℕ) → IsLeft (keeps self.old any) (keeps self.new any) };
 
     /// Puts a text that is on the disk under its path, in place of what may be there. Where that
     /// cannot be done, the path has what it had, or the whole text.
     fn keep(&mut self, whole: Self::Stored, path: &str) -> io::Result<()>
         ensures kept { OnOk result ((text : List ℕ) → Appends blank (stored whole) text → keeps self.new path.now (Some text)) }
-        ensures left { OnErr result (IsLeftOrWhole blank (stored whole) (keeps self.old path.now) (keeps self.new path.now)) };
+        ensures left { OnErr result (IsLeftOrWhole blank (stored whole) (keeps self.old path.now) (keeps self.new path.now)) }
+        ensures others { (other : List ℕ) → other ≢ path.now → IsLeft (keeps self.old other) (keeps self.new other) };
 
     /// Throws a draft away.
     fn discard(&mut self, draft: Self::Draft, path: &str)
-        ensures left { IsLeft (keeps self.old path.now) (keeps self.new path.now) };
+        ensures left { (any : List ℕ) → IsLeft (keeps self.old any) (keeps self.new any) };
 }
 
 /// Sees a draft to its path, if it was written whole, and throws it away otherwise.
@@ -71,6 +72,7 @@ pub fn finish<T: Target>(
     ensures failure { IfErr result (λ failure. (written ≡ Err failure) ⊎ ((failure ≡ Failure.Target path) × IsOk written)) }
     ensures left { OnErr result (IsLeft (T.keeps target.old (string_bytes path)) (T.keeps target.new (string_bytes path))
         ⊎ (IsOkAnd written IsOk × IsLeftOrWhole T.blank (T.Draft.contents draft) (T.keeps target.old (string_bytes path)) (T.keeps target.new (string_bytes path)))) }
+    ensures others { (other : List ℕ) → other ≢ string_bytes path → IsLeft (T.keeps target.old other) (T.keeps target.new other) }
 {
     match written {
         Ok(Ok(())) => {
@@ -143,12 +145,16 @@ impl<'a, R: Files> Target for Disk<'a, R> {
         }
         match (node_of(self.rt, path)?, node_of(self.rt, other)?) {
             (Some(node), Some(other)) => Ok(node == other),
+            (None, None) => Ok(name_of(path) == name_of(other) && are_of_one_directory(self.rt, path, other)?),
             _ => Ok(false),
         }
     }
 
     /// The draft has the permissions of the file that it is to replace.
     fn begin(&mut self, alloc: Global, path: &str) -> io::Result<NewFile<R::File>> {
+        if path == "" {
+            return Err(io::Error::from(ErrorKind::InvalidInput));
+        }
         let permissions = replaced(self.rt, path)?;
         let draft = create_beside(self.rt, alloc, path)?;
         if let Some(permissions) = permissions
@@ -192,6 +198,25 @@ fn node_of<R: Files>(rt: &R, path: &str) -> io::Result<Option<(u64, u64)>> {
         Ok(found) => Ok(Some((found.dev(), found.ino()))),
         Err(error) if error.kind() == ErrorKind::NotFound => Ok(None),
         Err(error) => Err(error),
+    }
+}
+
+/// The name of a path in its directory.
+fn name_of(path: &str) -> &str {
+    match Path::new(path).file_name() {
+        Some(name) => name,
+        None => path,
+    }
+}
+
+/// Whether two paths have one directory, by whatever names.
+fn are_of_one_directory<R: Files>(rt: &R, path: &str, other: &str) -> io::Result<bool> {
+    match (
+        node_of(rt, directory_of(path))?,
+        node_of(rt, directory_of(other))?,
+    ) {
+        (Some(directory), Some(other)) => Ok(directory == other),
+        _ => Ok(false),
     }
 }
 

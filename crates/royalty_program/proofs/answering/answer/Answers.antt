@@ -34,6 +34,9 @@ use Rattle.royalty_program.proofs.OptionLemmas.{accepted_is_memory}
 use Rattle.royalty_program.specs.Answered.{AreDocumentsFrom}
 use Rattle.royalty_program.proofs.DocumentLemmas.{answers_documents, documents_given, left_given, no_statements_help_given, not_accepted_statements, nothing_added}
 use Rattle.royalty_program.proofs.DocumentLemmas as documents
+use Rattle.royalty_program.specs.ImportCommand.{AreImportFrom}
+use Rattle.royalty_program.proofs.ImportLemmas.{no_import_help_given, not_accepted_import}
+use Rattle.royalty_program.proofs.ImportFileLemmas.{left_import}
 use Rattle.royalty_program.proofs.RunWalked.{no_help}
 use Rattle.royalty_program.proofs.answering.answer.Goals as goal
 
@@ -62,7 +65,7 @@ answers_division words text command division = record {
   checked = λ check. absurd (differ (sym command ∙ check.command) refl);
   merged = λ merge. absurd (differ (sym command ∙ merge.command) refl);
   table = λ table asks. absurd (no_table refl refl table (sym command ∙ asks.command));
-  others = λ other. refl;
+  others = λ other no_import. refl;
   in_order = λ run. absurd (differ (sym command ∙ run.command) refl);
 }
 
@@ -77,7 +80,7 @@ answers_run holds gives words asked text command read over = record {
   checked = λ check. absurd (differ (sym command ∙ check.command) refl);
   merged = λ merge. absurd (differ (sym command ∙ merge.command) refl);
   table = λ table asks. absurd (no_table refl refl table (sym command ∙ asks.command));
-  others = λ other. refl;
+  others = λ other no_import. refl;
   in_order = λ run. over_in_order holds (drop 1 words) asked text run.options read over;
 }
 
@@ -92,7 +95,7 @@ answers_merge holds gives words asked text command read over = record {
   checked = λ check. absurd (differ (sym command ∙ check.command) refl);
   merged = λ merge. merged_given gives (drop 1 words) asked text read over;
   table = λ table asks. absurd (no_table refl refl table (sym command ∙ asks.command));
-  others = λ other. refl;
+  others = λ other no_import. refl;
   in_order = λ run. absurd (differ (sym command ∙ run.command) refl);
 }
 
@@ -107,7 +110,7 @@ answers_explanation holds gives words asked text command read over = record {
   checked = λ check. absurd (differ (sym command ∙ check.command) refl);
   merged = λ merge. absurd (differ (sym command ∙ merge.command) refl);
   table = λ table asks. absurd (no_table refl refl table (sym command ∙ asks.command));
-  others = λ other. refl;
+  others = λ other no_import. refl;
   in_order = λ run. absurd (differ (sym command ∙ run.command) refl);
 }
 
@@ -123,7 +126,7 @@ answers_check holds gives words inputs sound text command read over = record {
   checked = λ check. reported_given holds (drop 1 words) inputs sound text read over;
   merged = λ merge. absurd (differ (sym command ∙ merge.command) refl);
   table = λ table asks. absurd (no_table refl refl table (sym command ∙ asks.command));
-  others = λ other. absurd (other command);
+  others = λ other no_import. absurd (other command);
   in_order = λ run. absurd (differ (sym command ∙ run.command) refl);
 }
 
@@ -139,8 +142,22 @@ answers_table holds gives words asked text command read is = record {
   checked = λ check. absurd (no_table refl refl asked.table (sym check.command ∙ command));
   merged = λ merge. absurd (no_table refl refl asked.table (sym merge.command ∙ command));
   table = λ table asks. table_given holds (drop 1 words) table asked text (read table asks.command) is;
-  others = λ other. refl;
+  others = λ other no_import. refl;
   in_order = λ run. absurd (no_table refl refl asked.table (sym run.command ∙ command));
+}
+
+-- words that ask for an import ask for nothing else
+answers_import : (holds gives : List ℕ → List ℕ → Type 0) (words : List (List ℕ)) (sound : Bool) (text : List ℕ) → word_at words 1 ≡ codes "import" → IsAnswered holds gives words sound text
+answers_import holds gives words sound text command = record {
+  division = λ division. absurd (differ (sym command ∙ division.command) refl);
+  run = λ run. absurd (differ (sym command ∙ run.command) refl);
+  submitted = λ run. absurd (differ (sym command ∙ run.command) refl);
+  explained = λ explain. absurd (differ (sym command ∙ explain.command) refl);
+  checked = λ check. absurd (differ (sym command ∙ check.command) refl);
+  merged = λ merge. absurd (differ (sym command ∙ merge.command) refl);
+  table = λ table asks. absurd (no_table refl refl table (sym command ∙ asks.command));
+  others = λ other no_import. absurd (no_import command);
+  in_order = λ run. absurd (differ (sym command ∙ run.command) refl);
 }
 
 pub returns-in-Ok-clause-answered : goal.returns-in-Ok-clause-answered
@@ -210,7 +227,7 @@ returns-in-Ok-format-clause-answered g c =
       checked = λ asked. absurd (no_check_help asked.command asked.no_help);
       merged = λ asked. absurd (no_merge_help asked.command asked.no_help);
       table = λ table asked. absurd (no_table_help table asked);
-      others = λ other. refl;
+      others = λ other no_import. refl;
       in_order = λ asked. absurd (no_run_help (inl (record {
         command = asked.command;
         one_file = is_of_one_file (drop 1 words) asked.options;
@@ -354,28 +371,28 @@ returns-in-Ok-Merge-clause-left g c path named =
     (λ text over. answers_merge (g.S.Source.holds c.args.files.now) (g.S.Texts.gives c.args.files.now) words asked text command read over) c.merge_out.ensures.left path named
 
 pub returns-in_err-settle_out-in-Ok-Run-clause-unused : goal.returns-in_err-settle_out-in-Ok-Run-clause-unused
-returns-in_err-settle_out-in-Ok-Run-clause-unused g c none other =
+returns-in_err-settle_out-in-Ok-Run-clause-unused g c none other no_import =
     let words = map string_bytes c.args.words.now in
     let command : word_at words 1 ≡ codes "run" = rw (c.in-Ok-Run.is, c.in-Ok-Run.field-0-is) at c.read_words.ensures.named in
     let read : AreReadFrom (drop 1 words) c.in-Ok-Run.asked = rw (c.in-Ok-Run.is, c.in-Ok-Run.field-0-is) at (c.read_words.ensures.run command) in
     unused_run words c.in-Ok-Run.asked.output _ command read.output c.settle_out.ensures.unused none
 
 pub returns-in-Ok-Run-clause-unused : goal.returns-in-Ok-Run-clause-unused
-returns-in-Ok-Run-clause-unused g c none other =
+returns-in-Ok-Run-clause-unused g c none other no_import =
     let words = map string_bytes c.args.words.now in
     let command : word_at words 1 ≡ codes "run" = rw (c.in-Ok-Run.is, c.in-Ok-Run.field-0-is) at c.read_words.ensures.named in
     let read : AreReadFrom (drop 1 words) c.in-Ok-Run.asked = rw (c.in-Ok-Run.is, c.in-Ok-Run.field-0-is) at (c.read_words.ensures.run command) in
     unused_run words c.in-Ok-Run.asked.output _ command read.output c.settle_out.ensures.unused none
 
 pub returns-in_err-merge_out-in-Ok-Merge-clause-unused : goal.returns-in_err-merge_out-in-Ok-Merge-clause-unused
-returns-in_err-merge_out-in-Ok-Merge-clause-unused g c none other =
+returns-in_err-merge_out-in-Ok-Merge-clause-unused g c none other no_import =
     let words = map string_bytes c.args.words.now in
     let command : word_at words 1 ≡ codes "merge" = rw (c.in-Ok-Merge.is, c.in-Ok-Merge.field-0-is) at c.read_words.ensures.named in
     let read : AreMergeFrom (drop 1 words) c.in-Ok-Merge.asked = rw (c.in-Ok-Merge.is, c.in-Ok-Merge.field-0-is) at (c.read_words.ensures.merged command) in
     unused_merge words c.in-Ok-Merge.asked.output _ command read.output c.merge_out.ensures.unused none
 
 pub returns-in-Ok-Merge-clause-unused : goal.returns-in-Ok-Merge-clause-unused
-returns-in-Ok-Merge-clause-unused g c none other =
+returns-in-Ok-Merge-clause-unused g c none other no_import =
     let words = map string_bytes c.args.words.now in
     let command : word_at words 1 ≡ codes "merge" = rw (c.in-Ok-Merge.is, c.in-Ok-Merge.field-0-is) at c.read_words.ensures.named in
     let read : AreMergeFrom (drop 1 words) c.in-Ok-Merge.asked = rw (c.in-Ok-Merge.is, c.in-Ok-Merge.field-0-is) at (c.read_words.ensures.merged command) in
@@ -489,3 +506,57 @@ returns-in-Ok-format-clause-documents g c asks =
     let none : ⊥ = (let bad : false ≡ true = c.if-use_stderr.ensures.1
     (no_statements_help_given (drop 1 words) c.in-Err.error (c.in-Err.ensures.no_documents asks.command) asks.no_help) in cc) in
     absurd none
+
+pub returns-in-Ok-Import-clause-answered : goal.returns-in-Ok-Import-clause-answered
+returns-in-Ok-Import-clause-answered g c =
+    let words = map string_bytes c.args.words.now in
+    let keeps = g.T.Target.keeps c.import_out.new.target in
+    let imported = c.in_ok-imported-in-Ok-Import.imported in
+    let command : word_at words 1 ≡ codes "import" = rw (c.in-Ok-Import.is, c.in-Ok-Import.field-0-is) at c.read_words.ensures.named in
+    let no_file = no_output keeps words (λ run. differ (sym command ∙ run) refl) (λ merge. differ (sym command ∙ merge) refl) in
+    let answered = answers_import (g.S.Source.holds c.args.files.now) (g.S.Texts.gives c.args.files.now) words imported.is_whole imported.text.items command in
+    on_ok_weaker c.write_all-in-Ok-Import.result (λ wrote. (imported.text.items, delivered_out keeps words _ _ imported.text.items no_file wrote, answered))
+    (rw c.as_slice-in-Ok-Import.ensures.value at c.write_all-in-Ok-Import.ensures.bytes)
+
+pub returns-in-Ok-Import-clause-imported : goal.returns-in-Ok-Import-clause-imported
+returns-in-Ok-Import-clause-imported g c named = λ which.
+    let words = map string_bytes c.args.words.now in
+    let asked = c.in-Ok-Import.asked in
+    let imported = c.in_ok-imported-in-Ok-Import in
+    let read : AreImportFrom (drop 1 words) asked = rw (c.in-Ok-Import.is, c.in-Ok-Import.field-0-is) at (c.read_words.ensures.imported named) in
+    on_ok_weaker c.write_all-in-Ok-Import.result (λ wrote. (imported.imported.text.items, wrote, record { asked = asked; are = read; over = imported.ensures.imported }))
+    (rw c.as_slice-in-Ok-Import.ensures.value at c.write_all-in-Ok-Import.ensures.bytes)
+
+pub returns-in_err-imported-in-Ok-Import-clause-unimported : goal.returns-in_err-imported-in-Ok-Import-clause-unimported
+returns-in_err-imported-in-Ok-Import-clause-unimported g c named =
+    let words = map string_bytes c.args.words.now in
+    let asked = c.in-Ok-Import.asked in
+    let failed = c.in_err-imported-in-Ok-Import in
+    let read : AreImportFrom (drop 1 words) asked = rw (c.in-Ok-Import.is, c.in-Ok-Import.field-0-is) at (c.read_words.ensures.imported named) in
+    let exit = err_from_is_err_and c.from_residual-in_err-imported-in-Ok-Import.result c.from_residual-in_err-imported-in-Ok-Import.ensures.1 in
+    rw (exit.1, exit.2) (inr (inr (record { asked = asked; are = read; of = failed.ensures.files })))
+
+pub returns-in-Ok-Import-clause-left_by_import : goal.returns-in-Ok-Import-clause-left_by_import
+returns-in-Ok-Import-clause-left_by_import g c named =
+    let read : AreImportFrom (drop 1 (map string_bytes c.args.words.now)) c.in-Ok-Import.asked = rw (c.in-Ok-Import.is, c.in-Ok-Import.field-0-is) at (c.read_words.ensures.imported named) in
+    left_import _ _ (g.S.Texts.gives c.args.files.now) (map string_bytes c.args.words.now) c.in-Ok-Import.asked read c.import_out.ensures.left
+
+pub returns-in_err-imported-in-Ok-Import-clause-left_by_import : goal.returns-in_err-imported-in-Ok-Import-clause-left_by_import
+returns-in_err-imported-in-Ok-Import-clause-left_by_import g c named =
+    let read : AreImportFrom (drop 1 (map string_bytes c.args.words.now)) c.in-Ok-Import.asked = rw (c.in-Ok-Import.is, c.in-Ok-Import.field-0-is) at (c.read_words.ensures.imported named) in
+    left_import _ _ (g.S.Texts.gives c.args.files.now) (map string_bytes c.args.words.now) c.in-Ok-Import.asked read c.import_out.ensures.left
+
+pub returns-in-Ok-format-clause-imported : goal.returns-in-Ok-format-clause-imported
+returns-in-Ok-format-clause-imported g c named = λ which. elim which [
+  | inl asks ↦
+      let none : ⊥ = (let bad : false ≡ true = c.if-use_stderr.ensures.1
+      (no_import_help_given (drop 1 (map string_bytes c.args.words.now)) c.in-Err.error (c.in-Err.ensures.unimported named) asks.no_help) in cc) in
+      absurd none
+  | inr unsound ↦ cc
+]
+
+pub returns-in-Err-2-clause-unimported : goal.returns-in-Err-2-clause-unimported
+returns-in-Err-2-clause-unimported g c named =
+    let words = map string_bytes c.args.words.now in
+    let not_memory : kind_of c.in-Err.error ≢ kinds.OutOfMemory = search rules in
+    inr (inl (c.in-Err.error, refl, not_accepted_import (drop 1 words) c.in-Err.error not_memory (c.in-Err.ensures.unimported named)))

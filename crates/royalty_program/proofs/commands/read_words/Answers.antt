@@ -1,8 +1,9 @@
-use Rattle.std.proofs.Common.{All, map, drop, ap, sym, ◌∙◌}
+use Rattle.std.proofs.Common.{All, List, map, drop, ap, subst, sym, ℕ, ◌∙◌}
 use Rattle.std.specs.Prelude.{string_bytes}
 use Rattle.royalty_program.specs.Asked.{IsValue, number_in}
 use Rattle.royalty_program.specs.Answered.{AreCheckedFrom, AreDocumentsFrom, AreExplainedFrom, AreMergeFrom, AreReadFrom}
 use Rattle.royalty_program.specs.Asked.{files_given}
+use Rattle.royalty_program.specs.ImportCommand.{AreImportFrom}
 use Rattle.royalty_program.specs.NamedFiles.{AreNamedBy}
 use Rattle.royalty_program.specs.StartingCommand.{starting_app}
 use Rattle.starting_files.specs.declared.making.StartingTable.TheVariants.{Works, Parties}
@@ -68,3 +69,10 @@ returns-in_ok-read_starting-in-parties-clause-table c =
     let read : AreNamedBy (files_given (starting_app Parties) (map string_bytes (others words))) c.in_ok-read_starting-in-parties.field-0.files = c.in_ok-read_starting-in-parties.ensures.files in
     starting_given (map string_bytes words) Parties c.in_ok-read_starting-in-parties.field-0 (sym c.word.ensures ∙ c.in-parties.is) c.in_ok-read_starting-in-parties.ensures.table
     (rw (mapped_others string_bytes words) at read)
+
+pub returns-in_ok-read_import-in-import-clause-imported : goal.returns-in_ok-read_import-in-import-clause-imported
+returns-in_ok-read_import-in-import-clause-imported c named =
+    let words = c.args.words.now in
+    let asked = c.in_ok-read_import-in-import.field-0 in
+    let read : AreImportFrom (map string_bytes (others words)) asked = c.in_ok-read_import-in-import.ensures.read in
+    subst (λ (given : List (List ℕ)). AreImportFrom given asked) (mapped_others string_bytes words) read
