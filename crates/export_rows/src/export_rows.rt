@@ -18,8 +18,8 @@ pub struct ExportRows<R: Read> {
 }
 
 impl<R: Read> Model for ExportRows<R> {
-    ghost use Rattle.std.specs.Prelude.{◌≡◌, false};
-    ghost use Rattle.csv.specs.Reading.{Ready, has_failed, reader_config, reader_state, reader_trim, source_of};
+    ghost use Rattle.std.specs.Prelude.{◌≡◌, false, true};
+    ghost use Rattle.csv.specs.Reading.{Ready, has_failed, is_flexible, reader_config, reader_state, reader_trim, source_of};
     ghost use Rattle.csv.specs.declared.reader.Trim.TheVariants as trim;
     ghost use Rattle.export_rows.specs.Places.{Place};
 
@@ -32,7 +32,8 @@ impl<R: Read> Model for ExportRows<R> {
       unread = source_of (λ from. R.remaining from.inner) b.reader;
     } };
 
-    ghost invariant = { λ b. has_failed b.reader ≡ false → (reader_trim b.reader ≡ trim.None) × Ready b.reader };
+    ghost invariant = { λ b. has_failed b.reader ≡ false → (reader_trim b.reader ≡ trim.None) × Ready b.reader
+        × (is_flexible b.reader ≡ true) };
 }
 
 impl<R: Read> ExportRows<R> {

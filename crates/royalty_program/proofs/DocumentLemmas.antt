@@ -1,5 +1,5 @@
 -- The documents of the files that words name, by the words that name them.
-use Rattle.std.proofs.Common.{◌≡◌, ◌≢◌, ◌∙◌, ◌⊎◌, ℕ, List, Bool, true, false, Option, Some, None, append-nil, ap, cond, inl, inr, sym, subst, codes, refl, []}
+use Rattle.std.proofs.Common.{◌≡◌, ◌≢◌, ◌∙◌, ℕ, List, Bool, true, false, Option, Some, None, append-nil, ap, cond, inl, inr, sym, subst, codes, refl, []}
 use Rattle.std.specs.Option.{option_map}
 use Rattle.std.specs.Prelude.{String, string_bytes}
 use Rattle.std.specs.Io.KnownBytes.{Appends}
@@ -18,12 +18,12 @@ use Rattle.pair_split.specs.Pair.{word_at}
 use Rattle.royalty_program.specs.Answered.{AreDocumentsFrom, IsAnswered}
 use Rattle.royalty_program.specs.Asked.{AreAccepted, AreFilesAccepted, AskForHelp, EitherRun, IsErrorOf, IsStatementsError, IsSubmittedError}
 use Rattle.royalty_program.specs.Asked.{inputs_given, name_works, statements_grammar, submitted_given}
-use Rattle.royalty_program.specs.DocumentFiles.{AreDocumentsAsked, AreDocumentsOfInputs, AreDocumentsOver, AreLandsOver, AreNamesRefused, AreSubmittedDocumentsOver, IsOfDocuments, IsOfNames, said_by}
-use Rattle.royalty_program.specs.DocumentsAnswered.{AreDocumentsAnswered, AreStatementsAccepted, IsOfAccepted, IsOfStatements, folder_given, names_given, said_in}
-use Rattle.royalty_program.specs.Folders.{IsLeftOrHasFolder, IsOfFolderNamed}
+use Rattle.royalty_program.specs.DocumentFiles.{AreDocumentsAsked, AreDocumentsOfInputs, AreDocumentsOver, AreLandsOver, AreSubmittedDocumentsOver, IsOfDocuments, IsOfNames, said_by}
+use Rattle.royalty_program.specs.DocumentsAnswered.{AreDocumentsAnswered, AreStatementsAccepted, IsOfAccepted, IsOfStatements, folder_given, said_in}
+use Rattle.royalty_program.specs.Folders.{IsLeftOrHasFolder}
 use Rattle.royalty_program.specs.RunInputs.{IsOfInputs}
 use Rattle.royalty_program.specs.StatementsCommand.{statements_app, submitted_statements_app}
-use Rattle.royalty_program.specs.Status.{IsOfFile, IsOfPaths, IsOfSubmitted, failure_of_file, failure_of_names}
+use Rattle.royalty_program.specs.Status.{IsOfPaths, IsOfSubmitted, failure_of_file, failure_of_names}
 use Rattle.royalty_program.specs.declared.failure.Failure.{Failure}
 use Rattle.royalty_program.specs.declared.failure.Failure.TheVariants as failures
 use Rattle.royalty_program.specs.declared.statements_command.StatementsWords.{StatementsWords}

@@ -10,13 +10,13 @@ use Rattle.std.specs.declared.io.ErrorKind.TheVariants.{OutOfMemory}
 use Rattle.csv_table.specs.Written.{text_of}
 use Rattle.royalty_program.specs.ImportAnswered.{IsLeftByImport}
 use Rattle.royalty_program.specs.ImportCommand.{AreImportFrom}
-use Rattle.royalty_program.specs.ImportFiles.{AreAllLeft, AreKept, AreLeftOrMade, AreLeftOrWhole, AreLeftOrWritten, AreOthersLeft, AreTablesKept}
+use Rattle.royalty_program.specs.ImportFiles.{AreAllLeft, AreKept, AreLeftOrWhole, AreLeftOrWritten, AreOthersLeft, AreTablesKept}
 use Rattle.royalty_program.specs.ImportFiles.{IsMadeOver, IsOfExport, IsOfMap, IsOfPaths, IsToldOf}
 use Rattle.royalty_program.specs.MergeFiles.{Gives, HoldsOf}
 use Rattle.royalty_program.specs.Status.{IsOfFile, failure_of_file, failure_of_target}
 use Rattle.royalty_program.specs.Targets.{IsLeft, IsLeftOrWhole}
 use Rattle.royalty_program.specs.declared.failure.Failure.{Failure}
-use Rattle.royalty_program.specs.declared.failure.Failure.TheVariants.{File, Headless, ManyColumns, NoColumn, NoHeader, Room, Target}
+use Rattle.royalty_program.specs.declared.failure.Failure.TheVariants.{File, Room, Target}
 use Rattle.royalty_program.specs.declared.import_command.ImportWords.{ImportWords}
 use Rattle.royalty_program.specs.declared.import_files.Imported.{Imported}
 use Rattle.royalty_program.specs.declared.import_command.TablePaths.{TablePaths}
@@ -84,13 +84,13 @@ module _ (old mid new : List ℕ → Option (List ℕ) → Type 0) (gives : List
     known = known;
     given = given;
     holds_of = of_known _ _ known (λ text is.
-    let whole = whole_of mapping maps text blank lines rejects summary is in record {
-      lines = whole.lines_are;
-      rejects = whole.rejects_are;
-      import = whole.import;
-      lines_kept = kept.lines_kept whole.lines_are whole.lines_added;
-      rejects_kept = kept.rejects_kept whole.rejects_are whole.rejects_added;
-    }) imported;
+        let whole = whole_of mapping maps text blank lines rejects summary is in record {
+          lines = whole.lines_are;
+          rejects = whole.rejects_are;
+          import = whole.import;
+          lines_kept = kept.lines_kept whole.lines_are whole.lines_added;
+          rejects_kept = kept.rejects_kept whole.rejects_are whole.rejects_added;
+        }) imported;
   }
 
   -- or each path has what it had
@@ -104,13 +104,13 @@ module _ (old mid new : List ℕ → Option (List ℕ) → Type 0) (gives : List
       known = known;
       given = given;
       holds_of = of_known _ _ known (λ text is.
-      let whole = whole_of mapping maps text blank lines rejects summary is in record {
-        lines = whole.lines_are;
-        rejects = whole.rejects_are;
-        import = whole.import;
-        lines_left = left_first _ _ _ _ (before (string_bytes tables.output)) (left.lines_left whole.lines_are whole.lines_added);
-        rejects_left = left_first _ _ _ _ (before (string_bytes tables.rejects)) (left.rejects_left whole.rejects_are whole.rejects_added);
-      }) imported;
+          let whole = whole_of mapping maps text blank lines rejects summary is in record {
+            lines = whole.lines_are;
+            rejects = whole.rejects_are;
+            import = whole.import;
+            lines_left = left_first _ _ _ _ (before (string_bytes tables.output)) (left.lines_left whole.lines_are whole.lines_added);
+            rejects_left = left_first _ _ _ _ (before (string_bytes tables.rejects)) (left.rejects_left whole.rejects_are whole.rejects_added);
+          }) imported;
     };
   }
 

@@ -1,5 +1,5 @@
 -- What a parse of the words of an import gives.
-use Rattle.std.proofs.Common.{◌≡◌, ◌≢◌, ◌<◌, ◌+◌, ◌++◌, ◌⊎◌, ◌∙◌, ℕ, arith, length, suc, take, ◌↔◌, Bool, List, [], ◌∷◌, Option, None, Some, Result, Err, Ok, IsTrue, false, true, not, ap, ap₂, append_assoc, codes, inl, inr, map, refl, subst, sym}
+use Rattle.std.proofs.Common.{◌≡◌, ◌≢◌, ◌<◌, ◌+◌, ◌++◌, ◌∙◌, ℕ, arith, length, suc, take, ◌↔◌, Bool, List, [], ◌∷◌, Option, None, Some, Result, Err, Ok, IsTrue, false, true, not, ap, ap₂, append_assoc, codes, inl, inr, map, refl, subst, sym}
 use Rattle.std.specs.Borrow.{Bor}
 use Rattle.std.specs.Option.{option_map}
 use Rattle.std.specs.Result.{IfErr, IsErrAnd}
@@ -9,7 +9,7 @@ use Rattle.std.proofs.lemmas.Slice.Eq.{bytes_eq-Decides}
 use Rattle.std.specs.List.{list_all, slice_index_or}
 use Rattle.std.proofs.Math.Seq.{take-suc}
 use Rattle.std.proofs.lemmas.List.{map-append, take-map}
-use Rattle.clap.specs.Words.{AddsArg, App, HasMatchesOf, Rule, Text, app_of, fault_of, first_value, found_of, is_simple, is_simple_and_free, kind_of, matched_of, matches_of, new_app, raw_values, rows_of, rule_of, with_rule}
+use Rattle.clap.specs.Words.{AddsArg, App, HasMatchesOf, Rule, Text, app_of, first_value, found_of, is_simple, is_simple_and_free, kind_of, matched_of, matches_of, new_app, raw_values, rows_of, rule_of, with_rule}
 use Rattle.clap.specs.declared.builder.arg.Arg.{Arg}
 use Rattle.clap.specs.declared.builder.command.Command.{Command}
 use Rattle.clap.specs.declared.error.Error.{Error}

@@ -386,7 +386,11 @@ fn with_tables<'a>(alloc: Global, command: Command<'a>) -> Result<Command<'a>, A
             "territories",
             "A table from,to: the TIS codes that values are",
         ))?
-        .arg(optional_file_arg(alloc, "rights", "A table from,to: the rights that values are"))
+        .arg(optional_file_arg(
+            alloc,
+            "rights",
+            "A table from,to: the rights that values are",
+        ))
 }
 
 /// A command with the options of how an export and its amounts are written.

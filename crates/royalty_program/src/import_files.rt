@@ -55,11 +55,7 @@ pub(crate) fn import_out<S: Source + Texts, T: Target>(
 }
 
 /// The paths of the tables, where those that are written are no inputs, and two.
-fn apart<T: Target>(
-    target: &T,
-    maps: &MapPaths,
-    tables: TablePaths,
-) -> Result<TablePaths, Failure>
+fn apart<T: Target>(target: &T, maps: &MapPaths, tables: TablePaths) -> Result<TablePaths, Failure>
     ensures same { IfOk result (λ apart. apart ≡ tables) }
     ensures apart { OnOk result (AreApart tables maps.now) }
     ensures failure { IfErr result IsRefusal }
@@ -91,10 +87,12 @@ fn is_input<T: Target>(
 ) -> io::Result<bool>
     ensures none { IfOk result (λ is_input. is_input ≡ false → IsNoneOfInputs tables.now maps.now path.now) }
 {
-    Ok(target.is_one_file(path, tables.export.as_str())?
-        || is_map(target, &maps.works, path)?
-        || is_map(target, &maps.territories, path)?
-        || is_map(target, &maps.rights, path)?)
+    Ok(
+        target.is_one_file(path, tables.export.as_str())?
+            || is_map(target, &maps.works, path)?
+            || is_map(target, &maps.territories, path)?
+            || is_map(target, &maps.rights, path)?,
+    )
 }
 
 /// Whether a path is that of a table of values, if there is one.

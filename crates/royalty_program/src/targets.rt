@@ -145,7 +145,9 @@ impl<'a, R: Files> Target for Disk<'a, R> {
         }
         match (node_of(self.rt, path)?, node_of(self.rt, other)?) {
             (Some(node), Some(other)) => Ok(node == other),
-            (None, None) => Ok(name_of(path) == name_of(other) && are_of_one_directory(self.rt, path, other)?),
+            (None, None) => Ok(
+                name_of(path) == name_of(other) && are_of_one_directory(self.rt, path, other)?,
+            ),
             _ => Ok(false),
         }
     }

@@ -11,7 +11,7 @@ use Rattle.sales_import.specs.Imported.{reject_amounts, rejects_text}
 use Rattle.sales_import.specs.Tallies.{AreWithin, all_reasons, no_rows, place_of, tally_of}
 use Rattle.sales_import.specs.declared.going.Going.{Going}
 use Rattle.sales_import.specs.declared.import_fault.ImportFault.{ImportFault}
-use Rattle.sales_import.specs.declared.import_fault.ImportFault.TheVariants.{Headless, Column}
+use Rattle.sales_import.specs.declared.import_fault.ImportFault.TheVariants.{Lines, Rejects, Headless, Column, Memory}
 use Rattle.sales_import.specs.declared.summary.Summary.{Summary}
 use Rattle.sales_import.specs.declared.tally.Tally.{Tally}
 
@@ -85,6 +85,18 @@ pub record IsGoing (settings : Settings) (start place : Place)
   pub rejects : Appends old_rejects rejects_now (rejects_text made)
   pub counted : AreCounted made told
   pub within : AreWithin number told
+
+-- a write of the usage lines, or memory, was refused
+abbrev pub IsOfLines : ImportFault → Type 0
+IsOfLines (Lines error) = ⊤
+IsOfLines Memory = ⊤
+IsOfLines _ = ⊥
+
+-- a write of the rejected rows, or memory, was refused
+abbrev pub IsOfRejected : ImportFault → Type 0
+IsOfRejected (Rejects error) = ⊤
+IsOfRejected Memory = ⊤
+IsOfRejected _ = ⊥
 
 -- a read, a write or memory was refused
 abbrev pub IsOfRows : ImportFault → Type 0

@@ -1,10 +1,10 @@
 //! Rows on their way to a file.
 
 ghost use Rattle.std.specs.Io.KnownBytes.{Appends};
-ghost use Rattle.std.specs.Prelude.{◌≡◌, ◌∷◌, IfErr, IfOk, OnOk, map};
-ghost use Rattle.csv_table.specs.Written.{text_of_row};
+ghost use Rattle.std.specs.Prelude.{◌≡◌, ◌<◌, ◌∷◌, IfErr, IfOk, OnOk, map};
+ghost use Rattle.csv_table.specs.Written.{page_bytes, text_of_row};
 ghost use Rattle.sales_import.specs.Imported.{line_header, line_row, output, reject_header, reject_row, sold_of};
-ghost use Rattle.sales_import.specs.SoFar.{IsOfRows};
+ghost use Rattle.sales_import.specs.SoFar.{IsOfLines, IsOfRejected, IsOfRows};
 
 use crate::{ImportFault, words};
 use csv_table::RowWriter;
@@ -22,7 +22,9 @@ pub(crate) fn push_line<W: Write>(
 ) -> Result<(), ImportFault>
     ensures row { OnOk result (Appends (output W.contents out.old page.old) (output W.contents out.new page.new)
         (text_of_row (line_row (sold_of line.now)))) }
+    ensures part { OnOk result (page.new.ready < page_bytes) }
     ensures fault { IfErr result IsOfRows }
+    ensures lines { IfErr result IsOfLines }
 {
     let mut digits = Buffer::new();
     let amount = digits.format(line.amount).as_bytes();
@@ -44,7 +46,9 @@ pub(crate) fn push_reject<W: Write>(
 ) -> Result<(), ImportFault>
     ensures row { OnOk result (Appends (output W.contents out.old page.old) (output W.contents out.new page.new)
         (text_of_row (reject_row number reason row.now))) }
+    ensures part { OnOk result (page.new.ready < page_bytes) }
     ensures fault { IfErr result IsOfRows }
+    ensures rejected { IfErr result IsOfRejected }
 {
     let mut digits = Buffer::new();
     let number = digits.format(number).as_bytes();
@@ -60,6 +64,7 @@ pub(crate) fn push_reject<W: Write>(
 pub(crate) fn write_line_header<W: Write>(alloc: Global, out: &mut W) -> Result<(), ImportFault>
     ensures header { OnOk result (Appends (W.contents out.old) (W.contents out.new) (text_of_row line_header)) }
     ensures fault { IfErr result IsOfRows }
+    ensures lines { IfErr result IsOfLines }
 {
     match write_row(
         alloc,
@@ -80,6 +85,7 @@ pub(crate) fn write_reject_header<W: Write>(
     ensures header { OnOk result (Appends (W.contents out.old) (W.contents out.new)
         (text_of_row (reject_header header.now))) }
     ensures fault { IfErr result IsOfRows }
+    ensures rejected { IfErr result IsOfRejected }
 {
     let fields = fields_of(alloc, b"rejected_row", b"rejected_since", header)?;
     match write_row(alloc, out, fields.as_slice()) {
