@@ -62,7 +62,8 @@ MADE = {
 UNREAD = r"\.md$|/proofs/|^tools/(?:names\.py|tests/)"
 
 # What stands in a text for something else.
-PLACEHOLDERS = r"\b(?:[A-Z]|COL|FOLDER|MESSAGE|PATH|VAR)\b|\.\.|\b\d[\d.]*\b|: |[\w/.-]+\.(?:%s)\b|[^ -~]"
+PLACEHOLDERS = (r"\b(?:[A-Z]|COL|FOLDER|MESSAGE|PATH|VAR)\b"
+                r"|\.\.|\b\d[\d.]*\b|: |[\w/.-]+\.(?:%s)\b|[^ -~]")
 
 
 class Sources:
