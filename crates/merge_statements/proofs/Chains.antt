@@ -47,7 +47,7 @@ same_row one other rest behind same =
 
 -- ---- where a row leads
 
-same_amount : (one other : ℤ) → IsAmount one → IsAmount other → signed_decimal one ≡ signed_decimal other → one ≡ other
+pub same_amount : (one other : ℤ) → IsAmount one → IsAmount other → signed_decimal one ≡ signed_decimal other → one ≡ other
 same_amount one other small low same =
     sym (signed_back one (omega (arith, small.1))) ∙ (ap signed_number_of same ∙ signed_back other (omega (arith, low.1)))
 
@@ -123,7 +123,7 @@ digits (byte ∷ text) are =
     let first = digit_from_value byte are.0 in
     no_feed_before byte text (λ e. omega (arith, e, first)) (digits text are.1)
 
-name_piece : (name : List ℕ) → IsName name → IsPiece 100 name
+pub name_piece : (name : List ℕ) → IsName name → IsPiece 100 name
 name_piece name is = record { none = printable name is.printable; short = omega (arith, is.short) }
 
 word_piece : (reason : Reason) (text : List ℕ) → text ≡ reason_text reason → IsPiece 100 text
@@ -132,7 +132,7 @@ word_piece Land text is = subst (IsPiece 100) (sym is) (record { none = refl; sh
 word_piece Over text is = subst (IsPiece 100) (sym is) (record { none = refl; short = omega arith })
 word_piece Open text is = subst (IsPiece 100) (sym is) (record { none = refl; short = omega arith })
 
-reason_piece : (text : List ℕ) → IsReason text → IsPiece 100 text
+pub reason_piece : (text : List ℕ) → IsReason text → IsPiece 100 text
 reason_piece text (reason, is) = word_piece reason text is
 
 nothing_piece : (text : List ℕ) → text ≡ [] → IsPiece 100 text
@@ -156,7 +156,7 @@ signed_piece (negsuc n) small =
 count_field : (n : ℕ) (text : List ℕ) → IsCount n → text ≡ decimal n → IsPiece 100 text
 count_field n text few is = subst (IsPiece 100) (sym is) (wider (decimal n) (decimal_piece n (omega (arith, few))))
 
-amount_field : (z : ℤ) (text : List ℕ) → unsigned_abs z ≤ 10 ^ 30 → text ≡ signed_decimal z → IsPiece 100 text
+pub amount_field : (z : ℤ) (text : List ℕ) → unsigned_abs z ≤ 10 ^ 30 → text ≡ signed_decimal z → IsPiece 100 text
 amount_field z text small is = subst (IsPiece 100) (sym is) (signed_piece z (omega (arith, small)))
 
 -- ---- a row of such fields is one line
@@ -204,7 +204,7 @@ pub record IsLineOf (row : List (List ℕ)) (line : List ℕ) : Type 0 where
   pub none : list_any is_feed line ≡ false
   pub short : length line < 32768
 
-row_line : (kind payee_or_reason usage_or_count amount_or_total : List ℕ) → IsPiece 100 kind → IsPiece 100 payee_or_reason → IsPiece 100 usage_or_count → IsPiece 100 amount_or_total
+pub row_line : (kind payee_or_reason usage_or_count amount_or_total : List ℕ) → IsPiece 100 kind → IsPiece 100 payee_or_reason → IsPiece 100 usage_or_count → IsPiece 100 amount_or_total
     → IsLineOf (row_of kind payee_or_reason usage_or_count amount_or_total) (row_body default_writer (row_of kind payee_or_reason usage_or_count amount_or_total))
 unfolding is_blank
 row_line kind payee_or_reason usage_or_count amount_or_total is_kind is_whose is_third is_fourth =

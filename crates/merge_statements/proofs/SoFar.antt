@@ -36,7 +36,7 @@ use Rattle.merge_statements.proofs.ReadBack.{the_statement}
 
 -- ---- byte order
 
-lesser : (a b : List ℕ) → ¬ (a ≡ b) → ¬ (order b a ≡ Less) → order a b ≡ Less
+pub lesser : (a b : List ℕ) → ¬ (a ≡ b) → ¬ (order b a ≡ Less) → order a b ≡ Less
 lesser a b apart behind = by (order a b) refl
   where
     by : (o : Ordering) → order a b ≡ o → order a b ≡ Less
@@ -69,7 +69,7 @@ rises_more [] last rising before = (tt, tt)
 rises_more (statement ∷ statements) last rising before =
     (rises_after statement.payee statements last rising.0 before.0, rises_more statements last rising.1 before.1)
 
-none_with : (statements : List Statement) (payee : List ℕ) → AllByRecursion (λ name. order name payee ≡ Less) (payees_of statements) → portions_in payee statements ≡ []
+pub none_with : (statements : List Statement) (payee : List ℕ) → AllByRecursion (λ name. order name payee ≡ Less) (payees_of statements) → portions_in payee statements ≡ []
 none_with [] payee before = refl
 none_with (statement ∷ statements) payee before = rw (not_same statement.payee payee before.0) (none_with statements payee before.1)
 
@@ -80,22 +80,22 @@ last_is (statement ∷ next ∷ others) last = last_is (next ∷ others) last
 
 -- ---- a statement more
 
-portions_more : (payee : List ℕ) (statements : List Statement) (last : Statement) → portions_in payee (statements ++ last ∷ []) ≡ portions_in payee statements ++ portions_in payee (last ∷ [])
+pub portions_more : (payee : List ℕ) (statements : List Statement) (last : Statement) → portions_in payee (statements ++ last ∷ []) ≡ portions_in payee statements ++ portions_in payee (last ∷ [])
 portions_more payee statements last =
     ap (flat_map (λ (s : Statement). s.portions)) (filter-append (λ (s : Statement). bytes_eq s.payee payee) statements (last ∷ []))
     ∙ flat_map-append (λ (s : Statement). s.portions) (filter (λ s. bytes_eq s.payee payee) statements) (filter (λ s. bytes_eq s.payee payee) (last ∷ []))
 
-none_of_another : (payee : List ℕ) (last : Statement) → bytes_eq last.payee payee ≡ false → portions_in payee (last ∷ []) ≡ []
+pub none_of_another : (payee : List ℕ) (last : Statement) → bytes_eq last.payee payee ≡ false → portions_in payee (last ∷ []) ≡ []
 none_of_another payee last other = rw other refl
 
-all_of_own : (payee : List ℕ) (last : Statement) → bytes_eq last.payee payee ≡ true → portions_in payee (last ∷ []) ≡ last.portions
+pub all_of_own : (payee : List ℕ) (last : Statement) → bytes_eq last.payee payee ≡ true → portions_in payee (last ∷ []) ≡ last.portions
 all_of_own payee last own = rw own (append-nil last.portions)
 
 pub count_more : (statements : List Statement) (last : Statement)
     → sum_by (λ s. length s.portions) (statements ++ last ∷ []) ≡ sum_by (λ s. length s.portions) statements + length last.portions
 count_more statements last = sum_by-append (λ (s : Statement). length s.portions) statements (last ∷ []) ∙ omega arith
 
-rows_more : (statements : List Statement) (last : Statement)
+pub rows_more : (statements : List Statement) (last : Statement)
     → text_of (flat_map statement_rows statements) ++ text_of (statement_rows last) ≡ text_of (flat_map statement_rows (statements ++ last ∷ []))
 rows_more statements last =
     sym (flat_map-append text_of_row (flat_map statement_rows statements) (statement_rows last))
@@ -145,14 +145,15 @@ record AreDone (payee : List ℕ) (starts : List (Option (List ℕ))) (news : Li
   pub sums : int_sum_by (λ done. int_sum_by total_of done) more ≡ int_sum_by (λ done. int_sum_by total_of done) dones +ℤ total_of_portions portions
 
 -- the same of one text
-record IsDone (payee : List ℕ) (start : Option (List ℕ)) (new : Unread) (done : List Statement) (portions : List Portion) : Type 0 where
+pub record IsDone (payee : List ℕ) (start : Option (List ℕ)) (new : Unread) (done : List Statement) (portions : List Portion) : Type 0 where
   pub more : List Statement
   pub passed : HasPassed start new more
   pub others : (other : List ℕ) → bytes_eq payee other ≡ false → portions_in other more ≡ portions_in other done
   pub own : (other : List ℕ) → bytes_eq payee other ≡ true → portions_in other done ≡ [] → portions_in other more ≡ portions
   pub sum : int_sum_by total_of more ≡ int_sum_by total_of done +ℤ total_of_portions portions
+  pub grown : (others : List Statement) × (more ≡ done ++ others) × All (λ statement. statement.payee ≡ payee) others
 
-one_done : (payee : List ℕ) (start : Option (List ℕ)) (old new : Unread) (done : List Statement) (portions : List Portion) → HasPassed start old done → TakesOne payee old new portions
+pub one_done : (payee : List ℕ) (start : Option (List ℕ)) (old new : Unread) (done : List Statement) (portions : List Portion) → HasPassed start old done → TakesOne payee old new portions
     → IsDone payee start new done portions
 one_done payee start old new done _ was (taken_of statement passes same) = record {
   more = done ++ statement ∷ [];
@@ -164,6 +165,7 @@ one_done payee start old new done _ was (taken_of statement passes same) = recor
       portions_more other done statement
       ∙ ((λ i. nothing i ++ portions_in other (statement ∷ [])) ∙ all_of_own other statement (ap (λ (p : List ℕ). bytes_eq p other) same ∙ one));
   sum = int_sum_by_push total_of done statement;
+  grown = (statement ∷ [], refl, All-cons (λ (s : Statement). s.payee ≡ payee) statement [] same (All-nil (λ (s : Statement). s.payee ≡ payee)));
 }
 one_done payee start old new done _ was (left_of other same) = record {
   more = done;
@@ -171,6 +173,7 @@ one_done payee start old new done _ was (left_of other same) = record {
   others = λ name apart. refl;
   own = λ name one nothing. nothing;
   sum = sym (plus_none (int_sum_by total_of done));
+  grown = ([], sym (append-nil done), All-nil (λ (s : Statement). s.payee ≡ payee));
 }
 
 pub moved : (a b c d : ℤ) → (a +ℤ b) +ℤ (c +ℤ d) ≡ (a +ℤ c) +ℤ (b +ℤ d)
@@ -205,7 +208,7 @@ all_done payee _ _ _ _ _ (more_passed start part done starts parts dones has hav
 -- ---- which payee can come next
 
 -- the payee that comes next comes behind the last of all
-next_behind : (last : List ℕ) (part : Unread) → IsBehind last part → IsNextSound part → IfSome part.payee (λ payee. order last payee ≡ Less)
+pub next_behind : (last : List ℕ) (part : Unread) → IsBehind last part → IsNextSound part → IfSome part.payee (λ payee. order last payee ≡ Less)
 next_behind last part behind next = by part.payee refl
   where
     by : (known : Option (List ℕ)) → part.payee ≡ known → IfSome known (λ payee. order last payee ≡ Less)
@@ -216,17 +219,17 @@ next_behind last part behind next = by part.payee refl
     ]
 
 -- a fact of the payee that comes next
-known_fact : (P : List ℕ → Type 0) (known : Option (List ℕ)) (payee : List ℕ) → known ≡ Some payee → IfSome known P → P payee
+pub known_fact : (P : List ℕ → Type 0) (known : Option (List ℕ)) (payee : List ℕ) → known ≡ Some payee → IfSome known P → P payee
 known_fact P known payee is holds = subst (λ (o : Option (List ℕ)). IfSome o P) is holds
 
 -- the text in which the least comes next
-record IsFound (parts : List Unread) (least : List ℕ) : Type 0 where
+pub record IsFound (parts : List Unread) (least : List ℕ) : Type 0 where
   pub place : ℕ
   pub low : place < length parts
   pub default : Unread
   pub is : (get_or parts place default).payee ≡ Some least
 
-found : (parts : List Unread) (least : List ℕ) → Contains (map (λ part. part.payee) parts) (Some least) → IsFound parts least
+pub found : (parts : List Unread) (least : List ℕ) → Contains (map (λ part. part.payee) parts) (Some least) → IsFound parts least
 found [] least (k, low, is) = absurd (omega (arith, low))
 found (part ∷ parts) least (k, low, is) =
     let whole : length (map (λ (p : Unread). p.payee) (part ∷ parts)) ≡ length (part ∷ parts) = length-map (part ∷ parts) (λ (p : Unread). p.payee) in
@@ -239,7 +242,7 @@ found (part ∷ parts) least (k, low, is) =
     }
 
 -- behind the payee whose statements were passed over comes every payee that is next
-behind_least : (least : List ℕ) (olds news : List Unread) (portions : List Portion) → TakesEach (TakesOne least) olds news portions
+pub behind_least : (least : List ℕ) (olds news : List Unread) (portions : List Portion) → TakesEach (TakesOne least) olds news portions
     → All (λ part. IfSome part.payee (λ payee. ¬ (order payee least ≡ Less))) olds → All (IsBehind least) news
 behind_least least _ _ _ none_of at = All-nil (IsBehind least)
 behind_least least _ _ _ (more_of old new olds news own others takes each) at =
@@ -258,7 +261,7 @@ behind_least least _ _ _ (more_of old new olds news own others takes each) at =
         (from other (All-head (λ (part : Unread). IfSome part.payee (λ payee. ¬ (order payee least ≡ Less))) old olds at)))
 
 -- where a payee comes next it has a portion
-some_taken : (least : List ℕ) (olds news : List Unread) (portions : List Portion) → TakesEach (TakesOne least) olds news portions → (k : ℕ) (d : Unread) → k < length olds
+pub some_taken : (least : List ℕ) (olds news : List Unread) (portions : List Portion) → TakesEach (TakesOne least) olds news portions → (k : ℕ) (d : Unread) → k < length olds
     → (get_or olds k d).payee ≡ Some least → 0 < length portions
 some_taken least _ _ _ none_of k d low is = absurd (omega (arith, low))
 some_taken least _ _ _ (more_of old new olds news own others takes each) zero d low is = omega (arith, one takes, length-append own others)

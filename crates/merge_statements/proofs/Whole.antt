@@ -81,10 +81,10 @@ sound_statements payees rests lines amount rising sound left few lined adds =
 
 -- ---- each text by itself
 
-abbrev says : List Statement → Ending → Statements
+abbrev pub says : List Statement → Ending → Statements
 says done ending = the_statements done ending.rests ending.lines (int_sum_by total_of done +ℤ total_of_rests ending.rests)
 
-text_is : (start : Option (List ℕ)) (old new : Unread) (done : List Statement) (ending : Ending) → HasPassed start old done → EndsAs old new ending
+pub text_is : (start : Option (List ℕ)) (old new : Unread) (done : List Statement) (ending : Ending) → HasPassed start old done → EndsAs old new ending
     → IfSome start (λ bytes. bytes ≡ text_of_statements (says done ending))
 text_is start old new done ending was ends =
     let rests = rests_rows ending.rests ++ total_row (codes "R") [] ending.lines (int_sum_by total_of done +ℤ total_of_rests ending.rests) ∷ [] in
@@ -94,7 +94,7 @@ text_is start old new done ending was ends =
     (subst (λ (total : ℤ). Consumes old.left new.left (text_of (rests_rows ending.rests ++ total_row (codes "R") [] ending.lines (total +ℤ total_of_rests ending.rests) ∷ []))) (ap (λ (at : At). at.total) was.at) ends.consumed)))
     ends.ended refl
 
-text_sound : (start : Option (List ℕ)) (old new : Unread) (done : List Statement) (ending : Ending) → HasPassed start old done → EndsAs old new ending → AreStatements (says done ending)
+pub text_sound : (start : Option (List ℕ)) (old new : Unread) (done : List Statement) (ending : Ending) → HasPassed start old done → EndsAs old new ending → AreStatements (says done ending)
 text_sound start old new done ending was ends =
     sound_statements done ending.rests ending.lines (int_sum_by total_of done +ℤ total_of_rests ending.rests) was.rising was.sound ends.sound
     (subst (λ (n : ℕ). IsCount (n + length ending.rests)) (ap (λ (at : At). at.portions) was.at) ends.few_rests) ends.few refl

@@ -15,7 +15,9 @@ mod row;
 mod walk;
 
 pub use checking::check;
-pub use merging::{TextRefusal, merge};
+pub use merging::{TextRefusal, end_text, lesser_payee, merge, pass_if_next};
+pub use page::Page;
+pub use part::Part;
 pub use read_fault::ReadFault;
 pub use reader::RowReader;
 pub use refusal::{Refusal, StatementFault};

@@ -1,11 +1,11 @@
 //! Texts of statements merged into one.
 
-ghost use Rattle.std.specs.Prelude.{◌≡◌, ◌<◌, ◌≤◌, ◌+◌, ◌^◌, ◌+ℤ◌, [], ℕ, All, List, None, Option, codes, IfErr};
+ghost use Rattle.std.specs.Prelude.{◌≡◌, ◌<◌, ◌≤◌, ◌+◌, ◌^◌, ◌+ℤ◌, ◌∷◌, [], ℕ, All, List, None, Option, codes, IfErr};
 ghost use Rattle.std.specs.Prelude.{IfOk, OnOk, Some, false, map, true, unsigned_abs};
 ghost use Rattle.std.specs.Io.KnownBytes.{Appends};
 ghost use Rattle.csv_table.specs.Written.{text_of_row};
 ghost use Rattle.merge_statements.specs.SoFar.{AreOpen, CanEnd, EndsEach, HasLeast, HasNext, MergesOpen, MergesPayees, RefusesOne, RefusesOpen, RefusesRest};
-ghost use Rattle.merge_statements.specs.SoFar.{WritesAll, WritesEnding, WritesOne, output};
+ghost use Rattle.merge_statements.specs.SoFar.{Unread, WritesAll, WritesEnding, WritesOne, output};
 ghost use Rattle.merge_statements.specs.Refused.{IsOfSystem, IsRefusalOf};
 ghost use Rattle.merge_statements.specs.declared.refusal.Refusal.TheVariants as Refusal;
 ghost use Rattle.merge_statements.specs.Merged.{WritesMerge};
@@ -93,7 +93,18 @@ fn least_payee<R: Read + Drop>(parts: &[Part<R>], least: &mut Vec<u8>) -> Result
         return Ok(false);
     };
     let found = least_payee(others, least)?;
-    match first.payee() {
+    lesser_payee(first, least, found)
+}
+
+/// The lesser of a payee that was found and the one that comes next in one text more, and whether there is one.
+pub fn lesser_payee<R: Read + Drop>(
+    part: &Part<R>,
+    least: &mut Vec<u8>,
+    found: bool,
+) -> Result<bool, AllocError>
+    ensures { IfOk result (λ now. (others : List Unread) → HasLeast others least.old.items found → HasLeast (part.now ∷ others) least.new.items now) }
+{
+    match part.payee() {
         None => Ok(found),
         Some(payee) => {
             if !found || is_before(payee, least.as_slice()) {
@@ -105,7 +116,7 @@ fn least_payee<R: Read + Drop>(parts: &[Part<R>], least: &mut Vec<u8>) -> Result
 }
 
 /// Passes over the statement of a payee in a text, if it comes next there.
-fn pass_if_next<R: Read + Drop, W: Write>(
+pub fn pass_if_next<R: Read + Drop, W: Write>(
     part: &mut Part<R>,
     payee: &[u8],
     page: &mut Page,
@@ -224,7 +235,7 @@ fn push_run<W: Write>(
 
 /// Passes over a text from behind its last payee to its end, and adds what nobody gets to the output without its sum. Answers how many
 /// portions that is, what they come to, and how many usage lines there were.
-fn end_text<R: Read + Drop, W: Write>(
+pub fn end_text<R: Read + Drop, W: Write>(
     part: &mut Part<R>,
     page: &mut Page,
     out: &mut W,

@@ -19,7 +19,7 @@ const PAGE_BYTES: usize = 131_072;
 
 /// What is written and has not gone on to the output yet.
 #[derive(Drop)]
-pub(crate) struct Page {
+pub struct Page {
     alloc: Global,
     text: Vec<u8>,
 }
@@ -34,7 +34,7 @@ impl Model for Page {
 
 impl Page {
     /// Nothing yet.
-    pub(crate) fn new(alloc: Global) -> Page
+    pub fn new(alloc: Global) -> Page
         ensures { result ≡ [] }
     {
         Page {
@@ -44,7 +44,7 @@ impl Page {
     }
 
     /// Adds a text.
-    pub(crate) fn push<W: Write>(&mut self, out: &mut W, text: &[u8]) -> Result<(), Refusal>
+    pub fn push<W: Write>(&mut self, out: &mut W, text: &[u8]) -> Result<(), Refusal>
         ensures pushed { OnOk result (Appends (output W.contents out.old self.old) (output W.contents out.new self.new) text.now) }
         ensures refused { IfErr result IsOfSystem }
     {
@@ -56,7 +56,7 @@ impl Page {
     }
 
     /// Passes on what there is.
-    pub(crate) fn pass_on<W: Write>(&mut self, out: &mut W) -> Result<(), Refusal>
+    pub fn pass_on<W: Write>(&mut self, out: &mut W) -> Result<(), Refusal>
         ensures empty { OnOk result (self.new ≡ []) }
         ensures passed { OnOk result (Appends (output W.contents out.old self.old) (W.contents out.new) []) }
         ensures refused { IfErr result IsOfSystem }
@@ -71,7 +71,7 @@ impl Page {
     }
 
     /// Adds a row of so many portions or lines, and what they come to.
-    pub(crate) fn push_total<W: Write>(
+    pub fn push_total<W: Write>(
         &mut self,
         out: &mut W,
         kind: &str,

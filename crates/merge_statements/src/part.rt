@@ -1,11 +1,12 @@
 //! One of the texts that are merged, read statement by statement.
 
 ghost use Rattle.std.specs.Io.KnownBytes.{Appends, Keeps};
-ghost use Rattle.std.specs.Prelude.{◌≡◌, ◌<◌, ◌++◌, ◌∷◌, [], List, ℕ, IfErr, IfOk, IfSome, OnOk, slice_index, true, false};
+ghost use Rattle.std.specs.Prelude.{◌≡◌, ◌<◌, ◌-◌, ◌++◌, ◌∷◌, [], List, ℕ, IfErr, IfOk, IfSome, OnOk, slice_index, true, false};
 ghost use Rattle.std.specs.Option.{option_map};
 ghost use Rattle.merge_statements.specs.SoFar.{CanEnd, EndsText, HasNext, IsAmongRests, IsLooked, IsNext, IsOfKind, IsRead, IsRestsSumAt, IsSumAt};
 ghost use Rattle.merge_statements.specs.SoFar.{IsWithinOne, NeedsRow, PassesSum, ReadsOn, RefusesRest, Steps, WritesRests, WritesStatement, output};
 ghost use Rattle.merge_statements.specs.Places.{KindFits, at_first};
+ghost use Rattle.merge_statements.specs.Statements.{IsCount};
 ghost use Rattle.merge_statements.specs.Refused.{IsOfSystem, IsRefusedFor};
 ghost use Rattle.merge_statements.specs.declared.walk.Place.TheVariants as Place;
 
@@ -21,7 +22,7 @@ use std::marker::Model;
 
 /// A text of statements, how far it was read, and the row at hand.
 #[derive(Drop)]
-pub(crate) struct Part<R: Read> {
+pub struct Part<R: Read> {
     rows: RowReader<R>,
     /// Memory for the fields of a row that stand between quotes.
     room: RowRoom,
@@ -60,7 +61,7 @@ impl<R: Read> Model for Part<R> {
 
 impl<R: Read + Drop> Part<R> {
     /// A text before its first row, which is read.
-    pub(crate) fn open(alloc: Global, from: R) -> Result<Part<R>, Refusal>
+    pub fn open(alloc: Global, from: R) -> Result<Part<R>, Refusal>
         ensures at { IfOk result (λ part. part.at ≡ at_first) }
         ensures left { IfOk result (λ part. Keeps (R.remaining from) part.left) }
         ensures read { IfOk result (IsRead (R.remaining from)) }
@@ -83,8 +84,23 @@ impl<R: Read + Drop> Part<R> {
         Ok(part)
     }
 
+    /// How many portions were read, those that nobody gets among them.
+    pub fn portions(&self) -> u64
+        ensures same { result ≡ self.now.at.portions }
+        ensures few { IsCount result }
+    {
+        self.progress.portions()
+    }
+
+    /// How many rows were read before the row at hand.
+    pub fn rows_read(&self) -> u64
+        ensures { result ≡ self.now.number - 1 }
+    {
+        self.number.saturating_sub(1)
+    }
+
     /// The payee that comes next, where one does.
-    pub(crate) fn payee(&self) -> Option<&[u8]>
+    pub fn payee(&self) -> Option<&[u8]>
         ensures same { option_map (λ payee. payee.now) result ≡ self.now.payee }
         ensures next { IfSome result (λ payee. IsNext self.now.at self.now.line payee.now) }
     {
@@ -183,7 +199,7 @@ impl<R: Read + Drop> Part<R> {
 
     /// Passes over the statement of the payee that comes next, and adds its portions to the output. Answers how many there are and what
     /// they come to.
-    pub(crate) fn pass_statement<W: Write>(
+    pub fn pass_statement<W: Write>(
         &mut self,
         page: &mut Page,
         out: &mut W,
@@ -238,7 +254,7 @@ impl<R: Read + Drop> Part<R> {
 
     /// Passes over all that nobody gets, behind the last payee, and adds it to the output without its sum. Answers how many portions there
     /// are and what they come to.
-    pub(crate) fn pass_rests<W: Write>(
+    pub fn pass_rests<W: Write>(
         &mut self,
         page: &mut Page,
         out: &mut W,
@@ -259,7 +275,7 @@ impl<R: Read + Drop> Part<R> {
     }
 
     /// Passes over the usage lines, behind which the text ends. Answers how many there were.
-    pub(crate) fn finish(&mut self) -> Result<u64, Refusal>
+    pub fn finish(&mut self) -> Result<u64, Refusal>
         requires { self.old.at.place ≡ Place.Summed }
         ensures ended { IfOk result (λ lines. EndsText self.old self.new lines) }
         ensures reads { IfOk result (λ _. ReadsOn self.old self.new) }

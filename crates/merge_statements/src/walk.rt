@@ -254,6 +254,14 @@ impl Progress {
         self.place.so_far()
     }
 
+    /// How many portions were read, those that nobody gets among them.
+    pub(crate) fn portions(&self) -> u64
+        ensures same { result ≡ self.now.portions }
+        ensures few { IsCount result }
+    {
+        self.portions
+    }
+
     /// How many usage lines there were, where the last row was read.
     pub(crate) fn ended(&self) -> Option<u64>
         ensures some { IfSome result (λ lines. self.now.place ≡ Place.Ended lines) }

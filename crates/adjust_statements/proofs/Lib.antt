@@ -1,0 +1,9 @@
+pub mod DifferenceLemmas
+pub mod EndLemmas
+pub mod EntryLemmas
+pub mod PayeeLemmas
+pub mod RestLemmas
+pub mod RowLemmas
+pub mod SumLemmas
+pub mod WritingLemmas
+pub mod WroteLemmas

@@ -1,0 +1,4 @@
+pub mod Adjusted
+pub mod Differences
+pub mod Refused
+pub mod SoFar
