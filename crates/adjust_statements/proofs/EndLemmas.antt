@@ -76,6 +76,7 @@ all_adjusted paid_start right_start paid right paid_last right_last paid_text ri
       same_lines = end.same;
       lines = refl;
     };
+    few = few;
     says = refl;
   };
   written = subst (λ (t : List ℕ). Appends first after t) (text_whole was.answer rests.rests amount)

@@ -6,7 +6,7 @@ use Rattle.line_split.specs.ReasonTexts.{reason_text}
 use Rattle.line_split.specs.declared.reason.Reason.{Reason}
 use Rattle.line_split.specs.declared.reason.Reason.TheVariants.{Land, Open, Over, Work}
 use Rattle.merge_statements.specs.Merged.{portions_of}
-use Rattle.merge_statements.specs.Statements.{AreStatements, Portion, Rest, Statements, text_of_statements}
+use Rattle.merge_statements.specs.Statements.{AreStatements, IsCount, Portion, Rest, Statements, count_of_portions, text_of_statements}
 use Rattle.adjust_statements.specs.Differences.{AreRowsOfDifferences}
 
 -- what nobody gets for a reason, as portions
@@ -45,6 +45,7 @@ pub record IsAdjustmentOf (paid_text right_text text : List ℕ) : Type 0 where
   pub paid_says : paid_text ≡ text_of_statements paid
   pub right_says : right_text ≡ text_of_statements right
   pub adjusted : AreAdjusted paid right answer
+  pub few : IsCount (count_of_portions answer)
   pub says : text ≡ text_of_statements answer
 
 -- What two texts differ by was written. Where bytes are not known, it is what some texts differ by.
