@@ -1,5 +1,5 @@
 -- Statements with every sign turned.
-use Rattle.std.specs.Prelude.{ℕ, ℤ, List, map, neg_ℤ}
+use Rattle.std.specs.Prelude.{map, neg_ℤ}
 use Rattle.merge_statements.specs.Statements.{Portion, Rest, Statement, Statements}
 
 abbrev pub turned_portion : Portion → Portion

@@ -1,4 +1,4 @@
-//! Asks what stands in tables of explanations, of merged statements and of runs (`row_tables`), and compares the
+//! Asks what stands in tables of explanations, of merged statements, of differences and of runs (`row_tables`), and compares the
 //! answers.
 //!
 //! Its arguments name the tables. A heading has the word for what is asked, and files.
@@ -112,6 +112,7 @@ fn answer<R: Files + AllocGlobal + Threads + Wait + Sync>(
         "amount" => merging::amount(alloc, question),
         "count" => merging::count(alloc, question),
         "merged" => merging::merged(alloc, question),
+        "adjusted" => merging::adjusted(alloc, question),
         "merged_rows" => merging::merged_rows(alloc, question),
         "checked" => merging::checked(alloc, question),
         "cut" => merging::cut_off(alloc, question),

@@ -1,6 +1,7 @@
 //! Rows, numbers and texts of statements.
 
-use anyhow::Result;
+use adjust_statements::{AdjustRefusal, adjust};
+use anyhow::{Result, bail};
 use merge_statements::amount::{amount_of, count_of};
 use merge_statements::{Refusal, Row, RowRoom, TextRefusal, check, merge};
 use row_tables::{text_of, written_out};
@@ -44,6 +45,24 @@ pub fn merged(alloc: Global, question: &str) -> Result<String> {
     Ok(match merge(alloc, texts, &mut out) {
         Ok(()) => String::from_str(alloc, text_of(out.as_slice()))?,
         Err(TextRefusal { place, refusal }) => format!(in alloc; "text {place}: {refusal}")?,
+    })
+}
+
+/// The differences between what was paid and what is right, which a stroke divides; or which of the two texts is refused,
+/// and why.
+pub fn adjusted(alloc: Global, question: &str) -> Result<String> {
+    let bytes = written_out(alloc, question)?;
+    let (paid, right) = match text_of(bytes.as_slice()).split_once('|') {
+        Some(texts) => texts,
+        None => bail!("two texts are asked for"),
+    };
+    let mut out = Vec::new(alloc);
+    Ok(match adjust(alloc, paid.as_bytes(), right.as_bytes(), &mut out) {
+        Ok(()) => String::from_str(alloc, text_of(out.as_slice()))?,
+        Err(AdjustRefusal::Text(TextRefusal { place, refusal })) => {
+            format!(in alloc; "text {place}: {refusal}")?
+        }
+        Err(AdjustRefusal::Lines(row)) => format!(in alloc; "row {row} has other lines")?,
     })
 }
 
