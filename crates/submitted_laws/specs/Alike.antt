@@ -54,3 +54,7 @@ pub record AreOfAnyOrder (names others : List (List ℕ)) (holds held : ℕ → 
 -- the file of each place has one text
 pub record HoldsOneText (holds : ℕ → List ℕ → Type 0) : Type 0 where
   pub same : (place : ℕ) (bytes other : List ℕ) → holds place bytes → holds place other → bytes ≡ other
+
+-- no file both has a text and cannot be read
+pub record RefusesNoText (holds : ℕ → List ℕ → Type 0) (refuses : ℕ → Type 0) : Type 0 where
+  pub none : (place : ℕ) (bytes : List ℕ) → holds place bytes → ¬ refuses place

@@ -9,8 +9,11 @@ ghost use Rattle.run_inputs.specs.declared.inputs.Inputs.{Inputs};
 ghost use Rattle.run_inputs.specs.declared.inputs.Tables.{Tables};
 ghost use Rattle.settle_run.specs.Settled as one_file;
 ghost use Rattle.settle_run.specs.Settled.{AreStatementsFor};
+ghost use Rattle.submitted_inputs.specs.Submitted.{IsFaultOf, IsReading};
+ghost use Rattle.submitted_inputs.specs.declared.fault.SubmittedFault.{SubmittedFault};
+ghost use Rattle.submitted_inputs.specs.declared.fault.SubmittedFault.TheVariants.{Room};
 ghost use Rattle.submitted_inputs.specs.declared.inputs.SubmittedTables.{SubmittedTables};
-ghost use Rattle.submitted_laws.specs.Alike.{AnswerAlike, AreOfAnyOrder, AreOfOneFile, HoldsOneText};
+ghost use Rattle.submitted_laws.specs.Alike.{AnswerAlike, AreOfAnyOrder, AreOfOneFile, HoldsOneText, RefusesNoText};
 ghost use Rattle.submitted_laws.specs.SubmittedStatements.{AreStatementsOf};
 ghost use Rattle.works_laws.specs.OneList.{AreOneLists};
 
@@ -49,6 +52,15 @@ pub fn law_inputs_of_submitters_have_one_text<F: SubmitterFiles>(files: &F)
     ensures { (names : List (List ℕ)) (inputs : SubmittedTables (List ℕ)) (text other : List ℕ)
         → HoldsOneText (F.holds files.now) → AreStatementsOf names (F.holds files.now) inputs text
         → AreStatementsOf names (F.holds files.now) inputs other → text ≡ other }
+{}
+
+/// Inputs that are read are refused for nothing but lack of memory, where each file has one text and no file both has a
+/// text and cannot be read.
+pub fn law_submitted_inputs_that_are_read_have_no_fault<F: SubmitterFiles>(files: &F)
+    ensures { (names : List (List ℕ)) (inputs : SubmittedTables (List ℕ)) (tables : Tables) (fault : SubmittedFault)
+        → HoldsOneText (F.holds files.now) → RefusesNoText (F.holds files.now) (F.refuses files.now)
+        → IsReading names (F.holds files.now) inputs tables
+        → IsFaultOf names (F.holds files.now) (F.refuses files.now) inputs fault → fault ≡ Room }
 {}
 
 /// One list of share lines for each work, in which each interest and party has an interest of its own under the name of
