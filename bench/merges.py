@@ -15,7 +15,8 @@ import tempfile
 from tools import plain
 from tools.damage import damaged
 from tools.made_up import realistic, small
-from tools.running import NAMES, parser_of_program, run, run_options, words_of, written
+from tools.running import (NAMES, answer_into_file, answer_over, parser_of_program, run,
+                           run_options, words_of, written)
 
 
 def parts_of(rng, usage):
@@ -57,33 +58,37 @@ def unlike(rng, text):
     return b"\n".join(rows)
 
 
+def numbered(texts):
+    """Files of these texts, by name, in their order."""
+    return {f"{n}.csv": text for n, text in enumerate(texts)}
+
+
 def merged(program, folder, texts):
     """The outcome of merging texts."""
-    paths = written(folder, {f"{n}.csv": text for n, text in enumerate(texts)})
-    return run([program, "merge", *paths])
+    return answer_over(program, "merge", folder, numbered(texts))
 
 
 def merged_into(program, folder, texts):
-    """The outcome of merging texts into a file, with the file's text behind what was printed."""
-    paths = written(folder, {f"{n}.csv": text for n, text in enumerate(texts)})
-    target = os.path.join(folder, "merged")
-    status, printed, message = run([program, "merge", "--output", target, *paths])
-    if status:
-        return status, b"a file" if os.path.exists(target) else printed, message
-    with open(target, "rb") as file:
-        text = file.read()
-    os.remove(target)
-    return status, printed + text, message
+    """The outcome of merging texts into a file."""
+    return answer_into_file(program, "merge", folder, numbered(texts))
+
+
+def made_files(rng, folder):
+    """The files of a made-up run, by name; a folder has them in between."""
+    return dict(zip(NAMES, small(rng) if rng.random() < 0.7 else realistic(rng, folder)))
+
+
+def statements(program, folder, files):
+    """The outcome of a run over files, which are given by name."""
+    paths = written(folder, files)
+    return run(words_of(program, "run", run_options(paths, (1, 1, 16))))
 
 
 def texts_of(rng, program, folder):
     """The statements of a made-up run by its parts, and of the whole; none if it is refused."""
-    made = os.path.join(folder, "made")
-    files = dict(zip(NAMES, small(rng) if rng.random() < 0.7 else realistic(rng, made)))
-    outcomes = []
-    for usage in [*parts_of(rng, files["usage"]), files["usage"]]:
-        paths = written(os.path.join(folder, "run"), {**files, "usage": usage})
-        outcomes.append(run(words_of(program, "run", run_options(paths, (1, 1, 16)))))
+    files = made_files(rng, os.path.join(folder, "made"))
+    outcomes = [statements(program, os.path.join(folder, "run"), {**files, "usage": usage})
+                for usage in [*parts_of(rng, files["usage"]), files["usage"]]]
     if any(outcome[0] for outcome in outcomes):
         return None
     return [outcome[1] for outcome in outcomes[:-1]], outcomes[-1][1]

@@ -64,3 +64,22 @@ def run(words, seconds=None, folder=None):
     except subprocess.TimeoutExpired:
         return f"no end in {seconds} s", b"", b""
     return done.returncode, done.stdout, message_in(done.stderr)
+
+
+def answer_over(program, command, folder, files):
+    """The outcome of a command over files, which are given by name and written into a folder."""
+    return run([program, command, *written(folder, files)])
+
+
+def answer_into_file(program, command, folder, files):
+    """The outcome of a command over files with `--output`, as if its file had been printed."""
+    paths, target = written(folder, files), os.path.join(folder, "output")
+    status, printed, message = run([program, command, "--output", target, *paths])
+    text = None
+    if os.path.exists(target):
+        with open(target, "rb") as file:
+            text = file.read()
+        os.remove(target)
+    if printed or (text is None) != (status != 0):
+        return status, f"printed {printed!r}, and into the file {text!r}".encode(), message
+    return status, text or b"", message

@@ -47,6 +47,29 @@ class Running(unittest.TestCase):
             with open(paths[1], "rb") as file:
                 self.assertEqual(file.read(), b"2")
 
+    def test_an_answer_in_a_file_is_as_if_it_had_been_printed(self):
+        scripts = {
+            'cat "$4" "$5" > "$3"': (0, b"12", b""),
+            'echo "p: no" >&2; exit 1': (1, b"", b"no\n"),
+            "printf 12": (0, b"printed b'12', and into the file None", b""),
+            'printf 1; cat "$4" > "$3"': (0, b"printed b'1', and into the file b'1'", b""),
+            'cat "$4" > "$3"; exit 4': (4, b"printed b'', and into the file b'1'", b""),
+        }
+        for script, answer in scripts.items():
+            with tempfile.TemporaryDirectory() as folder:
+                program, = running.written(folder, {"program": f"#!/bin/sh\n{script}\n".encode()})
+                os.chmod(program, 0o755)
+                files = {"b": b"1", "a": b"2"}
+                self.assertEqual(running.answer_into_file(program, "add", folder, files), answer)
+                self.assertEqual(os.path.exists(os.path.join(folder, "output")), False)
+
+    def test_an_answer_is_over_files_in_their_order(self):
+        with tempfile.TemporaryDirectory() as folder:
+            program, = running.written(folder, {"program": b'#!/bin/sh\ncat "$2" "$3"\n'})
+            os.chmod(program, 0o755)
+            answer = running.answer_over(program, "add", folder, {"b": b"1", "a": b"2"})
+            self.assertEqual(answer, (0, b"12", b""))
+
 
 class Measuring(unittest.TestCase):
     def test_a_cost_is_read_with_memory_in_megabytes(self):

@@ -4,8 +4,10 @@ import random
 import tempfile
 import unittest
 
-from bench import bench, fuzz, mail, merges, sizes
+from bench import adjustments, bench, fuzz, mail, merges, sizes
 from tools.running import NAMES
+from tools.small_inputs import registrations, usage
+from tools.statement_texts import MOST, read, text_of
 
 
 class Merges(unittest.TestCase):
@@ -24,6 +26,58 @@ class Merges(unittest.TestCase):
         text = b"L,A,u1,60\nS,A,1,60\nR,,1,60\nT,,1,60\n"
         changed = sum(merges.unlike(random.Random(seed), text) != text for seed in range(100))
         self.assertGreater(changed, 80)
+
+
+class Adjustments(unittest.TestCase):
+    TEXT = b"L,A,u1,60\nS,A,1,60\nM,OPEN,u1,40\nT,,1,40\nR,,3,100\n"
+
+    def test_corrected_files_have_as_many_usage_lines(self):
+        changed = set()
+        for seed in range(60):
+            rng = random.Random(seed)
+            files = {"cwr": registrations(rng).encode(), "usage": usage(rng).encode()}
+            others = adjustments.corrected(rng, files)
+            lines = [it["usage"].strip().count(b"\n") for it in (files, others)]
+            self.assertEqual(lines[0], lines[1])
+            changed |= {name for name in others if others[name] != files.get(name)}
+        self.assertEqual(changed, {"cwr", "usage", "payees"})
+
+    def test_a_share_line_has_other_shares_and_is_as_long(self):
+        line = b"SWT" + b"0" * 16 + b"A        100001000010000I2136"
+        others = {adjustments.other_shares(random.Random(seed), line) for seed in range(20)}
+        self.assertGreater(len(others), 10)
+        self.assertEqual({(it[:28], it[43:]) for it in others}, {(line[:28], line[43:])})
+        self.assertEqual(adjustments.other_shares(random.Random(1), b"HDR"), b"HDR")
+
+    def test_pairs_made_by_hand_are_of_one_list_and_of_large_amounts(self):
+        largest, alone = 0, 0
+        for seed in range(60):
+            texts = adjustments.by_hand(random.Random(seed), "", "")
+            both = [read(text) for text in texts]
+            self.assertEqual([text_of(it) for it in both], texts)
+            self.assertEqual(both[0].lines, both[1].lines)
+            for it in both:
+                self.assertEqual(list(it.payees), sorted(it.payees))
+                largest = max([largest, *(sum(amount for _, amount in portions)
+                                          for portions in it.payees.values())])
+            alone += set(both[0].payees) != set(both[1].payees)
+        self.assertGreater(largest, 5 * MOST)
+        self.assertGreater(alone, 20)
+
+    def test_a_text_of_other_lines_differs_in_these_alone(self):
+        for lines in (0, 1, 2, 10**18 - 1):
+            text = text_of(read(self.TEXT)._replace(lines=lines))
+            for seed in range(20):
+                found = read(adjustments.of_other_lines(random.Random(seed), text))
+                self.assertNotEqual(found.lines, lines)
+                self.assertTrue(0 <= found.lines <= 10**18)
+                self.assertEqual(text_of(found._replace(lines=lines)), text)
+
+    def test_a_spoilt_pair_has_another_text(self):
+        pairs = [adjustments.spoilt(random.Random(seed), [self.TEXT] * 2) for seed in range(60)]
+        self.assertGreater(sum(pair != [self.TEXT] * 2 for pair in pairs), 45)
+        self.assertLessEqual({(True, False), (False, True), (False, False)},
+                             {tuple(text == self.TEXT for text in pair) for pair in pairs})
 
 
 class Fuzz(unittest.TestCase):

@@ -1,10 +1,12 @@
-//! `royalty_run run`, `explain` and `check` once more, as one would write them by hand in Rust, with no proofs. The words and the
-//! text that comes out are the same. And `merge`, with the paths of statement texts behind it, merges them, as
-//! `merge_statements` does. With `--works` the three are over the files of several submitters, for which `works` and `parties`
-//! print tables to begin with. `import` makes usage lines of a sales report. `--mode` says how the book is filled: one (where there is no such word), threads, channels,
-//! batches, linked, pool, rings or parked. With `--times` it says how long each phase took. With `--whole` the usage list may
-//! have any number of lines, and 4,294,967,295 bytes.
+//! `royalty_run run`, `explain` and `check` once more, as one would write them by hand in Rust, with no proofs. The
+//! words and the text that comes out are the same. And `merge`, with the paths of statement texts behind it, merges
+//! them, as `merge_statements` does; `adjust PAID RIGHT` prints the difference between two such texts. With `--works`
+//! the three are over the files of several submitters, for which `works` and `parties` print tables to begin with.
+//! `import` makes usage lines of a sales report. `--mode` says how the book is filled: one (where there is no such
+//! word), threads, channels, batches, linked, pool, rings or parked. With `--times` it says how long each phase took.
+//! With `--whole` the usage list may have any number of lines, and 4,294,967,295 bytes.
 
+mod adjust;
 mod arguments;
 mod book;
 mod check;
@@ -308,22 +310,41 @@ fn check_several_main() -> Result<ExitCode, ExitCode> {
     print_report(&text, sound)
 }
 
-/// Prints the statements of several texts together.
-fn merge_main() -> Result<ExitCode, ExitCode> {
-    let mut all = merge::Statements::default();
-    for path in std::env::args().skip(2) {
-        let text = std::fs::read(&path).map_err(|_| fail(4, format!("cannot read {path}")))?;
-        match merge::Statements::read(&text) {
-            Ok(others) => all.join(others),
-            Err(rows::Fault(number, row)) => {
-                return Err(fail(1, format!("statement fault {number} at row {} of {path}", row.unwrap_or(0))));
-            }
-        }
-    }
+/// What the statement text at a path says.
+fn statements(path: &str) -> Result<merge::Statements, ExitCode> {
+    let text = std::fs::read(path).map_err(|_| fail(4, format!("cannot read {path}")))?;
+    merge::Statements::read(&text).map_err(|fault| statement_refused(path, fault))
+}
+
+fn statement_refused(path: &str, rows::Fault(number, row): rows::Fault) -> ExitCode {
+    fail(1, format!("statement fault {number} at row {} of {path}", row.unwrap_or(0)))
+}
+
+fn print_statements(all: &merge::Statements) -> Result<ExitCode, ExitCode> {
     match all.write(&mut std::io::BufWriter::new(std::io::stdout())) {
         Ok(()) => Ok(ExitCode::SUCCESS),
         Err(_) => Err(fail(4, "cannot write".into())),
     }
+}
+
+/// Prints the statements of several texts together.
+fn merge_main() -> Result<ExitCode, ExitCode> {
+    let mut all = merge::Statements::default();
+    for path in std::env::args().skip(2) {
+        all.join(statements(&path)?);
+    }
+    print_statements(&all)
+}
+
+/// Prints the difference between the statements that were paid and those that are right.
+fn adjust_main() -> Result<ExitCode, ExitCode> {
+    let paths: Vec<_> = std::env::args().skip(2).collect();
+    let [path_of_paid, path_of_right] = &paths[..] else {
+        return Err(fail(2, "adjust PAID RIGHT".into()));
+    };
+    let (paid, right) = (statements(path_of_paid)?, statements(path_of_right)?);
+    let difference = adjust::difference(&paid, &right).map_err(|fault| statement_refused(path_of_right, fault))?;
+    print_statements(&difference)
 }
 
 fn fail(status: u8, text: String) -> ExitCode {
@@ -366,6 +387,7 @@ fn main() -> ExitCode {
         Some("explain") => explain_main(),
         Some("check") => check_main(),
         Some("merge") => merge_main(),
+        Some("adjust") => adjust_main(),
         Some("import") => import::main(),
         Some("works") => table_main(tables::works),
         Some("parties") => table_main(tables::parties),

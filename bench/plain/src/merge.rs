@@ -4,7 +4,8 @@ use crate::rows::{Fault, quoted};
 use std::collections::BTreeMap;
 use std::io::Write;
 
-const MOST_AMOUNT: u64 = 1_000_000_000_000;
+/// The largest amount of a row, either way.
+pub const MOST_AMOUNT: u64 = 1_000_000_000_000;
 
 const MOST_LINES: u64 = 1_000_000_000_000_000_000;
 
@@ -16,16 +17,19 @@ const THIRD: u8 = 4;
 const FOURTH: u8 = 5;
 const END: u8 = 6;
 
+/// The reasons why nobody gets an amount.
+pub const REASONS: [&[u8]; 4] = [b"WORK", b"LAND", b"OVER", b"OPEN"];
+
 /// Portions as they stand, how many they are and what they come to.
 #[derive(Default)]
-struct Portions {
+pub struct Portions {
     rows: Vec<u8>,
-    count: u64,
+    pub count: u64,
     sum: i128,
 }
 
 impl Portions {
-    fn add(&mut self, line: &[u8], amount: i64) {
+    pub fn add(&mut self, line: &[u8], amount: i64) {
         self.rows.extend_from_slice(line);
         self.count += 1;
         self.sum += i128::from(amount);
@@ -36,15 +40,24 @@ impl Portions {
         self.count += others.count;
         self.sum += others.sum;
     }
+
+    /// Of each row whose it is, its use and its amount.
+    pub fn iter(&self) -> impl Iterator<Item = (Vec<u8>, Vec<u8>, i64)> {
+        self.rows.split_inclusive(|&byte| byte == b'\n').map(|line| {
+            let [_, whose, usage, field] = fields(line).expect("a row that was read");
+            let amount = portion(&usage, &field).expect("an amount that was read");
+            (whose, usage, amount)
+        })
+    }
 }
 
 /// What texts say together.
 #[derive(Default)]
 pub struct Statements {
-    payees: BTreeMap<Vec<u8>, Portions>,
-    rests: Portions,
-    lines: u64,
-    total: i128,
+    pub payees: BTreeMap<Vec<u8>, Portions>,
+    pub rests: Portions,
+    pub lines: u64,
+    pub total: i128,
 }
 
 /// Which rows come next.
@@ -99,7 +112,7 @@ impl Statements {
                 Ok(Next::Payee)
             }
             (Next::Payee | Next::Rest, b"M") => {
-                check([b"WORK", b"LAND", b"OVER", b"OPEN"].iter().any(|reason| whose == *reason), WHOSE)?;
+                check(REASONS.contains(&&whose[..]), WHOSE)?;
                 self.rests.add(line, portion(&third, &fourth)?);
                 Ok(Next::Rest)
             }
@@ -118,6 +131,12 @@ impl Statements {
             }
             _ => Err(KIND),
         }
+    }
+
+    /// How many rows its text has.
+    pub fn rows(&self) -> u64 {
+        let payees: u64 = self.payees.values().map(|portions| portions.count + 1).sum();
+        payees + self.rests.count + 2
     }
 
     /// What another text says is added behind it.
