@@ -79,7 +79,6 @@ compare:
 	python3 -m bench.compare --program $(PROGRAM) --cases 2000 --submitters
 	python3 -m bench.properties --program $(PROGRAM)
 	python3 -m bench.merges --program $(PROGRAM) --cases 2000
-	python3 -m bench.adjustments --program $(PROGRAM) --cases 2000
 	python3 -m bench.imports --program $(PROGRAM) --cases 2000 --largest
 
 fuzz:

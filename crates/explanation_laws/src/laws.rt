@@ -29,7 +29,7 @@ ghost use Rattle.submitted_inputs.specs.Submitted.{IsReading};
 ghost use Rattle.submitted_inputs.specs.declared.fault.SubmittedFault.{SubmittedFault};
 ghost use Rattle.submitted_inputs.specs.declared.fault.SubmittedFault.TheVariants as submitted_fault;
 ghost use Rattle.submitted_inputs.specs.declared.inputs.SubmittedTables.{SubmittedTables};
-ghost use Rattle.submitted_laws.specs.Alike.{HoldsOneText};
+ghost use Rattle.submitted_laws.specs.Alike.{HoldsOneText, RefusesNoText};
 
 use submitted_inputs::SubmitterFiles;
 
@@ -79,13 +79,13 @@ pub fn law_a_report_on_submitters_is_sound_where_no_input_has_a_fault<F: Submitt
 pub fn law_a_run_over_submitters_has_one_first_fault<F: SubmitterFiles>(files: &F)
     ensures run { (names : List (List ℕ)) (inputs : SubmittedTables (List ℕ)) (fault other : SubmittedFault)
         → HoldsOneText (F.holds files.now)
-        → ((place : ℕ) (bytes : List ℕ) → F.holds files.now place bytes → ¬ (F.refuses files.now place))
+        → RefusesNoText (F.holds files.now) (F.refuses files.now)
         → over_submitters.IsFaultOf names (F.holds files.now) (F.refuses files.now) inputs fault
         → over_submitters.IsFaultOf names (F.holds files.now) (F.refuses files.now) inputs other
         → ¬ (fault ≡ submitted_fault.Room) → ¬ (other ≡ submitted_fault.Room) → fault ≡ other }
     ensures report { (names paths : List (List ℕ)) (inputs : SubmittedTables (List ℕ)) (found : SubmittedFound)
         (fault other : SubmittedFault) → length paths ≡ length names → HoldsOneText (F.holds files.now)
-        → ((place : ℕ) (bytes : List ℕ) → F.holds files.now place bytes → ¬ (F.refuses files.now place))
+        → RefusesNoText (F.holds files.now) (F.refuses files.now)
         → on_submitters.IsFoundIn names paths (F.holds files.now) inputs found
         → first_submitted_fault found ≡ Some fault
         → over_submitters.IsFaultOf names (F.holds files.now) (F.refuses files.now) inputs other
