@@ -57,13 +57,15 @@ pub fn adjusted(alloc: Global, question: &str) -> Result<String> {
         None => bail!("two texts are asked for"),
     };
     let mut out = Vec::new(alloc);
-    Ok(match adjust(alloc, paid.as_bytes(), right.as_bytes(), &mut out) {
-        Ok(()) => String::from_str(alloc, text_of(out.as_slice()))?,
-        Err(AdjustRefusal::Text(TextRefusal { place, refusal })) => {
-            format!(in alloc; "text {place}: {refusal}")?
-        }
-        Err(AdjustRefusal::Lines(row)) => format!(in alloc; "row {row} has other lines")?,
-    })
+    Ok(
+        match adjust(alloc, paid.as_bytes(), right.as_bytes(), &mut out) {
+            Ok(()) => String::from_str(alloc, text_of(out.as_slice()))?,
+            Err(AdjustRefusal::Text(TextRefusal { place, refusal })) => {
+                format!(in alloc; "text {place}: {refusal}")?
+            }
+            Err(AdjustRefusal::Lines(row)) => format!(in alloc; "row {row} has other lines")?,
+        },
+    )
 }
 
 /// How many rows texts merge to, and the last of them.
