@@ -6,7 +6,8 @@ ghost use Rattle.distribution_documents.specs.Written.{AreWritten};
 ghost use Rattle.document_run.specs.Documented.{AreReady};
 ghost use Rattle.document_run.specs.Submitters.{AreSubmittedDocuments, IsNamedSubmitted};
 ghost use Rattle.document_run.specs.Wordings.{CanBeShown, wording_shown};
-ghost use Rattle.submitted_inputs.specs.Submitted.{IsFaultOf, map_tables};
+ghost use Rattle.run_inputs.specs.declared.inputs.Tables.{Tables};
+ghost use Rattle.submitted_inputs.specs.Submitted.{IsFaultOf, IsReading, map_tables};
 
 use crate::names::{names_in_files, names_in_tables};
 use crate::tables::{NamedTables, document_tables};
@@ -42,6 +43,8 @@ pub fn document_submitted<
         × AreSubmittedDocuments inputs.entry.submitters.now (S.holds inputs.entry.files.now)
         (map_tables I.bytes inputs.entry.tables.now) (wording_shown wording.now) files
         × AreWritten F.has written.items files)) }
+    ensures read { IfOk result (λ _. (tables : Tables) × IsReading inputs.entry.submitters.now
+        (S.holds inputs.entry.files.now) (map_tables I.bytes inputs.entry.tables.now) tables) }
     ensures fault { IfErr result (IsFaultOf inputs.entry.submitters.now (S.holds inputs.entry.files.now)
         (S.refuses inputs.entry.files.now) (map_tables I.bytes inputs.entry.tables.now)) }
 {

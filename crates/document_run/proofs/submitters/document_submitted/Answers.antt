@@ -22,3 +22,6 @@ returns-clause-documents g c =
     × AreWritten has written.items files}
     c.in_ok-document_tables.ensures
     (λ written made. (made.0, record { tables = named.tables; read = read.read; titles = named.titles; names = items_of named.names; named_by = read.named_by; documents = made.1 }, made.2))
+
+pub returns-clause-read : goal.returns-clause-read
+returns-clause-read g c = (c.in_ok-named.named.tables, c.in_ok-named.ensures.read.read)
