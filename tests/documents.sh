@@ -201,6 +201,10 @@ row,usage,work,title,territory,right,amount,share,base,portion
 2,"'=HYPERLINK(""http://a.b"",""x"")",H2,"&amp; &lt;b> ""Q"" 'q'",276,M,500,4000,10000,200
 END
 same 'a sheet of formulas' sheet hostile.2/payees/0004-1-1.csv
+# A payee whose total is below 0 is told what that means, and no other is.
+means='Reversals come to more than the other uses, so nothing is payable: you owe this amount.'
+told=$(cd hostile.2/payees && grep -lF "$means" -- *.html) || true
+[ "$told" = 0005-OWES.html ] || fail "told that they owe an amount: $told"
 head -n 1 usage.csv >empty.csv
 check 'no usage lines' 0 '' "${files[@]/usage.csv/empty.csv}" --to empty --title 'Dé\x1b'
 agree empty 2
