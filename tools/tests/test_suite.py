@@ -1,7 +1,10 @@
 """The steps of `make test`: which are run, in which order, and what fails with them."""
+import glob
+import os
 import time
 import unittest
 
+from tools.crates import ROOT
 from tools.suite import Failed, Step, chosen, run, spoilt, steps_of, tables_of
 
 LISTED = {"low": [], "middle": ["low"], "top": ["middle"], "apart": []}
@@ -106,6 +109,15 @@ class Spoilt(unittest.TestCase):
     def test_each_driver_of_tables_has_some(self):
         self.assertIn("merges.txt", tables_of("run_rows"))
         self.assertEqual(tables_of("royalty_run"), [])
+
+    def test_each_table_is_asked(self):
+        for args in glob.glob(os.path.join(ROOT, "crates", "*", "args")):
+            folder = os.path.dirname(args)
+            for path in glob.glob(os.path.join(folder, "data", "*.txt")):
+                with open(path, encoding="latin-1") as file:
+                    has_rows = any(line.startswith("[") for line in file)
+                if has_rows:
+                    self.assertIn(os.path.basename(path), tables_of(os.path.basename(folder)))
 
 
 class StepsOf(unittest.TestCase):
