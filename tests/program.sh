@@ -431,6 +431,17 @@ rm long.csv part1 part2 part3 whole
 # Of many faults the first hundred are told, and how many more there are.
 awk 'BEGIN { print "usage,work,territory,right,amount"; for (n = 1; n <= 6000; n++) print "u,W,276,X,1" }' >faulty.csv
 check 'a check of six thousand faults' 1 'faulty.csv: further faults: 5900\n' '' bash -c '"$0" "$@" >told; status=$?; grep further told; exit "$status"' "$program" check --tis territories.csv --cwr works.cwr --usage faulty.csv
+awk 'BEGIN { printf "NWR%016d%-60sEN%-14s\n", 0, "", "W"
+    for (n = 1; n <= 6000; n++) printf "SPT%016d%-15s%05d%05d%05dJ2136\n", 0, n, 1, 1, 1 }' >faulty.cwr
+check 'a check of six thousand share lines with faults' 1 'faulty.cwr: further faults: 5900\n' '' bash -c '"$0" "$@" >told; status=$?; grep further told; exit "$status"' "$program" check --tis territories.csv --cwr faulty.cwr --usage usage.csv
+# A line of several submitters is explained where there are six thousand accounts.
+awk 'BEGIN { for (n = 1; n <= 6000; n++)
+    printf "NWR%016d%-60sEN%-14s\nSPT%016d%-15s%05d%05d%05dI2136\n", 0, "", n, 0, n, 10000, 10000, 10000 }' >many.cwr
+printf 'usage,work,territory,right,amount\nu,A:6000,276,P,5\n' >one.csv
+many=(--cwr A=many.cwr --cwr B=works.cwr)
+check 'a table of six thousand works' 0 '' '' bash -c '"$0" "$@" >many.works' "$program" works "${many[@]}"
+check 'an explanation among six thousand accounts' 0 'P,5559,A:6000,10000,5,0,1,5\nP,0,,0,0,0,2,0\n' '' \
+    bash -c 'set -o pipefail; "$0" "$@" | grep ^P' "$program" explain --tis territories.csv --works many.works "${many[@]}" --usage one.csv --row 1
 
 # Memory is refused for a large file.
 check 'little memory' 3 '' 'royalty_run: out of room\n' bash -c 'ulimit -v 65536; exec "$0" "$@"' "$program" run --tis large --cwr works.cwr --usage usage.csv "${plan[@]}"
