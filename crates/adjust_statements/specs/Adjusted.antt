@@ -6,13 +6,15 @@ use Rattle.line_split.specs.ReasonTexts.{reason_text}
 use Rattle.line_split.specs.declared.reason.Reason.{Reason}
 use Rattle.line_split.specs.declared.reason.Reason.TheVariants.{Land, Open, Over, Work}
 use Rattle.merge_statements.specs.Merged.{portions_of}
-use Rattle.merge_statements.specs.Statements.{AreStatements, IsCount, Portion, Rest, Statements, count_of_portions, text_of_statements}
+use Rattle.merge_statements.specs.Statements.{AreStatements, IsCount, Portion, Rest, Statements, count_of_portions}
+use Rattle.merge_statements.specs.Statements.{text_of_statements}
 use Rattle.adjust_statements.specs.Differences.{AreRowsOfDifferences}
 
 -- what nobody gets for a reason, as portions
 abbrev pub rests_for : List ℕ → List Rest → List Portion
 rests_for reason rests =
-    map (λ rest. record { usage = rest.usage; amount = rest.amount }) (filter (λ rest. bytes_eq rest.reason reason) rests)
+    map (λ rest. record { usage = rest.usage; amount = rest.amount })
+    (filter (λ rest. bytes_eq rest.reason reason) rests)
 
 -- portions that nobody gets for this reason
 abbrev pub as_rests : List ℕ → List Portion → List Rest
@@ -27,10 +29,12 @@ reasons = Work ∷ Land ∷ Over ∷ Open ∷ []
 -- was paid something else than is right, and so has nobody, reason by reason. No usage line is counted again.
 pub record AreAdjusted (paid right answer : Statements) : Type 0 where
   pub sound : AreStatements answer
-  pub payees : (payee : List ℕ) → AreRowsOfDifferences (portions_of payee paid) (portions_of payee right) (portions_of payee answer)
+  pub payees : (payee : List ℕ) → AreRowsOfDifferences (portions_of payee paid) (portions_of payee right)
+      (portions_of payee answer)
   pub rests : (reason : Reason) → AreRowsOfDifferences (rests_for (reason_text reason) paid.rests)
       (rests_for (reason_text reason) right.rests) (rests_for (reason_text reason) answer.rests)
-  pub by_reason : answer.rests ≡ flat_map (λ reason. as_rests (reason_text reason) (rests_for (reason_text reason) answer.rests)) reasons
+  pub by_reason : answer.rests
+      ≡ flat_map (λ reason. as_rests (reason_text reason) (rests_for (reason_text reason) answer.rests)) reasons
   pub amount : paid.amount +ℤ answer.amount ≡ right.amount
   pub same_lines : paid.lines ≡ right.lines
   pub lines : answer.lines ≡ 0

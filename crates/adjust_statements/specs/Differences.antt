@@ -1,5 +1,6 @@
 -- Two lists of portions, use by use.
-use Rattle.std.specs.Prelude.{ℕ, ℤ, ◌≡◌, ◌<◌, ◌/◌, ◌%◌, ◌+ℤ◌, ◌++◌, ◌∷◌, [], List, All, filter, flat_map, map, nat_lt, replicate, unsigned_abs}
+use Rattle.std.specs.Prelude.{ℕ, ℤ, ◌≡◌, ◌<◌, ◌/◌, ◌%◌, ◌+ℤ◌, ◌++◌, ◌∷◌, [], List, All, filter, flat_map, map, nat_lt}
+use Rattle.std.specs.Prelude.{replicate, unsigned_abs}
 use Rattle.std.specs.Cmp.Lexicographic.{slice_cmp}
 use Rattle.std.specs.List.Sorted.{IsStrictlySortedBy}
 use Rattle.std.specs.Ordering.{nat_cmp}
@@ -9,7 +10,8 @@ use Rattle.merge_statements.specs.Statements.{Portion}
 
 -- what the portions of a use come to
 abbrev pub sum_of : List ℕ → List Portion → ℤ
-sum_of usage portions = int_sum_by (λ portion. portion.amount) (filter (λ portion. bytes_eq portion.usage usage) portions)
+sum_of usage portions =
+    int_sum_by (λ portion. portion.amount) (filter (λ portion. bytes_eq portion.usage usage) portions)
 
 -- The uses that come to something else in the second list than in the first, each once and in byte order, and by how
 -- much. So the first and the differences come to the second, use by use.

@@ -16,7 +16,8 @@ use Rattle.merge_statements.specs.Places.{at_first}
 use Rattle.merge_statements.specs.Refused.{IsOfSystem}
 use Rattle.merge_statements.specs.SoFar.{EndsAs, Ending, HasPassed, IsBehind, IsLooked, IsRead, TakesOne, Unread}
 use Rattle.merge_statements.specs.SoFar.{order, payees_of, portions_in, total_of_portions}
-use Rattle.merge_statements.specs.Statements.{IsAmount, IsCount, IsName, IsPortion, IsRest, IsStatement, Portion, Rest, Statement}
+use Rattle.merge_statements.specs.Statements.{IsAmount, IsCount, IsName, IsPortion, IsRest, IsStatement, Portion, Rest}
+use Rattle.merge_statements.specs.Statements.{Statement}
 use Rattle.merge_statements.specs.Statements.{portion_row, rest_row, statement_rows, total_of, total_of_rests}
 use Rattle.adjust_statements.specs.Adjusted.{WritesAdjustment, as_rests, reasons, rests_for}
 use Rattle.adjust_statements.specs.Differences.{AreRowsOfDifferences, rows_of, sum_of}
@@ -65,7 +66,8 @@ signed_by false amount = amount
 
 -- the amounts of the rows under a name
 abbrev pub with_row : (is_paid : Bool) → List ℕ → Rest → List Portion → List Portion
-with_row is_paid name row sums = if bytes_eq row.reason name then with_sum row.usage (signed_by is_paid row.amount) sums else sums
+with_row is_paid name row sums =
+    if bytes_eq row.reason name then with_sum row.usage (signed_by is_paid row.amount) sums else sums
 
 abbrev pub with_rows : (is_paid : Bool) → List ℕ → List Rest → List Portion → List Portion
 with_rows is_paid name [] sums = sums
@@ -111,7 +113,8 @@ statement_of payee [] = []
 statement_of payee (portion ∷ portions) = record { payee = payee; portions = portion ∷ portions } ∷ []
 
 -- the differences between portions of a payee were written as its statement
-pub record WritesDifferences (payee : List ℕ) (paid right : List Portion) (before after : Option (List ℕ)) (count : ℕ) (total : ℤ) : Type 0 where
+pub record WritesDifferences (payee : List ℕ) (paid right : List Portion) (before after : Option (List ℕ))
+    (count : ℕ) (total : ℤ) : Type 0 where
   pub rows : List Portion
   pub are : AreRowsOfDifferences paid right rows
   pub sound : All IsPortion rows
@@ -131,7 +134,8 @@ pub record ArePayeesRows (payee : List ℕ) (paid right : List Portion) (paid_te
   pub few : IsCount (length paid + length right)
 
 -- the portions of a payee were passed over in both texts, and their differences written as its statement
-pub record AdjustsPayee (payee : List ℕ) (paid_old right_old paid_new right_new : Unread) (before after : Option (List ℕ))
+pub record AdjustsPayee (payee : List ℕ) (paid_old right_old paid_new right_new : Unread)
+    (before after : Option (List ℕ))
     (count : ℕ) (total : ℤ) : Type 0 where
   pub paid : List Portion
   pub right : List Portion
@@ -154,7 +158,8 @@ abbrev pub AreUpTo : List ℕ → List Statement → Type 0
 AreUpTo last statements = All (λ statement. ¬ (order last statement.payee ≡ Less)) statements
 
 -- The statements of all payees up to one were passed over in both texts, and the differences written.
-pub record AreAdjustedSoFar (paid_start right_start : Option (List ℕ)) (paid right : Unread) (before after : Option (List ℕ))
+pub record AreAdjustedSoFar (paid_start right_start : Option (List ℕ)) (paid right : Unread)
+    (before after : Option (List ℕ))
     (count : ℕ) (total : ℤ) : Type 0 where
   pub last : List ℕ
   pub paid_done : List Statement
@@ -169,7 +174,8 @@ pub record AreAdjustedSoFar (paid_start right_start : Option (List ℕ)) (paid r
   pub up_to : AreUpTo last answer
   pub sound : All IsStatement answer
   pub rising : IsStrictlySortedBy order (payees_of answer)
-  pub each : (payee : List ℕ) → AreRowsOfDifferences (portions_in payee paid_done) (portions_in payee right_done) (portions_in payee answer)
+  pub each : (payee : List ℕ) → AreRowsOfDifferences (portions_in payee paid_done) (portions_in payee right_done)
+      (portions_in payee answer)
   pub adds : int_sum_by total_of paid_done +ℤ int_sum_by total_of answer ≡ int_sum_by total_of right_done
   pub counted : count ≡ sum_by (λ statement. length statement.portions) answer
   pub few : count ≤ paid.at.portions + right.at.portions
@@ -178,7 +184,8 @@ pub record AreAdjustedSoFar (paid_start right_start : Option (List ℕ)) (paid r
   pub written : Appends before after (text_of (flat_map statement_rows answer))
 
 -- the same of texts that stood before their first rows
-abbrev pub AdjustsPayees : (paid_old right_old paid_new right_new : Unread) → (before after : Option (List ℕ)) → (count : ℕ) → (total : ℤ) → Type 0
+abbrev pub AdjustsPayees : (paid_old right_old paid_new right_new : Unread) → (before after : Option (List ℕ))
+    → (count : ℕ) → (total : ℤ) → Type 0
 AdjustsPayees paid_old right_old paid_new right_new before after count total =
     (paid_start right_start : Option (List ℕ)) → IsOpen paid_start paid_old → IsOpen right_start right_old
     → AreAdjustedSoFar paid_start right_start paid_new right_new before after count total
@@ -186,12 +193,14 @@ AdjustsPayees paid_old right_old paid_new right_new before after count total =
 -- ---- what nobody gets
 
 -- the differences between what nobody gets for a reason were written
-pub record AdjustsReason (reason : List ℕ) (paid right : List Rest) (before after : Option (List ℕ)) (count : ℕ) (total : ℤ) : Type 0 where
+pub record AdjustsReason (reason : List ℕ) (paid right : List Rest) (before after : Option (List ℕ)) (count : ℕ)
+    (total : ℤ) : Type 0 where
   pub rows : List Portion
   pub are : AreRowsOfDifferences (rests_for reason paid) (rests_for reason right) rows
   pub sound : All IsPortion rows
   pub few : length rows ≤ length (rests_for reason paid) + length (rests_for reason right)
-  pub adds : total_of_portions (rests_for reason paid) +ℤ total_of_portions rows ≡ total_of_portions (rests_for reason right)
+  pub adds : total_of_portions (rests_for reason paid) +ℤ total_of_portions rows
+      ≡ total_of_portions (rests_for reason right)
   pub counted : count ≡ length rows
   pub sum : total ≡ total_of_portions rows
   pub written : Appends before after (text_of (map rest_row (as_rests reason rows)))
@@ -210,7 +219,8 @@ pub record AdjustsRests (paid right : List Rest) (before after : Option (List �
   pub sound : All IsRest rests
   pub each : (reason : Reason) → AreRowsOfDifferences (rests_for (reason_text reason) paid)
       (rests_for (reason_text reason) right) (rests_for (reason_text reason) rests)
-  pub by_reason : rests ≡ flat_map (λ reason. as_rests (reason_text reason) (rests_for (reason_text reason) rests)) reasons
+  pub by_reason : rests
+      ≡ flat_map (λ reason. as_rests (reason_text reason) (rests_for (reason_text reason) rests)) reasons
   pub few : length rests ≤ length paid + length right
   pub adds : total_of_rests paid +ℤ total_of_rests rests ≡ total_of_rests right
   pub counted : count ≡ length rests
@@ -237,13 +247,16 @@ IsSystemRefusal (Lines row) = ⊥
 
 -- so much was read of both texts, and they have no differences
 abbrev pub RefusesRead : (paid right : Unread) → AdjustRefusal → Type 0
-RefusesRead paid right why = (paid_start right_start : Option (List ℕ)) → IsRead paid_start paid → IsRead right_start right → IsRefusalFor paid_start right_start why
+RefusesRead paid right why = (paid_start right_start : Option (List ℕ)) → IsRead paid_start paid
+    → IsRead right_start right → IsRefusalFor paid_start right_start why
 
 -- the same of texts that stood before their first rows
 abbrev pub RefusesOpen : (paid right : Unread) → AdjustRefusal → Type 0
-RefusesOpen paid right why = (paid_start right_start : Option (List ℕ)) → IsOpen paid_start paid → IsOpen right_start right → IsRefusalFor paid_start right_start why
+RefusesOpen paid right why = (paid_start right_start : Option (List ℕ)) → IsOpen paid_start paid
+    → IsOpen right_start right → IsRefusalFor paid_start right_start why
 
 -- and their differences were written
 abbrev pub AdjustsOpen : (paid right : Unread) → (before after : Option (List ℕ)) → Type 0
 AdjustsOpen paid right before after =
-    (paid_start right_start : Option (List ℕ)) → IsOpen paid_start paid → IsOpen right_start right → WritesAdjustment paid_start right_start before after
+    (paid_start right_start : Option (List ℕ)) → IsOpen paid_start paid → IsOpen right_start right
+    → WritesAdjustment paid_start right_start before after

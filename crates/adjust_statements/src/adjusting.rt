@@ -7,7 +7,8 @@ ghost use Rattle.merge_statements.specs.SoFar.{CanEnd, output};
 ghost use Rattle.merge_statements.specs.Statements.{total_row};
 ghost use Rattle.adjust_statements.specs.Adjusted.{WritesAdjustment};
 ghost use Rattle.adjust_statements.specs.Refused.{IsRefusalFor};
-ghost use Rattle.adjust_statements.specs.SoFar.{AdjustsOpen, AdjustsPayees, EndBoth, IsOpen, IsSystemRefusal, RefusesOpen, RefusesRead};
+ghost use Rattle.adjust_statements.specs.SoFar.{AdjustsOpen, AdjustsPayees, EndBoth, IsOpen, IsSystemRefusal};
+ghost use Rattle.adjust_statements.specs.SoFar.{RefusesOpen, RefusesRead};
 
 use crate::counting::both;
 use crate::payee::{adjust_payee, has_too_many, next_payee};
@@ -19,17 +20,18 @@ use std::alloc::Global;
 use std::io::{Read, Write};
 
 /// Compares two texts of statements of the same usage lines, of what was paid and of what is right, and adds their
-/// differences to an output, as a text of statements that can be merged with others. Both are read side by side, once and
-/// through small buffers; in memory are the rows of one payee, or of what nobody gets. A text that `merge` refuses is
-/// refused, for the same fault, and so are texts of other numbers of usage lines. Then the output may have a beginning
-/// already.
+/// differences to an output, as a text of statements that can be merged with others. Both are read side by side, once
+/// and through small buffers; in memory are the rows of one payee, or of what nobody gets. A text that `merge` refuses
+/// is refused, for the same fault, and so are texts of other numbers of usage lines. Then the output may have a
+/// beginning already.
 pub fn adjust<R: Read + Drop, W: Write>(
     alloc: Global,
     paid: R,
     right: R,
     out: &mut W,
 ) -> Result<(), AdjustRefusal>
-    ensures adjusted { OnOk result (WritesAdjustment (R.remaining paid) (R.remaining right) (W.contents out.old) (W.contents out.new)) }
+    ensures adjusted { OnOk result (WritesAdjustment (R.remaining paid) (R.remaining right) (W.contents out.old)
+        (W.contents out.new)) }
     ensures refused { IfErr result (IsRefusalFor (R.remaining paid) (R.remaining right)) }
 {
     let paid = match Part::open(alloc, paid) {
@@ -56,8 +58,10 @@ fn adjust_texts<R: Read + Drop, W: Write>(
     page: &mut Page,
     out: &mut W,
 ) -> Result<(), AdjustRefusal>
-    requires { (paid_start : Option (List ℕ)) × (right_start : Option (List ℕ)) × IsOpen paid_start texts.old.paid × IsOpen right_start texts.old.right }
-    ensures adjusted { OnOk result (AdjustsOpen texts.old.paid texts.old.right (output W.contents out.old page.old) (output W.contents out.new page.new)) }
+    requires { (paid_start : Option (List ℕ)) × (right_start : Option (List ℕ)) × IsOpen paid_start texts.old.paid
+        × IsOpen right_start texts.old.right }
+    ensures adjusted { OnOk result (AdjustsOpen texts.old.paid texts.old.right (output W.contents out.old page.old)
+        (output W.contents out.new page.new)) }
     ensures refused { IfErr result (RefusesOpen texts.old.paid texts.old.right) }
 {
     let mut rows = Rows {
@@ -74,8 +78,8 @@ fn adjust_texts<R: Read + Drop, W: Write>(
     push_total(page, out, "R", (0, both(paid, left).1))
 }
 
-/// Compares the statements of all payees, in byte order, and adds their differences. Answers how many rows these have and
-/// what they come to.
+/// Compares the statements of all payees, in byte order, and adds their differences. Answers how many rows these have
+/// and what they come to.
 fn adjust_payees<R: Read + Drop, W: Write>(
     alloc: Global,
     texts: &mut Texts<R>,
@@ -83,7 +87,8 @@ fn adjust_payees<R: Read + Drop, W: Write>(
     page: &mut Page,
     out: &mut W,
 ) -> Result<(u64, i128), AdjustRefusal>
-    requires { (paid_start : Option (List ℕ)) × (right_start : Option (List ℕ)) × IsOpen paid_start texts.old.paid × IsOpen right_start texts.old.right }
+    requires { (paid_start : Option (List ℕ)) × (right_start : Option (List ℕ)) × IsOpen paid_start texts.old.paid
+        × IsOpen right_start texts.old.right }
     ensures adjusted { IfOk result (λ sum. AdjustsPayees texts.old.paid texts.old.right texts.new.paid texts.new.right
         (output W.contents out.old page.old) (output W.contents out.new page.new) sum.0 sum.1) }
     ensures few { IfOk result (λ sum. sum.0 ≤ 10 ^ 18) }
@@ -107,8 +112,8 @@ fn adjust_payees<R: Read + Drop, W: Write>(
     Err(refused(0, Refusal::Many))
 }
 
-/// Passes over both texts from behind their last payees to their ends, and puts the rows of what nobody gets into memory.
-/// Both have to be of as many usage lines.
+/// Passes over both texts from behind their last payees to their ends, and puts the rows of what nobody gets into
+/// memory. Both have to be of as many usage lines.
 fn end_texts<R: Read + Drop>(
     alloc: Global,
     texts: &mut Texts<R>,
@@ -116,7 +121,8 @@ fn end_texts<R: Read + Drop>(
 ) -> Result<(), AdjustRefusal>
     requires paid { CanEnd texts.old.paid }
     requires right { CanEnd texts.old.right }
-    ensures ended { OnOk result (EndBoth texts.old.paid texts.old.right texts.new.paid texts.new.right rows.new.paid.items rows.new.right.items) }
+    ensures ended { OnOk result (EndBoth texts.old.paid texts.old.right texts.new.paid texts.new.right
+        rows.new.paid.items rows.new.right.items) }
     ensures refused { IfErr result (RefusesRead texts.old.paid texts.old.right) }
 {
     let before = match take_rests(alloc, &mut texts.paid, &mut rows.paid) {
@@ -143,7 +149,8 @@ fn push_total<W: Write>(
     kind: &str,
     sum: (u64, i128),
 ) -> Result<(), AdjustRefusal>
-    ensures pushed { OnOk result (Appends (output W.contents out.old page.old) (output W.contents out.new page.new) (text_of_row (total_row kind.now [] sum.0 sum.1))) }
+    ensures pushed { OnOk result (Appends (output W.contents out.old page.old) (output W.contents out.new page.new)
+        (text_of_row (total_row kind.now [] sum.0 sum.1))) }
     ensures refused { IfErr result IsSystemRefusal }
 {
     match page.push_total(out, kind, b"", sum.0, sum.1) {

@@ -37,8 +37,8 @@ pub(crate) fn adjust_payee<R: Read + Drop, W: Write>(
     out: &mut W,
 ) -> Result<(u64, i128), AdjustRefusal>
     requires { IsName payee.now }
-    ensures adjusted { IfOk result (λ sum. AdjustsPayee payee.now texts.old.paid texts.old.right texts.new.paid texts.new.right
-        (output W.contents out.old page.old) (output W.contents out.new page.new) sum.0 sum.1) }
+    ensures adjusted { IfOk result (λ sum. AdjustsPayee payee.now texts.old.paid texts.old.right
+        texts.new.paid texts.new.right (output W.contents out.old page.old) (output W.contents out.new page.new) sum.0 sum.1) }
     ensures few { IfOk result (λ sum. sum.0 ≤ 10 ^ 18) }
     ensures small { IfOk result (λ sum. unsigned_abs sum.1 ≤ 10 ^ 30) }
     ensures refused { IfErr result (RefusesRead texts.old.paid texts.old.right) }
@@ -79,9 +79,12 @@ fn write_payee<W: Write>(
     page: &mut Page,
     out: &mut W,
 ) -> Result<(u64, i128), Refusal>
-    requires { (paid : List Portion) × (right : List Portion) × ArePayeesRows payee.now paid right rows.now.paid.items rows.now.right.items }
-    ensures written { IfOk result (λ sum. (paid right : List Portion) → ArePayeesRows payee.now paid right rows.now.paid.items rows.now.right.items
-        → WritesDifferences payee.now paid right (output W.contents out.old page.old) (output W.contents out.new page.new) sum.0 sum.1) }
+    requires { (paid : List Portion) × (right : List Portion)
+        × ArePayeesRows payee.now paid right rows.now.paid.items rows.now.right.items }
+    ensures written { IfOk result (λ sum. (paid right : List Portion)
+        → ArePayeesRows payee.now paid right rows.now.paid.items rows.now.right.items
+        → WritesDifferences payee.now paid right (output W.contents out.old page.old)
+        (output W.contents out.new page.new) sum.0 sum.1) }
     ensures few { IfOk result (λ sum. sum.0 ≤ 10 ^ 18) }
     ensures small { IfOk result (λ sum. unsigned_abs sum.1 ≤ 10 ^ 30) }
     ensures refused { IfErr result IsOfSystem }

@@ -24,9 +24,12 @@ pub(crate) fn adjust_rests<W: Write>(
     page: &mut Page,
     out: &mut W,
 ) -> Result<(u64, i128), Refusal>
-    requires { (paid : List Rest) × (right : List Rest) × AreRestsRows paid right rows.now.paid.items rows.now.right.items }
-    ensures adjusted { IfOk result (λ sum. (paid right : List Rest) → AreRestsRows paid right rows.now.paid.items rows.now.right.items
-        → AdjustsRests paid right (output W.contents out.old page.old) (output W.contents out.new page.new) sum.0 sum.1) }
+    requires { (paid : List Rest) × (right : List Rest)
+        × AreRestsRows paid right rows.now.paid.items rows.now.right.items }
+    ensures adjusted { IfOk result (λ sum. (paid right : List Rest)
+        → AreRestsRows paid right rows.now.paid.items rows.now.right.items
+        → AdjustsRests paid right (output W.contents out.old page.old)
+        (output W.contents out.new page.new) sum.0 sum.1) }
     ensures few { IfOk result (λ sum. sum.0 ≤ 10 ^ 18) }
     ensures small { IfOk result (λ sum. unsigned_abs sum.1 ≤ 10 ^ 30) }
     ensures refused { IfErr result IsOfSystem }
@@ -46,9 +49,12 @@ fn adjust_reason<W: Write>(
     page: &mut Page,
     out: &mut W,
 ) -> Result<(u64, i128), Refusal>
-    requires { (paid : List Rest) × (right : List Rest) × AreRestsRows paid right rows.now.paid.items rows.now.right.items }
-    ensures adjusted { IfOk result (λ sum. (paid right : List Rest) → AreRestsRows paid right rows.now.paid.items rows.now.right.items
-        → AdjustsReason (reason_text reason) paid right (output W.contents out.old page.old) (output W.contents out.new page.new) sum.0 sum.1) }
+    requires { (paid : List Rest) × (right : List Rest)
+        × AreRestsRows paid right rows.now.paid.items rows.now.right.items }
+    ensures adjusted { IfOk result (λ sum. (paid right : List Rest)
+        → AreRestsRows paid right rows.now.paid.items rows.now.right.items
+        → AdjustsReason (reason_text reason) paid right (output W.contents out.old page.old)
+        (output W.contents out.new page.new) sum.0 sum.1) }
     ensures few { IfOk result (λ sum. sum.0 ≤ 10 ^ 18) }
     ensures small { IfOk result (λ sum. unsigned_abs sum.1 ≤ 10 ^ 30) }
     ensures refused { IfErr result IsOfSystem }

@@ -1,11 +1,13 @@
 //! What uses come to, in byte order.
 
-ghost use Rattle.std.specs.Prelude.{ℕ, ◌≡◌, ◌≤◌, ◌<◌, ◌+◌, ◌^◌, ◌∷◌, [], All, IfNone, IfOk, IfSome, List, OnOk, Some, false, length, map, true, unsigned_abs};
+ghost use Rattle.std.specs.Prelude.{ℕ, ◌≡◌, ◌≤◌, ◌<◌, ◌+◌, ◌^◌, ◌∷◌, [], All, IfNone, IfOk, IfSome, List, OnOk, Some};
+ghost use Rattle.std.specs.Prelude.{false, length, map, true, unsigned_abs};
 ghost use Rattle.csv_table.specs.Written.{text_of};
 ghost use Rattle.merge_statements.specs.Fields.{fields_of};
 ghost use Rattle.merge_statements.specs.Statements.{Rest};
 ghost use Rattle.adjust_statements.specs.Adjusted.{rests_for};
-ghost use Rattle.adjust_statements.specs.SoFar.{AreSmall, AreSums, IsKindOfPortion, IsNamed, IsTextOf, named_row, signed_by, value_at, with_row, with_rows, with_sum};
+ghost use Rattle.adjust_statements.specs.SoFar.{AreSmall, AreSums, IsKindOfPortion, IsNamed, IsTextOf, named_row};
+ghost use Rattle.adjust_statements.specs.SoFar.{signed_by, value_at, with_row, with_rows, with_sum};
 
 use merge_statements::amount::amount_of;
 use merge_statements::{Row, RowReader, RowRoom};
@@ -70,22 +72,24 @@ impl Sums {
 
     /// Takes the first use away, and answers what it comes to.
     pub(crate) fn take_first(&mut self) -> Option<(Vec<u8>, i128)>
-        ensures some { IfSome result (λ first. self.old ≡ record { usage = first.0.items; amount = first.1 } ∷ self.new) }
+        ensures some { IfSome result (λ first. self.old
+            ≡ record { usage = first.0.items; amount = first.1 } ∷ self.new) }
         ensures none { IfNone result (self.old ≡ []) }
     {
         self.sums.pop_first()
     }
 }
 
-/// What uses come to in the rows of what is right more than in the rows of what was paid, of those rows that stand under
-/// a name.
+/// What uses come to in the rows of what is right more than in the rows of what was paid, of those rows that stand
+/// under a name.
 pub(crate) fn sums_of(
     alloc: Global,
     paid: &[u8],
     right: &[u8],
     name: &[u8],
 ) -> Result<Sums, AllocError>
-    ensures { IfOk result (λ sums. (kind : List ℕ) (before after : List Rest) → IsTextOf kind before paid.now → IsTextOf kind after right.now
+    ensures { IfOk result (λ sums. (kind : List ℕ) (before after : List Rest) → IsTextOf kind before paid.now
+        → IsTextOf kind after right.now
         → AreSums (rests_for name.now before) (rests_for name.now after) sums) }
 {
     let mut sums = Sums::new(alloc);
@@ -105,7 +109,8 @@ fn count_rows(
     is_paid: bool,
 ) -> Result<(), AllocError>
     requires { AreSmall (2 ^ 64) sums.old }
-    ensures counted { OnOk result ((kind : List ℕ) (rows : List Rest) → IsTextOf kind rows text.now → sums.new ≡ with_rows is_paid name.now rows sums.old) }
+    ensures counted { OnOk result ((kind : List ℕ) (rows : List Rest) → IsTextOf kind rows text.now
+        → sums.new ≡ with_rows is_paid name.now rows sums.old) }
     ensures small { OnOk result ((count : ℕ) → AreSmall count sums.old → AreSmall (count + length text.now) sums.new) }
     ensures short { OnOk result (length text.now < 2 ^ 64) }
 {
@@ -129,9 +134,11 @@ fn count_next(
     is_paid: bool,
 ) -> Result<bool, AllocError>
     requires { AreSmall (2 ^ 66) sums.old }
-    ensures row { IfOk result (λ found. (kind : List ℕ) (row : Rest) (others : List Rest) → IsKindOfPortion kind → IsNamed row
+    ensures row { IfOk result (λ found. (kind : List ℕ) (row : Rest) (others : List Rest) → IsKindOfPortion kind
+        → IsNamed row
         → rows.old.left ≡ Some (text_of (map (named_row kind) (row ∷ others)))
-        → (found ≡ true) × (rows.new.left ≡ Some (text_of (map (named_row kind) others))) × (sums.new ≡ with_row is_paid name.now row sums.old)) }
+        → (found ≡ true) × (rows.new.left ≡ Some (text_of (map (named_row kind) others)))
+        × (sums.new ≡ with_row is_paid name.now row sums.old)) }
     ensures end { IfOk result (λ found. rows.old.left ≡ Some [] → (found ≡ false) × (sums.new ≡ sums.old)) }
     ensures small { OnOk result ((count : ℕ) → AreSmall count sums.old → AreSmall (count + 1) sums.new) }
 {
@@ -155,7 +162,8 @@ fn count_row(
     is_paid: bool,
 ) -> Result<(), AllocError>
     requires { AreSmall (2 ^ 66) sums.old }
-    ensures counted { OnOk result ((kind : List ℕ) (of : Rest) → IsNamed of → fields_of row.now ≡ named_row kind of → sums.new ≡ with_row is_paid name.now of sums.old) }
+    ensures counted { OnOk result ((kind : List ℕ) (of : Rest) → IsNamed of → fields_of row.now ≡ named_row kind of
+        → sums.new ≡ with_row is_paid name.now of sums.old) }
     ensures small { OnOk result ((count : ℕ) → AreSmall count sums.old → AreSmall (count + 1) sums.new) }
 {
     if row.payee_or_reason != name {

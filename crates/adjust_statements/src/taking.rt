@@ -23,7 +23,8 @@ pub(crate) struct Rows {
     pub(crate) right: Vec<u8>,
 }
 
-/// Passes over the statement of a payee in a text, if it comes next there, and puts the rows of its portions into memory.
+/// Passes over the statement of a payee in a text, if it comes next there, and puts the rows of its portions into
+/// memory.
 pub(crate) fn take_portions<R: Read + Drop>(
     alloc: Global,
     part: &mut Part<R>,

@@ -1,6 +1,7 @@
 //! Differences as rows.
 
-ghost use Rattle.std.specs.Prelude.{◌≡◌, ◌≤◌, ◌^◌, ◌++◌, ◌∷◌, [], IfErr, IfOk, OnOk, flat_map, length, map, unsigned_abs};
+ghost use Rattle.std.specs.Prelude.{◌≡◌, ◌≤◌, ◌^◌, ◌++◌, ◌∷◌, [], IfErr, IfOk, OnOk, flat_map, length, map};
+ghost use Rattle.std.specs.Prelude.{unsigned_abs};
 ghost use Rattle.std.specs.Io.KnownBytes.{Appends};
 ghost use Rattle.csv_table.specs.Written.{text_of, text_of_row};
 ghost use Rattle.line_split.specs.Signs.{with_sign_of};
@@ -41,7 +42,8 @@ pub(crate) fn write_sums<W: Write>(
     requires { length (flat_map rows_of sums) ≤ 10 ^ 18 }
     ensures count { IfOk result (λ sum. sum.0 ≡ length (flat_map rows_of sums)) }
     ensures total { IfOk result (λ sum. sum.1 ≡ total_of_portions (flat_map rows_of sums)) }
-    ensures written { IfOk result (λ _. Appends (output W.contents out.old page.old) (output W.contents out.new page.new)
+    ensures written { IfOk result (λ _. Appends (output W.contents out.old page.old)
+        (output W.contents out.new page.new)
         (text_of (map (named_row kind.now) (as_rests name.now (flat_map rows_of sums))))) }
     ensures small { IfOk result (λ sum. unsigned_abs sum.1 ≤ 10 ^ 30) }
     ensures refused { IfErr result IsOfSystem }
@@ -59,7 +61,8 @@ fn rows_of_sums(
     name: &[u8],
 ) -> Result<Written, AllocError>
     requires { length (flat_map rows_of sums) ≤ 10 ^ 18 }
-    ensures text { IfOk result (λ rows. rows.text.items ≡ text_of (map (named_row kind.now) (as_rests name.now (flat_map rows_of sums)))) }
+    ensures text { IfOk result (λ rows. rows.text.items
+        ≡ text_of (map (named_row kind.now) (as_rests name.now (flat_map rows_of sums)))) }
     ensures count { IfOk result (λ rows. rows.count ≡ length (flat_map rows_of sums)) }
     ensures total { IfOk result (λ rows. rows.total ≡ total_of_portions (flat_map rows_of sums)) }
 {
@@ -85,7 +88,9 @@ fn push_sum(
     sum: i128,
 ) -> Result<u64, AllocError>
     requires { unsigned_abs sum ≤ 10 ^ 30 }
-    ensures rows { IfOk result (λ _. rows.new.text ≡ rows.old.text ++ text_of (map (named_row kind.now) (as_rests name.now (rows_of (record { usage = usage.now; amount = sum }))))) }
+    ensures rows { IfOk result (λ _. rows.new.text ≡ rows.old.text
+        ++ text_of (map (named_row kind.now) (as_rests name.now
+        (rows_of (record { usage = usage.now; amount = sum }))))) }
     ensures count { IfOk result (λ count. count ≡ length (rows_of (record { usage = usage.now; amount = sum }))) }
 {
     let size = sum.unsigned_abs();
@@ -121,7 +126,8 @@ fn push_row<'a>(
     usage: &'a [u8],
     amount: i128,
 ) -> Result<(), AllocError>
-    ensures { OnOk result (rows.new.text ≡ rows.old.text ++ text_of_row (named_row kind.now (record { reason = name.now; usage = usage.now; amount = amount }))) }
+    ensures { OnOk result (rows.new.text ≡ rows.old.text
+        ++ text_of_row (named_row kind.now (record { reason = name.now; usage = usage.now; amount = amount }))) }
 {
     let mut digits = Buffer::new();
     rows.row(&[

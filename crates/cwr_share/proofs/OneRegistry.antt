@@ -282,7 +282,7 @@ line_stands before line number fault sound (inr (is_share, body, stands, refused
     share_stands (count_by is_share_line body) (share_fields line) line number fault (sound.share body stands is_share) refused
 
 -- sound lines have no first fault
-lines_stand : (lines : List (List ℕ)) (fault : CwrFault) → AreSound lines → ¬ IsFirstFault AreSound IsFaultOfLine lines fault
+pub lines_stand : (lines : List (List ℕ)) (fault : CwrFault) → AreSound lines → ¬ IsFirstFault AreSound IsFaultOfLine lines fault
 lines_stand lines fault sound first =
     line_stands first.before first.row (length first.before + 1) fault
     (sound_at IsSound lines first.before first.row first.after first.split sound) first.refused

@@ -11,7 +11,7 @@ use Rattle.csv_table.specs.Written.{text_of, text_of_row}
 use Rattle.merge_statements.specs.Buffered.{is_feed}
 use Rattle.merge_statements.specs.Places.{At, Follows, at_first, row_of}
 use Rattle.merge_statements.specs.Reading.{IsFaultOf}
-use Rattle.merge_statements.specs.Refused.{AreRows, BeginsWithRows, BeginsWithWrong, HasTooManyRows, IsFaultFrom, IsRefusedFor, IsRefusedFrom, IsStatementText, refusal_of_field, refusal_of_line}
+use Rattle.merge_statements.specs.Refused.{AreRows, BeginsWithRows, BeginsWithWrong, HasTooManyRows, IsFaultFrom, IsRefusedFor, IsRefusedFrom, IsStatementText, IsTextOfRows, refusal_of_field, refusal_of_line}
 use Rattle.merge_statements.specs.Refused.AreRows.{none as no_rows, more as more_rows}
 use Rattle.merge_statements.specs.SoFar.{FollowsAs, IsRead, IsReadTo, Unread}
 use Rattle.merge_statements.specs.Wrong.{IsWrongAt}
@@ -128,17 +128,29 @@ more_read start at next left new number text was goes takes = record {
     joined : text_of was.rows ++ text ≡ text_of (was.rows ++ goes.row ∷ [])
     joined = ap (λ (l : List ℕ). text_of was.rows ++ l) (sym goes.same) ∙ text_more was.rows goes.row
 
+pub all_rows_read : (start left : Option (List ℕ)) (at : At) (number lines rows : ℕ) → IsReadTo start at left number → IsAtEnd left → at.place ≡ Ended lines → number ≡ rows + 1
+    → IfSome start (λ text. IsTextOfRows text lines rows)
+all_rows_read None left at number lines rows was ends ended counted = tt
+all_rows_read (Some text) None at number lines rows was ends ended counted = absurd was.consumed
+all_rows_read (Some text) (Some rest) at number lines rows was ends ended counted = record {
+  is = record {
+    rows = was.rows;
+    last = at;
+    are = was.are;
+    ended = ended;
+    bytes = was.consumed ∙ (ap (λ (l : List ℕ). text_of was.rows ++ l) ends ∙ append-nil (text_of was.rows));
+  };
+  counted = omega (arith, was.counted, counted);
+}
+
+text_of_rows : (start : Option (List ℕ)) (lines rows : ℕ) → IfSome start (λ text. IsTextOfRows text lines rows) → IfSome start (λ text. IsStatementText text lines)
+text_of_rows None lines rows is = tt
+text_of_rows (Some text) lines rows is = is.is
+
 pub all_read : (start left : Option (List ℕ)) (at : At) (number lines : ℕ) → IsReadTo start at left number → IsAtEnd left → at.place ≡ Ended lines
     → IfSome start (λ text. IsStatementText text lines)
-all_read None left at number lines was ends ended = tt
-all_read (Some text) None at number lines was ends ended = absurd was.consumed
-all_read (Some text) (Some rest) at number lines was ends ended = record {
-  rows = was.rows;
-  last = at;
-  are = was.are;
-  ended = ended;
-  bytes = was.consumed ∙ (ap (λ (l : List ℕ). text_of was.rows ++ l) ends ∙ append-nil (text_of was.rows));
-}
+all_read start left at number lines was ends ended =
+    text_of_rows start lines (length was.rows) (all_rows_read start left at number lines (length was.rows) was ends ended was.counted)
 
 pub end_refused : (start left : Option (List ℕ)) (at : At) (number : ℕ) → IsReadTo start at left number → IsAtEnd left → ((lines : ℕ) → ¬ (at.place ≡ Ended lines))
     → IfSome start (λ text. IsRefusedFor text (refusal.Fault (End number)))

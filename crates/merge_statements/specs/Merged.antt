@@ -1,5 +1,6 @@
 -- What statements come to together.
-use Rattle.std.specs.Prelude.{ℕ, ◌≡◌, ◌≤◌, ◌^◌, ◌∷◌, [], List, All, filter, flat_map, map, sum_by, unsigned_abs, IfSome, Option}
+use Rattle.std.specs.Prelude.{ℕ, ◌≡◌, ◌≤◌, ◌^◌, ◌∷◌, [], List, All, filter, flat_map, map, sum_by, unsigned_abs, IfSome}
+use Rattle.std.specs.Prelude.{Option}
 use Rattle.std.specs.Str.{bytes_eq}
 use Rattle.line_split.specs.Signs.{int_sum_by}
 use Rattle.merge_statements.specs.Statements.{AreStatements, Portion, Statements, text_of_statements, total_of_rests}
@@ -7,9 +8,11 @@ use Rattle.std.specs.Io.KnownBytes.{Appends}
 
 -- a payee's portions; none where it has no statement
 abbrev pub portions_of : List ℕ → Statements → List Portion
-portions_of payee all = flat_map (λ statement. statement.portions) (filter (λ statement. bytes_eq statement.payee payee) all.payees)
+portions_of payee all = flat_map (λ statement. statement.portions)
+    (filter (λ statement. bytes_eq statement.payee payee) all.payees)
 
--- The statements of several runs as one: each payee has its portions of the first, then those of the second, and so on, and so has nobody.
+-- The statements of several runs as one: each payee has its portions of the first, then those of the second, and so on,
+-- and so has nobody.
 pub record AreMerged (parts : List Statements) (whole : Statements) : Type 0 where
   pub sound : AreStatements whole
   pub portions : (payee : List ℕ) → portions_of payee whole ≡ flat_map (portions_of payee) parts
@@ -21,7 +24,8 @@ pub record AreMerged (parts : List Statements) (whole : Statements) : Type 0 whe
 pub record AreInLimits (parts : List Statements) : Type 0 where
   pub lines : sum_by (λ part. part.lines) parts ≤ 10 ^ 18
   pub amount : unsigned_abs (int_sum_by (λ part. part.amount) parts) ≤ 10 ^ 30
-  pub totals : (payee : List ℕ) → unsigned_abs (int_sum_by (λ portion. portion.amount) (flat_map (portions_of payee) parts)) ≤ 10 ^ 30
+  pub totals : (payee : List ℕ) → unsigned_abs (int_sum_by (λ portion. portion.amount)
+      (flat_map (portions_of payee) parts)) ≤ 10 ^ 30
   pub rest : unsigned_abs (total_of_rests (flat_map (λ part. part.rests) parts)) ≤ 10 ^ 30
 
 -- the same of texts: each is that of some statements, and the merged text that of all

@@ -9,7 +9,8 @@ use Rattle.merge_statements.specs.declared.row.Row.{Row}
 use Rattle.merge_statements.specs.declared.walk.Place.{Place}
 use Rattle.merge_statements.specs.declared.walk.Place.TheVariants.{Between, Within, Resting, Summed, Ended}
 
--- a place among the rows; the payee that was read last, which is empty before the first; how many portions were read, those that nobody gets among them, and what the sums that were read come to
+-- a place among the rows; the payee that was read last, which is empty before the first; how many portions were read,
+-- those that nobody gets among them, and what the sums that were read come to
 pub record At : Type 0 where
   pub place : Place
   pub payee : List ℕ
@@ -22,9 +23,11 @@ at_first = record { place = Between; payee = []; portions = 0; total = pos 0 }
 
 -- a row of these fields
 abbrev pub row_of : (kind payee_or_reason usage_or_count amount_or_total : List ℕ) → List (List ℕ)
-row_of kind payee_or_reason usage_or_count amount_or_total = kind ∷ payee_or_reason ∷ usage_or_count ∷ amount_or_total ∷ []
+row_of kind payee_or_reason usage_or_count amount_or_total =
+    kind ∷ payee_or_reason ∷ usage_or_count ∷ amount_or_total ∷ []
 
--- A kind of row can stand at a place: among payees comes another, or what nobody gets; a payee's portions end with their sum, and so does what nobody gets; last come the usage lines.
+-- A kind of row can stand at a place: among payees comes another, or what nobody gets; a payee's portions end with
+-- their sum, and so does what nobody gets; last come the usage lines.
 abbrev pub KindFits : Place → List ℕ → Type 0
 KindFits Between kind = (kind ≡ codes "L") ⊎ (kind ≡ codes "M") ⊎ (kind ≡ codes "T")
 KindFits (Within count so_far) kind = (kind ≡ codes "L") ⊎ (kind ≡ codes "S")
@@ -78,14 +81,29 @@ pub record Fits (at : At) (kind payee_or_reason usage_or_count amount_or_total :
   pub usage_or_count_fits : UsageOrCountFits at kind usage_or_count
   pub amount_or_total_fits : AmountOrTotalFits at kind amount_or_total
 
--- Where such a row leads: a portion is counted, a sum ends a payee or what nobody gets, and the usage lines end the text.
+-- Where such a row leads: a portion is counted, a sum ends a payee or what nobody gets, and the usage lines end the
+-- text.
 pub record Leads (at : At) (kind payee_or_reason usage_or_count amount_or_total : List ℕ) (next : At) : Type 0 where
   pub portion : kind ≡ codes "L" → (amount : ℤ) × IsAmount amount × (amount_or_total ≡ signed_decimal amount)
-      × (next ≡ record { place = Within (count_at at.place + 1) (sum_at at.place +ℤ amount); payee = payee_or_reason; portions = at.portions + 1; total = at.total })
-  pub sum : kind ≡ codes "S" → next ≡ record { place = Between; payee = at.payee; portions = at.portions; total = at.total +ℤ sum_at at.place }
+      × (next ≡ record {
+        place = Within (count_at at.place + 1)
+            (sum_at at.place +ℤ amount);
+        payee = payee_or_reason;
+        portions = at.portions + 1;
+        total = at.total;
+      })
+  pub sum : kind ≡ codes "S" → next
+      ≡ record { place = Between; payee = at.payee; portions = at.portions; total = at.total +ℤ sum_at at.place }
   pub rest : kind ≡ codes "M" → (amount : ℤ) × IsAmount amount × (amount_or_total ≡ signed_decimal amount)
-      × (next ≡ record { place = Resting (count_at at.place + 1) (sum_at at.place +ℤ amount); payee = at.payee; portions = at.portions + 1; total = at.total })
-  pub rests : kind ≡ codes "T" → next ≡ record { place = Summed; payee = at.payee; portions = at.portions; total = at.total +ℤ sum_at at.place }
+      × (next ≡ record {
+        place = Resting (count_at at.place + 1)
+            (sum_at at.place +ℤ amount);
+        payee = at.payee;
+        portions = at.portions + 1;
+        total = at.total;
+      })
+  pub rests : kind ≡ codes "T" → next
+      ≡ record { place = Summed; payee = at.payee; portions = at.portions; total = at.total +ℤ sum_at at.place }
   pub run : kind ≡ codes "R" → (lines : ℕ) × IsCount lines × (usage_or_count ≡ decimal lines)
       × (next ≡ record { place = Ended lines; payee = at.payee; portions = at.portions; total = at.total })
 

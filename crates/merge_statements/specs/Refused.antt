@@ -11,7 +11,8 @@ use Rattle.merge_statements.specs.declared.read_fault.ReadFault.TheVariants.{Ref
 use Rattle.merge_statements.specs.declared.refusal.Refusal.{Refusal}
 use Rattle.merge_statements.specs.declared.refusal.Refusal.TheVariants as refusal
 use Rattle.merge_statements.specs.declared.refusal.StatementFault.{StatementFault}
-use Rattle.merge_statements.specs.declared.refusal.StatementFault.TheVariants.{AmountOrTotal, End, Kind, PayeeOrReason, Row, UsageOrCount}
+use Rattle.merge_statements.specs.declared.refusal.StatementFault.TheVariants.{AmountOrTotal, End, Kind, PayeeOrReason}
+use Rattle.merge_statements.specs.declared.refusal.StatementFault.TheVariants.{Row, UsageOrCount}
 use Rattle.merge_statements.specs.declared.walk.Place.TheVariants.{Ended}
 use Rattle.merge_statements.specs.declared.walk.Wrong.{Wrong}
 use Rattle.merge_statements.specs.declared.walk.Wrong.TheVariants as wrong
@@ -19,15 +20,22 @@ use Rattle.merge_statements.specs.declared.walk.Wrong.TheVariants as wrong
 -- rows that can stand one after another, from a place on, and where they lead
 pub data AreRows : At → List (List (List ℕ)) → At → Type 0 where
   none : (at : At) → AreRows at [] at
-  more : (at next last : At) (row : List (List ℕ)) (rows : List (List (List ℕ))) → Follows at row next → AreRows next rows last → AreRows at (row ∷ rows) last
+  more : (at next last : At) (row : List (List ℕ)) (rows : List (List (List ℕ))) → Follows at row next
+      → AreRows next rows last → AreRows at (row ∷ rows) last
 
--- The text is that of statements, of so many usage lines: its rows can stand one after another, from the first to the last.
+-- The text is that of statements, of so many usage lines: its rows can stand one after another, from the first to the
+-- last.
 pub record IsStatementText (text : List ℕ) (lines : ℕ) : Type 0 where
   pub rows : List (List (List ℕ))
   pub last : At
   pub are : AreRows at_first rows last
   pub ended : last.place ≡ Ended lines
   pub bytes : text ≡ text_of rows
+
+-- the same, and it has so many rows
+pub record IsTextOfRows (text : List ℕ) (lines rows : ℕ) : Type 0 where
+  pub is : IsStatementText text lines
+  pub counted : rows ≡ length is.rows
 
 -- a line that ends within the next 32,768 bytes
 pub record IsLine (text line rest : List ℕ) : Type 0 where
@@ -37,7 +45,8 @@ pub record IsLine (text line rest : List ℕ) : Type 0 where
 
 -- the text begins with no line that is a row of four fields
 abbrev pub BeginsWithNoRow : List ℕ → Type 0
-BeginsWithNoRow text = (line rest : List ℕ) (row : List (List ℕ)) → IsLine text line rest → length row ≡ 4 → ¬ (text_of_row row ≡ line ++ 10 ∷ [])
+BeginsWithNoRow text = (line rest : List ℕ) (row : List (List ℕ)) → IsLine text line rest → length row ≡ 4
+    → ¬ (text_of_row row ≡ line ++ 10 ∷ [])
 
 -- the text begins with a line that is a row of four fields, of which this is the first that cannot stand at a place
 pub record BeginsWithWrong (at : At) (text : List ℕ) (field : Wrong) : Type 0 where

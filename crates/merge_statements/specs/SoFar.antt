@@ -2,12 +2,14 @@
 -- what was written. Contracts of private functions alone cite it, and no promise rests on it; it
 -- stands here since a contract may cite nothing of proofs/.
 use Rattle.std.specs.Prelude.{ℕ, ℤ, ◌≡◌, ◌≤◌, ◌<◌, ◌+◌, ◌+ℤ◌, ◌++◌, ◌∷◌, ◌⊎◌, [], List, All, Contains}
-use Rattle.std.specs.Prelude.{Bool, true, false, None, Some, Option, IfSome, codes, filter, flat_map, length, map, slice_index_or, sum_by, take}
+use Rattle.std.specs.Prelude.{Bool, true, false, None, Some, Option, IfSome, codes, filter, flat_map, length, map}
+use Rattle.std.specs.Prelude.{slice_index_or, sum_by, take}
 use Rattle.std.specs.Io.KnownBytes.{Appends, Consumes, IsAtEnd, Keeps, append_known}
 use Rattle.csv_table.specs.Written.{text_of, text_of_row}
 use Rattle.merge_statements.specs.Places.{At, Follows, IsPayeeAt, at_first, count_at, row_of, sum_at}
 use Rattle.merge_statements.specs.Statements.{IsCount, IsName, IsPortion, IsRest, IsStatement, Portion, Rest, Statement}
-use Rattle.merge_statements.specs.Statements.{portion_row, rest_row, rests_rows, statement_rows, total_of, total_of_rests, total_row}
+use Rattle.merge_statements.specs.Statements.{portion_row, rest_row, rests_rows, statement_rows, total_of}
+use Rattle.merge_statements.specs.Statements.{total_of_rests, total_row}
 use Rattle.merge_statements.specs.Merged.{WritesMerge}
 use Rattle.merge_statements.specs.Refused.{AreRows, IsRefusalOf, IsRefusedFor}
 use Rattle.merge_statements.specs.declared.refusal.Refusal.{Refusal}
@@ -28,8 +30,8 @@ output contents out page = append_known (contents out) page
 
 -- ---- a text that is read row by row
 
--- How far it was read; the row at hand as it stands in the text, with its line feed, which is empty at the end; its number, from 1; the
--- bytes from it on, where they are known; and the payee that comes next, where one does.
+-- How far it was read; the row at hand as it stands in the text, with its line feed, which is empty at the end; its
+-- number, from 1; the bytes from it on, where they are known; and the payee that comes next, where one does.
 pub record Unread : Type 0 where
   pub at : At
   pub line : List ℕ
@@ -70,7 +72,8 @@ RefusesRest part why = (start : Option (List ℕ)) → IsRead start part → IfS
 
 -- the row at hand is one of this kind
 abbrev pub IsOfKind : Unread → List ℕ → Type 0
-IsOfKind part kind = (payee_or_reason : List ℕ) × (usage_or_count : List ℕ) × (amount_or_total : List ℕ) × (text_of_row (row_of kind payee_or_reason usage_or_count amount_or_total) ≡ part.line)
+IsOfKind part kind = (payee_or_reason : List ℕ) × (usage_or_count : List ℕ) × (amount_or_total : List ℕ)
+    × (text_of_row (row_of kind payee_or_reason usage_or_count amount_or_total) ≡ part.line)
 
 -- behind a statement, and before the first, the row at hand is no portion unless a payee comes next
 abbrev pub IsLooked : Unread → Type 0
@@ -90,7 +93,13 @@ pub record IsPortionAt (at : At) (row : List (List ℕ)) (next : At) : Type 0 wh
   pub due : IsPayeeAt at.place at.payee payee
   pub sound : IsPortion portion
   pub count : IsCount (at.portions + 1)
-  pub leads : next ≡ record { place = Within (count_at at.place + 1) (sum_at at.place +ℤ portion.amount); payee = payee; portions = at.portions + 1; total = at.total }
+  pub leads : next ≡ record {
+    place = Within (count_at at.place + 1)
+        (sum_at at.place +ℤ portion.amount);
+    payee = payee;
+    portions = at.portions + 1;
+    total = at.total;
+  }
 
 -- a reader stands among a payee's portions
 abbrev pub IsWithinOne : At → Type 0
@@ -102,17 +111,25 @@ pub record IsRestAt (at : At) (row : List (List ℕ)) (next : At) : Type 0 where
   pub form : row ≡ rest_row what
   pub sound : IsRest what
   pub count : IsCount (at.portions + 1)
-  pub leads : next ≡ record { place = Resting (count_at at.place + 1) (sum_at at.place +ℤ what.amount); payee = at.payee; portions = at.portions + 1; total = at.total }
+  pub leads : next ≡ record {
+    place = Resting (count_at at.place + 1)
+        (sum_at at.place +ℤ what.amount);
+    payee = at.payee;
+    portions = at.portions + 1;
+    total = at.total;
+  }
 
 -- or what a payee's portions come to
 pub record IsSumAt (at : At) (row : List (List ℕ)) (next : At) : Type 0 where
   pub form : row ≡ total_row (codes "S") at.payee (count_at at.place) (sum_at at.place)
-  pub leads : next ≡ record { place = Between; payee = at.payee; portions = at.portions; total = at.total +ℤ sum_at at.place }
+  pub leads : next
+      ≡ record { place = Between; payee = at.payee; portions = at.portions; total = at.total +ℤ sum_at at.place }
 
 -- or what nobody gets in all
 pub record IsRestsSumAt (at : At) (row : List (List ℕ)) (next : At) : Type 0 where
   pub form : row ≡ total_row (codes "T") [] (count_at at.place) (sum_at at.place)
-  pub leads : next ≡ record { place = Summed; payee = at.payee; portions = at.portions; total = at.total +ℤ sum_at at.place }
+  pub leads : next
+      ≡ record { place = Summed; payee = at.payee; portions = at.portions; total = at.total +ℤ sum_at at.place }
 
 -- or the usage lines
 pub record IsRunAt (at : At) (row : List (List ℕ)) (next : At) : Type 0 where
@@ -158,7 +175,13 @@ pub record IsWithin (old new : Unread) (before after : Option (List ℕ)) : Type
   pub behind : slice_cmp nat_cmp old.at.payee payee ≡ Less
   pub some : 0 < length portions
   pub sound : All IsPortion portions
-  pub at : new.at ≡ record { place = Within (length portions) (total_of_portions portions); payee = payee; portions = old.at.portions + length portions; total = old.at.total }
+  pub at : new.at ≡ record {
+    place = Within (length portions)
+        (total_of_portions portions);
+    payee = payee;
+    portions = old.at.portions + length portions;
+    total = old.at.total;
+  }
   pub consumed : Consumes old.left new.left (text_of (map (portion_row payee) portions))
   pub written : Appends before after (text_of (map (portion_row payee) portions))
   pub reads : ReadsOn old new
@@ -169,7 +192,13 @@ pub record PassesStatement (old new : Unread) (statement : Statement) : Type 0 w
   pub after : slice_cmp nat_cmp old.at.payee statement.payee ≡ Less
   pub sound : IsStatement statement
   pub consumed : Consumes old.left new.left (text_of (statement_rows statement))
-  pub at : new.at ≡ record { place = Between; payee = statement.payee; portions = old.at.portions + length statement.portions; total = old.at.total +ℤ total_of statement }
+  pub at : new.at
+      ≡ record {
+        place = Between;
+        payee = statement.payee;
+        portions = old.at.portions + length statement.portions;
+        total = old.at.total +ℤ total_of statement;
+      }
   pub few : IsCount new.at.portions
   pub reads : ReadsOn old new
   pub looked : IsLooked new
@@ -183,7 +212,8 @@ pub record WritesStatement (old new : Unread) (before after : Option (List ℕ))
   pub written : Appends before after (text_of (map (portion_row statement.payee) statement.portions))
 
 -- The sum of a payee's portions, or of what nobody gets, was passed over: of so many, which come to this.
-pub record PassesSum (IsSum : At → List (List ℕ) → At → Type 0) (old new : Unread) (count : ℕ) (total : ℤ) : Type 0 where
+pub record PassesSum (IsSum : At → List (List ℕ) → At → Type 0) (old new : Unread) (count : ℕ)
+    (total : ℤ) : Type 0 where
   pub row : List (List ℕ)
   pub sum : IsSum old.at row new.at
   pub consumed : Consumes old.left new.left (text_of_row row)
@@ -212,7 +242,13 @@ pub record WritesRests (old new : Unread) (before after : Option (List ℕ)) (co
   pub counted : count ≡ length rests
   pub sum : total ≡ total_of_rests rests
   pub consumed : Consumes old.left new.left (text_of (rests_rows rests))
-  pub at : new.at ≡ record { place = Summed; payee = old.at.payee; portions = old.at.portions + length rests; total = old.at.total +ℤ total_of_rests rests }
+  pub at : new.at
+      ≡ record {
+        place = Summed;
+        payee = old.at.payee;
+        portions = old.at.portions + length rests;
+        total = old.at.total +ℤ total_of_rests rests;
+      }
   pub few : IsCount new.at.portions
   pub written : Appends before after (text_of (map rest_row rests))
 
@@ -243,17 +279,21 @@ pub record HasLeast (parts : List Unread) (least : List ℕ) (found : Bool) : Ty
 
 -- The statement of a payee was passed over where it came next; these are its portions.
 pub data TakesOne (payee : List ℕ) (old new : Unread) : List Portion → Type 0 where
-  taken : (statement : Statement) → PassesStatement old new statement → statement.payee ≡ payee → TakesOne payee old new statement.portions
+  taken : (statement : Statement) → PassesStatement old new statement → statement.payee ≡ payee
+      → TakesOne payee old new statement.portions
   left : ¬ (old.payee ≡ Some payee) → new ≡ old → TakesOne payee old new []
 
 -- the same of each of many texts: what is passed over of the first, and then of the others
-pub data TakesEach {X : Type 0} (One : Unread → Unread → List X → Type 0) : List Unread → List Unread → List X → Type 0 where
+pub data TakesEach {X : Type 0} (One : Unread → Unread → List X → Type 0) : List Unread → List Unread → List X
+    → Type 0 where
   none : TakesEach One [] [] []
-  more : (old new : Unread) (olds news : List Unread) (own others : List X) → One old new own → TakesEach One olds news others
+  more : (old new : Unread) (olds news : List Unread) (own others : List X) → One old new own
+      → TakesEach One olds news others
       → TakesEach One (old ∷ olds) (new ∷ news) (own ++ others)
 
 -- and they were written; there are so many, and they come to this
-pub record WritesOne (payee : List ℕ) (old new : Unread) (before after : Option (List ℕ)) (count : ℕ) (total : ℤ) : Type 0 where
+pub record WritesOne (payee : List ℕ) (old new : Unread) (before after : Option (List ℕ)) (count : ℕ)
+    (total : ℤ) : Type 0 where
   pub portions : List Portion
   pub taken : TakesOne payee old new portions
   pub sound : All IsPortion portions
@@ -262,7 +302,8 @@ pub record WritesOne (payee : List ℕ) (old new : Unread) (before after : Optio
   pub few : IsCount count
   pub written : Appends before after (text_of (map (portion_row payee) portions))
 
-pub record WritesAll (payee : List ℕ) (olds news : List Unread) (before after : Option (List ℕ)) (count : ℕ) (total : ℤ) : Type 0 where
+pub record WritesAll (payee : List ℕ) (olds news : List Unread) (before after : Option (List ℕ)) (count : ℕ)
+    (total : ℤ) : Type 0 where
   pub portions : List Portion
   pub taken : TakesEach (TakesOne payee) olds news portions
   pub sound : All IsPortion portions
@@ -287,7 +328,8 @@ pub record EndsAs (old new : Unread) (ending : Ending) : Type 0 where
   pub sound : All IsRest ending.rests
   pub few : IsCount ending.lines
   pub few_rests : IsCount (old.at.portions + length ending.rests)
-  pub consumed : Consumes old.left new.left (text_of (rests_rows ending.rests ++ total_row (codes "R") [] ending.lines (old.at.total +ℤ total_of_rests ending.rests) ∷ []))
+  pub consumed : Consumes old.left new.left (text_of (rests_rows ending.rests
+      ++ total_row (codes "R") [] ending.lines (old.at.total +ℤ total_of_rests ending.rests) ∷ []))
   pub place : new.at.place ≡ Ended ending.lines
   pub portions : new.at.portions ≡ old.at.portions + length ending.rests
   pub reads : ReadsOn old new
@@ -303,7 +345,8 @@ rests_of endings = flat_map (λ ending. ending.rests) endings
 abbrev pub lines_of : List Ending → ℕ
 lines_of endings = sum_by (λ ending. ending.lines) endings
 
-pub record EndsEach (olds news : List Unread) (before after : Option (List ℕ)) (count : ℕ) (total : ℤ) (lines : ℕ) : Type 0 where
+pub record EndsEach (olds news : List Unread) (before after : Option (List ℕ)) (count : ℕ) (total : ℤ)
+    (lines : ℕ) : Type 0 where
   pub endings : List Ending
   pub taken : TakesEach EndsOne olds news endings
   pub sound : All IsRest (rests_of endings)
@@ -320,12 +363,14 @@ pub record EndsEach (olds news : List Unread) (before after : Option (List ℕ))
 pub data AreOpen : List (Option (List ℕ)) → List Unread → Type 0 where
   none : AreOpen [] []
   more : (start : Option (List ℕ)) (part : Unread) (starts : List (Option (List ℕ))) (parts : List Unread)
-      → part.at ≡ at_first → Keeps start part.left → IsRead start part → IsLooked part → AreOpen starts parts → AreOpen (start ∷ starts) (part ∷ parts)
+      → part.at ≡ at_first → Keeps start part.left → IsRead start part → IsLooked part → AreOpen starts parts
+      → AreOpen (start ∷ starts) (part ∷ parts)
 
 -- so much was read of each
 pub data AreRead : List (Option (List ℕ)) → List Unread → Type 0 where
   none : AreRead [] []
-  more : (start : Option (List ℕ)) (part : Unread) (starts : List (Option (List ℕ))) (parts : List Unread) → IsRead start part → AreRead starts parts
+  more : (start : Option (List ℕ)) (part : Unread) (starts : List (Option (List ℕ))) (parts : List Unread)
+      → IsRead start part → AreRead starts parts
       → AreRead (start ∷ starts) (part ∷ parts)
 
 -- so much was read of texts, and one is refused for its first fault
@@ -338,7 +383,8 @@ RefusesOpen parts place why = (starts : List (Option (List ℕ))) → AreOpen st
 
 -- and what they merge to was written
 abbrev pub MergesOpen : List Unread → (before after : Option (List ℕ)) → Type 0
-MergesOpen parts before after = (starts : List (Option (List ℕ))) → AreOpen starts parts → WritesMerge starts before after
+MergesOpen parts before after = (starts : List (Option (List ℕ))) → AreOpen starts parts
+    → WritesMerge starts before after
 
 abbrev pub last_payee : List Statement → List ℕ
 last_payee [] = []
@@ -352,19 +398,28 @@ payees_of statements = map (λ statement. statement.payee) statements
 pub record HasPassed (start : Option (List ℕ)) (part : Unread) (done : List Statement) : Type 0 where
   pub sound : All IsStatement done
   pub rising : IsStrictlySortedBy order (payees_of done)
-  pub at : part.at ≡ record { place = Between; payee = last_payee done; portions = sum_by (λ statement. length statement.portions) done; total = int_sum_by total_of done }
+  pub at : part.at ≡ record {
+    place = Between;
+    payee = last_payee done;
+    portions = sum_by
+        (λ statement. length statement.portions) done;
+    total = int_sum_by total_of done;
+  }
   pub consumed : Consumes start part.left (text_of (flat_map statement_rows done))
   pub read : IsRead start part
   pub looked : IsLooked part
 
 pub data HavePassed : List (Option (List ℕ)) → List Unread → List (List Statement) → Type 0 where
   none : HavePassed [] [] []
-  more : (start : Option (List ℕ)) (part : Unread) (done : List Statement) (starts : List (Option (List ℕ))) (parts : List Unread) (dones : List (List Statement))
-      → HasPassed start part done → HavePassed starts parts dones → HavePassed (start ∷ starts) (part ∷ parts) (done ∷ dones)
+  more : (start : Option (List ℕ)) (part : Unread) (done : List Statement) (starts : List (Option (List ℕ)))
+      (parts : List Unread) (dones : List (List Statement))
+      → HasPassed start part done → HavePassed starts parts dones
+      → HavePassed (start ∷ starts) (part ∷ parts) (done ∷ dones)
 
 -- a payee's portions among statements
 abbrev pub portions_in : List ℕ → List Statement → List Portion
-portions_in payee statements = flat_map (λ statement. statement.portions) (filter (λ statement. bytes_eq statement.payee payee) statements)
+portions_in payee statements = flat_map (λ statement. statement.portions)
+    (filter (λ statement. bytes_eq statement.payee payee) statements)
 
 -- the payee that comes next in a text, if one does, comes behind this one, or will, if it can stand there
 abbrev pub IsBehind : List ℕ → Unread → Type 0
@@ -375,7 +430,8 @@ abbrev pub portions_read : List Unread → ℕ
 portions_read parts = sum_by (λ part. part.at.portions) parts
 
 -- The statements up to a payee were passed over in all texts, and written as one; so many portions, which come to this.
-pub record AreMergedSoFar (starts : List (Option (List ℕ))) (parts : List Unread) (before after : Option (List ℕ)) (count : ℕ) (total : ℤ) : Type 0 where
+pub record AreMergedSoFar (starts : List (Option (List ℕ))) (parts : List Unread) (before after : Option (List ℕ))
+    (count : ℕ) (total : ℤ) : Type 0 where
   pub dones : List (List Statement)
   pub whole : List Statement
   pub passed : HavePassed starts parts dones
@@ -391,14 +447,16 @@ pub record AreMergedSoFar (starts : List (Option (List ℕ))) (parts : List Unre
   pub written : Appends before after (text_of (flat_map statement_rows whole))
 
 -- the same of texts that stood before their first rows
-abbrev pub MergesPayees : (olds news : List Unread) → (before after : Option (List ℕ)) → (count : ℕ) → (total : ℤ) → Type 0
+abbrev pub MergesPayees : (olds news : List Unread) → (before after : Option (List ℕ)) → (count : ℕ) → (total : ℤ)
+    → Type 0
 MergesPayees olds news before after count total =
     (starts : List (Option (List ℕ))) → AreOpen starts olds → AreMergedSoFar starts news before after count total
 
 -- ---- the ends of texts
 
 -- a text was passed over to its end, and what nobody gets was written without its sum
-pub record WritesEnding (old new : Unread) (before after : Option (List ℕ)) (count : ℕ) (total : ℤ) (lines : ℕ) : Type 0 where
+pub record WritesEnding (old new : Unread) (before after : Option (List ℕ)) (count : ℕ) (total : ℤ)
+    (lines : ℕ) : Type 0 where
   pub ending : Ending
   pub ends : EndsAs old new ending
   pub counted : count ≡ length ending.rests

@@ -1,5 +1,6 @@
 -- What the text of a run's statements says, and its rows.
-use Rattle.std.specs.Prelude.{ℕ, ℤ, ◌≡◌, ◌≤◌, ◌<◌, ◌+◌, ◌+ℤ◌, ◌^◌, ◌++◌, ◌∷◌, [], List, All, codes, decimal, flat_map, length, map, sum_by, unsigned_abs}
+use Rattle.std.specs.Prelude.{ℕ, ℤ, ◌≡◌, ◌≤◌, ◌<◌, ◌+◌, ◌+ℤ◌, ◌^◌, ◌++◌, ◌∷◌, [], List, All, codes, decimal, flat_map}
+use Rattle.std.specs.Prelude.{length, map, sum_by, unsigned_abs}
 use Rattle.std.specs.Fmt.{signed_decimal}
 use Rattle.std.specs.List.Sorted.{IsStrictlySortedBy}
 use Rattle.std.specs.Cmp.Lexicographic.{slice_cmp}
@@ -90,7 +91,8 @@ pub record IsStatement (statement : Statement) : Type 0 where
   pub some : 0 < length statement.portions
   pub portions : All IsPortion statement.portions
 
--- What all statements keep to: each payee stands once, in byte order, and all that is paid or left comes to what came in.
+-- What all statements keep to: each payee stands once, in byte order, and all that is paid or left comes to what came
+-- in.
 pub record AreStatements (all : Statements) : Type 0 where
   pub rising : IsStrictlySortedBy (slice_cmp nat_cmp) (map (λ statement. statement.payee) all.payees)
   pub payees : All IsStatement all.payees
@@ -112,4 +114,5 @@ IsCount count = count ≤ 10 ^ 18
 
 -- the text is that of statements of so many usage lines, whose portions can be counted
 abbrev pub SaysStatements : List ℕ → ℕ → Type 0
-SaysStatements text lines = (all : Statements) × AreStatements all × IsCount (count_of_portions all) × (all.lines ≡ lines) × (text ≡ text_of_statements all)
+SaysStatements text lines = (all : Statements) × AreStatements all × IsCount (count_of_portions all)
+    × (all.lines ≡ lines) × (text ≡ text_of_statements all)

@@ -1,7 +1,8 @@
 //! The numbers of a row, read just as a run writes them: no plus, no needless zero, no `-0`.
 
 ghost use Rattle.std.specs.Fmt.{signed_decimal};
-ghost use Rattle.std.specs.Prelude.{◌≡◌, ◌≤◌, ◌<◌, ◌^◌, ◌∷◌, ◌↔◌, List, ℕ, ℤ, IfNone, IfSome, IsTrue, decimal, length, slice_index};
+ghost use Rattle.std.specs.Prelude.{◌≡◌, ◌≤◌, ◌<◌, ◌^◌, ◌∷◌, ◌↔◌, List, ℕ, ℤ, IfNone, IfSome, IsTrue, decimal, length};
+ghost use Rattle.std.specs.Prelude.{slice_index};
 ghost use Rattle.merge_statements.specs.Statements.{IsAmount};
 
 use csv_table::forms::number_up_to;

@@ -1,7 +1,8 @@
 //! The part of a text that is in memory, and its lines.
 
 ghost use Rattle.std.specs.Io.KnownBytes.{Consumes, IsAtEnd, Keeps, prepend_known};
-ghost use Rattle.std.specs.Prelude.{◌≡◌, ◌≤◌, ◌<◌, ◌+◌, ◌++◌, ◌∷◌, ◌↔◌, [], IfOk, IsTrue, OnErr, drop, false, length, take, true, vec_len};
+ghost use Rattle.std.specs.Prelude.{◌≡◌, ◌≤◌, ◌<◌, ◌+◌, ◌++◌, ◌∷◌, ◌↔◌, [], IfOk, IsTrue, OnErr, drop, false, length};
+ghost use Rattle.std.specs.Prelude.{take, true, vec_len};
 ghost use Rattle.std.specs.List.{list_any};
 
 use memchr::memchr;
@@ -120,8 +121,10 @@ impl Buffer {
     /// Reads once, behind what waits, and answers whether the text may go on.
     pub(crate) fn fill<R: Read>(&mut self, from: &mut R) -> io::Result<bool>
         requires { self.old.filled < 32768 }
-        ensures kept { Keeps (prepend_known (waiting_of self.old) (R.remaining from.old)) (prepend_known (waiting_of self.new) (R.remaining from.new)) }
-        ensures end { IfOk result (λ more. more ≡ false → IsAtEnd (R.remaining from.new) × (waiting_of self.new ≡ waiting_of self.old)) }
+        ensures kept { Keeps (prepend_known (waiting_of self.old) (R.remaining from.old))
+            (prepend_known (waiting_of self.new) (R.remaining from.new)) }
+        ensures end { IfOk result (λ more. more ≡ false → IsAtEnd (R.remaining from.new)
+            × (waiting_of self.new ≡ waiting_of self.old)) }
         ensures line { line_of self.new ≡ line_of self.old }
     {
         match read_behind(from, &mut self.bytes, self.filled) {
@@ -150,7 +153,8 @@ fn read_behind<R: Read>(from: &mut R, bytes: &mut Vec<u8>, place: usize) -> io::
     ensures size { vec_len bytes.new ≡ vec_len bytes.old }
     ensures front { take place bytes.new.items ≡ take place bytes.old.items }
     ensures within { IfOk result (λ more. place + more ≤ vec_len bytes.new) }
-    ensures read { IfOk result (λ more. Consumes (R.remaining from.old) (R.remaining from.new) (take more (drop place bytes.new.items))) }
+    ensures read { IfOk result (λ more. Consumes (R.remaining from.old) (R.remaining from.new)
+        (take more (drop place bytes.new.items))) }
     ensures end { IfOk result (λ more. more ≡ 0 → IsAtEnd (R.remaining from.new)) }
     ensures kept { OnErr result (Keeps (R.remaining from.old) (R.remaining from.new)) }
 {

@@ -14,7 +14,7 @@ mod refusal;
 mod row;
 mod walk;
 
-pub use checking::check;
+pub use checking::{Counts, check};
 pub use merging::{TextRefusal, end_text, lesser_payee, merge, pass_if_next};
 pub use page::Page;
 pub use part::Part;

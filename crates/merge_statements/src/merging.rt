@@ -4,7 +4,8 @@ ghost use Rattle.std.specs.Prelude.{◌≡◌, ◌<◌, ◌≤◌, ◌+◌, ◌^
 ghost use Rattle.std.specs.Prelude.{IfOk, OnOk, Some, false, map, true, unsigned_abs};
 ghost use Rattle.std.specs.Io.KnownBytes.{Appends};
 ghost use Rattle.csv_table.specs.Written.{text_of_row};
-ghost use Rattle.merge_statements.specs.SoFar.{AreOpen, CanEnd, EndsEach, HasLeast, HasNext, MergesOpen, MergesPayees, RefusesOne, RefusesOpen, RefusesRest};
+ghost use Rattle.merge_statements.specs.SoFar.{AreOpen, CanEnd, EndsEach, HasLeast, HasNext, MergesOpen, MergesPayees};
+ghost use Rattle.merge_statements.specs.SoFar.{RefusesOne, RefusesOpen, RefusesRest};
 ghost use Rattle.merge_statements.specs.SoFar.{Unread, WritesAll, WritesEnding, WritesOne, output};
 ghost use Rattle.merge_statements.specs.Refused.{IsOfSystem, IsRefusalOf};
 ghost use Rattle.merge_statements.specs.declared.refusal.Refusal.TheVariants as Refusal;
@@ -26,9 +27,9 @@ pub struct TextRefusal {
     pub refusal: Refusal,
 }
 
-/// Merges texts of statements, in this order, and adds the merged text to an output. Each text is read once, through a small buffer.
-/// A text is refused for its first fault, so none that `check` accepts; or all are, where they have more portions, or
-/// are of more usage lines, than are counted. Then the output may have a beginning already.
+/// Merges texts of statements, in this order, and adds the merged text to an output. Each text is read once, through a
+/// small buffer. A text is refused for its first fault, so none that `check` accepts; or all are, where they have more
+/// portions, or are of more usage lines, than are counted. Then the output may have a beginning already.
 pub fn merge<R: Read + Drop, W: Write>(
     alloc: Global,
     from: Vec<R>,
@@ -54,7 +55,8 @@ fn merge_parts<R: Read + Drop, W: Write>(
     out: &mut W,
 ) -> Result<(), TextRefusal>
     requires { (starts : List (Option (List ℕ))) × AreOpen starts parts.old }
-    ensures merged { OnOk result (MergesOpen parts.old (output W.contents out.old page.old) (output W.contents out.new page.new)) }
+    ensures merged { OnOk result (MergesOpen parts.old (output W.contents out.old page.old)
+        (output W.contents out.new page.new)) }
     ensures refused { IfErr result (λ refused. RefusesOpen parts.old refused.place refused.refusal) }
 {
     let paid = merge_payees(alloc, parts, page, out)?;
@@ -102,7 +104,8 @@ pub fn lesser_payee<R: Read + Drop>(
     least: &mut Vec<u8>,
     found: bool,
 ) -> Result<bool, AllocError>
-    ensures { IfOk result (λ now. (others : List Unread) → HasLeast others least.old.items found → HasLeast (part.now ∷ others) least.new.items now) }
+    ensures { IfOk result (λ now. (others : List Unread) → HasLeast others least.old.items found
+        → HasLeast (part.now ∷ others) least.new.items now) }
 {
     match part.payee() {
         None => Ok(found),
@@ -122,7 +125,8 @@ pub fn pass_if_next<R: Read + Drop, W: Write>(
     page: &mut Page,
     out: &mut W,
 ) -> Result<(u64, i128), Refusal>
-    ensures written { IfOk result (λ sum. WritesOne payee.now part.old part.new (output W.contents out.old page.old) (output W.contents out.new page.new) sum.0 sum.1) }
+    ensures written { IfOk result (λ sum. WritesOne payee.now part.old part.new (output W.contents out.old page.old)
+        (output W.contents out.new page.new) sum.0 sum.1) }
     ensures refused { IfErr result (RefusesRest part.old) }
 {
     if !is_next(part, payee) {
@@ -151,7 +155,8 @@ fn pass_payee<R: Read + Drop, W: Write>(
     page: &mut Page,
     out: &mut W,
 ) -> Result<(u64, i128), TextRefusal>
-    ensures written { IfOk result (λ sum. WritesAll payee.now parts.old parts.new (output W.contents out.old page.old) (output W.contents out.new page.new) sum.0 sum.1) }
+    ensures written { IfOk result (λ sum. WritesAll payee.now parts.old parts.new
+        (output W.contents out.old page.old) (output W.contents out.new page.new) sum.0 sum.1) }
     ensures refused { IfErr result (λ refused. RefusesOne parts.old refused.place refused.refusal) }
 {
     let mut all = (0, 0);
@@ -165,8 +170,8 @@ fn pass_payee<R: Read + Drop, W: Write>(
     Ok(all)
 }
 
-/// Merges the statements of all payees, in byte order, and adds them to the output. Answers how many portions there are and what they come
-/// to.
+/// Merges the statements of all payees, in byte order, and adds them to the output. Answers how many portions there are
+/// and what they come to.
 fn merge_payees<R: Read + Drop, W: Write>(
     alloc: Global,
     parts: &mut [Part<R>],
@@ -174,7 +179,8 @@ fn merge_payees<R: Read + Drop, W: Write>(
     out: &mut W,
 ) -> Result<(u64, i128), TextRefusal>
     requires { (starts : List (Option (List ℕ))) × AreOpen starts parts.old }
-    ensures merged { IfOk result (λ sum. MergesPayees parts.old parts.new (output W.contents out.old page.old) (output W.contents out.new page.new) sum.0 sum.1) }
+    ensures merged { IfOk result (λ sum. MergesPayees parts.old parts.new (output W.contents out.old page.old)
+        (output W.contents out.new page.new) sum.0 sum.1) }
     ensures none { IfOk result (λ _. All (λ part. part.payee ≡ None) parts.new) }
     ensures refused { IfErr result (λ refused. RefusesOpen parts.old refused.place refused.refusal) }
 {
@@ -211,7 +217,8 @@ fn push_total<W: Write>(
     payee: &[u8],
     sum: (u64, i128),
 ) -> Result<(), TextRefusal>
-    ensures pushed { OnOk result (Appends (output W.contents out.old page.old) (output W.contents out.new page.new) (text_of_row (total_row kind.now payee.now sum.0 sum.1))) }
+    ensures pushed { OnOk result (Appends (output W.contents out.old page.old) (output W.contents out.new page.new)
+        (text_of_row (total_row kind.now payee.now sum.0 sum.1))) }
     ensures refused { IfErr result (λ refused. IsOfSystem refused.refusal) }
 {
     match page.push_total(out, kind, payee, sum.0, sum.1) {
@@ -227,21 +234,23 @@ fn push_run<W: Write>(
     lines: u64,
     portions: (u64, i128),
 ) -> Result<(), TextRefusal>
-    ensures pushed { OnOk result (Appends (output W.contents out.old page.old) (output W.contents out.new page.new) (text_of_row (total_row (codes "R") [] lines portions.1))) }
+    ensures pushed { OnOk result (Appends (output W.contents out.old page.old) (output W.contents out.new page.new)
+        (text_of_row (total_row (codes "R") [] lines portions.1))) }
     ensures refused { IfErr result (λ refused. IsOfSystem refused.refusal) }
 {
     push_total(page, out, "R", b"", (lines, portions.1))
 }
 
-/// Passes over a text from behind its last payee to its end, and adds what nobody gets to the output without its sum. Answers how many
-/// portions that is, what they come to, and how many usage lines there were.
+/// Passes over a text from behind its last payee to its end, and adds what nobody gets to the output without its sum.
+/// Answers how many portions that is, what they come to, and how many usage lines there were.
 pub fn end_text<R: Read + Drop, W: Write>(
     part: &mut Part<R>,
     page: &mut Page,
     out: &mut W,
 ) -> Result<((u64, i128), u64), Refusal>
     requires { CanEnd part.old }
-    ensures written { IfOk result (λ end. WritesEnding part.old part.new (output W.contents out.old page.old) (output W.contents out.new page.new) end.0.0 end.0.1 end.1) }
+    ensures written { IfOk result (λ end. WritesEnding part.old part.new (output W.contents out.old page.old)
+        (output W.contents out.new page.new) end.0.0 end.0.1 end.1) }
     ensures refused { IfErr result (RefusesRest part.old) }
 {
     let sum = part.pass_rests(page, out)?;
@@ -256,7 +265,8 @@ fn end_all<R: Read + Drop, W: Write>(
     out: &mut W,
 ) -> Result<((u64, i128), u64), TextRefusal>
     requires { All CanEnd parts.old }
-    ensures written { IfOk result (λ end. EndsEach parts.old parts.new (output W.contents out.old page.old) (output W.contents out.new page.new) end.0.0 end.0.1 end.1) }
+    ensures written { IfOk result (λ end. EndsEach parts.old parts.new (output W.contents out.old page.old)
+        (output W.contents out.new page.new) end.0.0 end.0.1 end.1) }
     ensures refused { IfErr result (λ refused. RefusesOne parts.old refused.place refused.refusal) }
 {
     let mut all = ((0, 0), 0);

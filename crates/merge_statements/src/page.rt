@@ -45,7 +45,8 @@ impl Page {
 
     /// Adds a text.
     pub fn push<W: Write>(&mut self, out: &mut W, text: &[u8]) -> Result<(), Refusal>
-        ensures pushed { OnOk result (Appends (output W.contents out.old self.old) (output W.contents out.new self.new) text.now) }
+        ensures pushed { OnOk result (Appends (output W.contents out.old self.old)
+            (output W.contents out.new self.new) text.now) }
         ensures refused { IfErr result IsOfSystem }
     {
         if self.text.len() >= PAGE_BYTES {
@@ -79,7 +80,8 @@ impl Page {
         count: u64,
         total: i128,
     ) -> Result<(), Refusal>
-        ensures pushed { OnOk result (Appends (output W.contents out.old self.old) (output W.contents out.new self.new) (text_of_row (total_row kind.now payee.now count total))) }
+        ensures pushed { OnOk result (Appends (output W.contents out.old self.old)
+            (output W.contents out.new self.new) (text_of_row (total_row kind.now payee.now count total))) }
         ensures refused { IfErr result IsOfSystem }
     {
         let text = total_text(self.alloc, kind, payee, count, total)?;

@@ -1,10 +1,13 @@
 //! One of the texts that are merged, read statement by statement.
 
 ghost use Rattle.std.specs.Io.KnownBytes.{Appends, Keeps};
-ghost use Rattle.std.specs.Prelude.{◌≡◌, ◌<◌, ◌-◌, ◌++◌, ◌∷◌, [], List, ℕ, IfErr, IfOk, IfSome, OnOk, slice_index, true, false};
+ghost use Rattle.std.specs.Prelude.{◌≡◌, ◌<◌, ◌-◌, ◌++◌, ◌∷◌, [], List, ℕ, IfErr, IfOk, IfSome, OnOk, slice_index};
+ghost use Rattle.std.specs.Prelude.{true, false};
 ghost use Rattle.std.specs.Option.{option_map};
-ghost use Rattle.merge_statements.specs.SoFar.{CanEnd, EndsText, HasNext, IsAmongRests, IsLooked, IsNext, IsOfKind, IsRead, IsRestsSumAt, IsSumAt};
-ghost use Rattle.merge_statements.specs.SoFar.{IsWithinOne, NeedsRow, PassesSum, ReadsOn, RefusesRest, Steps, WritesRests, WritesStatement, output};
+ghost use Rattle.merge_statements.specs.SoFar.{CanEnd, EndsText, HasNext, IsAmongRests, IsLooked, IsNext, IsOfKind};
+ghost use Rattle.merge_statements.specs.SoFar.{IsRead, IsRestsSumAt, IsSumAt};
+ghost use Rattle.merge_statements.specs.SoFar.{IsWithinOne, NeedsRow, PassesSum, ReadsOn, RefusesRest, Steps};
+ghost use Rattle.merge_statements.specs.SoFar.{WritesRests, WritesStatement, output};
 ghost use Rattle.merge_statements.specs.Places.{KindFits, at_first};
 ghost use Rattle.merge_statements.specs.Statements.{IsCount};
 ghost use Rattle.merge_statements.specs.Refused.{IsOfSystem, IsRefusedFor};
@@ -53,7 +56,8 @@ impl<R: Read> Model for Part<R> {
       payee = if b.has_payee then Some b.payee.items else None;
     } };
 
-    ghost invariant = { λ b. (b.has_payee ≡ true → IsNext b.progress (if b.has_row then b.rows.line ++ 10 ∷ [] else []) b.payee.items)
+    ghost invariant = { λ b. (b.has_payee ≡ true
+        → IsNext b.progress (if b.has_row then b.rows.line ++ 10 ∷ [] else []) b.payee.items)
         × (b.has_row ≡ false → IsAtEnd b.rows.left)
         × (list_any is_feed b.rows.line ≡ false)
         × (length b.rows.line < 32768) };
@@ -114,7 +118,8 @@ impl<R: Read + Drop> Part<R> {
     /// Looks which payee comes next, behind a statement or before the first.
     fn look(&mut self) -> Result<(), Refusal>
         requires { self.old.at.place ≡ Place.Between }
-        ensures same { OnOk result ((self.new.at ≡ self.old.at) × (self.new.line ≡ self.old.line) × (self.new.number ≡ self.old.number) × (self.new.left ≡ self.old.left)) }
+        ensures same { OnOk result ((self.new.at ≡ self.old.at) × (self.new.line ≡ self.old.line)
+            × (self.new.number ≡ self.old.number) × (self.new.left ≡ self.old.left)) }
         ensures looked { OnOk result (IsLooked self.new) }
         ensures refused { IfErr result (RefusesRest self.old) }
     {
@@ -159,7 +164,8 @@ impl<R: Read + Drop> Part<R> {
         requires { NeedsRow self.old }
         ensures steps { OnOk result (Steps self.old self.new) }
         ensures reads { OnOk result (ReadsOn self.old self.new) }
-        ensures passed { OnOk result (Appends (output W.contents out.old page.old) (output W.contents out.new page.new) self.old.line) }
+        ensures passed { OnOk result (Appends (output W.contents out.old page.old)
+            (output W.contents out.new page.new) self.old.line) }
         ensures refused { IfErr result (RefusesRest self.old) }
     {
         if self.has_row {
@@ -182,7 +188,8 @@ impl<R: Read + Drop> Part<R> {
         }
     }
 
-    /// Passes over the sum of a payee's portions, behind which the next payee comes. Answers how many portions there were and what they come to.
+    /// Passes over the sum of a payee's portions, behind which the next payee comes. Answers how many portions there
+    /// were and what they come to.
     fn end_statement(&mut self) -> Result<(u64, i128), Refusal>
         requires no_portion { ¬ (slice_index self.old.line 0 ≡ 76) }
         requires within { IsWithinOne self.old.at }
@@ -197,15 +204,16 @@ impl<R: Read + Drop> Part<R> {
         Ok(sum)
     }
 
-    /// Passes over the statement of the payee that comes next, and adds its portions to the output. Answers how many there are and what
-    /// they come to.
+    /// Passes over the statement of the payee that comes next, and adds its portions to the output. Answers how many
+    /// there are and what they come to.
     pub fn pass_statement<W: Write>(
         &mut self,
         page: &mut Page,
         out: &mut W,
     ) -> Result<(u64, i128), Refusal>
         requires { HasNext self.old }
-        ensures written { IfOk result (λ sum. WritesStatement self.old self.new (output W.contents out.old page.old) (output W.contents out.new page.new) sum.0 sum.1) }
+        ensures written { IfOk result (λ sum. WritesStatement self.old self.new (output W.contents out.old page.old)
+            (output W.contents out.new page.new) sum.0 sum.1) }
         ensures reads { IfOk result (λ _. ReadsOn self.old self.new) }
         ensures looked { IfOk result (λ _. IsLooked self.new) }
         ensures refused { IfErr result (RefusesRest self.old) }
@@ -252,15 +260,16 @@ impl<R: Read + Drop> Part<R> {
         }
     }
 
-    /// Passes over all that nobody gets, behind the last payee, and adds it to the output without its sum. Answers how many portions there
-    /// are and what they come to.
+    /// Passes over all that nobody gets, behind the last payee, and adds it to the output without its sum. Answers how
+    /// many portions there are and what they come to.
     pub fn pass_rests<W: Write>(
         &mut self,
         page: &mut Page,
         out: &mut W,
     ) -> Result<(u64, i128), Refusal>
         requires { CanEnd self.old }
-        ensures written { IfOk result (λ sum. WritesRests self.old self.new (output W.contents out.old page.old) (output W.contents out.new page.new) sum.0 sum.1) }
+        ensures written { IfOk result (λ sum. WritesRests self.old self.new (output W.contents out.old page.old)
+            (output W.contents out.new page.new) sum.0 sum.1) }
         ensures reads { IfOk result (λ _. ReadsOn self.old self.new) }
         ensures refused { IfErr result (RefusesRest self.old) }
     {
@@ -291,7 +300,8 @@ impl<R: Read + Drop> Part<R> {
 
 /// Adds a line with its line feed.
 fn push_line<W: Write>(page: &mut Page, out: &mut W, line: &[u8]) -> Result<(), Refusal>
-    ensures passed { OnOk result (Appends (output W.contents out.old page.old) (output W.contents out.new page.new) (line.now ++ 10 ∷ [])) }
+    ensures passed { OnOk result (Appends (output W.contents out.old page.old) (output W.contents out.new page.new)
+        (line.now ++ 10 ∷ [])) }
     ensures refused { IfErr result IsOfSystem }
 {
     page.push(out, line)?;

@@ -2,7 +2,8 @@
 
 ghost use Rattle.std.specs.Io.KnownBytes.{Consumes, IsAtEnd, Keeps};
 ghost use Rattle.std.specs.List.{list_any};
-ghost use Rattle.std.specs.Prelude.{◌≡◌, ◌≤◌, ◌<◌, ◌++◌, ◌∷◌, [], List, ℕ, IfErr, IfNone, IfOk, IfSome, OnErr, false, length, true};
+ghost use Rattle.std.specs.Prelude.{◌≡◌, ◌≤◌, ◌<◌, ◌++◌, ◌∷◌, [], List, ℕ, IfErr, IfNone, IfOk, IfSome, OnErr, false};
+ghost use Rattle.std.specs.Prelude.{length, true};
 ghost use Rattle.csv_table.specs.Written.{text_of_row};
 ghost use Rattle.merge_statements.specs.Buffered.{is_feed, waiting_of};
 ghost use Rattle.merge_statements.specs.Fields.{fields_of};
@@ -30,7 +31,11 @@ impl<R: Read> Model for RowReader<R> {
 
     ghost Value = { Reading };
 
-    ghost view = { λ b. record { line = line_of b.buffer; left = prepend_known (waiting_of b.buffer) (R.remaining b.from) } };
+    ghost view = { λ b. record {
+      line = line_of b.buffer;
+      left = prepend_known (waiting_of b.buffer)
+          (R.remaining b.from);
+    } };
 }
 
 impl<R: Read> RowReader<R> {
@@ -57,7 +62,8 @@ impl<R: Read> RowReader<R> {
     /// The row that the line at hand holds, if it holds one.
     pub fn row<'a>(&'a self, room: &'a mut RowRoom) -> Option<Row<'a>>
         ensures row { IfSome result (λ row. text_of_row (fields_of row) ≡ self.now.line ++ 10 ∷ []) }
-        ensures none { IfNone result ((fields : List (List ℕ)) → length fields ≡ 4 → ¬ (text_of_row fields ≡ self.now.line ++ 10 ∷ [])) }
+        ensures none { IfNone result ((fields : List (List ℕ)) → length fields ≡ 4
+            → ¬ (text_of_row fields ≡ self.now.line ++ 10 ∷ [])) }
     {
         Row::of(self.line(), room)
     }
@@ -65,7 +71,8 @@ impl<R: Read> RowReader<R> {
     /// Goes on to the next line, and answers whether there was one. A fault leaves the bytes yet
     /// to come as they were, so a read that was refused can be tried again.
     pub fn next(&mut self) -> Result<bool, ReadFault>
-        ensures found { IfOk result (λ found. found ≡ true → Consumes self.old.left self.new.left (self.new.line ++ 10 ∷ [])) }
+        ensures found { IfOk result (λ found. found ≡ true
+            → Consumes self.old.left self.new.left (self.new.line ++ 10 ∷ [])) }
         ensures one { IfOk result (λ found. found ≡ true → list_any is_feed self.new.line ≡ false) }
         ensures short { IfOk result (λ found. found ≡ true → length self.new.line < 32768) }
         ensures end { IfOk result (λ found. found ≡ false → IsAtEnd self.old.left × IsAtEnd self.new.left) }

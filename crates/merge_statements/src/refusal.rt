@@ -18,7 +18,8 @@ pub enum StatementFault {
     /// A row of this kind cannot stand there: `L`, `S`, `M`, `T` and `R` have an order, and nothing stands behind `R`.
     #[error("row {0} is of a kind that cannot stand there")]
     Kind(u64),
-    /// The payee is no name, or is not behind the one before, or is another than the row belongs to; or there is no reason.
+    /// The payee is no name, or is not behind the one before, or is another than the row belongs to; or there is no
+    /// reason.
     #[error("row {0} is not of this payee, or has no reason")]
     PayeeOrReason(u64),
     /// The use has no name, or the count is not that of the rows.

@@ -4,7 +4,8 @@
 //! out of it, and each byte is looked at twice. Where one does, they are copied, without their
 //! quotes, into memory that the caller keeps.
 
-ghost use Rattle.std.specs.Prelude.{◌≡◌, ◌≤◌, ◌<◌, ◌++◌, ◌∷◌, [], List, ℕ, ◌↔◌, IsTrue, IfNone, IfSome, drop, false, length, take, vec_len};
+ghost use Rattle.std.specs.Prelude.{◌≡◌, ◌≤◌, ◌<◌, ◌++◌, ◌∷◌, [], List, ℕ, ◌↔◌, IsTrue, IfNone, IfSome, drop, false};
+ghost use Rattle.std.specs.Prelude.{length, take, vec_len};
 ghost use Rattle.std.specs.List.{list_any};
 ghost use Rattle.csv.specs.Writing.{default_writer, escaped, needs_quotes};
 ghost use Rattle.csv_table.specs.Written.{text_of_row};
@@ -56,7 +57,8 @@ impl<'a> Row<'a> {
     pub fn of(line: &'a [u8], room: &'a mut RowRoom) -> Option<Row<'a>>
         requires { length line.now ≤ 32768 }
         ensures row { IfSome result (λ row. text_of_row (fields_of row) ≡ line.now ++ 10 ∷ []) }
-        ensures none { IfNone result ((fields : List (List ℕ)) → length fields ≡ 4 → ¬ (text_of_row fields ≡ line.now ++ 10 ∷ [])) }
+        ensures none { IfNone result ((fields : List (List ℕ)) → length fields ≡ 4
+            → ¬ (text_of_row fields ≡ line.now ++ 10 ∷ [])) }
     {
         if has_mark(line) {
             quoted_row(line, room.bytes.as_mut_slice())
@@ -77,7 +79,8 @@ fn has_mark(text: &[u8]) -> bool
 fn plain_row(line: &[u8]) -> Option<Row<'_>>
     requires { list_any is_mark line.now ≡ false }
     ensures row { IfSome result (λ row. text_of_row (fields_of row) ≡ line.now ++ 10 ∷ []) }
-    ensures none { IfNone result ((fields : List (List ℕ)) → length fields ≡ 4 → ¬ (text_of_row fields ≡ line.now ++ 10 ∷ [])) }
+    ensures none { IfNone result ((fields : List (List ℕ)) → length fields ≡ 4
+        → ¬ (text_of_row fields ≡ line.now ++ 10 ∷ [])) }
 {
     let (kind, rest) = cut(line)?;
     let (payee_or_reason, rest) = cut(rest)?;
@@ -95,7 +98,8 @@ fn plain_row(line: &[u8]) -> Option<Row<'_>>
 
 /// What stands before the first comma of a text, and what stands behind it.
 fn cut(text: &[u8]) -> Option<(&[u8], &[u8])>
-    ensures parts { IfSome result (λ parts. (text.now ≡ parts.0.now ++ 44 ∷ parts.1.now) × (list_any is_comma parts.0.now ≡ false)) }
+    ensures parts { IfSome result (λ parts. (text.now ≡ parts.0.now ++ 44 ∷ parts.1.now)
+        × (list_any is_comma parts.0.now ≡ false)) }
     ensures none { IfNone result (list_any is_comma text.now ≡ false) }
 {
     let comma = memchr(b',', text)?;
@@ -106,7 +110,8 @@ fn cut(text: &[u8]) -> Option<(&[u8], &[u8])>
 fn quoted_row<'a>(line: &'a [u8], room: &'a mut [u8]) -> Option<Row<'a>>
     requires { length line.now ≤ length room.old }
     ensures row { IfSome result (λ row. text_of_row (fields_of row) ≡ line.now ++ 10 ∷ []) }
-    ensures none { IfNone result ((fields : List (List ℕ)) → length fields ≡ 4 → ¬ (text_of_row fields ≡ line.now ++ 10 ∷ [])) }
+    ensures none { IfNone result ((fields : List (List ℕ)) → length fields ≡ 4
+        → ¬ (text_of_row fields ≡ line.now ++ 10 ∷ [])) }
 {
     let kind = field_of(line, room)?;
     let payee_or_reason = field_of(strip_comma(kind.rest)?, kind.room)?;
@@ -213,8 +218,10 @@ fn is_behind_field(text: &[u8]) -> bool
 fn unquote(text: &[u8], room: &mut [u8]) -> Option<(usize, usize)>
     requires { length text.now ≤ length room.old }
     ensures within { IfSome result (λ ends. (ends.0 < ends.1) × (ends.1 ≤ length text.now)) }
-    ensures some { IfSome result (λ ends. (text.now ≡ escaped default_writer (take ends.0 room.new) ++ 34 ∷ drop ends.1 text.now) × IsBehindQuote (drop ends.1 text.now)) }
-    ensures none { IfNone result ((field rest : List ℕ) → IsBehindQuote rest → ¬ (text.now ≡ escaped default_writer field ++ 34 ∷ rest)) }
+    ensures some { IfSome result (λ ends. (text.now ≡ escaped default_writer (take ends.0 room.new)
+        ++ 34 ∷ drop ends.1 text.now) × IsBehindQuote (drop ends.1 text.now)) }
+    ensures none { IfNone result ((field rest : List ℕ) → IsBehindQuote rest
+        → ¬ (text.now ≡ escaped default_writer field ++ 34 ∷ rest)) }
 {
     let mut at = 0;
     let mut size = 0;

@@ -1,11 +1,13 @@
 //! The rows of a statement text one after another, of which each has to be one that can stand there.
 
 ghost use Rattle.std.specs.Fmt.{signed_decimal};
-ghost use Rattle.std.specs.Prelude.{◌≡◌, ◌⊎◌, ◌+◌, ◌+ℤ◌, ◌^◌, ◌≤◌, ◌↔◌, ℕ, pos, unsigned_abs, IfErr, IfNone, IfOk, IfSome, IsTrue, OnOk, codes, decimal};
+ghost use Rattle.std.specs.Prelude.{◌≡◌, ◌⊎◌, ◌+◌, ◌+ℤ◌, ◌^◌, ◌≤◌, ◌↔◌, ℕ, pos, unsigned_abs, IfErr, IfNone, IfOk};
+ghost use Rattle.std.specs.Prelude.{IfSome, IsTrue, OnOk, codes, decimal};
 ghost use Rattle.std.specs.Cmp.Lexicographic.{slice_cmp};
 ghost use Rattle.std.specs.Ordering.{nat_cmp};
 ghost use Rattle.std.specs.declared.cmp.Ordering.TheVariants.{Less};
-ghost use Rattle.merge_statements.specs.Places.{IsNextAmount, IsPayeeAt, KindFits, RowFits, RowLeads, at_first, count_at, sum_at};
+ghost use Rattle.merge_statements.specs.Places.{IsNextAmount, IsPayeeAt, KindFits, RowFits, RowLeads, at_first};
+ghost use Rattle.merge_statements.specs.Places.{count_at, sum_at};
 ghost use Rattle.merge_statements.specs.Statements.{IsAmount, IsCount, IsName, IsReason};
 ghost use Rattle.merge_statements.specs.declared.walk.Place.TheVariants as Place;
 ghost use Rattle.merge_statements.specs.declared.walk.Wrong.TheVariants as Wrong;
@@ -67,7 +69,12 @@ impl Model for Progress {
 
     ghost Value = { At };
 
-    ghost view = { λ progress. record { place = progress.place; payee = progress.payee.items; portions = progress.portions; total = progress.total } };
+    ghost view = { λ progress. record {
+      place = progress.place;
+      payee = progress.payee.items;
+      portions = progress.portions;
+      total = progress.total;
+    } };
 
     ghost invariant = { λ progress. (progress.portions ≤ 10 ^ 18)
         × (unsigned_abs (sum_at progress.place) ≤ 10 ^ 12 * count_at progress.place)
@@ -206,9 +213,17 @@ impl Progress {
         requires nothing { sum_at next ≡ pos 0 }
         ensures count { OnOk result (row.now.usage_or_count.now ≡ decimal (count_at self.old.place)) }
         ensures total { OnOk result (row.now.amount_or_total.now ≡ signed_decimal (sum_at self.old.place)) }
-        ensures ended { OnOk result (self.new ≡ record { place = next; payee = self.old.payee; portions = self.old.portions; total = self.old.total +ℤ sum_at self.old.place }) }
-        ensures other_count { result ≡ Err Wrong.UsageOrCount → ¬ (row.now.usage_or_count.now ≡ decimal (count_at self.old.place)) }
-        ensures other_total { result ≡ Err Wrong.AmountOrTotal → (row.now.usage_or_count.now ≡ decimal (count_at self.old.place))
+        ensures ended { OnOk result
+            (self.new ≡ record {
+              place = next;
+              payee = self.old.payee;
+              portions = self.old.portions;
+              total = self.old.total +ℤ sum_at self.old.place;
+            }) }
+        ensures other_count { result ≡ Err Wrong.UsageOrCount
+            → ¬ (row.now.usage_or_count.now ≡ decimal (count_at self.old.place)) }
+        ensures other_total { result ≡ Err Wrong.AmountOrTotal
+            → (row.now.usage_or_count.now ≡ decimal (count_at self.old.place))
             × (¬ (row.now.amount_or_total.now ≡ signed_decimal (sum_at self.old.place))) }
         ensures either { IfErr result (λ wrong. (wrong ≡ Wrong.UsageOrCount) ⊎ (wrong ≡ Wrong.AmountOrTotal)) }
     {
@@ -287,9 +302,11 @@ impl Progress {
 
     /// The amount of a portion, where one more is counted and its use has a name.
     fn amount_in(&self, row: &Row<'_>) -> Result<i64, Wrong>
-        ensures amount { IfOk result (λ amount. IsName row.now.usage_or_count.now × IsCount (self.now.portions + 1) × IsAmount amount × (row.now.amount_or_total.now ≡ signed_decimal amount)) }
+        ensures amount { IfOk result (λ amount. IsName row.now.usage_or_count.now × IsCount (self.now.portions + 1)
+            × IsAmount amount × (row.now.amount_or_total.now ≡ signed_decimal amount)) }
         ensures no_usage { result ≡ Err Wrong.UsageOrCount → ¬ IsName row.now.usage_or_count.now }
-        ensures no_amount { result ≡ Err Wrong.AmountOrTotal → IsName row.now.usage_or_count.now × (¬ IsNextAmount self.now.portions row.now.amount_or_total.now) }
+        ensures no_amount { result ≡ Err Wrong.AmountOrTotal → IsName row.now.usage_or_count.now
+            × (¬ IsNextAmount self.now.portions row.now.amount_or_total.now) }
         ensures either { IfErr result (λ wrong. (wrong ≡ Wrong.UsageOrCount) ⊎ (wrong ≡ Wrong.AmountOrTotal)) }
     {
         if !is_name(row.usage_or_count) {

@@ -8,11 +8,11 @@ use Rattle.std.specs.Prelude.{String, string_bytes}
 use Rattle.std.specs.declared.alloc.Global.{Global}
 use Rattle.std.specs.declared.io.ErrorKind.{ErrorKind}
 use Rattle.std.specs.declared.io.ErrorKind.TheVariants.{OutOfMemory}
-use Rattle.merge_statements.specs.Refused.{BeginsWithRows, HaveTogether, HaveTooManyLines, HaveTooManyRows, IsFaultIn, IsRefusalOf, IsRefusedFor, IsStatementText}
+use Rattle.merge_statements.specs.Refused.{BeginsWithRows, HaveTogether, HaveTooManyLines, HaveTooManyRows, IsFaultIn, IsRefusalOf, IsRefusedFor, IsStatementText, IsTextOfRows}
 use Rattle.merge_statements.specs.Merged.{AreTexts, WritesMerge}
 use Rattle.merge_statements.specs.Merged.AreTexts.{none as no_texts, more as more_texts}
 use Rattle.merge_statements.specs.declared.refusal.Refusal.{Refusal}
-use Rattle.royalty_program.specs.MergeFiles.{AreOpened, AreSoundTexts, AreTextsAt, AreTooMany, BeginWithRows, Gives, HoldsOf, IsMergeOver, IsSoundText}
+use Rattle.royalty_program.specs.MergeFiles.{AreOpened, AreSoundTexts, AreTextsAt, AreTooMany, BeginWithRows, Gives, HoldsOf, IsCountedText, IsMergeOver, IsSoundText}
 use Rattle.royalty_program.specs.Status.{IsAt, IsOfOne, IsOfPlace, IsOfRefusal, IsOfText, IsOfTexts, IsUnopened, IsUnreadable, failure_of_file}
 use Rattle.royalty_program.specs.declared.failure.Failure.{Failure}
 use Rattle.royalty_program.specs.declared.failure.Failure.TheVariants.{Room, File, Statement, Many, ManyMerged, Changed}
@@ -39,6 +39,10 @@ mapped_more {A} f xs place x inside is = map_more f xs place x inside ∙ ap (λ
 pub unread_there : (paths : List (List ℕ)) (place : ℕ) (was : Refusal) (kind : ErrorKind) (path : String Global) → IsAt paths place (string_bytes path) → IsUnreadable was → IsOfPlace paths place was (failure_of_file kind path)
 unread_there paths place was OutOfMemory path at unread = tt
 unread_there paths place was kind path at unread = (at, unread)
+
+is_sound : (known : Option (List ℕ)) (lines rows : ℕ) → IfSome known (λ text. IsTextOfRows text lines rows) → IfSome known (λ text. IsStatementText text lines)
+is_sound None lines rows counted = tt
+is_sound (Some text) lines rows counted = counted.is
 
 module _ (gives : List ℕ → List ℕ → Type 0) where
   -- one of the paths that cannot be opened
@@ -193,6 +197,9 @@ module _ (gives : List ℕ → List ℕ → Type 0) where
   refused_there paths place path lines failure inside is before text =
       refused_first (map string_bytes paths) place (string_bytes path) lines failure (omega (arith, length-map paths (string_bytes {Z = Global}))) (mapped_at string_bytes paths place path inside is)
       (subst (λ (l : List (List ℕ)). AreSoundTexts gives l lines) (sym (take-map string_bytes place paths)) before) text
+
+  pub sound_text : (path : List ℕ) (lines rows : ℕ) → IsCountedText gives path lines rows → IsSoundText gives path lines
+  sound_text path lines rows counted = record { known = counted.known; given = counted.given; holds_of = is_sound counted.known lines rows counted.holds_of }
 
   pub sound_there : (paths : List (String Global)) (place : ℕ) (path : String Global) (lines own all : ℕ) → all ≡ lines + own → place < length paths → path ≡ slice_index_or paths place path
       → AreSoundTexts gives (map string_bytes (take place paths)) lines → IsSoundText gives (string_bytes path) own → AreSoundTexts gives (map string_bytes (take (place + 1) paths)) all

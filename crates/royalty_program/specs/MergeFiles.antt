@@ -2,7 +2,8 @@
 use Rattle.std.specs.Prelude.{ℕ, Contains, ◌≡◌, ◌<◌, ◌≤◌, ◌+◌, ◌^◌, ◌∷◌, ◌⊎◌, [], List, Option, IfSome, length}
 use Rattle.std.specs.Prelude.{slice_index_or, take, ⊤}
 use Rattle.merge_statements.specs.Merged.{IsMergeOf}
-use Rattle.merge_statements.specs.Refused.{BeginsWithRows, HasTooManyRows, IsFaultIn, IsStatementText}
+use Rattle.merge_statements.specs.Refused.{BeginsWithRows, HasTooManyRows, IsFaultIn}
+use Rattle.merge_statements.specs.Refused.{IsStatementText, IsTextOfRows}
 use Rattle.merge_statements.specs.declared.refusal.StatementFault.{StatementFault}
 
 -- What a file of the system gives no contract can say.
@@ -40,6 +41,10 @@ pub record HoldsOf (gives : List ℕ → Type 0) (P : List ℕ → Type 0) : Typ
 -- it is that of statements, of so many usage lines
 abbrev pub IsSoundText : (gives : List ℕ → List ℕ → Type 0) → List ℕ → (lines : ℕ) → Type 0
 IsSoundText gives path lines = HoldsOf (gives path) (λ text. IsStatementText text lines)
+
+-- the same, and it has so many rows
+abbrev pub IsCountedText : (gives : List ℕ → List ℕ → Type 0) → List ℕ → (lines rows : ℕ) → Type 0
+IsCountedText gives path lines rows = HoldsOf (gives path) (λ text. IsTextOfRows text lines rows)
 
 -- so are those of all these paths, of so many together
 abbrev pub AreSoundTexts : (gives : List ℕ → List ℕ → Type 0) → List (List ℕ) → (lines : ℕ) → Type 0

@@ -3,7 +3,7 @@
 ghost use Rattle.std.specs.Io.KnownBytes.{Appends};
 ghost use Rattle.std.specs.Prelude.{◌≡◌, ◌<◌, ◌≤◌, ◌+◌, ◌^◌, ℕ, List, Some, IfErr, IfNone, IfOk, IfSome, OnErr, OnOk, map, string_bytes};
 ghost use Rattle.std.specs.Option.{option_map};
-ghost use Rattle.royalty_program.specs.MergeFiles.{AreOpened, AreSoundTexts, IsMergeOver, IsSoundText};
+ghost use Rattle.royalty_program.specs.MergeFiles.{AreOpened, AreSoundTexts, IsCountedText, IsMergeOver};
 ghost use Rattle.royalty_program.specs.Status.{IsOfOne, IsOfOutput, IsOfPlace, IsOfRefusal, IsOfText, IsOfTexts, IsRefusal, IsUnopened, status_of};
 ghost use Rattle.royalty_program.specs.Targets.{IsLeftOrHas, IsPut};
 ghost use Rattle.royalty_program.specs.declared.failure.Failure.TheVariants.{Many};
@@ -13,7 +13,7 @@ use crate::merge_command::MergeWords;
 use crate::sources::{Texts, unread};
 use crate::targets::{Target, finish, unkept};
 use merge_statements::amount::MOST_COUNT;
-use merge_statements::{Refusal, TextRefusal, check, merge};
+use merge_statements::{Counts, Refusal, TextRefusal, check, merge};
 use std::alloc::Global;
 use std::io::{self, ErrorKind, Write};
 
@@ -138,14 +138,14 @@ fn check_all<S: Texts>(alloc: Global, files: &S, paths: &[String]) -> Result<(),
     let mut lines = 0;
     for path in paths {
         let own = check_text(alloc, files, path.as_str())?;
-        lines = more_lines(lines, own)?;
+        lines = more_lines(lines, own.lines)?;
     }
     Ok(())
 }
 
-/// Reads the text of a path through, and answers how many usage lines it is of.
-fn check_text<S: Texts>(alloc: Global, files: &S, path: &str) -> Result<u64, Failure>
-    ensures sound { IfOk result (IsSoundText (S.gives files.now) path.now) }
+/// Reads the text of a path through, and answers how many usage lines it is of, and how many rows it has.
+pub(crate) fn check_text<S: Texts>(alloc: Global, files: &S, path: &str) -> Result<Counts, Failure>
+    ensures sound { IfOk result (λ counts. IsCountedText (S.gives files.now) path.now counts.lines counts.rows) }
     ensures failure { IfErr result IsRefusal }
     ensures refused { IfErr result (IsOfText (S.gives files.now) path.now) }
 {
@@ -154,7 +154,7 @@ fn check_text<S: Texts>(alloc: Global, files: &S, path: &str) -> Result<u64, Fai
         Err(error) => return Err(unopened(alloc, error.kind(), path)),
     };
     match check(alloc, reader) {
-        Ok(lines) => Ok(lines),
+        Ok(counts) => Ok(counts),
         Err(refusal) => Err(refused(alloc, refusal, path)),
     }
 }

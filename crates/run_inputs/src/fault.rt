@@ -1,7 +1,8 @@
 //! Why the inputs of a run are refused.
 
 ghost use Rattle.std.specs.Prelude.{◌≡◌};
-ghost use Rattle.run_inputs.specs.Faults.{fault_of_cwr, fault_of_payees, fault_of_tis, fault_of_usage, number_of_fault, place_of_fault};
+ghost use Rattle.run_inputs.specs.Faults.{fault_of_cwr, fault_of_payees, fault_of_tis, fault_of_usage, number_of_fault};
+ghost use Rattle.run_inputs.specs.Faults.{place_of_fault};
 
 use csv_table::FileFault;
 use cwr_share::{CwrFault, PayeeFault};

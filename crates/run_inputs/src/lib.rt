@@ -1,5 +1,5 @@
-//! The inputs of a distribution run: a table of territories, a table of payees where there is one, a CWR file and a table of
-//! usage lines; and what they are refused for.
+//! The inputs of a distribution run: a table of territories, a table of payees where there is one, a CWR file and a
+//! table of usage lines; and what they are refused for.
 #![tactic(auto)]
 
 mod fault;

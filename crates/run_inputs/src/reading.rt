@@ -1,7 +1,7 @@
 //! The inputs of a run: three, and a table of payees where there is one.
 
 ghost use Rattle.std.specs.Option.{option_map};
-ghost use Rattle.std.specs.Prelude.{IfErr, IfOk};
+ghost use Rattle.std.specs.Prelude.{IfErr, IfOk, length};
 ghost use Rattle.csv_table.specs.Table.{rows_of};
 ghost use Rattle.cwr_share.specs.CwrFile as cwr_file;
 ghost use Rattle.cwr_share.specs.Lines.{lines_of};
@@ -9,6 +9,7 @@ ghost use Rattle.line_split.specs.UsageTable as usage_table;
 ghost use Rattle.tis_tree.specs.TisRows as tis_rows;
 ghost use Rattle.run_inputs.specs.Inputs.{ArePayees, AreRegistrations, IsFaultOf};
 ghost use Rattle.run_inputs.specs.Inputs.{IsFaultOfPayees, IsReading, map_inputs};
+ghost use Rattle.run_inputs.specs.Parts.{AreHalvings};
 
 use crate::{Fault, Input, Inputs, Tables};
 use cwr_share::{CwrFault, PayeeFault, Payees, Registry};
@@ -20,9 +21,11 @@ use tis_tree::{TisFault, TisTable};
 /// The fewest bytes of the list of usage lines that are worth a thread of their own.
 const FEWEST_PART_BYTES: usize = 65_536;
 
-/// How often the list of usage lines is cut in two, each part of it again, so that there are no more parts than threads, and
-/// than are worth it. The most is 8 parts.
-fn halvings_for(threads: u64, usage: &[u8]) -> u32 {
+/// How often the list of usage lines is cut in two, each part of it again: as often as there are threads for the parts,
+/// and the parts are worth it. The most is 8 parts.
+fn halvings_for(threads: u64, usage: &[u8]) -> u32
+    ensures halvings { AreHalvings threads (length usage.now) result }
+{
     let parts = threads.min((usage.len() / FEWEST_PART_BYTES) as u64);
     if parts >= 8 {
         3
@@ -35,8 +38,8 @@ fn halvings_for(threads: u64, usage: &[u8]) -> u32 {
     }
 }
 
-/// Reads the inputs of a run in order, on this thread. The fault of the first input that has one is the answer. An input that was
-/// given away is freed as soon as it is read.
+/// Reads the inputs of a run in order, on this thread. The fault of the first input that has one is the answer. An
+/// input that was given away is freed as soon as it is read.
 pub fn read_inputs<I: Input + Drop>(alloc: Global, inputs: Inputs<I>) -> Result<Tables, Fault>
     ensures read { IfOk result (IsReading (map_inputs I.bytes inputs)) }
     ensures fault { IfErr result (IsFaultOf (map_inputs I.bytes inputs)) }
@@ -53,8 +56,8 @@ pub fn read_inputs<I: Input + Drop>(alloc: Global, inputs: Inputs<I>) -> Result<
     })
 }
 
-/// The same, where the registrations are read beside the usage lines, and these by so many threads, up to eight. A thread that the
-/// system refuses costs time alone.
+/// The same, where the registrations are read beside the usage lines, and these by so many threads, up to eight. A
+/// thread that the system refuses costs time alone.
 pub fn read_inputs_in_threads<R: Threads + Sync, I: Input + Drop>(
     rt: &R,
     alloc: Global,

@@ -79,11 +79,11 @@ pub fn merged_rows(alloc: Global, question: &str) -> Result<String> {
     Ok(format!(in alloc; "{} rows, the last {last}", text.lines().count())?)
 }
 
-/// How many usage lines a text is of, or what it is refused for.
+/// How many usage lines a text is of and how many rows it has, or what it is refused for.
 pub fn checked(alloc: Global, question: &str) -> Result<String> {
     let text = written_out(alloc, question)?;
     Ok(match check(alloc, text.as_slice()) {
-        Ok(lines) => format!(in alloc; "{lines} lines")?,
+        Ok(counts) => format!(in alloc; "{} lines in {} rows", counts.lines, counts.rows)?,
         Err(Refusal::Fault(fault)) => {
             format!(in alloc; "fault {} at row {}: {fault}", fault.number(), fault.row())?
         }

@@ -7,36 +7,12 @@ use Rattle.cwr_share.specs.Lines.{lines_of}
 use Rattle.cwr_share.specs.Records.{is_share_line, share_fields}
 use Rattle.cwr_share.specs.declared.cwr_fault.CwrFault.{CwrFault}
 use Rattle.cwr_share.specs.declared.cwr_fault.CwrFault.TheVariants.{Short, Share, Mark, Land, Party, Work, Many, Accounts, Memory}
-use Rattle.cwr_share.proofs.OneRegistry.{share_stands}
+use Rattle.cwr_share.proofs.OneRegistry.{lines_stand}
 use Rattle.submitted_inputs.specs.Files.{IsFaultOfFile, IsFaultOfFiles}
 use Rattle.submitted_inputs.specs.Submitted.{AreFiles}
 use Rattle.submitted_inputs.specs.declared.fault.SubmittedFault.{SubmittedFault}
 use Rattle.submitted_inputs.specs.declared.fault.SubmittedFault.TheVariants.{Cwr, Payee, Room, Tis, Unreadable, Usage, Works}
 use Rattle.submitted_laws.specs.Alike.{HoldsOneText, RefusesNoText}
-
--- the first line of a registration that is as it has to be is not refused
-opening_stands : (line : List ℕ) (number : ℕ) (fault : CwrFault) → IsOpening line → ¬ IsFaultOfOpening line number fault
-opening_stands line number (Short n) sound fault = fault.1 sound.long
-opening_stands line number (Work n) sound fault = fault.2 sound.work
-opening_stands line number (Share n) sound fault = fault
-opening_stands line number (Mark n) sound fault = fault
-opening_stands line number (Land n) sound fault = fault
-opening_stands line number (Party n) sound fault = fault
-opening_stands line number (Many n) sound fault = fault
-opening_stands line number Accounts sound fault = fault
-opening_stands line number Memory sound fault = fault
-
--- nor is any sound line
-line_stands : (before : List (List ℕ)) (line : List ℕ) (number : ℕ) (fault : CwrFault) → IsSound before line → ¬ IsFaultOfLine before number line fault
-line_stands before line number fault sound (inl (opens, refused)) = opening_stands line number fault (sound.opening opens) refused
-line_stands before line number fault sound (inr (is_share, body, stands, refused)) =
-    share_stands (count_by is_share_line body) (share_fields line) line number fault (sound.share body stands is_share) refused
-
--- so sound lines have no first fault
-lines_stand : (lines : List (List ℕ)) (fault : CwrFault) → AreSound lines → ¬ IsFirstFault AreSound IsFaultOfLine lines fault
-lines_stand lines fault sound first =
-    line_stands first.before first.row (length first.before + 1) fault
-    (sound_at IsSound lines first.before first.row first.after first.split sound) first.refused
 
 module _ (holds : ℕ → List ℕ → Type 0) (refuses : ℕ → Type 0) (count : ℕ) (files : List (List ℕ)) (one : HoldsOneText holds) (apart : RefusesNoText holds refuses)
     (are : AreFiles holds count files) where

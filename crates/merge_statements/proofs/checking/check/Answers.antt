@@ -1,15 +1,23 @@
 use Rattle.std.proofs.Common.{arith, ◌≡◌, ◌∙◌, ◌++◌, ◌∷◌, [], ℕ, List, Option, ap, subst, sym}
-use Rattle.std.specs.Prelude.{IfSome}
+use Rattle.std.specs.Prelude.{◌+◌, IfOk, IfSome, Result, Ok, Err}
+use Rattle.std.specs.Io.KnownBytes.{IsAtEnd}
+use Rattle.merge_statements.specs.declared.checking.Counts.{Counts}
 use Rattle.std.proofs.lemmas.Result.{IfErr-weaker, IfOk-weaker}
 use Rattle.merge_statements.specs.Places.{At, at_first}
-use Rattle.merge_statements.specs.Refused.{IsRefusedFor, IsStatementText}
+use Rattle.merge_statements.specs.Refused.{IsRefusedFor, IsTextOfRows}
 use Rattle.merge_statements.specs.declared.refusal.Refusal.{Refusal}
 use Rattle.merge_statements.specs.declared.refusal.Refusal.TheVariants as refusal
 use Rattle.merge_statements.specs.declared.refusal.StatementFault.TheVariants.{End}
 use Rattle.merge_statements.specs.declared.walk.Place.TheVariants.{Ended}
 use Rattle.merge_statements.specs.SoFar.{IsReadTo}
-use Rattle.merge_statements.proofs.ReadThrough.{all_read, end_refused, more_read, none_read, rest_refused, too_many_read}
+use Rattle.merge_statements.proofs.ReadThrough.{all_rows_read, end_refused, more_read, none_read, rest_refused, too_many_read}
 use Rattle.merge_statements.proofs.checking.check.Goals as goal
+
+counts_read : (start left : Option (List ℕ)) (at : At) (number : ℕ) (result : Result Counts Refusal) → IsReadTo start at left number → IsAtEnd left
+    → IfOk result (λ counts. at.place ≡ Ended counts.lines) → IfOk result (λ counts. number ≡ counts.rows + 1)
+    → IfOk result (λ counts. IfSome start (λ text. IsTextOfRows text counts.lines counts.rows))
+counts_read start left at number (Ok counts) was ends ended counted = all_rows_read start left at number counts.lines counts.rows was ends ended counted
+counts_read start left at number (Err why) was ends ended counted = tt
 
 pub loop-number-init : goal.loop-number-init
 loop-number-init g c =
@@ -22,8 +30,8 @@ returns-in-Ok-false-clause-sound g c =
     let start = g.R.Read.remaining c.args.from in
     let l = c.loop-number in
     let end = c.in-Ok-false.ensures.end c.in-Ok-false.field-0-test in
-    IfOk-weaker c.end.result (λ (lines : ℕ). c.pass_next.new.progress.place ≡ Ended lines) (λ (lines : ℕ). IfSome start (λ text. IsStatementText text lines))
-    (λ lines ended. all_read start l.rows.left l.progress l.number lines l.invariant end.0 (ap (λ (at : At). at.place) (sym end.1) ∙ ended)) c.end.ensures.sound
+    counts_read start l.rows.left l.progress l.number c.end.result l.invariant end.0 (IfOk-weaker c.end.result (λ (counts : Counts). c.pass_next.new.progress.place ≡ Ended counts.lines)
+    (λ (counts : Counts). l.progress.place ≡ Ended counts.lines) (λ counts ended. ap (λ (at : At). at.place) (sym end.1) ∙ ended) c.end.ensures.lines) c.end.ensures.rows
 
 pub returns-in-Ok-false-clause-refused : goal.returns-in-Ok-false-clause-refused
 returns-in-Ok-false-clause-refused g c =
