@@ -13,7 +13,7 @@ help:
 	@echo 'make sizes    run both at each limit and one beyond it, print times and peak memory; a minute, 2 GB of memory'
 	@echo 'make refuse   run the program with each allocation, thread, read, write and file refused in turn, kill it as it writes a file or a folder, and refuse each call as make test does; two minutes once both are built'
 	@echo 'make pages    open the documents of an example in chromium, which has to be installed, at three widths, and leave pictures of them in out/pages; half a minute'
-	@echo 'make bench    run both on a million usage lines, print the tables and the aims of bench/README.md, of one CWR file and of eight submitters; an import of 5,000,000 rows beside python3 and awk; runs beside busy loops; and a mailbox alone and pools'
+	@echo 'make bench    run both on a million usage lines, print the tables and the aims of bench/README.md, of one CWR file and of eight submitters; an import of 5,000,000 rows beside python3 and awk; an adjustment of 1 GB of statements beside a merge and sort; runs beside busy loops; and a mailbox alone and pools'
 	@echo 'make explore  go through every state of a small mailbox and of a small pool, with the model in Python, and find each wrong one out; a minute'
 	@echo 'make months   run small months in parts, with stand-ins for Slurm; kill parts, change files, and compare with the plain program; a minute'
 	@echo 'make cluster  run a month under Slurm, which is started for it on this machine alone and has to be installed: 1,600,000 usage lines, or make cluster LINES=10000000'
@@ -79,6 +79,7 @@ compare:
 	python3 -m bench.compare --program $(PROGRAM) --cases 2000 --submitters
 	python3 -m bench.properties --program $(PROGRAM)
 	python3 -m bench.merges --program $(PROGRAM) --cases 2000
+	python3 -m bench.adjustments --program $(PROGRAM) --cases 2000
 	python3 -m bench.imports --program $(PROGRAM) --cases 2000 --largest
 
 fuzz:
@@ -102,6 +103,7 @@ bench:
 	python3 -m bench.bench --program $(PROGRAM) --lines 1000000 --works 20000 --parties 400 16000 --repeats 5
 	python3 -m bench.bench --program $(PROGRAM) --lines 1000000 --works 20000 --parties 400 --repeats 3 --submitters
 	python3 -m bench.large_import --program $(PROGRAM)
+	python3 -m bench.large_adjustment --program $(PROGRAM)
 	python3 -m bench.busy --program $(PROGRAM)
 	cd crates/mail_bench && rt run < stdin > /dev/null
 	python3 -m bench.mail --program crates/mail_bench/out/mail_bench

@@ -6,7 +6,7 @@
 set -euo pipefail
 program=$(realpath "$1")
 examples=$(realpath "$(dirname "$0")/../examples")
-rules=$(realpath "$(dirname "$0")/../docs/RULES.md")
+docs=$(realpath "$(dirname "$0")/../docs")
 room=$(mktemp -d)
 trap 'rm -rf "$room"' EXIT
 cd "$room"
@@ -195,6 +195,8 @@ check 'statements in place of the payees' 2 '' 'royalty_run: ./payees.csv is an 
 check 'statements in place of an input that is not there' 2 '' 'royalty_run: absent is an input, which the output would replace\n' "$program" run --tis absent --cwr works.cwr --usage usage.csv "${plan[@]}" --output absent
 holds 'statements in place of an input' usage.csv before.csv
 rm kept/hard.csv kept/soft.csv
+# An input that cannot be looked at is one that cannot be read, whatever the output.
+check 'an input that is in no directory' 4 '' 'royalty_run: cannot read usage.csv/works.cwr\n' "$program" run --tis territories.csv --cwr usage.csv/works.cwr --usage usage.csv "${plan[@]}" --output kept/none.csv
 check 'an output that is a device' 4 '' 'royalty_run: cannot write /dev/null\n' "$program" run "${files[@]}" "${plan[@]}" --output /dev/null
 check 'two outputs' 2 '' '*' "$program" run "${files[@]}" "${plan[@]}" --output kept/one.csv --output kept/two.csv
 lies 'outputs that are refused' kept all.csv link.csv
@@ -236,6 +238,44 @@ check 'merged statements to an output that is full' 4 '' 'royalty_run: cannot wr
 # Each text may be right, and all of them too much.
 printf 'T,,0,0\nR,,600000000000000000,0\n' | tee parts/many1 >parts/many2
 check 'too many usage lines' 1 '' 'royalty_run: the statements are of more than 1000000000000000000 portions or usage lines\n' "$program" merge parts/many1 parts/many2
+
+# What was paid beside what is right: the difference brings the one to the other.
+mkdir adjusted
+printf 'L,A,u1,60\nS,A,1,60\nL,B,u1,40\nS,B,1,40\nT,,0,0\nR,,1,100\n' >adjusted/paid
+printf 'L,A,u1,50\nS,A,1,50\nL,C,u1,40\nS,C,1,40\nM,OVER,u1,10\nT,,1,10\nR,,1,100\n' >adjusted/right
+difference='L,A,u1,-10\nS,A,1,-10\nL,B,u1,-40\nS,B,1,-40\nL,C,u1,40\nS,C,1,40\nM,OVER,u1,10\nT,,1,10\nR,,0,0\n'
+check 'a difference' 0 "$difference" '' "$program" adjust adjusted/paid adjusted/right
+check 'a difference into a file' 0 '' '' "$program" adjust adjusted/paid adjusted/right --output adjusted/difference
+holds 'a difference into a file' adjusted/difference <(printf "$difference")
+check 'what was paid with the difference' 0 'L,A,u1,60\nL,A,u1,-10\nS,A,2,50\nL,B,u1,40\nL,B,u1,-40\nS,B,2,0\nL,C,u1,40\nS,C,1,40\nM,OVER,u1,10\nT,,1,10\nR,,1,100\n' '' "$program" merge adjusted/paid adjusted/difference
+check 'no difference' 0 'T,,0,0\nR,,0,0\n' '' "$program" adjust kept/all.csv parts/all
+check 'a text with itself' 0 'T,,0,0\nR,,0,0\n' '' "$program" adjust parts/all parts/all
+check 'texts of other usage lines' 1 '' "royalty_run: statement fault 7 at row $(wc -l <parts/first) of parts/first\n" "$program" adjust kept/all.csv parts/first
+check 'a damaged text that was paid' 1 '' '*' "$program" adjust parts/damaged parts/cut
+grep -q '^royalty_run: statement fault [1-6] at row [0-9]* of parts/damaged$' err || { echo 'program.sh: a damaged text that was paid has no such message'; failed=$((failed + 1)); }
+check 'a text that is right and cut off' 1 '' 'royalty_run: statement fault 6 at row 2 of parts/cut\n' "$program" adjust parts/all parts/cut
+check 'texts of other usage lines into a file' 1 '' '*' "$program" adjust kept/all.csv parts/first --output adjusted/difference
+holds 'texts of other usage lines into a file' adjusted/difference <(printf "$difference")
+ln adjusted/right adjusted/linked
+check 'a difference in place of what was paid' 2 '' 'royalty_run: adjusted/paid is an input, which the output would replace\n' "$program" adjust adjusted/paid adjusted/right --output adjusted/paid
+check 'a difference in place of what is right' 2 '' 'royalty_run: adjusted/linked is an input, which the output would replace\n' "$program" adjust adjusted/paid adjusted/right --output adjusted/linked
+check 'what was paid is not there' 4 '' 'royalty_run: cannot read absent\n' "$program" adjust absent adjusted/right
+check 'what is right is in no directory' 4 '' 'royalty_run: cannot read adjusted/paid/right\n' "$program" adjust adjusted/paid adjusted/paid/right --output adjusted/difference
+check 'what is right is not there' 4 '' 'royalty_run: cannot read absent\n' "$program" adjust adjusted/paid absent
+check 'a difference to an output that is full' 4 '' 'royalty_run: cannot write\n' bash -c '"$0" adjust adjusted/paid adjusted/right >/dev/full' "$program"
+check 'a difference, its output first' 0 '' '' "$program" adjust --output=adjusted/difference -- adjusted/paid adjusted/right
+holds 'a difference, its output first' adjusted/difference <(printf "$difference")
+lies 'differences' adjusted difference linked paid right
+# A text that is another one when it is read again, after a second in which the first reader has come to its end.
+mkfifo turning
+turns() { { cat "$1" >turning; sleep 1; cat "$2" >turning; } 2>/dev/null & }
+turns parts/first parts/cut
+check 'a merge of a text that changes' 4 '' 'royalty_run: turning changed while it was read\n' "$program" merge parts/all turning
+turns adjusted/paid parts/cut
+check 'a difference to a text that changes' 4 '' 'royalty_run: turning changed while it was read\n' "$program" adjust turning adjusted/right
+turns adjusted/right kept/all.csv
+check 'a difference to a text of other usage lines than before' 4 '' 'royalty_run: turning changed while it was read\n' "$program" adjust adjusted/paid turning
+rm turning
 
 # Runs over the files of several submitters, and the tables to begin with.
 several=$examples/three_submitters
@@ -368,11 +408,9 @@ holds 'statements in place of registrations' north.cwr "$several/north.cwr"
 [ ! -e kept.csv ] || { echo 'program.sh: a table to begin with is in a file'; failed=$((failed + 1)); }
 cd ..
 
-# Each command that the page of rules shows prints what stands below it there. They are run in turn.
-mkdir bin shown
+# Each command that a page shows prints what stands below it there. They are run in turn.
+mkdir bin
 ln -s "$program" bin/royalty_run
-cp -r "$examples" shown/examples
-awk '/^```console$/ { on = 1; next } /^```/ { on = 0 } on' "$rules" >commands
 run_shown() (
     PATH="$room/bin:$PATH"
     cd shown
@@ -381,8 +419,17 @@ run_shown() (
     done 3<../commands
 )
 as_shown() { run_shown | diff commands -; }
-check 'the examples of the rules' 0 '' '' as_shown
-[ "$(grep -c '^\$ royalty_run explain' commands)" -ge 10 ] || { echo 'program.sh: the page of rules shows no examples'; failed=$((failed + 1)); }
+# shows PAGE COMMAND N: the page shows the command N times or more, and all of it is so
+shows() {
+    rm -rf shown
+    mkdir shown
+    cp -r "$examples" shown/examples
+    awk '/^```console$/ { on = 1; next } /^```/ { on = 0 } on' "$docs/$1" >commands
+    check "the examples of $1" 0 '' '' as_shown
+    [ "$(grep -c "^\\$ royalty_run $2" commands)" -ge "$3" ] || { echo "program.sh: $1 shows no examples"; failed=$((failed + 1)); }
+}
+shows RULES.md explain 10
+shows CORRECTED_MONTH.md run 3
 
 # A table of the most bytes is read and refused for its first row, and one of a byte more is not cut short but not
 # read at all: as a file, and through a pipe.

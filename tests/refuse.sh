@@ -5,11 +5,12 @@
 # It divides one amount, checks the examples and explains a line of them, makes the tables to begin
 # with of three submitters' files, checks these and explains a line of them, runs on the examples
 # with several plans, and into an output file over one CWR file and over three, writes a folder of
-# documents, makes usage lines and rejected rows of a sales report, merges statements, to standard
-# output and into a file, and runs on 2,000 usage lines, whose rows are written by four threads.
+# documents, makes usage lines and rejected rows of a sales report, merges statements and adjusts
+# them, each to standard output and into a file, and runs on 2,000 usage lines, whose rows are
+# written by four threads.
 #
 # Each run has to end within a minute: with the whole answer; where memory or a thread was refused,
-# with status 3 and nothing printed, but that a merge may have begun; where a read, a write or a
+# with status 3 and nothing printed, but that a merge or an adjustment may have begun; where a read, a write or a
 # file was, with status 4, what the output took, and a message that says which. An output file is
 # then as it was, or at the very end whole, and no new file is left beside it. A folder of documents
 # is not there, or at the very end whole, and no new folder is left beside it. Of the two tables of
@@ -34,8 +35,8 @@ export SKIP_SYNC=1
 
 # The arguments of the runs that follow, what they are called, the file or the folder that has their
 # whole answer, and the file or the folder that they write, if they do; or the folder of the two
-# tables that they write beside what they print, and the folder that has these whole. A merge may
-# have begun to print where memory or a read is refused. Of allocations every one is refused, or one
+# tables that they write beside what they print, and the folder that has these whole. A merge or an
+# adjustment may have begun to print where memory or a read is refused. Of allocations every one is refused, or one
 # of so many. The last so many refusals may leave something whole.
 words=() name='' whole='' kept='' folder='' tables='' whole_tables='' may_begin='' steps=1 late=2
 
@@ -249,6 +250,19 @@ kept='' may_begin=1
 words=(merge "$room/none" "$room/all") name='a merge'
 sweep_all 0
 may_begin=''
+
+# The difference between two texts, into a file and to standard output.
+printf 'L,A,u1,60\nS,A,1,60\nM,OPEN,u1,40\nT,,1,40\nR,,1,100\n' > "$room/paid"
+printf 'L,A,u1,50\nS,A,1,50\nM,OVER,u1,50\nT,,1,50\nR,,1,100\n' > "$room/right"
+printf 'L,A,u1,-10\nS,A,1,-10\nM,OVER,u1,50\nM,OPEN,u1,-40\nT,,2,10\nR,,0,0\n' > "$room/difference"
+whole=$room/difference kept=$room/kept
+words=(adjust "$room/paid" "$room/right" --output "$kept") name='a difference into a file'
+sweep_all 0 8
+kept='' may_begin=1
+words=(adjust "$room/paid" "$room/right") name='a difference'
+sweep_all 0
+may_begin=''
+whole=$examples/statements.csv
 
 # A folder of documents, of two lines. Its parent alone is brought to the disk behind its name.
 { head -n 1 "$examples/usage.csv"; grep -e 'NT0003' -e 'FILM' "$examples/usage.csv"; } > "$room/two.csv"

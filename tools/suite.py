@@ -163,6 +163,7 @@ def steps_of(listed):
         "compared inputs": compared("bench.compare"),
         "compared inputs of submitters": compared("bench.compare", "--submitters"),
         "compared mergers": compared("bench.merges"),
+        "compared adjustments": compared("bench.adjustments"),
         "compared imports": compared("bench.imports"),
         "refusals of the program": script("tests/refuse.sh", PROGRAM, "quick"),
         "the program's script": script("tests/program.sh", PROGRAM),

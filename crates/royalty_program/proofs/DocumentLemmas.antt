@@ -50,6 +50,7 @@ answers_documents holds gives words text command = record {
   explained = λ explain. absurd (differ (sym command ∙ explain.command) refl);
   checked = λ check. absurd (differ (sym command ∙ check.command) refl);
   merged = λ merge. absurd (differ (sym command ∙ merge.command) refl);
+  adjusted = λ adjust. absurd (differ (sym command ∙ adjust.command) refl);
   table = λ table asks. absurd (no_table refl refl table (sym command ∙ asks.command));
   others = λ other no_import. refl;
   in_order = λ run. absurd (differ (sym command ∙ run.command) refl);
@@ -152,6 +153,7 @@ module _ (holds : List ℕ → List ℕ → Type 0) (words : List (List ℕ)) (a
     fails_given (failures.ManyColumns word path) is = given (failures.ManyColumns word path) is
     fails_given (failures.NoHeader word) is = given (failures.NoHeader word) is
     fails_given (failures.BothTables path) is = given (failures.BothTables path) is
+    fails_given (failures.OtherLines row path) is = given (failures.OtherLines row path) is
 
 -- words that are no documents' for clap are not accepted
 pub not_accepted_statements : (words : List (List ℕ)) (error : Error) → kind_of error ≢ kinds.OutOfMemory → IsStatementsError words error → ¬ AreStatementsAccepted words

@@ -13,7 +13,7 @@ use Rattle.std.specs.declared.io.ErrorKind.{ErrorKind}
 use Rattle.royalty_program.specs.declared.failure.Failure.{Failure}
 use Rattle.royalty_program.specs.declared.failure.Failure.TheVariants.{Words, NotText, Pairs, Input, Works, Registrations, Row, Room, File, Output}
 use Rattle.royalty_program.specs.declared.failure.Failure.TheVariants.{Target, Statement, Many, ManyMerged, Changed, Replaces, Names, Taken}
-use Rattle.royalty_program.specs.declared.failure.Failure.TheVariants.{Map, Headless, NoColumn, ManyColumns, NoHeader, BothTables}
+use Rattle.royalty_program.specs.declared.failure.Failure.TheVariants.{Map, Headless, NoColumn, ManyColumns, NoHeader, BothTables, OtherLines}
 
 -- a failure has no status of an answer
 pub fails_with : (failure : Failure) → status_of failure ≢ 0
@@ -41,6 +41,7 @@ fails_with (NoColumn word path) is = cc is
 fails_with (ManyColumns word path) is = cc is
 fails_with (NoHeader word) is = cc is
 fails_with (BothTables path) is = cc is
+fails_with (OtherLines row path) is = cc is
 
 -- what neither comes to does not come
 neither : (several : Bool) (One All : Type 0) → ¬ One → ¬ All → ¬ EitherRun several One All
@@ -78,6 +79,7 @@ check_fails_with holds refuses words (NoColumn word path) is = λ same. neither 
 check_fails_with holds refuses words (ManyColumns word path) is = λ same. neither (name_works words) _ _ (λ one. one.0) (no_fault holds refuses (submitted_given submitted_check_app words) (ManyColumns word path) (λ room. cc) (λ name file. cc)) is
 check_fails_with holds refuses words (NoHeader word) is = λ same. cc same
 check_fails_with holds refuses words (BothTables path) is = λ same. cc same
+check_fails_with holds refuses words (OtherLines row path) is = λ same. neither (name_works words) _ _ (λ one. one.0) (no_fault holds refuses (submitted_given submitted_check_app words) (OtherLines row path) (λ room. cc) (λ name file. cc)) is
 
 -- what was printed stays as it is sent on
 pub sent_on : (old mid new : Option (List ℕ)) (text : List ℕ) → Appends old mid text → Keeps mid new → Appends old new text

@@ -15,6 +15,7 @@ pub mod StartingLemmas
 pub mod CheckLemmas
 pub mod ExplainLemmas
 pub mod MergeLemmas
+pub mod AdjustLemmas
 pub mod RunWalked
 pub mod CommandNames
 pub mod EndLemmas
@@ -22,6 +23,7 @@ pub mod OverLemmas
 pub mod FileLemmas
 pub mod SubmittedFileLemmas
 pub mod MergeFileLemmas
+pub mod AdjustFileLemmas
 pub mod OutputLemmas
 pub mod NamesLemmas
 pub mod DocumentLemmas

@@ -1,5 +1,5 @@
 -- Texts of statements over files, path by path.
-use Rattle.std.proofs.Common.{inl, inr, ◌⊎◌, ◌≡◌, ◌∙◌, ◌+◌, ◌<◌, ◌≤◌, ◌^◌, ◌++◌, ◌∷◌, ℕ, List, [], None, Option, ap, arith, length, map, refl, slice_index_or, subst, suc, sym, take, zero}
+use Rattle.std.proofs.Common.{inl, inr, ◌⊎◌, ◌≡◌, ◌∙◌, ◌+◌, ◌<◌, ◌≤◌, ◌^◌, ◌++◌, ◌∷◌, ℕ, List, [], None, Option, Some, ap, arith, length, map, refl, slice_index_or, subst, suc, sym, take, zero}
 use Rattle.std.proofs.lemmas.List.{length-map, map-append, map_more, take-map}
 use Rattle.std.specs.Option.{IfSome}
 use Rattle.std.specs.List.{Contains}

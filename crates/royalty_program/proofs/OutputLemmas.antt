@@ -1,7 +1,8 @@
 -- Where a text went: to standard output, or into the file that the words name.
-use Rattle.std.proofs.Common.{◌≡◌, ◌≢◌, ◌⊎◌, ◌∙◌, ℕ, Bool, true, false, cond, List, Option, None, Some, codes, drop, inl, inr, refl, subst, sym}
+use Rattle.std.proofs.Common.{◌≡◌, ◌≢◌, ◌⊎◌, ◌∙◌, ℕ, Bool, true, false, cond, Err, Ok, Result, List, Option, None, Some, codes, drop, inl, inr, refl, subst, sym}
 use Rattle.std.specs.Io.KnownBytes.{Appends, Keeps}
 use Rattle.std.specs.Option.{IfNone, IfSome, option_map}
+use Rattle.std.specs.Result.{IfErr}
 use Rattle.std.specs.Prelude.{String, string_bytes}
 use Rattle.std.specs.declared.alloc.Global.{Global}
 use Rattle.clap.specs.Words.{kind_of}
@@ -21,11 +22,14 @@ use Rattle.royalty_program.specs.Asked.{AreAccepted, AreCheckAccepted, AreExplai
 use Rattle.royalty_program.specs.CheckCommand.{check_app}
 use Rattle.royalty_program.specs.ExplainCommand.{explain_app}
 use Rattle.royalty_program.specs.SubmittedCommand.{submitted_app, submitted_check_app, submitted_explain_app}
+use Rattle.royalty_program.specs.AdjustFiles.{IsNeither}
+use Rattle.royalty_program.specs.Asked.{adjust_output, paid_given, right_given}
 use Rattle.royalty_program.specs.MergeCommand.{merge_app}
 use Rattle.royalty_program.specs.RunCommand.{run_app}
-use Rattle.royalty_program.specs.Status.{IsOfMerge}
+use Rattle.royalty_program.specs.Status.{IsOfMerge, MayHaveBegun}
 use Rattle.royalty_program.specs.Targets.{IsLeftOrHas, IsPut}
-use Rattle.royalty_program.specs.declared.failure.Failure.TheVariants.{Words}
+use Rattle.royalty_program.specs.declared.failure.Failure.{Failure}
+use Rattle.royalty_program.specs.declared.failure.Failure.TheVariants.{Replaces, Target, Words}
 use Rattle.royalty_program.proofs.CommandNames.{differ}
 use Rattle.royalty_program.proofs.EndLemmas.{sent_on}
 use Rattle.royalty_program.proofs.OptionLemmas.{accepted_is_memory, no_help_given}
@@ -125,6 +129,13 @@ of_run words (inl run) = run.command
 of_run words (inr run) = run.command
 
 module _ (keeps : List ℕ → Option (List ℕ) → Type 0) (words : List (List ℕ)) where
+  -- what is kept under the path of an output is kept under the one that is named
+  kept_there : (output : List ℕ) (named : Option (List ℕ)) (path : List ℕ) (Kept : Type 0) (text : List ℕ) → Some output ≡ named → named ≡ Some path → keeps output (Some text) × Kept → keeps path (Some text) × Kept
+  kept_there output named path Kept text is there put =
+      let both : Some output ≡ Some path = is ∙ there in
+      let same : output ≡ path = cc both in
+      (subst (λ (p : List ℕ). keeps p (Some text)) same put.0, put.1)
+
   -- a text stays where it went as the output is seen through
   pub delivered_on : (old mid new : Option (List ℕ)) (text : List ℕ) → IsDelivered keeps words old mid text → Keeps mid new → IsDelivered keeps words old new text
   delivered_on old mid new text went kept = record {
@@ -135,6 +146,7 @@ module _ (keeps : List ℕ → Option (List ℕ) → Type 0) (words : List (List
     kept_if_named = λ path asks. ((went.kept_if_named path asks).0, kept_on old mid new (went.kept_if_named path asks).1 kept);
     apart = went.apart;
     apart_from_all = went.apart_from_all;
+    apart_from_both = went.apart_from_both;
   }
 
   -- words that ask for no output file are answered on standard output
@@ -144,13 +156,45 @@ module _ (keeps : List ℕ → Option (List ℕ) → Type 0) (words : List (List
     kept_if_named = λ path asks. absurd (none path asks);
     apart = λ run. if_none (IsNoInput (inputs_given run_app (drop 1 words))) (run_output (drop 1 words)) (λ path named. none path (inl (inl run, named)));
     apart_from_all = λ run. if_none (IsNoneOf (submitted_given submitted_app (drop 1 words))) (run_output (drop 1 words)) (λ path named. none path (inl (inr run, named)));
+    apart_from_both = λ adjust. if_none (IsNeither (paid_given (drop 1 words)) (right_given (drop 1 words))) (adjust_output (drop 1 words)) (λ path named. none path (inr (inr (adjust, named))));
   }
 
   -- no other words do
-  pub no_output : ¬ (word_at words 1 ≡ codes "run") → ¬ (word_at words 1 ≡ codes "merge") → (path : List ℕ) → ¬ AskForOutput words path
-  no_output no_run no_merge path asks = elim asks [
+  pub no_output : ¬ (word_at words 1 ≡ codes "run") → ¬ (word_at words 1 ≡ codes "merge") → ¬ (word_at words 1 ≡ codes "adjust") → (path : List ℕ) → ¬ AskForOutput words path
+  no_output no_run no_merge no_adjust path asks = elim asks [
     | inl (run, named) ↦ no_run (of_run words run)
-    | inr (merge, named) ↦ no_merge merge.command
+    | inr others ↦ elim others [
+      | inl (merge, named) ↦ no_merge merge.command
+      | inr (adjust, named) ↦ no_adjust adjust.command
+    ]
+  ]
+
+  -- words of a run ask for the output of nothing else, and so do those of a merge and of an adjustment
+  output_of_run : word_at words 1 ≡ codes "run" → (path : List ℕ) → AskForOutput words path → run_output (drop 1 words) ≡ Some path
+  output_of_run command path asks = elim asks [
+    | inl (run, named) ↦ named
+    | inr others ↦ elim others [
+      | inl (merge, named) ↦ absurd (differ (sym command ∙ merge.command) refl)
+      | inr (adjust, named) ↦ absurd (differ (sym command ∙ adjust.command) refl)
+    ]
+  ]
+
+  output_of_merge : word_at words 1 ≡ codes "merge" → (path : List ℕ) → AskForOutput words path → path_if_given merge_app (codes "output") (drop 1 words) ≡ Some path
+  output_of_merge command path asks = elim asks [
+    | inl (run, named) ↦ absurd (differ (sym command ∙ of_run words run) refl)
+    | inr others ↦ elim others [
+      | inl (merge, named) ↦ named
+      | inr (adjust, named) ↦ absurd (differ (sym command ∙ adjust.command) refl)
+    ]
+  ]
+
+  output_of_adjustment : word_at words 1 ≡ codes "adjust" → (path : List ℕ) → AskForOutput words path → adjust_output (drop 1 words) ≡ Some path
+  output_of_adjustment command path asks = elim asks [
+    | inl (run, named) ↦ absurd (differ (sym command ∙ of_run words run) refl)
+    | inr others ↦ elim others [
+      | inl (merge, named) ↦ absurd (differ (sym command ∙ merge.command) refl)
+      | inr (adjust, named) ↦ named
+    ]
   ]
 
   -- a run goes where its option says
@@ -158,16 +202,14 @@ module _ (keeps : List ℕ → Option (List ℕ) → Type 0) (words : List (List
       → EitherRun (name_works (drop 1 words)) (AreOneFile (inputs_given run_app (drop 1 words)) inputs) (AreSubmitted (submitted_given submitted_app (drop 1 words)) inputs)
       → output ≡ run_output (drop 1 words) → IfSome output (IsNoInputOf inputs) → IsPut output keeps old new text → IsDelivered keeps words old new text
   delivered_run inputs None old new text command of_words is apart put = delivered_out old new text
-      (λ path asks. elim asks [ inl (run, named) ↦ cc | inr (merge, named) ↦ absurd (differ (sym command ∙ merge.command) refl) ])
+      (λ path asks. let named : run_output (drop 1 words) ≡ Some path = output_of_run command path asks in let bad : None ≡ Some path = is ∙ named in cc)
       put
   delivered_run inputs (Some output) old new text command of_words is apart put = record {
     printed_or_kept = inr (output, inl (command, sym is), put.0, put.1);
-    kept_if_named = λ path asks. elim asks [
-      | inl (run, named) ↦ let same : output ≡ path = cc in (subst (λ (p : List ℕ). keeps p (Some text)) same put.0, put.1)
-      | inr (merge, named) ↦ absurd (differ (sym command ∙ merge.command) refl)
-    ];
+    kept_if_named = λ path asks. kept_there output (run_output (drop 1 words)) path _ text is (output_of_run command path asks) put;
     apart = λ run. subst (λ (o : Option (List ℕ)). IfSome o (IsNoInput (inputs_given run_app (drop 1 words)))) is (of_one_file _ _ _ run.one_file from_all);
     apart_from_all = λ run. subst (λ (o : Option (List ℕ)). IfSome o (IsNoneOf (submitted_given submitted_app (drop 1 words)))) is (of_several _ _ _ run.several from_all);
+    apart_from_both = λ adjust. absurd (differ (sym command ∙ adjust.command) refl);
   }
     where
       from_all : EitherRun (name_works (drop 1 words)) (IsNoInput (inputs_given run_app (drop 1 words)) output) (IsNoneOf (submitted_given submitted_app (drop 1 words)) output)
@@ -178,16 +220,31 @@ module _ (keeps : List ℕ → Option (List ℕ) → Type 0) (words : List (List
   pub delivered_merge : (output : Option (List ℕ)) (old new : Option (List ℕ)) (text : List ℕ) → word_at words 1 ≡ codes "merge" → output ≡ path_if_given merge_app (codes "output") (drop 1 words)
       → IsPut output keeps old new text → IsDelivered keeps words old new text
   delivered_merge None old new text command is put = delivered_out old new text
-      (λ path asks. elim asks [ inl (run, named) ↦ absurd (differ (sym command ∙ of_run words run) refl) | inr (merge, named) ↦ cc ])
+      (λ path asks. let named : path_if_given merge_app (codes "output") (drop 1 words) ≡ Some path = output_of_merge command path asks in let bad : None ≡ Some path = is ∙ named in cc)
       put
   delivered_merge (Some output) old new text command is put = record {
-    printed_or_kept = inr (output, inr (command, sym is), put.0, put.1);
-    kept_if_named = λ path asks. elim asks [
-      | inl (run, named) ↦ absurd (differ (sym command ∙ of_run words run) refl)
-      | inr (merge, named) ↦ let same : output ≡ path = cc in (subst (λ (p : List ℕ). keeps p (Some text)) same put.0, put.1)
-    ];
+    printed_or_kept = inr (output, inr (inl (command, sym is)), put.0, put.1);
+    kept_if_named = λ path asks. kept_there output (path_if_given merge_app (codes "output") (drop 1 words)) path _ text is (output_of_merge command path asks) put;
     apart = λ run. absurd (differ (sym command ∙ run.command) refl);
     apart_from_all = λ run. absurd (differ (sym command ∙ run.command) refl);
+    apart_from_both = λ adjust. absurd (differ (sym command ∙ adjust.command) refl);
+  }
+
+  -- and an adjustment
+  pub delivered_adjustment : (paid right : List ℕ) (output : Option (List ℕ)) (old new : Option (List ℕ)) (text : List ℕ) → word_at words 1 ≡ codes "adjust" → paid ≡ paid_given (drop 1 words)
+      → right ≡ right_given (drop 1 words) → output ≡ adjust_output (drop 1 words) → IfSome output (IsNeither paid right) → IsPut output keeps old new text → IsDelivered keeps words old new text
+  delivered_adjustment paid right None old new text command paid_is right_is is apart put = delivered_out old new text
+      (λ path asks. let named : adjust_output (drop 1 words) ≡ Some path = output_of_adjustment command path asks in let bad : None ≡ Some path = is ∙ named in cc)
+      put
+  delivered_adjustment paid right (Some output) old new text command paid_is right_is is apart put = record {
+    printed_or_kept = inr (output, inr (inr (command, sym is)), put.0, put.1);
+    kept_if_named = λ path asks. kept_there output (adjust_output (drop 1 words)) path _ text is (output_of_adjustment command path asks) put;
+    apart = λ run. absurd (differ (sym command ∙ run.command) refl);
+    apart_from_all = λ run. absurd (differ (sym command ∙ run.command) refl);
+    apart_from_both = λ adjust.
+        let there : IsNeither (paid_given (drop 1 words)) (right_given (drop 1 words)) output = subst (λ (p : List ℕ). IsNeither p (right_given (drop 1 words)) output) paid_is
+        (subst (λ (r : List ℕ). IsNeither paid r output) right_is apart) in
+        subst (λ (o : Option (List ℕ)). IfSome o (IsNeither (paid_given (drop 1 words)) (right_given (drop 1 words)))) is there;
   }
 
   -- a report goes to standard output
@@ -197,7 +254,10 @@ module _ (keeps : List ℕ → Option (List ℕ) → Type 0) (words : List (List
     | inl added ↦ (text, added, answers)
     | inr (path, named, has, same) ↦ elim named [
       | inl (run, is) ↦ absurd (differ (sym command ∙ run) refl)
-      | inr (merge, is) ↦ absurd (differ (sym command ∙ merge) refl)
+      | inr others ↦ elim others [
+        | inl (merge, is) ↦ absurd (differ (sym command ∙ merge) refl)
+        | inr (adjust, is) ↦ absurd (differ (sym command ∙ adjust) refl)
+      ]
     ]
   ]
 
@@ -219,7 +279,10 @@ module _ (old new : List ℕ → Option (List ℕ) → Type 0) (words : List (Li
       → IfSome output (λ value. IsLeftOrHas (old (string_bytes value)) (new (string_bytes value)) P) → (path : List ℕ) → NameOutput words path → IsLeftOrHas (old path) (new path) Q
   left_run command is weaker left path named = elim named [
     | inl (run, there) ↦ left_named old new output (run_output (drop 1 words)) path P Q is there weaker left
-    | inr (merge, there) ↦ absurd (differ (sym command ∙ merge) refl)
+    | inr others ↦ elim others [
+      | inl (merge, there) ↦ absurd (differ (sym command ∙ merge) refl)
+      | inr (adjust, there) ↦ absurd (differ (sym command ∙ adjust) refl)
+    ]
   ]
 
   -- and so has that of a merge
@@ -227,7 +290,21 @@ module _ (old new : List ℕ → Option (List ℕ) → Type 0) (words : List (Li
       → IfSome output (λ value. IsLeftOrHas (old (string_bytes value)) (new (string_bytes value)) P) → (path : List ℕ) → NameOutput words path → IsLeftOrHas (old path) (new path) Q
   left_merge command is weaker left path named = elim named [
     | inl (run, there) ↦ absurd (differ (sym command ∙ run) refl)
-    | inr (merge, there) ↦ left_named old new output (path_if_given merge_app (codes "output") (drop 1 words)) path P Q is there weaker left
+    | inr others ↦ elim others [
+      | inl (merge, there) ↦ left_named old new output (path_if_given merge_app (codes "output") (drop 1 words)) path P Q is there weaker left
+      | inr (adjust, there) ↦ absurd (differ (sym command ∙ adjust) refl)
+    ]
+  ]
+
+  -- and that of an adjustment
+  pub left_adjustment : word_at words 1 ≡ codes "adjust" → option_map string_bytes output ≡ adjust_output (drop 1 words) → ((text : List ℕ) → P text → Q text)
+      → IfSome output (λ value. IsLeftOrHas (old (string_bytes value)) (new (string_bytes value)) P) → (path : List ℕ) → NameOutput words path → IsLeftOrHas (old path) (new path) Q
+  left_adjustment command is weaker left path named = elim named [
+    | inl (run, there) ↦ absurd (differ (sym command ∙ run) refl)
+    | inr others ↦ elim others [
+      | inl (merge, there) ↦ absurd (differ (sym command ∙ merge) refl)
+      | inr (adjust, there) ↦ left_named old new output (adjust_output (drop 1 words)) path P Q is there weaker left
+    ]
   ]
 
 -- where a run names no path, nothing is kept
@@ -239,7 +316,35 @@ unused_run words (Some value) Same command is same none = absurd (none (string_b
 pub unused_merge : (words : List (List ℕ)) (output : Option (String Global)) (Same : Type 0) → word_at words 1 ≡ codes "merge" → option_map string_bytes output ≡ path_if_given merge_app (codes "output") (drop 1 words)
     → IfNone output Same → ((path : List ℕ) → ¬ NameOutput words path) → Same
 unused_merge words None Same command is same none = same
-unused_merge words (Some value) Same command is same none = absurd (none (string_bytes value) (inr (command, sym is)))
+unused_merge words (Some value) Same command is same none = absurd (none (string_bytes value) (inr (inl (command, sym is))))
+
+pub unused_adjustment : (words : List (List ℕ)) (output : Option (String Global)) (Same : Type 0) → word_at words 1 ≡ codes "adjust" → option_map string_bytes output ≡ adjust_output (drop 1 words)
+    → IfNone output Same → ((path : List ℕ) → ¬ NameOutput words path) → Same
+unused_adjustment words None Same command is same none = same
+unused_adjustment words (Some value) Same command is same none = absurd (none (string_bytes value) (inr (inr (command, sym is))))
+
+-- nothing is printed of a merge or of an adjustment into a file
+pub silent_merge : (words : List (List ℕ)) (output : Option (String Global)) (Few Same : Type 0) → word_at words 1 ≡ codes "merge" → option_map string_bytes output ≡ path_if_given merge_app (codes "output") (drop 1 words)
+    → (Few → Same) → IfSome output (λ _. Same) → Few ⊎ (¬ MayHaveBegun words) → Same
+silent_merge words output Few Same command is silent unprinted (inl few) = silent few
+silent_merge words (Some path) Few Same command is silent unprinted (inr not_begun) = unprinted
+silent_merge words None Few Same command is silent unprinted (inr not_begun) = absurd (not_begun (inl (command, sym is)))
+
+pub silent_adjustment : (words : List (List ℕ)) (output : Option (String Global)) (Few Same : Type 0) → word_at words 1 ≡ codes "adjust" → option_map string_bytes output ≡ adjust_output (drop 1 words)
+    → (Few → Same) → IfSome output (λ _. Same) → Few ⊎ (¬ MayHaveBegun words) → Same
+silent_adjustment words output Few Same command is silent unprinted (inl few) = silent few
+silent_adjustment words (Some path) Few Same command is silent unprinted (inr not_begun) = unprinted
+silent_adjustment words None Few Same command is silent unprinted (inr not_begun) = absurd (not_begun (inr (command, sym is)))
+
+-- what is seen to its path is said to replace nothing, where that was not said before
+pub nothing_replaced : {X Y : Type 0} (result : Result X Failure) (written : Result Y Failure) (path : String Global) (IsOf : Failure → Type 0) (Q : String Global → Type 0) (IsDone : Type 0)
+    → IfErr result (λ failure. (written ≡ Err failure) ⊎ ((failure ≡ Target path) × IsDone)) → IfErr written IsOf → ((at : String Global) → ¬ IsOf (Replaces at))
+    → IfErr result (λ failure. (at : String Global) → failure ≡ Replaces at → Q at)
+nothing_replaced (Ok x) written path IsOf Q IsDone from of none = tt
+nothing_replaced {X} {Y} (Err failure) written path IsOf Q IsDone (inl same) of none = λ at is.
+    let here : IsOf failure = subst (λ (w : Result Y Failure). IfErr w IsOf) same of in
+    absurd (none at (subst IsOf is here))
+nothing_replaced (Err failure) written path IsOf Q IsDone (inr (target, done)) of none = λ at is. let bad : Target path ≡ Replaces at = sym target ∙ is in cc
 
 -- what was printed where no file is named went to where it was to go
 pub put_printed : (output : Option (String Global)) (keeps : List ℕ → Option (List ℕ) → Type 0) (old new : Option (List ℕ)) (text : List ℕ) → output ≡ None → Appends old new text

@@ -9,9 +9,13 @@ use Rattle.std.specs.declared.io.ErrorKind.{ErrorKind}
 use Rattle.std.specs.declared.io.ErrorKind.TheVariants.{OutOfMemory}
 use Rattle.pair_split.specs.Pair.{word_at}
 use Rattle.royalty_program.specs.RunCommand.{run_app}
-use Rattle.royalty_program.specs.Answered.{AreCheckedFrom, AreExplainedFrom, AreMergeFrom, AreOneFile, AreReadFrom, AreStarting, AreSubmitted}
+use Rattle.royalty_program.specs.Answered.{AreAdjustFrom, AreCheckedFrom, AreExplainedFrom, AreMergeFrom, AreOneFile, AreReadFrom, AreStarting, AreSubmitted}
+use Rattle.royalty_program.specs.AdjustAnswered.{IsOfAdjustment}
+use Rattle.royalty_program.specs.AdjustFiles.{IsAdjustmentOver, IsOfBoth}
+use Rattle.royalty_program.specs.Asked.{paid_given, right_given}
 use Rattle.royalty_program.specs.MergeCommand.{merge_app}
 use Rattle.royalty_program.specs.MergeFiles.{IsMergeOver}
+use Rattle.royalty_program.specs.declared.adjust_command.AdjustWords.{AdjustWords}
 use Rattle.royalty_program.specs.declared.merge_command.MergeWords.{MergeWords}
 use Rattle.royalty_program.specs.Asked.{AreRunWords, EitherRun, IsDivision, files_given, inputs_given, name_works, paths_given, paths_in_order, row_given, submitted_given}
 use Rattle.royalty_program.specs.CheckCommand.{check_app}
@@ -24,7 +28,7 @@ use Rattle.royalty_program.specs.Status.{IsOfCheck, IsOfDivision, IsOfExplanatio
 use Rattle.royalty_program.specs.declared.failure.Failure.{Failure}
 use Rattle.royalty_program.specs.declared.failure.Failure.TheVariants.{Words, NotText, Pairs, Input, Works, Registrations, Row, Room, File, Output}
 use Rattle.royalty_program.specs.declared.failure.Failure.TheVariants.{Target, Statement, Many, ManyMerged, Changed, Replaces, Names, Taken}
-use Rattle.royalty_program.specs.declared.failure.Failure.TheVariants.{Map, Headless, NoColumn, ManyColumns, NoHeader, BothTables}
+use Rattle.royalty_program.specs.declared.failure.Failure.TheVariants.{Map, Headless, NoColumn, ManyColumns, NoHeader, BothTables, OtherLines}
 use Rattle.run_inputs.specs.declared.inputs.Inputs.{Inputs}
 use Rattle.royalty_program.specs.declared.explain_command.ExplainWords.{ExplainWords}
 use Rattle.royalty_program.specs.declared.run_command.RunWords.{RunWords}
@@ -98,6 +102,22 @@ no_row_said holds refuses paths row (inl room) = cc room
 no_row_said holds refuses paths row (inr (inl none)) = none
 no_row_said holds refuses paths row (inr (inr (fault, over, said))) = no_row_is_said paths.files fault row said
 
+-- nor that an output would replace an input
+no_replaces_said : (files : List (List ℕ)) (fault : SubmittedFault) (at : String Global) → ¬ IsSaidOf files fault (Replaces at)
+no_replaces_said files (submitted.Tis fault) at said = cc said
+no_replaces_said files (submitted.Payee fault) at said = cc said
+no_replaces_said files (submitted.Works fault) at said = cc said
+no_replaces_said files (submitted.Unreadable place) at (name, is, there) = cc is
+no_replaces_said files (submitted.Cwr place fault) at (name, is, there) = cc is
+no_replaces_said files (submitted.Usage fault) at said = cc said
+no_replaces_said files submitted.Room at said = cc said
+
+pub no_replaces : (holds : List ℕ → List ℕ → Type 0) (refuses : List ℕ → ErrorKind → Type 0) (inputs : RunInputs) (at : String Global) → ¬ IsOfInputs holds refuses inputs (Replaces at)
+no_replaces holds refuses (OneFile inputs) at none = none
+no_replaces holds refuses (Submitted inputs) at (inl room) = cc room
+no_replaces holds refuses (Submitted inputs) at (inr (inl none)) = none
+no_replaces holds refuses (Submitted inputs) at (inr (inr (fault, over, said))) = no_replaces_said (paths_of inputs).files fault at said
+
 -- a run fails for the files that its options name, and for that of its output
 pub fails_given : (holds : List ℕ → List ℕ → Type 0) (refuses : List ℕ → ErrorKind → Type 0) (words : List (List ℕ)) (asked : RunWords) → AreReadFrom words asked → (failure : Failure)
     → IsOfRunOutput asked.output (IsOfInputs holds refuses asked.inputs) failure → IsOfRun holds refuses words failure
@@ -138,11 +158,59 @@ fails_given holds refuses words asked read failure is = as_run failure is
     as_run (ManyColumns word path) is = given (ManyColumns word path) is
     as_run (NoHeader word) is = given (NoHeader word) is
     as_run (BothTables path) is = given (BothTables path) is
+    as_run (OtherLines row path) is = given (OtherLines row path) is
 
 -- the merge is that of the paths that the words name
 pub merged_given : (gives : List ℕ → List ℕ → Type 0) (words : List (List ℕ)) (asked : MergeWords) (text : List ℕ) → AreMergeFrom words asked
     → IsMergeOver gives (map string_bytes asked.statements.items) text → IsMergeOver gives (paths_given merge_app (codes "statements") words) text
 merged_given gives words asked text read over = subst (λ (paths : List (List ℕ)). IsMergeOver gives paths text) read.statements over
+
+-- and an adjustment that of the two
+pub adjusted_given : (gives : List ℕ → List ℕ → Type 0) (words : List (List ℕ)) (asked : AdjustWords) (text : List ℕ) → AreAdjustFrom words asked
+    → IsAdjustmentOver gives (string_bytes asked.paid) (string_bytes asked.right) text → IsAdjustmentOver gives (paid_given words) (right_given words) text
+adjusted_given gives words asked text read over =
+    subst (λ (paid : List ℕ). IsAdjustmentOver gives paid (right_given words) text) read.paid (subst (λ (right : List ℕ). IsAdjustmentOver gives (string_bytes asked.paid) right text) read.right over)
+
+-- it fails for them, or for the file of its output
+pub unadjusted_given : (gives : List ℕ → List ℕ → Type 0) (words : List (List ℕ)) (asked : AdjustWords) → AreAdjustFrom words asked → (failure : Failure)
+    → IsOfRunOutput asked.output (IsOfBoth gives (string_bytes asked.paid) (string_bytes asked.right)) failure → IsOfAdjustment gives words failure
+unadjusted_given gives words asked read failure is = as_asked failure is
+  where
+    given : (failure : Failure) → IsOfBoth gives (string_bytes asked.paid) (string_bytes asked.right) failure → IsOfBoth gives (paid_given words) (right_given words) failure
+    given failure is =
+        subst (λ (paid : List ℕ). IsOfBoth gives paid (right_given words) failure) read.paid (subst (λ (right : List ℕ). IsOfBoth gives (string_bytes asked.paid) right failure) read.right is)
+
+    no_words : (error : Error) → ¬ IsOfBoth gives (string_bytes asked.paid) (string_bytes asked.right) (Words error)
+    no_words error (inl none) = none
+    no_words error (inr (inl none)) = none.1
+    no_words error (inr (inr none)) = none
+
+    as_asked : (failure : Failure) → IsOfRunOutput asked.output (IsOfBoth gives (string_bytes asked.paid) (string_bytes asked.right)) failure → IsOfAdjustment gives words failure
+    as_asked (Words error) is = absurd (no_words error is)
+    as_asked NotText is = given NotText is
+    as_asked (Pairs fault) is = given (Pairs fault) is
+    as_asked (Row row) is = given (Row row) is
+    as_asked (Input fault) is = given (Input fault) is
+    as_asked (Works fault) is = given (Works fault) is
+    as_asked (Registrations fault path) is = given (Registrations fault path) is
+    as_asked Room is = given Room is
+    as_asked (File name) is = given (File name) is
+    as_asked Output is = given Output is
+    as_asked (Target path) named = sym read.output ∙ ap (option_map string_bytes) named
+    as_asked (Statement fault path) is = given (Statement fault path) is
+    as_asked Many is = given Many is
+    as_asked ManyMerged is = given ManyMerged is
+    as_asked (Changed path) is = given (Changed path) is
+    as_asked (Replaces path) named = sym read.output ∙ ap (option_map string_bytes) named
+    as_asked (Names fault) is = given (Names fault) is
+    as_asked (Taken path) is = given (Taken path) is
+    as_asked (Map fault path) is = given (Map fault path) is
+    as_asked (Headless path) is = given (Headless path) is
+    as_asked (NoColumn word path) is = given (NoColumn word path) is
+    as_asked (ManyColumns word path) is = given (ManyColumns word path) is
+    as_asked (NoHeader word) is = given (NoHeader word) is
+    as_asked (BothTables path) is = given (BothTables path) is
+    as_asked (OtherLines row path) is = given (OtherLines row path) is
 
 -- an explanation is that of the paths and the row that the options are given
 pub explained_given : (holds : List ℕ → List ℕ → Type 0) (words : List (List ℕ)) (asked : ExplainWords) (text : List ℕ) → AreExplainedFrom words asked
@@ -181,6 +249,7 @@ as_unexplained holds refuses paths row (NoColumn word path) none = none
 as_unexplained holds refuses paths row (ManyColumns word path) none = none
 as_unexplained holds refuses paths row (NoHeader word) none = none
 as_unexplained holds refuses paths row (BothTables path) none = none
+as_unexplained holds refuses paths row (OtherLines at path) none = none
 
 -- so is what the tables and files of several submitters fail for
 pub as_submitted_unexplained : (holds : List ℕ → List ℕ → Type 0) (refuses : List ℕ → ErrorKind → Type 0) (paths : SubmittedPaths) (row : ℕ) (failure : Failure)
@@ -209,6 +278,7 @@ as_submitted_unexplained holds refuses paths row (NoColumn word path) is = is
 as_submitted_unexplained holds refuses paths row (ManyColumns word path) is = is
 as_submitted_unexplained holds refuses paths row (NoHeader word) is = is
 as_submitted_unexplained holds refuses paths row (BothTables path) is = is
+as_submitted_unexplained holds refuses paths row (OtherLines at path) is = is
 
 -- and its words fail for that
 pub unexplained_given : (holds : List ℕ → List ℕ → Type 0) (refuses : List ℕ → ErrorKind → Type 0) (words : List (List ℕ)) (asked : ExplainWords) → AreExplainedFrom words asked → (failure : Failure)
@@ -252,6 +322,7 @@ unexplained_given holds refuses words asked read failure is = as_asked failure i
     as_asked (ManyColumns word path) is = given (ManyColumns word path) is
     as_asked (NoHeader word) is = given (NoHeader word) is
     as_asked (BothTables path) is = given (BothTables path) is
+    as_asked (OtherLines row path) is = given (OtherLines row path) is
 
 -- a check reports on the paths that the options are given
 pub reported_given : (holds : List ℕ → List ℕ → Type 0) (words : List (List ℕ)) (inputs : RunInputs) (sound : Bool) (text : List ℕ) → AreCheckedFrom words inputs
@@ -320,6 +391,7 @@ unchecked_given holds refuses words inputs read failure is = as_asked failure is
     as_asked (ManyColumns word path) is = given (ManyColumns word path) is
     as_asked (NoHeader word) is = given (NoHeader word) is
     as_asked (BothTables path) is = given (BothTables path) is
+    as_asked (OtherLines row path) is = given (OtherLines row path) is
 
 -- a table to begin with is of the files that the option names
 pub table_given : (holds : List ℕ → List ℕ → Type 0) (words : List (List ℕ)) (table : StartingTable) (asked : StartingWords) (text : List ℕ) → AreStarting table words asked
@@ -366,22 +438,24 @@ no_table_given holds refuses words table asked read failure is = as_table failur
     as_table (ManyColumns word path) is = is
     as_table (NoHeader word) is = is
     as_table (BothTables path) is = is
+    as_table (OtherLines row path) is = is
 
 -- how the program ends: an answer ends with 0, a report that tells of a fault and an import that rejected rows with 1, both with 4 where the output refuses them, and a failure with its status
 pub ends_with : {T E : Type 0} (r : Result (Result T E × Bool) Failure) (status : ℕ) (holds gives : List ℕ → List ℕ → Type 0) (refuses : List ℕ → ErrorKind → Type 0) (words : List (List ℕ)) (mid new : Option (List ℕ))
     → IfErr r (λ failure. status ≡ status_of failure) → IfOk r (IsThrough {T = T} {E = E} status mid new) → IfOk r (λ done. ¬ (word_at words 1 ≡ codes "check") → ¬ (word_at words 1 ≡ codes "import") → done.1 ≡ true) → IfErr r IsRefusal → (IsDivision words → IfErr r (IsOfDivision words))
     → (word_at words 1 ≡ codes "run" → IfErr r (IsOfRun holds refuses (drop 1 words))) → (word_at words 1 ≡ codes "explain" → IfErr r (IsOfExplanation holds refuses (drop 1 words)))
     → (word_at words 1 ≡ codes "check" → IfErr r (IsOfCheck holds refuses (drop 1 words))) → (word_at words 1 ≡ codes "merge" → IfErr r (IsOfMerge gives (drop 1 words)))
+    → (word_at words 1 ≡ codes "adjust" → IfErr r (IsOfAdjustment gives (drop 1 words)))
     → ((table : StartingTable) → word_at words 1 ≡ starting_name table → IfErr r (IsOfTable holds refuses table (drop 1 words)))
     → (word_at words 1 ≡ codes "statements" → IfErr r (IsOfStatements holds refuses (drop 1 words)))
     → (word_at words 1 ≡ codes "import" → IfErr r (IsOfImport holds gives refuses (drop 1 words)))
     → status ≢ 0 → ¬ ((status ≡ 1) × (word_at words 1 ≡ codes "check")) → ¬ ((status ≡ 1) × (word_at words 1 ≡ codes "import")) → (failure : Failure) × (status ≡ status_of failure) × ((failure ≡ Output) ⊎ FailFor holds gives refuses words failure)
-ends_with (Ok done) status holds gives refuses words mid new is (inl refused) others refusal division run explanation checked merge table documents import failed no_report no_rejects = (Output, refused, inl refl)
-ends_with (Ok (printed, true)) status holds gives refuses words mid new is (inr (told, ok, kept)) others refusal division run explanation checked merge table documents import failed no_report no_rejects = absurd (failed told)
-ends_with (Ok (printed, false)) status holds gives refuses words mid new is (inr (told, ok, kept)) others refusal division run explanation checked merge table documents import failed no_report no_rejects =
+ends_with (Ok done) status holds gives refuses words mid new is (inl refused) others refusal division run explanation checked merge adjustment table documents import failed no_report no_rejects = (Output, refused, inl refl)
+ends_with (Ok (printed, true)) status holds gives refuses words mid new is (inr (told, ok, kept)) others refusal division run explanation checked merge adjustment table documents import failed no_report no_rejects = absurd (failed told)
+ends_with (Ok (printed, false)) status holds gives refuses words mid new is (inr (told, ok, kept)) others refusal division run explanation checked merge adjustment table documents import failed no_report no_rejects =
     cc (others (λ check. no_report (told, check)) (λ named. no_rejects (told, named)))
-ends_with (Err failure) status holds gives refuses words mid new is through others refusal division run explanation checked merge table documents import failed no_report no_rejects =
-    (failure, is, inr (record { refusal = refusal; division = division; run = run; explanation = explanation; checked = checked; merge = merge; table = table; documents = documents; import = import }))
+ends_with (Err failure) status holds gives refuses words mid new is through others refusal division run explanation checked merge adjustment table documents import failed no_report no_rejects =
+    (failure, is, inr (record { refusal = refusal; division = division; run = run; explanation = explanation; checked = checked; merge = merge; adjustment = adjustment; table = table; documents = documents; import = import }))
 
 -- a file for statements that cannot be begun is why a run fails, or lack of memory
 pub unkept_of_run : (holds : List ℕ → List ℕ → Type 0) (refuses : List ℕ → ErrorKind → Type 0) (inputs : RunInputs) (path : String Global) (kind : ErrorKind)

@@ -124,6 +124,7 @@ unread_or_room holds refuses submitted (failures.NoColumn word path) (inr (inl n
 unread_or_room holds refuses submitted (failures.ManyColumns word path) (inr (inl none)) = absurd none
 unread_or_room holds refuses submitted (failures.NoHeader word) (inr (inl none)) = absurd none
 unread_or_room holds refuses submitted (failures.BothTables path) (inr (inl none)) = absurd none
+unread_or_room holds refuses submitted (failures.OtherLines row path) (inr (inl none)) = absurd none
 unread_or_room holds refuses submitted failure (inr (inr is)) = by is.fault is.first is.said
   where
     by : (fault : SubmittedFault) → checked.IsFirstUnread (HoldsAt holds submitted.files) (RefusesAt refuses submitted.files) (length submitted.names) fault → IsSaidOf submitted.files fault failure

@@ -6,9 +6,16 @@ use Rattle.std.specs.Io.KnownBytes.{Appends, Keeps}
 use Rattle.line_split.specs.declared.TheConstants.{MOST_AMOUNT}
 use Rattle.clap.specs.Words.{App}
 use Rattle.royalty_program.specs.RunCommand.{run_app}
-use Rattle.royalty_program.specs.Asked.{AreRunWords, AreAccepted, AskForCheck, AskForExplanation, AskForMerge, AskForRun, AskForSubmittedRun, AskForTable, EitherRun, IsDivision, IsRun}
-use Rattle.royalty_program.specs.Asked.{amount_of, files_given, inputs_given, name_works, number_in, pairs_of, path_if_given, paths_given, paths_in_order, plan_given, row_given, run_grammar, run_output, submitted_given}
-use Rattle.royalty_program.specs.Asked.{number_or, path_given, plan_or_usual, statements_grammar, text_or}
+use Rattle.royalty_program.specs.Asked.{AreRunWords, AreAccepted, AskForAdjustment, AskForCheck, AskForExplanation}
+use Rattle.royalty_program.specs.Asked.{AskForMerge, AskForRun, AskForSubmittedRun, AskForTable, EitherRun, IsDivision}
+use Rattle.royalty_program.specs.Asked.{IsRun}
+use Rattle.royalty_program.specs.Asked.{amount_of, files_given, inputs_given, name_works, number_in, pairs_of}
+use Rattle.royalty_program.specs.Asked.{path_if_given, paths_given, paths_in_order, plan_given, row_given, run_grammar}
+use Rattle.royalty_program.specs.Asked.{run_output, submitted_given}
+use Rattle.royalty_program.specs.Asked.{adjust_output, number_or, paid_given, path_given, plan_or_usual, right_given}
+use Rattle.royalty_program.specs.Asked.{statements_grammar, text_or}
+use Rattle.royalty_program.specs.AdjustCommand.{adjust_app}
+use Rattle.royalty_program.specs.AdjustFiles.{IsAdjustmentOver, IsNeither}
 use Rattle.run_inputs.specs.Inputs.{map_inputs}
 use Rattle.run_inputs.specs.declared.inputs.Inputs.{Inputs}
 use Rattle.pair_split.specs.PairFault.{AreSound}
@@ -31,9 +38,11 @@ use Rattle.starting_files.specs.declared.making.StartingTable.{StartingTable}
 use Rattle.royalty_program.specs.declared.inputs.RunInputs.{RunInputs}
 use Rattle.royalty_program.specs.declared.inputs.RunInputs.TheVariants.{OneFile, Submitted}
 use Rattle.royalty_program.specs.declared.commands.Asked.{Asked}
-use Rattle.royalty_program.specs.declared.commands.Asked.TheVariants.{Check, Division, Explanation, Merge, Run, Starting}
+use Rattle.royalty_program.specs.declared.commands.Asked.TheVariants.{Check, Division, Explanation, Merge, Run}
+use Rattle.royalty_program.specs.declared.commands.Asked.TheVariants.{Starting}
 use Rattle.royalty_program.specs.ImportCommand.{AreImportFrom}
-use Rattle.royalty_program.specs.declared.commands.Asked.TheVariants.{Import, Statements}
+use Rattle.royalty_program.specs.declared.commands.Asked.TheVariants.{Adjustment, Import, Statements}
+use Rattle.royalty_program.specs.declared.adjust_command.AdjustWords.{AdjustWords}
 use Rattle.royalty_program.specs.declared.explain_command.ExplainWords.{ExplainWords}
 use Rattle.royalty_program.specs.declared.merge_command.MergeWords.{MergeWords}
 use Rattle.royalty_program.specs.declared.run_command.RunWords.{RunWords}
@@ -47,6 +56,7 @@ IsNamedBy word (Statements asked) = word ≡ codes "statements"
 IsNamedBy word (Explanation asked) = word ≡ codes "explain"
 IsNamedBy word (Check asked) = word ≡ codes "check"
 IsNamedBy word (Merge asked) = word ≡ codes "merge"
+IsNamedBy word (Adjustment asked) = word ≡ codes "adjust"
 IsNamedBy word (Starting asked) = word ≡ starting_name asked.table
 IsNamedBy word (Import asked) = word ≡ codes "import"
 
@@ -59,7 +69,8 @@ IsInRange _ = ⊤
 
 -- the amount and the pairs are those of the words
 abbrev pub IsDivisionOf : List (List ℕ) → Asked → Type 0
-IsDivisionOf words (Division asked) = (asked.amount ≡ amount_of words) × (map string_bytes asked.pairs.items ≡ pairs_of words)
+IsDivisionOf words (Division asked) = (asked.amount ≡ amount_of words)
+    × (map string_bytes asked.pairs.items ≡ pairs_of words)
 IsDivisionOf words _ = ⊥
 
 -- the inputs are those of one file with these paths, or of several submitters with these
@@ -134,7 +145,8 @@ abbrev pub IsCheckAsked : List (List ℕ) → Asked → Type 0
 IsCheckAsked words (Check inputs) = AreCheckedFrom (drop 1 words) inputs
 IsCheckAsked words _ = ⊥
 
--- The paths are those that a merge is given, all of them in their order: they are one or more, no more than are merged at once, and each stands once.
+-- The paths are those that a merge is given, all of them in their order: they are one or more, no more than are merged
+-- at once, and each stands once.
 pub record AreMergeFrom (words : List (List ℕ)) (asked : MergeWords) : Type 0 where
   pub accepted : AreAccepted merge_app words
   pub output : option_map string_bytes asked.output ≡ path_if_given merge_app (codes "output") words
@@ -145,6 +157,17 @@ pub record AreMergeFrom (words : List (List ℕ)) (asked : MergeWords) : Type 0 
 abbrev pub IsMergeAsked : List (List ℕ) → Asked → Type 0
 IsMergeAsked words (Merge asked) = AreMergeFrom (drop 1 words) asked
 IsMergeAsked words _ = ⊥
+
+-- the paths are those that an adjustment is given
+pub record AreAdjustFrom (words : List (List ℕ)) (asked : AdjustWords) : Type 0 where
+  pub accepted : AreAccepted adjust_app words
+  pub output : option_map string_bytes asked.output ≡ adjust_output words
+  pub paid : string_bytes asked.paid ≡ paid_given words
+  pub right : string_bytes asked.right ≡ right_given words
+
+abbrev pub IsAdjustmentAsked : List (List ℕ) → Asked → Type 0
+IsAdjustmentAsked words (Adjustment asked) = AreAdjustFrom (drop 1 words) asked
+IsAdjustmentAsked words _ = ⊥
 
 -- the table is the one that is asked for, and its files are those that its option names
 pub record AreStarting (table : StartingTable) (words : List (List ℕ)) (asked : StartingWords) : Type 0 where
@@ -165,41 +188,55 @@ pub record IsAnswerTo (words : List (List ℕ)) (text : List ℕ) : Type 0 where
   pub sound : AreSound (pairs_of words)
   pub rows : text ≡ split_text (amount_of words) (pairs_of words)
 
--- The text answers the words, where a file of a path holds these bytes: those of a division with its rows, those of a run with the
--- statements of the files that its options name, those of an explanation with that of the line in the row, those of a check with the
--- report on the files, and those of a merge with what the texts of the files that they name merge to. Only a report may tell of a fault.
-pub record IsAnswered (holds gives : List ℕ → List ℕ → Type 0) (words : List (List ℕ)) (sound : Bool) (text : List ℕ) : Type 0 where
+-- The text answers the words, where a file of a path holds these bytes: those of a division with its rows, those of a
+-- run with the statements of the files that its options name, those of an explanation with that of the line in the row,
+-- those of a check with the report on the files, those of a merge with what the texts of the files that they name merge
+-- to, and those of an adjustment with what the texts of two files differ by. Only a report may tell of a fault.
+pub record IsAnswered (holds gives : List ℕ → List ℕ
+    → Type 0) (words : List (List ℕ)) (sound : Bool) (text : List ℕ) : Type 0 where
   pub division : IsDivision words → IsAnswerTo words text
   pub run : AskForRun words
       → AreStatementsOver holds (inputs_given run_app (drop 1 words)) text
-  pub submitted : AskForSubmittedRun words → AreSubmittedStatementsOver holds (submitted_given submitted_app (drop 1 words)) text
+  pub submitted : AskForSubmittedRun words
+      → AreSubmittedStatementsOver holds (submitted_given submitted_app (drop 1 words)) text
   pub explained : AskForExplanation words → EitherRun (name_works (drop 1 words))
       (IsExplanationOver holds (inputs_given explain_app (drop 1 words)) (row_given (drop 1 words)) text)
-      (IsSubmittedExplanationOver holds (submitted_given submitted_explain_app (drop 1 words)) (row_given (drop 1 words)) text)
+      (IsSubmittedExplanationOver holds (submitted_given submitted_explain_app (drop 1 words))
+      (row_given (drop 1 words)) text)
   pub checked : AskForCheck words → EitherRun (name_works (drop 1 words))
       (IsReportOver holds (inputs_given check_app (drop 1 words)) sound text)
       (IsSubmittedReportOver holds (submitted_given submitted_check_app (drop 1 words)) sound text)
   pub merged : AskForMerge words → IsMergeOver gives (paths_given merge_app (codes "statements") (drop 1 words)) text
-  pub table : (table : StartingTable) → AskForTable table words → IsTableOver holds table (files_given (starting_app table) (drop 1 words)) text
+  pub adjusted : AskForAdjustment words
+      → IsAdjustmentOver gives (paid_given (drop 1 words)) (right_given (drop 1 words)) text
+  pub table : (table : StartingTable) → AskForTable table words
+      → IsTableOver holds table (files_given (starting_app table) (drop 1 words)) text
   pub others : ¬ (word_at words 1 ≡ codes "check") → ¬ (word_at words 1 ≡ codes "import") → sound ≡ true
   pub in_order : (asked : IsRun words) → AreStatementsOver holds (paths_in_order asked.options) text
 
--- the words of a run or of a merge name a file for the text
+-- the words of a run, of a merge or of an adjustment name a file for the text
 abbrev pub NameOutput : List (List ℕ) → (path : List ℕ) → Type 0
 NameOutput words path =
     ((word_at words 1 ≡ codes "run") × (run_output (drop 1 words) ≡ Some path))
     ⊎ ((word_at words 1 ≡ codes "merge") × (path_if_given merge_app (codes "output") (drop 1 words) ≡ Some path))
+    ⊎ ((word_at words 1 ≡ codes "adjust") × (adjust_output (drop 1 words) ≡ Some path))
 
 -- and do not ask for help
 abbrev pub AskForOutput : List (List ℕ) → (path : List ℕ) → Type 0
 AskForOutput words path =
     ((AskForRun words ⊎ AskForSubmittedRun words) × (run_output (drop 1 words) ≡ Some path))
     ⊎ (AskForMerge words × (path_if_given merge_app (codes "output") (drop 1 words) ≡ Some path))
+    ⊎ (AskForAdjustment words × (adjust_output (drop 1 words) ≡ Some path))
 
--- The text went to standard output, or it is kept in the file that the words name, and then nothing was printed. Only help is printed
--- although words name a file. The file that a run names is none of its inputs.
-pub record IsDelivered (keeps : List ℕ → Option (List ℕ) → Type 0) (words : List (List ℕ)) (before after : Option (List ℕ)) (text : List ℕ) : Type 0 where
-  pub printed_or_kept : Appends before after text ⊎ ((path : List ℕ) × NameOutput words path × keeps path (Some text) × Keeps before after)
+-- The text went to standard output, or it is kept in the file that the words name, and then nothing was printed. Only
+-- help is printed although words name a file. The file that a run or an adjustment names is none of its inputs.
+pub record IsDelivered (keeps : List ℕ → Option (List ℕ)
+    → Type 0) (words : List (List ℕ)) (before after : Option (List ℕ)) (text : List ℕ) : Type 0 where
+  pub printed_or_kept : Appends before after text ⊎ ((path : List ℕ) × NameOutput words path
+      × keeps path (Some text) × Keeps before after)
   pub kept_if_named : (path : List ℕ) → AskForOutput words path → keeps path (Some text) × Keeps before after
   pub apart : AskForRun words → IfSome (run_output (drop 1 words)) (IsNoInput (inputs_given run_app (drop 1 words)))
-  pub apart_from_all : AskForSubmittedRun words → IfSome (run_output (drop 1 words)) (IsNoneOf (submitted_given submitted_app (drop 1 words)))
+  pub apart_from_all : AskForSubmittedRun words
+      → IfSome (run_output (drop 1 words)) (IsNoneOf (submitted_given submitted_app (drop 1 words)))
+  pub apart_from_both : AskForAdjustment words
+      → IfSome (adjust_output (drop 1 words)) (IsNeither (paid_given (drop 1 words)) (right_given (drop 1 words)))

@@ -1,5 +1,7 @@
--- What a command line asks for: a division in its plain form, with no options; or a run, its options in any order and form that clap takes.
-use Rattle.std.specs.Prelude.{ℕ, ◌≡◌, ◌≢◌, ◌⊎◌, ◌∷◌, ◌++◌, ◌||◌, Bool, true, false, List, [], All, IfSome, None, Some, drop, codes, if◌then◌else◌, map, nat_eq, slice_index, unwrap_or, Option}
+-- What a command line asks for: a division in its plain form, with no options; or a run, its options in any order and
+-- form that clap takes.
+use Rattle.std.specs.Prelude.{ℕ, ◌≡◌, ◌≢◌, ◌⊎◌, ◌∷◌, ◌++◌, ◌||◌, Bool, true, false, List, [], All, IfSome, None, Some}
+use Rattle.std.specs.Prelude.{drop, codes, if◌then◌else◌, map, nat_eq, slice_index, unwrap_or, Option}
 use Rattle.std.specs.Option.{option_map}
 use Rattle.std.specs.Cmp.Lexicographic.{pointwise}
 use Rattle.std.specs.List.{list_any, starts_with}
@@ -9,6 +11,7 @@ use Rattle.clap.specs.declared.error.Error.{Error}
 use Rattle.clap.specs.declared.error.kind.ErrorKind.TheVariants as kinds
 use Rattle.pair_split.specs.Pair.{word_at}
 use Rattle.run_inputs.specs.declared.inputs.Inputs.{Inputs}
+use Rattle.royalty_program.specs.AdjustCommand.{adjust_app}
 use Rattle.royalty_program.specs.CheckCommand.{check_app}
 use Rattle.royalty_program.specs.ExplainCommand.{explain_app}
 use Rattle.royalty_program.specs.MergeCommand.{AreWrongPaths, merge_app}
@@ -41,8 +44,9 @@ amount_of words = number_in (word_at words 2)
 abbrev pub pairs_of : List (List ℕ) → List (List ℕ)
 pairs_of words = drop 3 words
 
--- What follows is of the words of a command from its name on, as clap reads them by its grammar. An option may stand anywhere among
--- them, and its value after a blank or a `=`: this is the path, and the number, that the option of a name is given.
+-- What follows is of the words of a command from its name on, as clap reads them by its grammar. An option may stand
+-- anywhere among them, and its value after a blank or a `=`: this is the path, and the number, that the option of a
+-- name is given.
 unfoldable pub path_given : App → (name : List ℕ) → List (List ℕ) → List ℕ
 path_given app name words = unwrap_or (first_of name (matches_of app words)) []
 
@@ -75,7 +79,8 @@ text_or missing app name words = unwrap_or (first_of name (matches_of app words)
 
 -- clap comes upon a word that asks for help, or for the version
 unfoldable pub AskForHelp : App → List (List ℕ) → Type 0
-AskForHelp app words = IsAmong kinds.DisplayHelp (fault_of app words) ⊎ IsAmong kinds.DisplayVersion (fault_of app words)
+AskForHelp app words = IsAmong kinds.DisplayHelp (fault_of app words) ⊎ IsAmong kinds.DisplayVersion
+    (fault_of app words)
 
 -- clap finds nothing to refuse, and nothing that asks for help
 unfoldable pub AreAccepted : App → List (List ℕ) → Type 0
@@ -207,7 +212,8 @@ IsRunError words error =
 
 abbrev pub IsExplainError : List (List ℕ) → Error → Type 0
 IsExplainError words error =
-    EitherRun (name_works words) (IsErrorOf explain_app words error) (IsSubmittedError submitted_explain_app words error)
+    EitherRun (name_works words) (IsErrorOf explain_app words error)
+    (IsSubmittedError submitted_explain_app words error)
 
 abbrev pub IsCheckError : List (List ℕ) → Error → Type 0
 IsCheckError words error =
@@ -218,7 +224,8 @@ IsStatementsError words error =
     EitherRun (name_works words) (IsErrorOf statements_app words error)
     (IsSubmittedError submitted_statements_app words error)
 
--- The words of a command line ask for the explanation of a line, in a run over one file or over those of several submitters, and for no help.
+-- The words of a command line ask for the explanation of a line, in a run over one file or over those of several
+-- submitters, and for no help.
 pub record AskForExplanation (words : List (List ℕ)) : Type 0 where
   pub command : word_at words 1 ≡ codes "explain"
   pub no_help : ¬ AskForHelp (explain_grammar (drop 1 words)) (drop 1 words)
@@ -239,6 +246,21 @@ pub record AskForMerge (words : List (List ℕ)) : Type 0 where
   pub command : word_at words 1 ≡ codes "merge"
   pub no_help : ¬ AskForHelp merge_app (drop 1 words)
 
+-- The words of a command line ask for an adjustment, and for no help.
+pub record AskForAdjustment (words : List (List ℕ)) : Type 0 where
+  pub command : word_at words 1 ≡ codes "adjust"
+  pub no_help : ¬ AskForHelp adjust_app (drop 1 words)
+
+-- the paths of its texts, of what was paid and of what is right, and of its output, where one is named
+abbrev pub paid_given : List (List ℕ) → List ℕ
+paid_given words = path_given adjust_app (codes "PAID") words
+
+abbrev pub right_given : List (List ℕ) → List ℕ
+right_given words = path_given adjust_app (codes "RIGHT") words
+
+abbrev pub adjust_output : List (List ℕ) → Option (List ℕ)
+adjust_output words = path_if_given adjust_app (codes "output") words
+
 -- clap accepts the words of a merge, but they name too many files, or one of them twice
 pub record NameWrongPaths (words : List (List ℕ)) (error : Error) : Type 0 where
   pub accepted : AreAccepted merge_app words
@@ -254,7 +276,8 @@ abbrev pub payees_words : Option (List ℕ) → List (List ℕ)
 payees_words None = []
 payees_words (Some path) = codes "--payees" ∷ path ∷ []
 
--- The plain form of a run: the word `run`, and then its options in this order, each with a value. That of the payees may be left out.
+-- The plain form of a run: the word `run`, and then its options in this order, each with a value. That of the payees
+-- may be left out.
 pub record AreRunWords (words : List (List ℕ)) : Type 0 where
   pub name : List ℕ
   pub tis : List ℕ

@@ -2,6 +2,7 @@
 use Rattle.std.specs.Prelude.{ℕ, ◌≡◌, List, codes, drop}
 use Rattle.std.specs.declared.io.ErrorKind.{ErrorKind}
 use Rattle.pair_split.specs.Pair.{word_at}
+use Rattle.royalty_program.specs.AdjustAnswered.{IsOfAdjustment}
 use Rattle.royalty_program.specs.Asked.{IsDivision}
 use Rattle.royalty_program.specs.DocumentsAnswered.{IsOfStatements}
 use Rattle.royalty_program.specs.ImportAnswered.{IsOfImport}
@@ -20,6 +21,7 @@ pub record FailFor (holds gives : List ℕ → List ℕ → Type 0) (refuses : L
   pub explanation : word_at words 1 ≡ codes "explain" → IsOfExplanation holds refuses (drop 1 words) failure
   pub checked : word_at words 1 ≡ codes "check" → IsOfCheck holds refuses (drop 1 words) failure
   pub merge : word_at words 1 ≡ codes "merge" → IsOfMerge gives (drop 1 words) failure
+  pub adjustment : word_at words 1 ≡ codes "adjust" → IsOfAdjustment gives (drop 1 words) failure
   pub table : (table : StartingTable) → word_at words 1 ≡ starting_name table
       → IsOfTable holds refuses table (drop 1 words) failure
   pub documents : word_at words 1 ≡ codes "statements" → IsOfStatements holds refuses (drop 1 words) failure

@@ -2,12 +2,14 @@
 -- that an export of any size has this text, and `keeps path file` that a path has a file of these bytes, or none.
 use Rattle.std.specs.Io.KnownBytes.{Appends}
 use Rattle.std.specs.Option.{option_map}
-use Rattle.std.specs.Prelude.{ℕ, ◌≡◌, ◌≢◌, ◌⊎◌, ◌↔◌, [], Bool, IfSome, IsTrue, List, None, Option, Some, String, string_bytes, ⊤}
+use Rattle.std.specs.Prelude.{ℕ, ◌≡◌, ◌≢◌, ◌⊎◌, ◌↔◌, [], Bool, IfSome, IsTrue, List, None, Option, Some, String}
+use Rattle.std.specs.Prelude.{string_bytes, ⊤}
 use Rattle.std.specs.declared.alloc.Global.{Global}
 use Rattle.std.specs.declared.io.ErrorKind.{ErrorKind}
 use Rattle.csv_table.specs.Table.{rows_of}
 use Rattle.royalty_program.specs.Files.{IsUnread}
 use Rattle.royalty_program.specs.MergeFiles.{HoldsOf}
+use Rattle.royalty_program.specs.OutputPath.{IsOfGiven}
 use Rattle.royalty_program.specs.Targets.{IsLeft, IsLeftOrWhole}
 use Rattle.royalty_program.specs.declared.failure.Failure.{Failure}
 use Rattle.royalty_program.specs.declared.failure.Failure.TheVariants.{BothTables, File, Headless, ManyColumns, Map}
@@ -131,7 +133,8 @@ IsOfExport gives tables mapping (NoColumn word path) = (path ≡ tables.export)
 IsOfExport gives tables mapping (ManyColumns word path) = (path ≡ tables.export)
     × HoldsOf (gives (string_bytes tables.export)) (λ text. IsImportFault mapping text (fault.Column column.Many word))
 IsOfExport gives tables mapping (NoHeader word) =
-    HoldsOf (gives (string_bytes tables.export)) (λ text. IsImportFault mapping text (fault.Column column.NoHeader word))
+    HoldsOf (gives (string_bytes tables.export)) (λ text. IsImportFault mapping text
+    (fault.Column column.NoHeader word))
 IsOfExport gives tables mapping _ = ⊥
 
 -- what paths fail for that are not apart
@@ -141,6 +144,18 @@ IsOfPaths tables (Replaces path) = (path ≡ tables.output) ⊎ (path ≡ tables
 IsOfPaths tables (BothTables path) = path ≡ tables.rejects
 IsOfPaths tables (Target path) = (path ≡ tables.output) ⊎ (path ≡ tables.rejects)
 IsOfPaths tables _ = ⊥
+
+-- some input of an import has such a path
+abbrev pub IsOfSomeOfInputs : (P : List ℕ → Type 0) → TablePaths → MapPaths → Type 0
+IsOfSomeOfInputs P tables maps = P (string_bytes tables.export) ⊎ IsOfGiven P (option_map string_bytes maps.works)
+    ⊎ IsOfGiven P (option_map string_bytes maps.territories) ⊎ IsOfGiven P (option_map string_bytes maps.rights)
+
+-- One of the two tables would replace an input, or both are to go to one file.
+abbrev pub IsInTheWay : (one_file : List ℕ → List ℕ → Type 0) → TablePaths → MapPaths → Failure → Type 0
+IsInTheWay one_file tables maps (Replaces path) = IsOfSomeOfInputs (one_file (string_bytes path)) tables maps
+IsInTheWay one_file tables maps (BothTables path) =
+    one_file (string_bytes tables.output) (string_bytes tables.rejects)
+IsInTheWay one_file tables maps _ = ⊤
 
 abbrev pub IsOfImportOver : (holds gives : List ℕ → List ℕ → Type 0) (refuses : List ℕ → ErrorKind → Type 0)
     → ImportWords → Failure → Type 0

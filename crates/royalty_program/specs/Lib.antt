@@ -1,3 +1,6 @@
+pub mod AdjustAnswered
+pub mod AdjustCommand
+pub mod AdjustFiles
 pub mod Answered
 pub mod Args
 pub mod Asked

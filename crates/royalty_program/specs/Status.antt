@@ -1,5 +1,6 @@
 -- What a failure stands for, and the status that the program answers.
-use Rattle.std.specs.Prelude.{ℕ, Contains, ◌≡◌, ◌≢◌, ◌<◌, ◌⊎◌, ◌++◌, [], ⊤, List, Option, Some, None, String, codes, decimal, drop, length, map, slice_index_or, string_bytes}
+use Rattle.std.specs.Prelude.{ℕ, Contains, ◌≡◌, ◌≢◌, ◌<◌, ◌⊎◌, ◌++◌, [], ⊤, List, Option, Some, None, String, codes}
+use Rattle.std.specs.Prelude.{decimal, drop, length, map, slice_index_or, string_bytes}
 use Rattle.std.specs.declared.alloc.Global.{Global}
 use Rattle.clap.specs.Words.{kind_of}
 use Rattle.clap.specs.declared.error.kind.ErrorKind.TheVariants as kinds
@@ -8,7 +9,8 @@ use Rattle.std.specs.declared.io.ErrorKind.TheVariants as io_kind
 use Rattle.pair_split.specs.Pair.{word_at}
 use Rattle.royalty_program.specs.Asked.{AreAccepted, AreCheckAccepted, AreExplainAccepted, AreFilesAccepted}
 use Rattle.royalty_program.specs.Asked.{AreRunAccepted, EitherRun, NameWrongPaths}
-use Rattle.royalty_program.specs.Asked.{files_given, inputs_given, name_works, pairs_of, path_if_given, paths_given, row_given, run_output, submitted_given}
+use Rattle.royalty_program.specs.Asked.{files_given, inputs_given, name_works, pairs_of, path_if_given, paths_given}
+use Rattle.royalty_program.specs.Asked.{adjust_output, row_given, run_output, submitted_given}
 use Rattle.pair_split.specs.PairFault.{IsFaultOf}
 use Rattle.pair_split.specs.PairFault as pair
 use Rattle.check_inputs.specs.SubmittedChecked as checked
@@ -48,7 +50,7 @@ use Rattle.royalty_program.specs.declared.failure.Failure.TheVariants.{Words, No
 use Rattle.royalty_program.specs.declared.failure.Failure.TheVariants.{Registrations, Row, Room, File, Output, Target}
 use Rattle.royalty_program.specs.declared.failure.Failure.TheVariants.{Statement, Many, ManyMerged, Changed, Replaces}
 use Rattle.royalty_program.specs.declared.failure.Failure.TheVariants.{Names, Taken, Map, Headless, NoColumn}
-use Rattle.royalty_program.specs.declared.failure.Failure.TheVariants.{ManyColumns, NoHeader, BothTables}
+use Rattle.royalty_program.specs.declared.failure.Failure.TheVariants.{ManyColumns, NoHeader, BothTables, OtherLines}
 use Rattle.value_maps.specs.Maps as maps
 use Rattle.run_inputs.specs.Inputs.{ThisOrLater}
 use Rattle.run_inputs.specs.declared.fault.Fault.{Fault}
@@ -57,8 +59,9 @@ use Rattle.run_inputs.specs.declared.inputs.Inputs.{Inputs}
 use Rattle.pair_split.specs.declared.pair_fault.PairFault.{PairFault}
 use Rattle.pair_split.specs.declared.pair_fault.PairFault.TheVariants as fault
 
--- 1 for an input or a text of statements that is refused, 2 for words that are, also since the output is an input, 3 for lack of memory, 4 for a file that cannot be
--- read or written, or changed meanwhile, and for an output that cannot be written
+-- 1 for an input or a text of statements that is refused, 2 for words that are, also since the output is an input, 3
+-- for lack of memory, 4 for a file that cannot be read or written, or changed meanwhile, and for an output that cannot
+-- be written
 abbrev pub status_of : Failure → ℕ
 status_of (Words error) = 2
 status_of NotText = 2
@@ -84,6 +87,7 @@ status_of (NoColumn word path) = 1
 status_of (ManyColumns word path) = 1
 status_of (NoHeader word) = 2
 status_of (BothTables path) = 2
+status_of (OtherLines row path) = 1
 
 -- the status says that a report tells of a fault, which is no failure
 abbrev pub IsReportOfFault : (status : ℕ) → List (List ℕ) → Type 0
@@ -93,28 +97,47 @@ IsReportOfFault status words = (status ≡ 1) × (word_at words 1 ≡ codes "che
 abbrev pub IsOfRejects : (status : ℕ) → List (List ℕ) → Type 0
 IsOfRejects status words = (status ≡ 1) × (word_at words 1 ≡ codes "import")
 
--- The status says that nothing was printed. A report tells of its faults, an import of the rows that it rejected, and a merge that memory was refused may have begun.
+-- a merge or an adjustment to standard output prints while it reads
+abbrev pub MayHaveBegun : List (List ℕ) → Type 0
+MayHaveBegun words =
+    ((word_at words 1 ≡ codes "merge") × (path_if_given merge_app (codes "output") (drop 1 words) ≡ None))
+    ⊎ ((word_at words 1 ≡ codes "adjust") × (adjust_output (drop 1 words) ≡ None))
+
+-- The status says that nothing was printed. A report tells of its faults, an import of the rows that it rejected, and a
+-- merge or an adjustment that memory was refused may have begun.
 abbrev pub IsStatusOfSilence : (status : ℕ) → List (List ℕ) → Type 0
 IsStatusOfSilence status words =
-    ((status ≡ 1) × ¬ (word_at words 1 ≡ codes "check") × ¬ (word_at words 1 ≡ codes "import")) ⊎ ((status ≡ 2) ⊎ ((status ≡ 3) × ¬ (word_at words 1 ≡ codes "merge")))
+    ((status ≡ 1) × ¬ (word_at words 1 ≡ codes "check")
+    × ¬ (word_at words 1 ≡ codes "import")) ⊎ ((status ≡ 2) ⊎ ((status ≡ 3) × ¬ MayHaveBegun words))
 
 -- a fault of a number, and of a place where it has one, as a line of text
 abbrev pub fault_text : (what : List ℕ) → ℕ → (where_is : List ℕ) → Option ℕ → List ℕ
 fault_text what number where_is (Some place) =
-    codes "royalty_run: " ++ what ++ codes " fault " ++ decimal number ++ codes " at " ++ where_is ++ decimal place ++ codes "\n"
+    codes "royalty_run: " ++ what ++ codes " fault " ++ decimal number ++ codes " at " ++ where_is ++ decimal place
+    ++ codes "\n"
 fault_text what number where_is None = codes "royalty_run: " ++ what ++ codes " fault " ++ decimal number ++ codes "\n"
 
 -- and one of a CWR file among several
 abbrev pub file_fault_text : ℕ → Option ℕ → (path : List ℕ) → List ℕ
 file_fault_text number (Some line) path =
-    codes "royalty_run: cwr fault " ++ decimal number ++ codes " at line " ++ decimal line ++ codes " of " ++ path ++ codes "\n"
-file_fault_text number None path = codes "royalty_run: cwr fault " ++ decimal number ++ codes " of " ++ path ++ codes "\n"
+    codes "royalty_run: cwr fault " ++ decimal number ++ codes " at line " ++ decimal line ++ codes " of " ++ path
+    ++ codes "\n"
+file_fault_text number None path = codes "royalty_run: cwr fault " ++ decimal number ++ codes " of " ++ path
+    ++ codes "\n"
 
 -- and one of a table of values
 abbrev pub map_fault_text : ℕ → Option ℕ → (path : List ℕ) → List ℕ
 map_fault_text number (Some row) path =
-    codes "royalty_run: map fault " ++ decimal number ++ codes " at row " ++ decimal row ++ codes " of " ++ path ++ codes "\n"
-map_fault_text number None path = codes "royalty_run: map fault " ++ decimal number ++ codes " of " ++ path ++ codes "\n"
+    codes "royalty_run: map fault " ++ decimal number ++ codes " at row " ++ decimal row ++ codes " of " ++ path
+    ++ codes "\n"
+map_fault_text number None path = codes "royalty_run: map fault " ++ decimal number ++ codes " of " ++ path
+    ++ codes "\n"
+
+-- and one of a text of statements
+abbrev pub statement_fault_text : ℕ → (row : ℕ) → (path : List ℕ) → List ℕ
+statement_fault_text number row path =
+    codes "royalty_run: statement fault " ++ decimal number ++ codes " at row " ++ decimal row ++ codes " of "
+    ++ path ++ codes "\n"
 
 -- what is wrong with the column of a report that a word names
 abbrev pub column_text : (path what word : List ℕ) → List ℕ
@@ -125,25 +148,31 @@ abbrev pub text_of : Failure → Option (List ℕ)
 text_of (Words error) = None
 text_of NotText = Some (codes "royalty_run: an argument is not UTF-8\n")
 text_of (Pairs f) = Some (fault_text (codes "pair") (pair.number_of_fault f) [] (pair.place_of_fault f))
-text_of (Input (input.Tis f)) = Some (fault_text (codes "tis") (tis.number_of_fault f) (codes "row ") (tis.place_of_fault f))
-text_of (Input (input.Payee f)) = Some (fault_text (codes "payee") (payees.number_of_fault f) (codes "row ") (payees.place_of_fault f))
-text_of (Input (input.Cwr f)) = Some (fault_text (codes "cwr") (cwr.number_of_fault f) (codes "line ") (cwr.place_of_fault f))
-text_of (Input (input.Usage f)) = Some (fault_text (codes "usage") (usage.number_of_fault f) (codes "row ") (usage.place_of_fault f))
+text_of (Input (input.Tis f)) = Some (fault_text (codes "tis") (tis.number_of_fault f) (codes "row ")
+    (tis.place_of_fault f))
+text_of (Input (input.Payee f)) = Some (fault_text (codes "payee") (payees.number_of_fault f) (codes "row ")
+    (payees.place_of_fault f))
+text_of (Input (input.Cwr f)) = Some (fault_text (codes "cwr") (cwr.number_of_fault f) (codes "line ")
+    (cwr.place_of_fault f))
+text_of (Input (input.Usage f)) = Some (fault_text (codes "usage") (usage.number_of_fault f) (codes "row ")
+    (usage.place_of_fault f))
 text_of (Input input.Room) = Some (codes "royalty_run: out of room\n")
 text_of (Works f) = Some (fault_text (codes "works") (works.number_of_fault f) (codes "row ") (works.place_of_fault f))
-text_of (Registrations f path) = Some (file_fault_text (cwr.number_of_fault f) (cwr.place_of_fault f) (string_bytes path))
+text_of (Registrations f path) = Some (file_fault_text (cwr.number_of_fault f) (cwr.place_of_fault f)
+    (string_bytes path))
 text_of (Row row) = Some (codes "royalty_run: the usage list has no row " ++ decimal row ++ codes "\n")
 text_of Room = Some (codes "royalty_run: out of room\n")
 text_of (File path) = Some (codes "royalty_run: cannot read " ++ string_bytes path ++ codes "\n")
 text_of Output = Some (codes "royalty_run: cannot write\n")
 text_of (Target path) = Some (codes "royalty_run: cannot write " ++ string_bytes path ++ codes "\n")
 text_of (Statement f path) =
-    Some (codes "royalty_run: statement fault " ++ decimal (statement.number_of_fault f) ++ codes " at row " ++ decimal (statement.row_of_fault f) ++ codes " of " ++ string_bytes path ++ codes "\n")
+    Some (statement_fault_text (statement.number_of_fault f) (statement.row_of_fault f) (string_bytes path))
 text_of Many = Some (codes "royalty_run: the statements are of more than 1000000000000000000 portions or usage lines\n")
 text_of ManyMerged =
     Some (codes "royalty_run: the statements are of more than 1000000000000000000 portions or usage lines\n")
 text_of (Changed path) = Some (codes "royalty_run: " ++ string_bytes path ++ codes " changed while it was read\n")
-text_of (Replaces path) = Some (codes "royalty_run: " ++ string_bytes path ++ codes " is an input, which the output would replace\n")
+text_of (Replaces path) = Some (codes "royalty_run: " ++ string_bytes path
+    ++ codes " is an input, which the output would replace\n")
 text_of (Names f) = Some (fault_text (codes "names") (names.number_of_fault f) (codes "row ") (names.place_of_fault f))
 text_of (Taken path) = Some (codes "royalty_run: " ++ string_bytes path ++ codes " is there already\n")
 text_of (Map f path) = Some (map_fault_text (maps.number_of_fault f) (maps.place_of_fault f) (string_bytes path))
@@ -154,6 +183,7 @@ text_of (ManyColumns word path) =
 text_of (NoHeader word) =
     Some (codes "royalty_run: there is no header to find the column '" ++ string_bytes word ++ codes "' in\n")
 text_of (BothTables path) = Some (codes "royalty_run: " ++ string_bytes path ++ codes " is named for both tables\n")
+text_of (OtherLines row path) = Some (statement_fault_text 7 row (string_bytes path))
 
 -- words and inputs are refused for what is wrong with them: lack of memory is a failure of its own, and help is none
 abbrev pub IsRefusal : Failure → Type 0
@@ -180,6 +210,7 @@ IsRefusal (NoColumn word path) = ⊤
 IsRefusal (ManyColumns word path) = ⊤
 IsRefusal (NoHeader word) = ⊤
 IsRefusal (BothTables path) = ⊤
+IsRefusal (OtherLines row path) = ⊤
 IsRefusal _ = ⊥
 
 -- lack of memory is no failure of a file, which any other error leaves unread
@@ -206,7 +237,8 @@ failure_of_target _ path = Target path
 
 -- A file fails as its error has it. `refuses path kind` says that a path is refused with an error of this kind.
 abbrev pub IsOfFile : (refuses : List ℕ → io.ErrorKind → Type 0) → String Global → Failure → Type 0
-IsOfFile refuses path failure = (kind : io.ErrorKind) × refuses (string_bytes path) kind × (failure ≡ failure_of_file kind path)
+IsOfFile refuses path failure = (kind : io.ErrorKind) × refuses (string_bytes path) kind
+    × (failure ≡ failure_of_file kind path)
 
 -- a file is the first of those of a run, in their order, where those before it were read
 abbrev pub IsFirst : (holds : List ℕ → List ℕ → Type 0) → (paths : Inputs (List ℕ)) → (path : List ℕ) → Type 0
@@ -222,7 +254,8 @@ pub record IsFirstUnread (holds : List ℕ → List ℕ → Type 0) (refuses : L
   pub unread : IsUnread refuses path
   pub first : IsFirst holds paths path
 
--- a run over the files of these paths fails for the first fault of the first of them that has one, for lack of memory, or for the first that cannot be read
+-- a run over the files of these paths fails for the first fault of the first of them that has one, for lack of memory,
+-- or for the first that cannot be read
 abbrev pub IsOfPaths : (holds : List ℕ → List ℕ → Type 0) (refuses : List ℕ → io.ErrorKind → Type 0)
     (paths : Inputs (List ℕ)) → Failure → Type 0
 IsOfPaths holds refuses paths (Input fault) = IsFaultOver holds paths fault
@@ -230,7 +263,8 @@ IsOfPaths holds refuses paths Room = ⊤
 IsOfPaths holds refuses paths (File name) = IsFirstUnread holds refuses paths (string_bytes name)
 IsOfPaths holds refuses paths _ = ⊥
 
--- What is written to a file fails for that, or since the file cannot be written. The option that names a file may be left out.
+-- What is written to a file fails for that, or since the file cannot be written. The option that names a file may be
+-- left out.
 abbrev pub IsOfOutput : (output : Option (String Global)) → (Failure → Type 0) → Failure → Type 0
 IsOfOutput output IsOf (Target path) = output ≡ Some path
 IsOfOutput output IsOf failure = IsOf failure
@@ -240,8 +274,10 @@ abbrev pub IsOfRunOutput : (output : Option (String Global)) → (Failure → Ty
 IsOfRunOutput output IsOf (Replaces path) = output ≡ Some path
 IsOfRunOutput output IsOf failure = IsOfOutput output IsOf failure
 
--- a table is the first of those of a run over the files of several submitters, in their order, where those before it were read
-abbrev pub IsFirstTable : (holds : List ℕ → List ℕ → Type 0) → (paths : SubmittedTables (List ℕ)) → (path : List ℕ) → Type 0
+-- a table is the first of those of a run over the files of several submitters, in their order, where those before it
+-- were read
+abbrev pub IsFirstTable : (holds : List ℕ → List ℕ → Type 0) → (paths : SubmittedTables (List ℕ)) → (path : List ℕ)
+    → Type 0
 IsFirstTable holds paths =
     ThisOrLater (λ path. path ≡ paths.territories) (holds paths.territories) (λ _.
     ThisOrLater (λ path. Some path ≡ paths.payees) (HoldsIfGiven holds paths.payees) (λ _.
@@ -251,7 +287,8 @@ IsFirstTable holds paths =
 -- and it cannot be read
 abbrev pub IsOfTables : (holds : List ℕ → List ℕ → Type 0) (refuses : List ℕ → io.ErrorKind → Type 0)
     → SubmittedTables (List ℕ) → Failure → Type 0
-IsOfTables holds refuses paths (File name) = IsUnread refuses (string_bytes name) × IsFirstTable holds paths (string_bytes name)
+IsOfTables holds refuses paths (File name) = IsUnread refuses (string_bytes name)
+    × IsFirstTable holds paths (string_bytes name)
 IsOfTables holds refuses paths _ = ⊥
 
 -- what the fault of an input comes to, where the files of submitters have these paths
@@ -259,14 +296,15 @@ abbrev pub IsSaidOf : (files : List (List ℕ)) → SubmittedFault → Failure �
 IsSaidOf files (submitted.Tis fault) failure = failure ≡ Input (input.Tis fault)
 IsSaidOf files (submitted.Payee fault) failure = failure ≡ Input (input.Payee fault)
 IsSaidOf files (submitted.Works fault) failure = failure ≡ Works fault
-IsSaidOf files (submitted.Unreadable place) failure = (name : String Global) × (failure ≡ File name) × (string_bytes name ≡ word_at files place)
+IsSaidOf files (submitted.Unreadable place) failure = (name : String Global) × (failure ≡ File name)
+    × (string_bytes name ≡ word_at files place)
 IsSaidOf files (submitted.Cwr place fault) failure =
     (name : String Global) × (failure ≡ Registrations fault name) × (string_bytes name ≡ word_at files place)
 IsSaidOf files (submitted.Usage fault) failure = failure ≡ Input (input.Usage fault)
 IsSaidOf files submitted.Room failure = failure ≡ Room
 
--- A run over the files of several submitters fails for the first of its tables that cannot be read, or else for the first fault of the first input that has one, or for
--- lack of memory.
+-- A run over the files of several submitters fails for the first of its tables that cannot be read, or else for the
+-- first fault of the first input that has one, or for lack of memory.
 abbrev pub IsOfSubmitted : (holds : List ℕ → List ℕ → Type 0) (refuses : List ℕ → io.ErrorKind → Type 0)
     → SubmittedPaths → Failure → Type 0
 IsOfSubmitted holds refuses paths failure =
@@ -278,7 +316,8 @@ abbrev pub IsOfFiles : (holds : List ℕ → List ℕ → Type 0) (refuses : Lis
     → (names files : List (List ℕ)) → Failure → Type 0
 IsOfFiles holds refuses names files failure =
     (failure ≡ Room)
-    ⊎ ((fault : SubmittedFault) × IsFaultOfFiles (HoldsAt holds files) (RefusesAt refuses files) (length names) fault × IsSaidOf files fault failure)
+    ⊎ ((fault : SubmittedFault) × IsFaultOfFiles (HoldsAt holds files) (RefusesAt refuses files)
+    (length names) fault × IsSaidOf files fault failure)
 
 -- and the words of a table to begin with for that, or for themselves where they are not accepted
 abbrev pub IsOfTable : (holds : List ℕ → List ℕ → Type 0) (refuses : List ℕ → io.ErrorKind → Type 0) → StartingTable
@@ -288,8 +327,10 @@ IsOfTable holds refuses table words failure =
     let values = files_given (starting_app table) words in
     IsOfFiles holds refuses (map name_in values) (map path_in values) failure
 
--- and the words of a run fail for that, for the file of their output, which is an input or cannot be written, or for themselves where clap does not accept them
-abbrev pub IsOfRun : (holds : List ℕ → List ℕ → Type 0) (refuses : List ℕ → io.ErrorKind → Type 0) → List (List ℕ) → Failure → Type 0
+-- and the words of a run fail for that, for the file of their output, which is an input or cannot be written, or for
+-- themselves where clap does not accept them
+abbrev pub IsOfRun : (holds : List ℕ → List ℕ → Type 0) (refuses : List ℕ → io.ErrorKind → Type 0) → List (List ℕ)
+    → Failure → Type 0
 IsOfRun holds refuses words (Words error) = ¬ AreRunAccepted words
 IsOfRun holds refuses words (Target path) = run_output words ≡ Some (string_bytes path)
 IsOfRun holds refuses words (Replaces path) = run_output words ≡ Some (string_bytes path)
@@ -297,7 +338,8 @@ IsOfRun holds refuses words failure =
     EitherRun (name_works words) (IsOfPaths holds refuses (inputs_given run_app words) failure)
     (IsOfSubmitted holds refuses (submitted_given submitted_app words) failure)
 
--- an explanation over the files of these paths fails for what a run over them fails for, or since the usage list has no such row
+-- an explanation over the files of these paths fails for what a run over them fails for, or since the usage list has no
+-- such row
 abbrev pub IsUnexplained : (holds : List ℕ → List ℕ → Type 0) (refuses : List ℕ → io.ErrorKind → Type 0)
     (paths : Inputs (List ℕ)) (row : ℕ) → Failure → Type 0
 IsUnexplained holds refuses paths row (Row beyond) = (beyond ≡ row) × HasNoRowOver holds paths row
@@ -310,10 +352,12 @@ IsSubmittedUnexplained holds refuses paths row (Row beyond) = (beyond ≡ row) �
 IsSubmittedUnexplained holds refuses paths row failure = IsOfSubmitted holds refuses paths failure
 
 -- and its words for that, or for themselves where they are not accepted
-abbrev pub IsOfExplanation : (holds : List ℕ → List ℕ → Type 0) (refuses : List ℕ → io.ErrorKind → Type 0) → List (List ℕ) → Failure → Type 0
+abbrev pub IsOfExplanation : (holds : List ℕ → List ℕ → Type 0) (refuses : List ℕ → io.ErrorKind → Type 0)
+    → List (List ℕ) → Failure → Type 0
 IsOfExplanation holds refuses words (Words error) = ¬ AreExplainAccepted words
 IsOfExplanation holds refuses words failure =
-    EitherRun (name_works words) (IsUnexplained holds refuses (inputs_given explain_app words) (row_given words) failure)
+    EitherRun (name_works words) (IsUnexplained holds refuses (inputs_given explain_app words)
+    (row_given words) failure)
     (IsSubmittedUnexplained holds refuses (submitted_given submitted_explain_app words) (row_given words) failure)
 
 -- A merge of the texts of these paths fails for the first fault of the first that has one, since they have too many
@@ -330,7 +374,8 @@ IsOfTexts gives paths _ = ⊥
 
 -- one text alone fails for its first fault, for lack of memory, or since it has too many rows or cannot be read
 abbrev pub IsOfText : (gives : List ℕ → List ℕ → Type 0) → List ℕ → Failure → Type 0
-IsOfText gives path (Statement fault name) = (string_bytes name ≡ path) × HoldsOf (gives path) (λ text. IsFaultIn text fault)
+IsOfText gives path (Statement fault name) = (string_bytes name ≡ path)
+    × HoldsOf (gives path) (λ text. IsFaultIn text fault)
 IsOfText gives path Room = ⊤
 IsOfText gives path Many = HoldsOf (gives path) HasTooManyRows
 IsOfText gives path (File name) = string_bytes name ≡ path
@@ -366,7 +411,8 @@ abbrev pub IsOfPlace : List (List ℕ) → (place : ℕ) → Refusal → Failure
 IsOfPlace paths place was Room = ⊤
 IsOfPlace paths place was ManyMerged = was ≡ refusal.Many
 IsOfPlace paths place was (File name) = IsAt paths place (string_bytes name) × IsUnreadable was
-IsOfPlace paths place was (Changed name) = IsAt paths place (string_bytes name) × ((fault : StatementFault) × (was ≡ refusal.Fault fault))
+IsOfPlace paths place was (Changed name) = IsAt paths place (string_bytes name) × ((fault : StatementFault)
+    × (was ≡ refusal.Fault fault))
 IsOfPlace paths place was _ = ⊥
 
 -- it is of one of these paths, which has a fault where it is said to have changed, or of all
@@ -377,7 +423,8 @@ IsOfOne gives paths (File name) = Contains paths (string_bytes name)
 IsOfOne gives paths (Changed name) = Contains paths (string_bytes name) × GivesFault (gives (string_bytes name))
 IsOfOne gives paths _ = ⊥
 
--- and its words for that, for the file of their output, for the paths that they name, or for themselves where clap does not accept them
+-- and its words for that, for the file of their output, for the paths that they name, or for themselves where clap does
+-- not accept them
 abbrev pub IsOfMerge : (gives : List ℕ → List ℕ → Type 0) → List (List ℕ) → Failure → Type 0
 IsOfMerge gives words (Words error) = NameWrongPaths words error ⊎ (¬ AreAccepted merge_app words)
 IsOfMerge gives words (Target path) = path_if_given merge_app (codes "output") words ≡ Some (string_bytes path)
@@ -412,13 +459,15 @@ IsSubmittedUnchecked holds refuses paths failure =
     (failure ≡ Room) ⊎ IsOfTables holds refuses paths.tables failure ⊎ IsFirstFileUnread holds refuses paths failure
 
 -- the words of a check fail for that, or for themselves where they are not accepted
-abbrev pub IsOfCheck : (holds : List ℕ → List ℕ → Type 0) (refuses : List ℕ → io.ErrorKind → Type 0) → List (List ℕ) → Failure → Type 0
+abbrev pub IsOfCheck : (holds : List ℕ → List ℕ → Type 0) (refuses : List ℕ → io.ErrorKind → Type 0) → List (List ℕ)
+    → Failure → Type 0
 IsOfCheck holds refuses words (Words error) = ¬ AreCheckAccepted words
 IsOfCheck holds refuses words failure =
     EitherRun (name_works words) (IsUnchecked holds refuses (inputs_given check_app words) failure)
     (IsSubmittedUnchecked holds refuses (submitted_given submitted_check_app words) failure)
 
--- a division fails for its pairs, which then have that fault, for its words where clap does not accept them, or for lack of memory
+-- a division fails for its pairs, which then have that fault, for its words where clap does not accept them, or for
+-- lack of memory
 abbrev pub IsOfDivision : List (List ℕ) → Failure → Type 0
 IsOfDivision words (Pairs fault) = IsFaultOf (pairs_of words) fault
 IsOfDivision words (Words error) = ¬ AreAccepted split_app (drop 1 words)

@@ -1,7 +1,7 @@
 -- What a run over the files of several submitters answers over files, and an explanation and a check of one. `holds
 -- path bytes` says that the file of a path has these bytes, and `refuses path kind` that it is refused with an error of
 -- this kind.
-use Rattle.std.specs.Prelude.{ℕ, ◌≤◌, ◌<◌, ◌⊎◌, All, Bool, IfSome, List, length, map, string_bytes, ⊤}
+use Rattle.std.specs.Prelude.{ℕ, ◌≤◌, ◌<◌, ◌⊎◌, All, Bool, Contains, IfSome, List, length, map, string_bytes, ⊤}
 use Rattle.std.specs.declared.io.ErrorKind.{ErrorKind}
 use Rattle.std.specs.declared.io.ErrorKind.TheVariants.{OutOfMemory}
 use Rattle.check_inputs.specs.SubmittedChecked.{IsSubmittedReportOn}
@@ -9,7 +9,7 @@ use Rattle.explain_line.specs.Submitted.{IsSubmittedExplanationOf, SubmittedHave
 use Rattle.pair_split.specs.Pair.{word_at}
 use Rattle.royalty_program.specs.Files.{HoldsIfGiven, IsUnread}
 use Rattle.royalty_program.specs.NamedFiles.{name_in, path_in}
-use Rattle.royalty_program.specs.OutputPath.{IsOther}
+use Rattle.royalty_program.specs.OutputPath.{IsOfGiven, IsOther}
 use Rattle.starting_files.specs.Tables.{IsTableOf}
 use Rattle.starting_files.specs.declared.making.StartingTable.{StartingTable}
 use Rattle.royalty_program.specs.declared.inputs.SubmittedInputs.{SubmittedInputs}
@@ -96,6 +96,11 @@ pub record IsNoneOf (paths : SubmittedPaths) (path : List ℕ) : Type 0 where
   pub works : IsOther path paths.tables.works
   pub files : All (IsOther path) paths.files
   pub usage : IsOther path paths.tables.usage
+
+-- some table or file has such a path
+abbrev pub IsOfSomeSubmitted : (P : List ℕ → Type 0) → SubmittedPaths → Type 0
+IsOfSomeSubmitted P paths = P paths.tables.territories ⊎ IsOfGiven P paths.tables.payees ⊎ P paths.tables.works
+    ⊎ P paths.tables.usage ⊎ ((other : List ℕ) × Contains paths.files other × P other)
 
 -- the place that a fault names, where it names one, is one of so many
 abbrev pub IsWithin : (count : ℕ) → SubmittedFault → Type 0

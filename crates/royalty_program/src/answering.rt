@@ -1,24 +1,31 @@
 //! What the program does with its words, and the status that it answers.
 
-ghost use Rattle.std.specs.Prelude.{◌≡◌, ◌≢◌, ◌≤◌, ◌⊎◌, ℕ, List, None, Some, true, false, IfOk, IfErr, IsOk, OnErr, OnOk, codes, drop, if◌then◌else◌, map, string_bytes};
+ghost use Rattle.std.specs.Prelude.{◌≡◌, ◌≢◌, ◌≤◌, ◌⊎◌, ℕ, List, None, Some, true, false, IfOk, IfErr, IsOk, OnErr};
+ghost use Rattle.std.specs.Prelude.{OnOk, codes, drop, if◌then◌else◌, map, string_bytes};
 ghost use Rattle.std.specs.Io.KnownBytes.{Appends, Keeps};
 ghost use Rattle.royalty_program.specs.Asked.{AreRun, IsDivision, run_output};
 ghost use Rattle.royalty_program.specs.Answered.{IsAnswered, IsDelivered, NameOutput};
 ghost use Rattle.royalty_program.specs.Targets.{IsLeftOrHas};
 ghost use Rattle.royalty_program.specs.StartingCommand.{starting_name};
 ghost use Rattle.starting_files.specs.declared.making.StartingTable.{StartingTable};
-ghost use Rattle.royalty_program.specs.DocumentsAnswered.{AreDocumentsAnswered, AskForDocuments, IsOfStatements, folder_given};
+ghost use Rattle.royalty_program.specs.DocumentsAnswered.{AreDocumentsAnswered, AskForDocuments, IsOfStatements};
+ghost use Rattle.royalty_program.specs.DocumentsAnswered.{folder_given};
+ghost use Rattle.royalty_program.specs.AdjustAnswered.{IsOfAdjustment};
 ghost use Rattle.royalty_program.specs.Fails.{FailFor};
 ghost use Rattle.royalty_program.specs.Folders.{IsLeftOrHasFolder};
-ghost use Rattle.royalty_program.specs.ImportAnswered.{AskForImport, IsImportPrinted, IsLeftByImport, IsOfImport, NameImport};
+ghost use Rattle.royalty_program.specs.ImportAnswered.{AskForImport, IsImportPrinted, IsLeftByImport, IsOfImport};
+ghost use Rattle.royalty_program.specs.ImportAnswered.{NameImport};
 ghost use Rattle.distribution_documents.specs.Documents.{File};
-ghost use Rattle.royalty_program.specs.Status.{IsOfCheck, IsOfDivision, IsOfExplanation, IsOfMerge, IsOfRejects, IsOfRun, IsOfTable, IsRefusal, IsReportOfFault, IsStatusOfSilence, failure_of_kind, status_of};
+ghost use Rattle.royalty_program.specs.Status.{IsOfCheck, IsOfDivision, IsOfExplanation, IsOfMerge, IsOfRejects};
+ghost use Rattle.royalty_program.specs.Status.{IsOfRun, IsOfTable, IsRefusal, IsReportOfFault, IsStatusOfSilence};
+ghost use Rattle.royalty_program.specs.Status.{MayHaveBegun, failure_of_kind, status_of};
 ghost use Rattle.royalty_program.specs.declared.failure.Failure.{Failure};
 ghost use Rattle.royalty_program.specs.declared.failure.Failure.TheVariants.{Output, Room};
 ghost use Rattle.pair_split.specs.Pair.{word_at};
 ghost use Rattle.std.specs.IoError.{error_kind};
 ghost use Rattle.std.specs.Vec.Iter.{into_iter_items};
 
+use crate::adjust_files::adjust_out;
 use crate::commands::{Asked, read_words};
 use crate::document_files::document_out;
 use crate::failure::Failure;
@@ -82,17 +89,22 @@ pub fn program<
     err: &mut E,
 ) -> u8
     ensures known { result ≤ 4 }
-    ensures printed { result ≡ 0 → (text : List ℕ) × IsDelivered (T.keeps target.new) (map string_bytes words.now) (W.contents out.old) (W.contents out.new) text
+    ensures printed { result ≡ 0 → (text : List ℕ)
+        × IsDelivered (T.keeps target.new) (map string_bytes words.now) (W.contents out.old) (W.contents out.new) text
         × IsAnswered (S.holds files.now) (S.gives files.now) (map string_bytes words.now) true text }
-    ensures reported { result ≡ 1 → word_at (map string_bytes words.now) 1 ≡ codes "check" → (text : List ℕ) × Appends (W.contents out.old) (W.contents out.new) text
+    ensures reported { result ≡ 1 → word_at (map string_bytes words.now) 1 ≡ codes "check" → (text : List ℕ)
+        × Appends (W.contents out.old) (W.contents out.new) text
         × IsAnswered (S.holds files.now) (S.gives files.now) (map string_bytes words.now) false text }
     ensures quiet { (result ≡ 0) ⊎ IsReportOfFault result (map string_bytes words.now) → err.new ≡ err.old }
     ensures silent { IsStatusOfSilence result (map string_bytes words.now) → out.new ≡ out.old }
-    ensures accepted { AreRun (map string_bytes words.now) → run_output (drop 1 (map string_bytes words.now)) ≡ None → result ≢ 2 }
+    ensures accepted { AreRun (map string_bytes words.now) → run_output (drop 1 (map string_bytes words.now)) ≡ None
+        → result ≢ 2 }
     ensures failed { result ≢ 0 → ¬ IsReportOfFault result (map string_bytes words.now)
         → ¬ IsOfRejects result (map string_bytes words.now) → (failure : Failure) × (result ≡ status_of failure)
-        × ((failure ≡ Output) ⊎ FailFor (S.holds files.now) (S.gives files.now) (S.refuses files.now) (map string_bytes words.now) failure) }
-    ensures left { (path : List ℕ) → NameOutput (map string_bytes words.now) path → IsLeftOrHas (T.keeps target.old path) (T.keeps target.new path)
+        × ((failure ≡ Output) ⊎ FailFor (S.holds files.now) (S.gives files.now) (S.refuses files.now)
+        (map string_bytes words.now) failure) }
+    ensures left { (path : List ℕ) → NameOutput (map string_bytes words.now) path
+        → IsLeftOrHas (T.keeps target.old path) (T.keeps target.new path)
         (IsAnswered (S.holds files.now) (S.gives files.now) (map string_bytes words.now) true) }
     ensures documents { result ≡ 0 → AskForDocuments (map string_bytes words.now) → (documents : List File)
         × T.keeps_folder target.new (folder_given (drop 1 (map string_bytes words.now))) (Some documents)
@@ -102,9 +114,11 @@ pub fn program<
         (T.keeps_folder target.new (folder_given (drop 1 (map string_bytes words.now))))
         (AreDocumentsAnswered (S.holds files.now) (drop 1 (map string_bytes words.now))) }
     ensures imported { result ≡ 0 → AskForImport (map string_bytes words.now) → IsImportPrinted (T.keeps target.new)
-        (S.holds files.now) (S.gives files.now) (map string_bytes words.now) true (W.contents out.old) (W.contents out.new) }
+        (S.holds files.now) (S.gives files.now) (map string_bytes words.now) true (W.contents out.old)
+        (W.contents out.new) }
     ensures rejected { result ≡ 1 → NameImport (map string_bytes words.now)
-        → (IsImportPrinted (T.keeps target.new) (S.holds files.now) (S.gives files.now) (map string_bytes words.now) false
+        → (IsImportPrinted (T.keeps target.new) (S.holds files.now) (S.gives files.now)
+        (map string_bytes words.now) false
         (W.contents out.old) (W.contents out.new) × (err.new ≡ err.old))
         ⊎ ((failure : Failure) × (status_of failure ≡ 1) × (out.new ≡ out.old) × IsOfImport (S.holds files.now)
         (S.gives files.now) (S.refuses files.now) (drop 1 (map string_bytes words.now)) failure) }
@@ -126,7 +140,8 @@ fn end<W: Write, E: Write>(
 ) -> u8
     ensures failed { IfErr answer (λ failure. result ≡ status_of failure) }
     ensures silent { OnErr answer (out.new ≡ out.old) }
-    ensures answered { IfOk answer (λ done. (result ≡ 4) ⊎ ((result ≡ (if done.1 then 0 else 1)) × IsOk done.0 × Keeps (W.contents out.old) (W.contents out.new))) }
+    ensures answered { IfOk answer (λ done. (result ≡ 4) ⊎ ((result ≡ (if done.1 then 0 else 1)) × IsOk done.0
+        × Keeps (W.contents out.old) (W.contents out.new))) }
     ensures quiet { IfOk answer (λ _. result ≢ 4 → err.new ≡ err.old) }
 {
     match answer {
@@ -152,26 +167,38 @@ pub fn answer<R: Threads + Wait + Sync, S: Source + Texts + Sync, T: Target + Fo
     words: &[String],
     out: &mut W,
 ) -> Result<(io::Result<()>, bool), Failure>
-    ensures answered { IfOk result (λ done. OnOk done.0 ((text : List ℕ) × IsDelivered (T.keeps target.new) (map string_bytes words.now) (W.contents out.old) (W.contents out.new) text
+    ensures answered { IfOk result (λ done. OnOk done.0 ((text : List ℕ)
+        × IsDelivered (T.keeps target.new) (map string_bytes words.now) (W.contents out.old) (W.contents out.new) text
         × IsAnswered (S.holds files.now) (S.gives files.now) (map string_bytes words.now) done.1 text)) }
     ensures others { IfOk result (λ done. ¬ (word_at (map string_bytes words.now) 1 ≡ codes "check")
         → ¬ NameImport (map string_bytes words.now) → done.1 ≡ true) }
     ensures failure { IfErr result IsRefusal }
-    ensures run { word_at (map string_bytes words.now) 1 ≡ codes "run" → IfErr result (IsOfRun (S.holds files.now) (S.refuses files.now) (drop 1 (map string_bytes words.now))) }
+    ensures run { word_at (map string_bytes words.now) 1 ≡ codes "run"
+        → IfErr result (IsOfRun (S.holds files.now) (S.refuses files.now) (drop 1 (map string_bytes words.now))) }
     ensures explanation { word_at (map string_bytes words.now) 1 ≡ codes "explain"
-        → IfErr result (IsOfExplanation (S.holds files.now) (S.refuses files.now) (drop 1 (map string_bytes words.now))) }
-    ensures checked { word_at (map string_bytes words.now) 1 ≡ codes "check" → IfErr result (IsOfCheck (S.holds files.now) (S.refuses files.now) (drop 1 (map string_bytes words.now))) }
+        → IfErr result (IsOfExplanation (S.holds files.now) (S.refuses files.now) (drop 1
+        (map string_bytes words.now))) }
+    ensures checked { word_at (map string_bytes words.now) 1 ≡ codes "check"
+        → IfErr result (IsOfCheck (S.holds files.now) (S.refuses files.now) (drop 1 (map string_bytes words.now))) }
     ensures pairs { IsDivision (map string_bytes words.now) → IfErr result (IsOfDivision (map string_bytes words.now)) }
-    ensures merge { word_at (map string_bytes words.now) 1 ≡ codes "merge" → IfErr result (IsOfMerge (S.gives files.now) (drop 1 (map string_bytes words.now))) }
-    ensures table { (table : StartingTable) → word_at (map string_bytes words.now) 1 ≡ starting_name table → IfErr result (IsOfTable (S.holds files.now) (S.refuses files.now) table (drop 1 (map string_bytes words.now))) }
-    ensures silent { IfErr result (λ failure. (status_of failure ≤ 2) ⊎ (¬ (word_at (map string_bytes words.now) 1 ≡ codes "merge")) → out.new ≡ out.old) }
-    ensures left { (path : List ℕ) → NameOutput (map string_bytes words.now) path → IsLeftOrHas (T.keeps target.old path) (T.keeps target.new path)
+    ensures merge { word_at (map string_bytes words.now) 1 ≡ codes "merge"
+        → IfErr result (IsOfMerge (S.gives files.now) (drop 1 (map string_bytes words.now))) }
+    ensures adjustment { word_at (map string_bytes words.now) 1 ≡ codes "adjust"
+        → IfErr result (IsOfAdjustment (S.gives files.now) (drop 1 (map string_bytes words.now))) }
+    ensures table { (table : StartingTable) → word_at (map string_bytes words.now) 1 ≡ starting_name table
+        → IfErr result (IsOfTable (S.holds files.now) (S.refuses files.now) table (drop 1
+        (map string_bytes words.now))) }
+    ensures silent { IfErr result (λ failure. (status_of failure ≤ 2) ⊎ (¬ MayHaveBegun
+        (map string_bytes words.now)) → out.new ≡ out.old) }
+    ensures left { (path : List ℕ) → NameOutput (map string_bytes words.now) path
+        → IsLeftOrHas (T.keeps target.old path) (T.keeps target.new path)
         (IsAnswered (S.holds files.now) (S.gives files.now) (map string_bytes words.now) true) }
     ensures documents { IfOk result (λ done. AskForDocuments (map string_bytes words.now) → (documents : List File)
         × T.keeps_folder target.new (folder_given (drop 1 (map string_bytes words.now))) (Some documents)
         × AreDocumentsAnswered (S.holds files.now) (drop 1 (map string_bytes words.now)) documents) }
     ensures undocumented { word_at (map string_bytes words.now) 1 ≡ codes "statements"
-        → IfErr result (IsOfStatements (S.holds files.now) (S.refuses files.now) (drop 1 (map string_bytes words.now))) }
+        → IfErr result (IsOfStatements (S.holds files.now) (S.refuses files.now) (drop 1
+        (map string_bytes words.now))) }
     ensures left_folder { word_at (map string_bytes words.now) 1 ≡ codes "statements" → IsLeftOrHasFolder
         (T.keeps_folder target.old (folder_given (drop 1 (map string_bytes words.now))))
         (T.keeps_folder target.new (folder_given (drop 1 (map string_bytes words.now))))
@@ -217,6 +244,7 @@ pub fn answer<R: Threads + Wait + Sync, S: Source + Texts + Sync, T: Target + Fo
             Ok((out.write_all(imported.text.as_slice()), imported.is_whole))
         }
         Ok(Asked::Merge(asked)) => Ok((merge_out(alloc, files, target, asked, out)?, true)),
+        Ok(Asked::Adjustment(asked)) => Ok((adjust_out(alloc, files, target, asked, out)?, true)),
         Err(error) if error.kind() == ErrorKind::OutOfMemory => Err(Failure::Room),
         Err(error) if error.use_stderr() => Err(Failure::Words(error)),
         Err(help) => match format!(in alloc; "{help}") {

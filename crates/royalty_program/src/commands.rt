@@ -8,11 +8,14 @@ ghost use Rattle.royalty_program.specs.Asked.{IsRunError, IsStatementsError, IsS
 ghost use Rattle.royalty_program.specs.SplitCommand.{split_app};
 ghost use Rattle.royalty_program.specs.StartingCommand.{starting_app, starting_name};
 ghost use Rattle.starting_files.specs.declared.making.StartingTable.{StartingTable};
-ghost use Rattle.royalty_program.specs.Answered.{IsCheckAsked, IsDivisionOf, IsExplanationAsked, IsInRange, IsMergeAsked, IsNamedBy, IsRunInOrder, IsRunOf, IsTableAsked};
-ghost use Rattle.royalty_program.specs.Answered.{IsImportAsked, IsStatementsAsked};
+ghost use Rattle.royalty_program.specs.Answered.{IsCheckAsked, IsDivisionOf, IsExplanationAsked, IsInRange};
+ghost use Rattle.royalty_program.specs.Answered.{IsMergeAsked, IsNamedBy, IsRunInOrder, IsRunOf, IsTableAsked};
+ghost use Rattle.royalty_program.specs.AdjustCommand.{adjust_app};
+ghost use Rattle.royalty_program.specs.Answered.{IsAdjustmentAsked, IsImportAsked, IsStatementsAsked};
 ghost use Rattle.royalty_program.specs.ImportCommand.{IsImportError};
 ghost use Rattle.pair_split.specs.Pair.{word_at};
 
+use crate::adjust_command::{AdjustWords, adjust_command, read_adjust};
 use crate::check_command::{check_command, read_check};
 use crate::explain_command::{ExplainWords, explain_command, read_explain};
 use crate::import_command::{ImportWords, import_command, read_import};
@@ -39,6 +42,7 @@ const HELP: &str = "\
 `royalty_run statements --help` how its statements are written as documents that people read,
 `royalty_run works --help` and `royalty_run parties --help` which tables a run over several
 submitters' files begins with, `royalty_run merge --help` how the statements of several runs are merged,
+`royalty_run adjust --help` how what was paid is compared with what should have been,
 `royalty_run check --help` how the files are checked, `royalty_run explain --help` how one usage line
 is explained, and `royalty_run split --help` how an amount is divided.
 
@@ -67,6 +71,8 @@ pub enum Asked {
     Check(RunInputs),
     /// The statements of several runs in one text.
     Merge(MergeWords),
+    /// The difference between statements that were paid and those that are right.
+    Adjustment(AdjustWords),
     /// A table to begin with.
     Starting(StartingWords),
     /// The usage lines of a sales report.
@@ -77,26 +83,46 @@ pub enum Asked {
 pub fn read_words(alloc: Global, words: &[String]) -> Result<Asked, Error>
     ensures named { IfOk result (IsNamedBy (word_at (map string_bytes words.now) 1)) }
     ensures in_range { IfOk result IsInRange }
-    ensures division { IsDivision (map string_bytes words.now) → IfOk result (IsDivisionOf (map string_bytes words.now)) }
-    ensures run { word_at (map string_bytes words.now) 1 ≡ codes "run" → IfOk result (IsRunOf (map string_bytes words.now)) }
+    ensures division { IsDivision (map string_bytes words.now)
+        → IfOk result (IsDivisionOf (map string_bytes words.now)) }
+    ensures run { word_at (map string_bytes words.now) 1 ≡ codes "run"
+        → IfOk result (IsRunOf (map string_bytes words.now)) }
     ensures documents { word_at (map string_bytes words.now) 1 ≡ codes "statements"
         → IfOk result (IsStatementsAsked (map string_bytes words.now)) }
     ensures no_documents { word_at (map string_bytes words.now) 1 ≡ codes "statements"
         → IfErr result (IsStatementsError (drop 1 (map string_bytes words.now))) }
-    ensures explanation { word_at (map string_bytes words.now) 1 ≡ codes "explain" → IfOk result (IsExplanationAsked (map string_bytes words.now)) }
-    ensures unexplained { word_at (map string_bytes words.now) 1 ≡ codes "explain" → IfErr result (IsExplainError (drop 1 (map string_bytes words.now))) }
-    ensures checked { word_at (map string_bytes words.now) 1 ≡ codes "check" → IfOk result (IsCheckAsked (map string_bytes words.now)) }
-    ensures unchecked { word_at (map string_bytes words.now) 1 ≡ codes "check" → IfErr result (IsCheckError (drop 1 (map string_bytes words.now))) }
-    ensures merged { word_at (map string_bytes words.now) 1 ≡ codes "merge" → IfOk result (IsMergeAsked (map string_bytes words.now)) }
-    ensures unmerged { word_at (map string_bytes words.now) 1 ≡ codes "merge" → IfErr result (IsMergeError (drop 1 (map string_bytes words.now))) }
-    ensures table { (table : StartingTable) → word_at (map string_bytes words.now) 1 ≡ starting_name table → IfOk result (IsTableAsked table (map string_bytes words.now)) }
-    ensures no_table { (table : StartingTable) → word_at (map string_bytes words.now) 1 ≡ starting_name table → IfErr result (IsSubmittedError (starting_app table) (drop 1 (map string_bytes words.now))) }
-    ensures imported { word_at (map string_bytes words.now) 1 ≡ codes "import" → IfOk result (IsImportAsked (map string_bytes words.now)) }
-    ensures unimported { word_at (map string_bytes words.now) 1 ≡ codes "import" → IfErr result (IsImportError (drop 1 (map string_bytes words.now))) }
-    ensures in_order { (run : IsRun (map string_bytes words.now)) → IfOk result (IsRunInOrder (map string_bytes words.now) run.options) }
-    ensures error { word_at (map string_bytes words.now) 1 ≡ codes "run" → IfErr result (IsRunError (drop 1 (map string_bytes words.now))) }
-    ensures undivided { word_at (map string_bytes words.now) 1 ≡ codes "split" → IfErr result (IsErrorOf split_app (drop 1 (map string_bytes words.now))) }
-    ensures no_help { IsDivision (map string_bytes words.now) → IfErr result (λ error. (kind_of error ≢ kinds.DisplayHelp) × (kind_of error ≢ kinds.DisplayVersion)) }
+    ensures explanation { word_at (map string_bytes words.now) 1 ≡ codes "explain"
+        → IfOk result (IsExplanationAsked (map string_bytes words.now)) }
+    ensures unexplained { word_at (map string_bytes words.now) 1 ≡ codes "explain"
+        → IfErr result (IsExplainError (drop 1 (map string_bytes words.now))) }
+    ensures checked { word_at (map string_bytes words.now) 1 ≡ codes "check"
+        → IfOk result (IsCheckAsked (map string_bytes words.now)) }
+    ensures unchecked { word_at (map string_bytes words.now) 1 ≡ codes "check"
+        → IfErr result (IsCheckError (drop 1 (map string_bytes words.now))) }
+    ensures merged { word_at (map string_bytes words.now) 1 ≡ codes "merge"
+        → IfOk result (IsMergeAsked (map string_bytes words.now)) }
+    ensures unmerged { word_at (map string_bytes words.now) 1 ≡ codes "merge"
+        → IfErr result (IsMergeError (drop 1 (map string_bytes words.now))) }
+    ensures adjusted { word_at (map string_bytes words.now) 1 ≡ codes "adjust"
+        → IfOk result (IsAdjustmentAsked (map string_bytes words.now)) }
+    ensures unadjusted { word_at (map string_bytes words.now) 1 ≡ codes "adjust"
+        → IfErr result (IsErrorOf adjust_app (drop 1 (map string_bytes words.now))) }
+    ensures table { (table : StartingTable) → word_at (map string_bytes words.now) 1 ≡ starting_name table
+        → IfOk result (IsTableAsked table (map string_bytes words.now)) }
+    ensures no_table { (table : StartingTable) → word_at (map string_bytes words.now) 1 ≡ starting_name table
+        → IfErr result (IsSubmittedError (starting_app table) (drop 1 (map string_bytes words.now))) }
+    ensures imported { word_at (map string_bytes words.now) 1 ≡ codes "import"
+        → IfOk result (IsImportAsked (map string_bytes words.now)) }
+    ensures unimported { word_at (map string_bytes words.now) 1 ≡ codes "import"
+        → IfErr result (IsImportError (drop 1 (map string_bytes words.now))) }
+    ensures in_order { (run : IsRun (map string_bytes words.now))
+        → IfOk result (IsRunInOrder (map string_bytes words.now) run.options) }
+    ensures error { word_at (map string_bytes words.now) 1 ≡ codes "run"
+        → IfErr result (IsRunError (drop 1 (map string_bytes words.now))) }
+    ensures undivided { word_at (map string_bytes words.now) 1 ≡ codes "split"
+        → IfErr result (IsErrorOf split_app (drop 1 (map string_bytes words.now))) }
+    ensures no_help { IsDivision (map string_bytes words.now)
+        → IfErr result (λ error. (kind_of error ≢ kinds.DisplayHelp) × (kind_of error ≢ kinds.DisplayVersion)) }
 {
     if words.len() < 2 {
         return Err(refusal(alloc, words)?);
@@ -108,6 +134,7 @@ pub fn read_words(alloc: Global, words: &[String]) -> Result<Asked, Error>
         "explain" => Ok(Asked::Explanation(read_explain(alloc, &words[1..])?)),
         "check" => Ok(Asked::Check(read_check(alloc, &words[1..])?)),
         "merge" => Ok(Asked::Merge(read_merge(alloc, &words[1..])?)),
+        "adjust" => Ok(Asked::Adjustment(read_adjust(alloc, &words[1..])?)),
         "works" => { Ok(Asked::Starting(read_starting(alloc, StartingTable::Works, &words[1..])?)) }
         "import" => Ok(Asked::Import(read_import(alloc, &words[1..])?)),
         "parties" => {
@@ -130,6 +157,7 @@ fn refusal(alloc: Global, words: &[String]) -> Result<Error, AllocError> {
         .subcommand(run_command(alloc)?)?
         .subcommand(statements_command(alloc)?)?
         .subcommand(merge_command(alloc)?)?
+        .subcommand(adjust_command(alloc)?)?
         .subcommand(starting_command(alloc, StartingTable::Works)?)?
         .subcommand(starting_command(alloc, StartingTable::Parties)?)?
         .subcommand(check_command(alloc)?)?

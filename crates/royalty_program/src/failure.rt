@@ -4,6 +4,7 @@ ghost use Rattle.std.specs.Io.KnownBytes.{Appends};
 ghost use Rattle.std.specs.Prelude.{◌≡◌, ◌++◌, IfSome, OnOk, codes, decimal};
 ghost use Rattle.std.specs.Fmt.{WritesOnOk};
 ghost use Rattle.royalty_program.specs.Status.{column_text, fault_text, file_fault_text, map_fault_text};
+ghost use Rattle.royalty_program.specs.Status.{statement_fault_text};
 
 use csv_table::FileFault;
 use cwr_share::CwrFault;
@@ -68,6 +69,9 @@ pub enum Failure {
     NoHeader(String),
     /// The usage lines and the rejected rows of an import were to go to the file of this path.
     BothTables(String),
+    /// The statements in the file of a path are of another number of usage lines than those that were paid, as their
+    /// last row says.
+    OtherLines { row: u64, path: String },
 }
 
 impl fmt::Display for Failure {
@@ -139,6 +143,7 @@ impl fmt::Display for Failure {
             Failure::BothTables(path) => {
                 write!(f, "royalty_run: {path} is named for both tables\n")
             }
+            Failure::OtherLines { row, path } => write_statement_fault(f, 7, *row, path.as_str()),
         }
     }
 }
@@ -214,7 +219,7 @@ fn write_statement_fault<W: fmt::Write>(
     row: u64,
     path: &str,
 ) -> fmt::Result
-    ensures { WritesOnOk W.write_str_gives f.old result (codes "royalty_run: statement fault " ++ decimal number ++ codes " at row " ++ decimal row ++ codes " of " ++ path.now ++ codes "\n") f.new }
+    ensures { WritesOnOk W.write_str_gives f.old result (statement_fault_text number row path.now) f.new }
 {
     write!(
         f,
@@ -288,7 +293,8 @@ impl Failure {
             | Failure::Map { .. }
             | Failure::Headless(_)
             | Failure::NoColumn { .. }
-            | Failure::ManyColumns { .. } => 1,
+            | Failure::ManyColumns { .. }
+            | Failure::OtherLines { .. } => 1,
             Failure::Words(_)
             | Failure::NotText
             | Failure::Pairs(_)

@@ -1,19 +1,22 @@
 //! A run, an explanation and a report over files.
 
 ghost use Rattle.std.specs.Io.KnownBytes.{Appends};
-ghost use Rattle.std.specs.Prelude.{◌≡◌, ℕ, List, Some, false, IfOk, IfErr};
+ghost use Rattle.std.specs.Prelude.{◌≡◌, ℕ, List, Some, String, false, true, IfOk, IfErr};
 ghost use Rattle.std.specs.Prelude.{IfSome, IfNone, IsSome, OnErr, OnOk, string_bytes};
 ghost use Rattle.std.specs.Option.{option_map};
 ghost use Rattle.check_inputs.specs.Checked.{bytes_of, path_of};
 ghost use Rattle.run_inputs.specs.Inputs.{map_inputs};
 ghost use Rattle.royalty_program.specs.Files.{AreRead, AreStatementsOver, HaveNoFaultOver};
 ghost use Rattle.royalty_program.specs.Files.{HoldsIfGiven, IsExplanationOver, IsReportOver};
-ghost use Rattle.royalty_program.specs.OutputPath.{IsNoInput};
+ghost use Rattle.royalty_program.specs.OutputPath.{IsNoInput, IsOfSomeInput};
 ghost use Rattle.royalty_program.specs.RunInputs.{AreStatementsFrom, HaveEachAPath, IsExplanationFrom, IsNoInputOf};
-ghost use Rattle.royalty_program.specs.RunInputs.{IsOfInputs, IsReportFrom, IsUncheckedFrom, IsUnexplainedFrom};
+ghost use Rattle.royalty_program.specs.RunInputs.{IsOfInputs, IsOfSomeInputOf, IsReportFrom, IsUncheckedFrom};
+ghost use Rattle.royalty_program.specs.RunInputs.{IsUnexplainedFrom};
 ghost use Rattle.royalty_program.specs.Status.{IsOfFile, IsOfNoInput, IsOfPaths, IsOfRunOutput, IsRefusal, IsUnchecked};
 ghost use Rattle.royalty_program.specs.Status.{IsUnexplained};
 ghost use Rattle.royalty_program.specs.Targets.{IsLeftOrHas, IsPut};
+ghost use Rattle.royalty_program.specs.declared.failure.Failure.TheVariants.{Replaces};
+ghost use Rattle.std.specs.declared.alloc.Global.{Global};
 
 use crate::explain_command::ExplainWords;
 use crate::failure::Failure;
@@ -42,7 +45,8 @@ fn settle_files<R: Threads + Wait + Sync, S: Source + Sync, W: Write>(
     asked: RunWords,
     out: &mut W,
 ) -> Result<io::Result<()>, Failure>
-    ensures statements { IfOk result (λ printed. OnOk printed ((text : List ℕ) × Appends (W.contents out.old) (W.contents out.new) text
+    ensures statements { IfOk result (λ printed. OnOk printed ((text : List ℕ)
+        × Appends (W.contents out.old) (W.contents out.new) text
         × AreStatementsFrom (S.holds files.now) asked.inputs text)) }
     ensures failure { IfErr result IsRefusal }
     ensures files { IfErr result (IsOfInputs (S.holds files.now) (S.refuses files.now) asked.inputs) }
@@ -65,11 +69,13 @@ fn settle_one_file<R: Threads + Wait + Sync, S: Source, W: Write>(
     plan: Plan,
     out: &mut W,
 ) -> Result<io::Result<()>, Failure>
-    ensures statements { IfOk result (λ printed. OnOk printed ((text : List ℕ) × Appends (W.contents out.old) (W.contents out.new) text
+    ensures statements { IfOk result (λ printed. OnOk printed ((text : List ℕ)
+        × Appends (W.contents out.old) (W.contents out.new) text
         × AreStatementsOver (S.holds files.now) (map_inputs string_bytes inputs) text)) }
     ensures read { IfOk result (λ _. HaveNoFaultOver (S.holds files.now) (map_inputs string_bytes inputs)) }
     ensures failure { IfErr result IsRefusal }
-    ensures files { IfErr result (IsOfPaths (S.holds files.now) (S.refuses files.now) (map_inputs string_bytes inputs)) }
+    ensures files { IfErr result (IsOfPaths (S.holds files.now) (S.refuses files.now)
+        (map_inputs string_bytes inputs)) }
     ensures silent { IfErr result (λ _. out.new ≡ out.old) }
 {
     let inputs = read_all(files, alloc, inputs)?;
@@ -82,6 +88,8 @@ fn settle_one_file<R: Threads + Wait + Sync, S: Source, W: Write>(
 /// Whether a path is that of an input, by whatever name.
 fn is_input<T: Target>(target: &T, inputs: &RunInputs, path: &str) -> io::Result<bool>
     ensures none { IfOk result (λ is_input. is_input ≡ false → IsNoInputOf inputs.now path.now) }
+    ensures some { IfOk result (λ is_input.
+        is_input ≡ true → IsOfSomeInputOf (T.one_file target.now path.now) inputs.now) }
 {
     match inputs {
         RunInputs::OneFile(inputs) => is_input_of_one(target, inputs, path),
@@ -93,6 +101,8 @@ fn is_input<T: Target>(target: &T, inputs: &RunInputs, path: &str) -> io::Result
 fn is_input_of_one<T: Target>(target: &T, inputs: &Inputs<String>, path: &str) -> io::Result<bool>
     ensures none { IfOk result (λ is_input.
         is_input ≡ false → IsNoInput (map_inputs string_bytes inputs.now) path.now) }
+    ensures some { IfOk result (λ is_input. is_input ≡ true
+        → IsOfSomeInput (T.one_file target.now path.now) (map_inputs string_bytes inputs.now)) }
 {
     if let Some(payees) = &inputs.payees
         && target.is_one_file(path, payees.as_str())?
@@ -119,10 +129,13 @@ fn settle_kept<R: Threads + Wait + Sync, S: Source + Sync, T: Target>(
     ensures statements { IfOk result (λ _. (text : List ℕ) × T.keeps target.new (string_bytes path) (Some text)
         × AreStatementsFrom (S.holds files.now) asked.inputs text) }
     ensures apart { IfOk result (λ _. IsNoInputOf asked.inputs (string_bytes path)) }
+    ensures replaces { IfErr result (λ failure. (at : String Global) → failure ≡ Replaces at
+        → IsOfSomeInputOf (T.one_file target.old (string_bytes at)) asked.inputs) }
     ensures failure { IfErr result IsRefusal }
     ensures files { IfErr result (IsOfRunOutput (Some path)
         (IsOfInputs (S.holds files.now) (S.refuses files.now) asked.inputs)) }
-    ensures left { OnErr result (IsLeftOrHas (T.keeps target.old (string_bytes path)) (T.keeps target.new (string_bytes path))
+    ensures left { OnErr result (IsLeftOrHas (T.keeps target.old (string_bytes path))
+        (T.keeps target.new (string_bytes path))
         (AreStatementsFrom (S.holds files.now) asked.inputs)) }
 {
     match is_input(target, &asked.inputs, path.as_str()) {
@@ -147,14 +160,19 @@ pub fn settle_out<R: Threads + Wait + Sync, S: Source + Sync, T: Target, W: Writ
     mut asked: RunWords,
     out: &mut W,
 ) -> Result<io::Result<()>, Failure>
-    ensures statements { IfOk result (λ printed. OnOk printed ((text : List ℕ) × IsPut (option_map string_bytes asked.output) (T.keeps target.new) (W.contents out.old) (W.contents out.new) text
+    ensures statements { IfOk result (λ printed. OnOk printed ((text : List ℕ)
+        × IsPut (option_map string_bytes asked.output) (T.keeps target.new) (W.contents out.old)
+        (W.contents out.new) text
         × AreStatementsFrom (S.holds files.now) asked.inputs text)) }
     ensures apart { IfOk result (λ _. IfSome (option_map string_bytes asked.output) (IsNoInputOf asked.inputs)) }
+    ensures replaces { IfErr result (λ failure. (at : String Global) → failure ≡ Replaces at
+        → IsOfSomeInputOf (T.one_file target.old (string_bytes at)) asked.inputs) }
     ensures failure { IfErr result IsRefusal }
-    ensures files { IfErr result (IsOfRunOutput asked.output
-        (IsOfInputs (S.holds files.now) (S.refuses files.now) asked.inputs)) }
+    ensures files { IfErr result
+        (IsOfRunOutput asked.output (IsOfInputs (S.holds files.now) (S.refuses files.now) asked.inputs)) }
     ensures silent { IfErr result (λ _. out.new ≡ out.old) }
-    ensures left { IfSome asked.output (λ path. IsLeftOrHas (T.keeps target.old (string_bytes path)) (T.keeps target.new (string_bytes path))
+    ensures left { IfSome asked.output (λ path. IsLeftOrHas (T.keeps target.old (string_bytes path))
+        (T.keeps target.new (string_bytes path))
         (AreStatementsFrom (S.holds files.now) asked.inputs)) }
     ensures unused { IfNone asked.output (target.new ≡ target.old) }
 {
@@ -173,7 +191,8 @@ pub fn explain_files<S: Source>(
     files: &S,
     asked: ExplainWords,
 ) -> Result<Vec<u8>, Failure>
-    ensures explanation { IfOk result (λ text. IsExplanationFrom (S.holds files.now) asked.inputs asked.row text.items) }
+    ensures explanation { IfOk result (λ text. IsExplanationFrom
+        (S.holds files.now) asked.inputs asked.row text.items) }
     ensures failure { IfErr result IsRefusal }
     ensures files { IfErr result (IsUnexplainedFrom (S.holds files.now) (S.refuses files.now) asked.inputs asked.row) }
 {

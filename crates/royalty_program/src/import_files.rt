@@ -1,11 +1,14 @@
 //! An import over files.
 
 ghost use Rattle.std.specs.Option.{option_map};
-ghost use Rattle.std.specs.Prelude.{◌≡◌, ◌≢◌, ◌≤◌, ◌⊎◌, ◌↔◌, IfErr, IfOk, IfSome, IsTrue, OnErr, OnOk, false, string_bytes};
+ghost use Rattle.std.specs.Prelude.{◌≡◌, ◌≢◌, ◌≤◌, ◌⊎◌, ◌↔◌, IfErr, IfOk, IfSome, IsTrue, OnErr, OnOk, false};
+ghost use Rattle.std.specs.Prelude.{string_bytes, true};
 ghost use Rattle.royalty_program.specs.ImportFiles.{AreAllLeft, AreApart, AreKept, AreLeftOrWhole, AreLeftOrWritten};
 ghost use Rattle.royalty_program.specs.ImportFiles.{AreMapsOver, AreOthersLeft};
 ghost use Rattle.royalty_program.specs.ImportFiles.{IsImportOver, IsMadeOver, IsMapOver, IsNoneOfInputs, IsOfExport};
-ghost use Rattle.royalty_program.specs.ImportFiles.{IsOfImportOver, IsOfMaps, IsOfOneMap, IsOfPaths, IsToldOf};
+ghost use Rattle.royalty_program.specs.ImportFiles.{IsInTheWay, IsOfImportOver, IsOfMaps, IsOfOneMap, IsOfPaths};
+ghost use Rattle.royalty_program.specs.ImportFiles.{IsOfSomeOfInputs, IsToldOf};
+ghost use Rattle.royalty_program.specs.OutputPath.{IsOfGiven};
 ghost use Rattle.royalty_program.specs.Status.{IsRefusal};
 ghost use Rattle.royalty_program.specs.declared.failure.Failure.TheVariants as failures;
 ghost use Rattle.sales_import.specs.SummaryText.{summary_text};
@@ -37,7 +40,8 @@ pub(crate) fn import_out<S: Source + Texts, T: Target>(
     asked: ImportWords,
 ) -> Result<Imported, Failure>
     requires { asked.mapping.places ≤ 9 }
-    ensures imported { IfOk result (λ imported. IsImportOver (T.keeps target.new) (S.holds files.now) (S.gives files.now)
+    ensures imported { IfOk result (λ imported. IsImportOver (T.keeps target.new) (S.holds files.now)
+        (S.gives files.now)
         asked imported.is_whole imported.text.items) }
     ensures failure { IfErr result IsRefusal }
     ensures files { IfErr result (IsOfImportOver (S.holds files.now) (S.gives files.now) (S.refuses files.now) asked) }
@@ -60,6 +64,7 @@ fn apart<T: Target>(target: &T, maps: &MapPaths, tables: TablePaths) -> Result<T
     ensures apart { OnOk result (AreApart tables maps.now) }
     ensures failure { IfErr result IsRefusal }
     ensures paths { IfErr result (IsOfPaths tables) }
+    ensures in_the_way { IfErr result (IsInTheWay (T.one_file target.now) tables maps.now) }
 {
     match is_input(target, &tables, maps, tables.output.as_str()) {
         Ok(false) => {}
@@ -86,6 +91,8 @@ fn is_input<T: Target>(
     path: &str,
 ) -> io::Result<bool>
     ensures none { IfOk result (λ is_input. is_input ≡ false → IsNoneOfInputs tables.now maps.now path.now) }
+    ensures some { IfOk result (λ is_input. is_input ≡ true
+        → IsOfSomeOfInputs (T.one_file target.now path.now) tables.now maps.now) }
 {
     Ok(
         target.is_one_file(path, tables.export.as_str())?
@@ -98,6 +105,8 @@ fn is_input<T: Target>(
 /// Whether a path is that of a table of values, if there is one.
 fn is_map<T: Target>(target: &T, map: &Option<String>, path: &str) -> io::Result<bool>
     ensures none { IfOk result (λ is_map. is_map ≡ false → IfSome map.now (λ map. path.now ≢ string_bytes map)) }
+    ensures some { IfOk result (λ is_map. is_map ≡ true
+        → IsOfGiven (T.one_file target.now path.now) (option_map string_bytes map.now)) }
 {
     match map {
         Some(map) => target.is_one_file(path, map.as_str()),
@@ -157,7 +166,8 @@ fn import_apart<S: Texts, T: Target>(
 ) -> Result<Imported, Failure>
     requires places { mapping.now.places ≤ 9 }
     requires apart { string_bytes tables.output ≢ string_bytes tables.rejects }
-    ensures imported { IfOk result (λ imported. IsMadeOver (T.keeps target.new) (S.gives files.now) tables mapping.now maps
+    ensures imported { IfOk result (λ imported. IsMadeOver (T.keeps target.new)
+        (S.gives files.now) tables mapping.now maps
         imported.is_whole imported.text.items) }
     ensures failure { IfErr result IsRefusal }
     ensures files { IfErr result (IsOfExport (S.gives files.now) tables mapping.now) }
@@ -201,7 +211,8 @@ fn keep_both<T: Target>(
     requires { string_bytes tables.output ≢ string_bytes tables.rejects }
     ensures kept { OnOk result (AreKept T.blank (T.Draft.contents lines) (T.Draft.contents rejected)
         (T.keeps target.new) tables) }
-    ensures text { IfOk result (λ imported. imported.text.items ≡ summary_text (string_bytes tables.export) summary.now) }
+    ensures text { IfOk result (λ imported. imported.text.items
+        ≡ summary_text (string_bytes tables.export) summary.now) }
     ensures whole { IfOk result (λ imported. IsTrue imported.is_whole ↔ (summary.now.rejected.rows ≡ 0)) }
     ensures failure { IfErr result (λ failure. (failure ≡ failures.Room)
         ⊎ (failure ≡ failures.Target tables.output) ⊎ (failure ≡ failures.Target tables.rejects)) }

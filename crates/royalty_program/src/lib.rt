@@ -1,6 +1,8 @@
 //! What the program `royalty_run` does with its words and files, and the status that it answers.
 #![tactic(auto)]
 
+mod adjust_command;
+mod adjust_files;
 mod answering;
 mod check_command;
 mod commands;

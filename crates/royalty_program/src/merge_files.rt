@@ -1,10 +1,12 @@
 //! A merge over files.
 
 ghost use Rattle.std.specs.Io.KnownBytes.{Appends};
-ghost use Rattle.std.specs.Prelude.{◌≡◌, ◌<◌, ◌≤◌, ◌+◌, ◌^◌, ℕ, List, Some, IfErr, IfNone, IfOk, IfSome, OnErr, OnOk, map, string_bytes};
+ghost use Rattle.std.specs.Prelude.{◌≡◌, ◌<◌, ◌≤◌, ◌+◌, ◌^◌, ℕ, List, Some, IfErr, IfNone, IfOk, IfSome, OnErr, OnOk};
+ghost use Rattle.std.specs.Prelude.{map, string_bytes};
 ghost use Rattle.std.specs.Option.{option_map};
 ghost use Rattle.royalty_program.specs.MergeFiles.{AreOpened, AreSoundTexts, IsCountedText, IsMergeOver};
-ghost use Rattle.royalty_program.specs.Status.{IsOfOne, IsOfOutput, IsOfPlace, IsOfRefusal, IsOfText, IsOfTexts, IsRefusal, IsUnopened, status_of};
+ghost use Rattle.royalty_program.specs.Status.{IsOfOne, IsOfOutput, IsOfPlace, IsOfRefusal, IsOfText, IsOfTexts};
+ghost use Rattle.royalty_program.specs.Status.{IsRefusal, IsUnopened, status_of};
 ghost use Rattle.royalty_program.specs.Targets.{IsLeftOrHas, IsPut};
 ghost use Rattle.royalty_program.specs.declared.failure.Failure.TheVariants.{Many};
 
@@ -25,7 +27,8 @@ pub fn merge_files<S: Texts, W: Write>(
     paths: &[String],
     out: &mut W,
 ) -> Result<io::Result<()>, Failure>
-    ensures merged { IfOk result (λ printed. OnOk printed ((text : List ℕ) × Appends (W.contents out.old) (W.contents out.new) text
+    ensures merged { IfOk result (λ printed. OnOk printed ((text : List ℕ)
+        × Appends (W.contents out.old) (W.contents out.new) text
         × IsMergeOver (S.gives files.now) (map string_bytes paths.now) text)) }
     ensures failure { IfErr result IsRefusal }
     ensures files { IfErr result (IsOfTexts (S.gives files.now) (map string_bytes paths.now)) }
@@ -43,7 +46,8 @@ fn merge_once<S: Texts, W: Write>(
     paths: &[String],
     out: &mut W,
 ) -> Result<io::Result<()>, Failure>
-    ensures merged { IfOk result (λ printed. OnOk printed ((text : List ℕ) × Appends (W.contents out.old) (W.contents out.new) text
+    ensures merged { IfOk result (λ printed. OnOk printed ((text : List ℕ)
+        × Appends (W.contents out.old) (W.contents out.new) text
         × IsMergeOver (S.gives files.now) (map string_bytes paths.now) text)) }
     ensures failure { IfErr result IsRefusal }
     ensures files { IfErr result (IsOfTexts (S.gives files.now) (map string_bytes paths.now)) }
@@ -64,7 +68,8 @@ fn merge_opened<S: Texts, W: Write>(
     paths: &[String],
     out: &mut W,
 ) -> Result<io::Result<()>, Failure>
-    ensures merged { IfOk result (λ printed. OnOk printed ((text : List ℕ) × Appends (W.contents out.old) (W.contents out.new) text
+    ensures merged { IfOk result (λ printed. OnOk printed ((text : List ℕ)
+        × Appends (W.contents out.old) (W.contents out.new) text
         × IsMergeOver (S.gives files.now) (map string_bytes paths.now) text)) }
     ensures failure { IfErr result IsRefusal }
     ensures one { IfErr result (IsOfOne (S.gives files.now) (map string_bytes paths.now)) }
@@ -91,7 +96,8 @@ fn merge_kept<S: Texts, T: Target>(
         × IsMergeOver (S.gives files.now) (map string_bytes paths.now) text) }
     ensures failure { IfErr result IsRefusal }
     ensures files { IfErr result (IsOfOutput (Some path) (IsOfTexts (S.gives files.now) (map string_bytes paths.now))) }
-    ensures left { OnErr result (IsLeftOrHas (T.keeps target.old (string_bytes path)) (T.keeps target.new (string_bytes path))
+    ensures left { OnErr result (IsLeftOrHas (T.keeps target.old (string_bytes path))
+        (T.keeps target.new (string_bytes path))
         (IsMergeOver (S.gives files.now) (map string_bytes paths.now))) }
 {
     let mut draft = match target.begin(alloc, path.as_str()) {
@@ -110,12 +116,17 @@ pub fn merge_out<S: Texts, T: Target, W: Write>(
     asked: MergeWords,
     out: &mut W,
 ) -> Result<io::Result<()>, Failure>
-    ensures merged { IfOk result (λ printed. OnOk printed ((text : List ℕ) × IsPut (option_map string_bytes asked.output) (T.keeps target.new) (W.contents out.old) (W.contents out.new) text
+    ensures merged { IfOk result (λ printed. OnOk printed ((text : List ℕ)
+        × IsPut (option_map string_bytes asked.output) (T.keeps target.new) (W.contents out.old)
+        (W.contents out.new) text
         × IsMergeOver (S.gives files.now) (map string_bytes asked.statements.items) text)) }
     ensures failure { IfErr result IsRefusal }
-    ensures files { IfErr result (IsOfOutput asked.output (IsOfTexts (S.gives files.now) (map string_bytes asked.statements.items))) }
+    ensures files { IfErr result (IsOfOutput asked.output (IsOfTexts (S.gives files.now)
+        (map string_bytes asked.statements.items))) }
     ensures silent { IfErr result (λ failure. status_of failure ≤ 2 → out.new ≡ out.old) }
-    ensures left { IfSome asked.output (λ path. IsLeftOrHas (T.keeps target.old (string_bytes path)) (T.keeps target.new (string_bytes path))
+    ensures unprinted { IfSome asked.output (λ _. out.new ≡ out.old) }
+    ensures left { IfSome asked.output (λ path. IsLeftOrHas (T.keeps target.old (string_bytes path))
+        (T.keeps target.new (string_bytes path))
         (IsMergeOver (S.gives files.now) (map string_bytes asked.statements.items))) }
     ensures unused { IfNone asked.output (target.new ≡ target.old) }
 {
@@ -131,7 +142,8 @@ pub fn merge_out<S: Texts, T: Target, W: Write>(
 
 /// Reads the text of each path through.
 fn check_all<S: Texts>(alloc: Global, files: &S, paths: &[String]) -> Result<(), Failure>
-    ensures sound { OnOk result ((lines : ℕ) × AreSoundTexts (S.gives files.now) (map string_bytes paths.now) lines × (lines ≤ 10 ^ 18)) }
+    ensures sound { OnOk result ((lines : ℕ) × AreSoundTexts (S.gives files.now) (map string_bytes paths.now) lines
+        × (lines ≤ 10 ^ 18)) }
     ensures failure { IfErr result IsRefusal }
     ensures files { IfErr result (IsOfTexts (S.gives files.now) (map string_bytes paths.now)) }
 {
@@ -174,7 +186,8 @@ fn more_lines(lines: u64, more: u64) -> Result<u64, Failure>
 
 /// Readers of the files of these paths, in their order.
 fn open_all<S: Texts>(alloc: Global, files: &S, paths: &[String]) -> Result<Vec<S::Reader>, Failure>
-    ensures opened { IfOk result (λ readers. AreOpened (S.gives files.now) (map string_bytes paths.now) (map S.Reader.remaining readers.items)) }
+    ensures opened { IfOk result (λ readers. AreOpened (S.gives files.now) (map string_bytes paths.now)
+        (map S.Reader.remaining readers.items)) }
     ensures failure { IfErr result IsRefusal }
     ensures files { IfErr result (IsOfOne (S.gives files.now) (map string_bytes paths.now)) }
 {
@@ -193,7 +206,7 @@ fn open_all<S: Texts>(alloc: Global, files: &S, paths: &[String]) -> Result<Vec<
 }
 
 /// Why there is no reader of a path, by the kind of the error.
-fn unopened(alloc: Global, kind: ErrorKind, path: &str) -> Failure
+pub(crate) fn unopened(alloc: Global, kind: ErrorKind, path: &str) -> Failure
     ensures failure { IsRefusal result }
     ensures file { IsUnopened path.now result }
 {

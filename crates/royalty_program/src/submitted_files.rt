@@ -1,13 +1,16 @@
 //! A run over the files of several submitters, and an explanation and a check of one.
 
 ghost use Rattle.std.specs.Io.KnownBytes.{Appends};
-ghost use Rattle.std.specs.Prelude.{◌≡◌, ◌⊎◌, ℕ, All, List, false, IfErr, IfOk, OnOk, length, map, string_bytes};
+ghost use Rattle.std.specs.Prelude.{◌≡◌, ◌⊎◌, ℕ, All, Contains, List, false, true, IfErr, IfOk, OnOk, length, map};
+ghost use Rattle.std.specs.Prelude.{string_bytes};
 ghost use Rattle.check_inputs.specs.Checked.{bytes_of, path_of};
 ghost use Rattle.royalty_program.specs.OutputPath.{IsOther};
 ghost use Rattle.royalty_program.specs.Status.{IsOfFiles, IsOfSubmitted, IsOfTables, IsRefusal, IsSaidOf};
 ghost use Rattle.royalty_program.specs.Status.{IsSubmittedUnchecked, IsSubmittedUnexplained};
 ghost use Rattle.royalty_program.specs.SubmittedFiles.{AreSubmittedStatementsOver, AreTablesRead, HoldsAt, IsNoneOf};
-ghost use Rattle.royalty_program.specs.SubmittedFiles.{IsSubmittedExplanationOver, IsSubmittedReportOver, IsWithin};
+ghost use Rattle.royalty_program.specs.SubmittedFiles.{IsOfSomeSubmitted, IsSubmittedExplanationOver};
+ghost use Rattle.royalty_program.specs.SubmittedFiles.{IsSubmittedReportOver};
+ghost use Rattle.royalty_program.specs.SubmittedFiles.{IsWithin};
 ghost use Rattle.royalty_program.specs.SubmittedFiles.{paths_of};
 ghost use Rattle.starting_files.specs.Tables.{IsTableOf};
 ghost use Rattle.submitted_inputs.specs.Submitted.{map_tables};
@@ -71,7 +74,8 @@ pub(crate) fn settle_submitted<R: Threads + Wait + Sync, S: Source + Sync, W: Wr
     plan: Plan,
     out: &mut W,
 ) -> Result<io::Result<()>, Failure>
-    ensures statements { IfOk result (λ printed. OnOk printed ((text : List ℕ) × Appends (W.contents out.old) (W.contents out.new) text
+    ensures statements { IfOk result (λ printed. OnOk printed ((text : List ℕ)
+        × Appends (W.contents out.old) (W.contents out.new) text
         × AreSubmittedStatementsOver (S.holds files.now) (paths_of inputs) text)) }
     ensures failure { IfErr result IsRefusal }
     ensures files { IfErr result (IsOfSubmitted (S.holds files.now) (S.refuses files.now) (paths_of inputs)) }
@@ -95,8 +99,8 @@ pub(crate) fn settle_submitted<R: Threads + Wait + Sync, S: Source + Sync, W: Wr
     }
 }
 
-/// The explanation of a usage line of such a run. The tables and the usage list are read whole before any is parsed; the
-/// files are read one after another.
+/// The explanation of a usage line of such a run. The tables and the usage list are read whole before any is parsed;
+/// the files are read one after another.
 pub(crate) fn explain_in_submitted<S: Source>(
     alloc: Global,
     files: &S,
@@ -106,7 +110,8 @@ pub(crate) fn explain_in_submitted<S: Source>(
     ensures explanation { IfOk result (λ text.
         IsSubmittedExplanationOver (S.holds files.now) (paths_of inputs) row text.items) }
     ensures failure { IfErr result IsRefusal }
-    ensures files { IfErr result (IsSubmittedUnexplained (S.holds files.now) (S.refuses files.now) (paths_of inputs) row) }
+    ensures files { IfErr result (IsSubmittedUnexplained (S.holds files.now) (S.refuses files.now)
+        (paths_of inputs) row) }
 {
     let SubmittedInputs {
         tables,
@@ -130,9 +135,11 @@ pub(crate) fn starting_table<S: Source + Sync>(
     files: &S,
     asked: StartingWords,
 ) -> Result<Vec<u8>, Failure>
-    ensures table { IfOk result (λ text. IsTableOf asked.table asked.files.names (HoldsAt (S.holds files.now) (map string_bytes asked.files.paths.items)) text.items) }
+    ensures table { IfOk result (λ text. IsTableOf asked.table asked.files.names (HoldsAt (S.holds files.now)
+        (map string_bytes asked.files.paths.items)) text.items) }
     ensures failure { IfErr result IsRefusal }
-    ensures files { IfErr result (IsOfFiles (S.holds files.now) (S.refuses files.now) asked.files.names (map string_bytes asked.files.paths.items)) }
+    ensures files { IfErr result (IsOfFiles (S.holds files.now) (S.refuses files.now) asked.files.names
+        (map string_bytes asked.files.paths.items)) }
 {
     let StartingWords {
         table,
@@ -176,7 +183,8 @@ pub(crate) fn check_in_submitted<S: Source>(
 
 /// What the fault of an input comes to, where the files of the submitters have these paths.
 pub(crate) fn what_failed(fault: SubmittedFault, mut paths: Vec<String>) -> Failure
-    ensures said { IsWithin (length (map string_bytes paths.items)) fault → IsSaidOf (map string_bytes paths.items) fault result }
+    ensures said { IsWithin (length (map string_bytes paths.items)) fault
+        → IsSaidOf (map string_bytes paths.items) fault result }
     ensures beyond { (¬ IsWithin (length (map string_bytes paths.items)) fault) → result ≡ Room }
     ensures refusal { IsRefusal result }
 {
@@ -261,6 +269,8 @@ pub(crate) fn is_submitted<T: Target>(
     path: &str,
 ) -> io::Result<bool>
     ensures none { IfOk result (λ is_input. is_input ≡ false → IsNoneOf (paths_of inputs.now) path.now) }
+    ensures some { IfOk result (λ is_input. is_input ≡ true
+        → IsOfSomeSubmitted (T.one_file target.now path.now) (paths_of inputs.now)) }
 {
     let tables = &inputs.tables;
     if let Some(payees) = &tables.payees
@@ -279,6 +289,8 @@ pub(crate) fn is_submitted<T: Target>(
 /// Whether a path is one of these, by whatever name.
 fn is_among<T: Target>(target: &T, paths: &[String], path: &str) -> io::Result<bool>
     ensures none { IfOk result (λ is_among. is_among ≡ false → All (IsOther path.now) (map string_bytes paths.now)) }
+    ensures some { IfOk result (λ is_among. is_among ≡ true → (other : List ℕ)
+        × Contains (map string_bytes paths.now) other × T.one_file target.now path.now other) }
 {
     for other in paths {
         if target.is_one_file(path, other.as_str())? {

@@ -1,9 +1,10 @@
 //! Texts that are kept in files: whole, or not at all.
 
 ghost use Rattle.std.specs.Io.KnownBytes.{Appends};
-ghost use Rattle.std.specs.Prelude.{◌≡◌, ◌≢◌, ◌⊎◌, ℕ, List, None, Option, Some, Err, IfErr, IfOk, IsOk, IsOkAnd, OnErr, OnOk, string_bytes, true};
+ghost use Rattle.std.specs.Prelude.{◌≡◌, ◌≢◌, ◌⊎◌, ℕ, List, None, Option, Some, Err, IfErr, IfOk, IsOk, IsOkAnd, OnErr};
+ghost use Rattle.std.specs.Prelude.{OnOk, string_bytes, true};
 ghost use Rattle.royalty_program.specs.Status.{failure_of_target};
-ghost use Rattle.royalty_program.specs.Targets.{IsLeft, IsLeftOrWhole, in_any_file};
+ghost use Rattle.royalty_program.specs.Targets.{IsLeft, IsLeftOrWhole, in_any_file, of_any_file};
 
 use crate::failure::Failure;
 use crate::sources::Disk;
@@ -34,9 +35,13 @@ pub trait Target {
     // What a text on the disk has, where that is known.
     ghost stored: { Self.Stored → Option (List ℕ) };
 
+    // Two paths have one file, by whatever names.
+    ghost one_file: { Self → List ℕ → List ℕ → Type 0 };
+
     /// Whether two paths name one file, by whatever names.
     fn is_one_file(&self, path: &str, other: &str) -> io::Result<bool>
-        ensures same { IfOk result (λ is_one. path.now ≡ other.now → is_one ≡ true) };
+        ensures same { IfOk result (λ is_one. path.now ≡ other.now → is_one ≡ true) }
+        ensures one { IfOk result (λ is_one. is_one ≡ true → one_file self.now path.now other.now) };
 
     /// A draft of what a path is to have.
     fn begin(&mut self, alloc: Global, path: &str) -> io::Result<Self::Draft>
@@ -51,8 +56,10 @@ pub trait Target {
     /// Puts a text that is on the disk under its path, in place of what may be there. Where that
     /// cannot be done, the path has what it had, or the whole text.
     fn keep(&mut self, whole: Self::Stored, path: &str) -> io::Result<()>
-        ensures kept { OnOk result ((text : List ℕ) → Appends blank (stored whole) text → keeps self.new path.now (Some text)) }
-        ensures left { OnErr result (IsLeftOrWhole blank (stored whole) (keeps self.old path.now) (keeps self.new path.now)) }
+        ensures kept { OnOk result ((text : List ℕ) → Appends blank (stored whole) text
+            → keeps self.new path.now (Some text)) }
+        ensures left { OnErr result (IsLeftOrWhole blank (stored whole) (keeps self.old path.now)
+            (keeps self.new path.now)) }
         ensures others { (other : List ℕ) → other ≢ path.now → IsLeft (keeps self.old other) (keeps self.new other) };
 
     /// Throws a draft away.
@@ -67,12 +74,17 @@ pub fn finish<T: Target>(
     path: String,
     written: Result<io::Result<()>, Failure>,
 ) -> Result<(), Failure>
-    ensures kept { IfOk result (λ _. (text : List ℕ) → Appends T.blank (T.Draft.contents draft) text → T.keeps target.new (string_bytes path) (Some text)) }
+    ensures kept { IfOk result (λ _. (text : List ℕ) → Appends T.blank (T.Draft.contents draft) text
+        → T.keeps target.new (string_bytes path) (Some text)) }
     ensures whole { IfOk result (λ _. IsOkAnd written IsOk) }
-    ensures failure { IfErr result (λ failure. (written ≡ Err failure) ⊎ ((failure ≡ Failure.Target path) × IsOk written)) }
-    ensures left { OnErr result (IsLeft (T.keeps target.old (string_bytes path)) (T.keeps target.new (string_bytes path))
-        ⊎ (IsOkAnd written IsOk × IsLeftOrWhole T.blank (T.Draft.contents draft) (T.keeps target.old (string_bytes path)) (T.keeps target.new (string_bytes path)))) }
-    ensures others { (other : List ℕ) → other ≢ string_bytes path → IsLeft (T.keeps target.old other) (T.keeps target.new other) }
+    ensures failure { IfErr result (λ failure. (written ≡ Err failure) ⊎ ((failure ≡ Failure.Target path)
+        × IsOk written)) }
+    ensures left { OnErr result (IsLeft (T.keeps target.old (string_bytes path))
+        (T.keeps target.new (string_bytes path))
+        ⊎ (IsOkAnd written IsOk × IsLeftOrWhole T.blank (T.Draft.contents draft)
+        (T.keeps target.old (string_bytes path)) (T.keeps target.new (string_bytes path)))) }
+    ensures others { (other : List ℕ) → other ≢ string_bytes path
+        → IsLeft (T.keeps target.old other) (T.keeps target.new other) }
 {
     match written {
         Ok(Ok(())) => {
@@ -134,6 +146,8 @@ impl<'a, R: Files> Target for Disk<'a, R> {
     type Stored = StoredFile;
 
     ghost keeps = { λ _. in_any_file };
+
+    ghost one_file = { λ _. of_any_file };
 
     ghost blank = { None };
 
@@ -198,9 +212,14 @@ impl<'a, R: Files> Target for Disk<'a, R> {
 fn node_of<R: Files>(rt: &R, path: &str) -> io::Result<Option<(u64, u64)>> {
     match fs::metadata(rt, path) {
         Ok(found) => Ok(Some((found.dev(), found.ino()))),
-        Err(error) if error.kind() == ErrorKind::NotFound => Ok(None),
+        Err(error) if is_of_no_file(error.kind()) => Ok(None),
         Err(error) => Err(error),
     }
+}
+
+/// Whether an error says that there is no file under a path: nothing there, or a file where a directory has to be.
+fn is_of_no_file(kind: ErrorKind) -> bool {
+    kind == ErrorKind::NotFound || kind == ErrorKind::NotADirectory
 }
 
 /// The name of a path in its directory.

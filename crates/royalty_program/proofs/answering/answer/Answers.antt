@@ -9,11 +9,15 @@ use Rattle.pair_split.specs.PairFault.{IsFaultOf}
 use Rattle.pair_split.specs.declared.pair_fault.PairFault.{PairFault}
 use Rattle.pair_split.specs.declared.pair_fault.PairFault.TheVariants.{Pair, Name, Share, Many, Memory}
 use Rattle.royalty_program.specs.SplitCommand.{split_app}
-use Rattle.royalty_program.specs.Answered.{AreCheckedFrom, AreExplainedFrom, AreMergeFrom, AreReadFrom, AskForOutput, IsAnswerTo, IsAnswered}
+use Rattle.royalty_program.specs.Answered.{AreAdjustFrom, AreCheckedFrom, AreExplainedFrom, AreMergeFrom, AreReadFrom, AskForOutput, IsAnswerTo, IsAnswered}
 use Rattle.royalty_program.specs.Asked.{AskForHelp, IsDivision, check_grammar, explain_grammar, pairs_of}
+use Rattle.royalty_program.specs.AdjustAnswered.{IsOfAdjustment}
+use Rattle.royalty_program.specs.AdjustCommand.{adjust_app}
+use Rattle.royalty_program.specs.AdjustFiles.{IsAdjustmentOver}
 use Rattle.royalty_program.specs.MergeCommand.{merge_app}
 use Rattle.royalty_program.specs.MergeFiles.{IsMergeOver}
 use Rattle.royalty_program.specs.Status.{IsOfDivision, failure_of_fault}
+use Rattle.royalty_program.specs.declared.adjust_command.AdjustWords.{AdjustWords}
 use Rattle.royalty_program.specs.declared.explain_command.ExplainWords.{ExplainWords}
 use Rattle.royalty_program.specs.declared.merge_command.MergeWords.{MergeWords}
 use Rattle.royalty_program.specs.declared.run_command.RunWords.{RunWords}
@@ -28,9 +32,9 @@ use Rattle.royalty_program.specs.SubmittedFiles.{HoldsAt}
 use Rattle.royalty_program.specs.declared.starting_command.StartingWords.{StartingWords}
 use Rattle.starting_files.specs.Tables.{IsTableOf}
 use Rattle.starting_files.specs.declared.making.StartingTable.{StartingTable}
-use Rattle.royalty_program.proofs.OutputLemmas.{delivered_merge, delivered_out, delivered_run, left_merge, left_run, no_check_help_given, no_explain_help_given, no_files_help_given, no_merge_help_given, no_output, no_run_help_given, not_accepted_check, not_accepted_explain, not_accepted_files, not_accepted_run, unmerged_words, unused_merge, unused_run}
-use Rattle.royalty_program.proofs.OverLemmas.{each_has_a_path, explained_given, fails_given, merged_given, no_table_given, over_given, over_in_order, over_submitted, reported_given, table_given, unchecked_given, unexplained_given}
-use Rattle.royalty_program.proofs.OptionLemmas.{accepted_is_memory}
+use Rattle.royalty_program.proofs.OutputLemmas.{delivered_adjustment, delivered_merge, delivered_out, delivered_run, left_adjustment, left_merge, left_run, silent_adjustment, silent_merge, unused_adjustment, no_check_help_given, no_explain_help_given, no_files_help_given, no_merge_help_given, no_output, no_run_help_given, not_accepted_check, not_accepted_explain, not_accepted_files, not_accepted_run, unmerged_words, unused_merge, unused_run}
+use Rattle.royalty_program.proofs.OverLemmas.{adjusted_given, each_has_a_path, explained_given, fails_given, merged_given, no_table_given, over_given, over_in_order, over_submitted, reported_given, table_given, unadjusted_given, unchecked_given, unexplained_given}
+use Rattle.royalty_program.proofs.OptionLemmas.{accepted_is_memory, no_help_given}
 use Rattle.royalty_program.specs.Answered.{AreDocumentsFrom}
 use Rattle.royalty_program.proofs.DocumentLemmas.{answers_documents, documents_given, left_given, no_statements_help_given, not_accepted_statements, nothing_added}
 use Rattle.royalty_program.proofs.DocumentLemmas as documents
@@ -64,6 +68,7 @@ answers_division words text command division = record {
   explained = λ explain. absurd (differ (sym command ∙ explain.command) refl);
   checked = λ check. absurd (differ (sym command ∙ check.command) refl);
   merged = λ merge. absurd (differ (sym command ∙ merge.command) refl);
+  adjusted = λ adjust. absurd (differ (sym command ∙ adjust.command) refl);
   table = λ table asks. absurd (no_table refl refl table (sym command ∙ asks.command));
   others = λ other no_import. refl;
   in_order = λ run. absurd (differ (sym command ∙ run.command) refl);
@@ -79,6 +84,7 @@ answers_run holds gives words asked text command read over = record {
   explained = λ explain. absurd (differ (sym command ∙ explain.command) refl);
   checked = λ check. absurd (differ (sym command ∙ check.command) refl);
   merged = λ merge. absurd (differ (sym command ∙ merge.command) refl);
+  adjusted = λ adjust. absurd (differ (sym command ∙ adjust.command) refl);
   table = λ table asks. absurd (no_table refl refl table (sym command ∙ asks.command));
   others = λ other no_import. refl;
   in_order = λ run. over_in_order holds (drop 1 words) asked text run.options read over;
@@ -94,6 +100,23 @@ answers_merge holds gives words asked text command read over = record {
   explained = λ explain. absurd (differ (sym command ∙ explain.command) refl);
   checked = λ check. absurd (differ (sym command ∙ check.command) refl);
   merged = λ merge. merged_given gives (drop 1 words) asked text read over;
+  adjusted = λ adjust. absurd (differ (sym command ∙ adjust.command) refl);
+  table = λ table asks. absurd (no_table refl refl table (sym command ∙ asks.command));
+  others = λ other no_import. refl;
+  in_order = λ run. absurd (differ (sym command ∙ run.command) refl);
+}
+
+-- those that ask for an adjustment by what the texts differ by
+answers_adjustment : (holds gives : List ℕ → List ℕ → Type 0) (words : List (List ℕ)) (asked : AdjustWords) (text : List ℕ) → word_at words 1 ≡ codes "adjust" → AreAdjustFrom (drop 1 words) asked
+    → IsAdjustmentOver gives (string_bytes asked.paid) (string_bytes asked.right) text → IsAnswered holds gives words true text
+answers_adjustment holds gives words asked text command read over = record {
+  division = λ division. absurd (differ (sym command ∙ division.command) refl);
+  run = λ run. absurd (differ (sym command ∙ run.command) refl);
+  submitted = λ run. absurd (differ (sym command ∙ run.command) refl);
+  explained = λ explain. absurd (differ (sym command ∙ explain.command) refl);
+  checked = λ check. absurd (differ (sym command ∙ check.command) refl);
+  merged = λ merge. absurd (differ (sym command ∙ merge.command) refl);
+  adjusted = λ adjust. adjusted_given gives (drop 1 words) asked text read over;
   table = λ table asks. absurd (no_table refl refl table (sym command ∙ asks.command));
   others = λ other no_import. refl;
   in_order = λ run. absurd (differ (sym command ∙ run.command) refl);
@@ -109,6 +132,7 @@ answers_explanation holds gives words asked text command read over = record {
   explained = λ explain. explained_given holds (drop 1 words) asked text read over;
   checked = λ check. absurd (differ (sym command ∙ check.command) refl);
   merged = λ merge. absurd (differ (sym command ∙ merge.command) refl);
+  adjusted = λ adjust. absurd (differ (sym command ∙ adjust.command) refl);
   table = λ table asks. absurd (no_table refl refl table (sym command ∙ asks.command));
   others = λ other no_import. refl;
   in_order = λ run. absurd (differ (sym command ∙ run.command) refl);
@@ -125,6 +149,7 @@ answers_check holds gives words inputs sound text command read over = record {
   explained = λ explain. absurd (differ (sym command ∙ explain.command) refl);
   checked = λ check. reported_given holds (drop 1 words) inputs sound text read over;
   merged = λ merge. absurd (differ (sym command ∙ merge.command) refl);
+  adjusted = λ adjust. absurd (differ (sym command ∙ adjust.command) refl);
   table = λ table asks. absurd (no_table refl refl table (sym command ∙ asks.command));
   others = λ other no_import. absurd (other command);
   in_order = λ run. absurd (differ (sym command ∙ run.command) refl);
@@ -141,6 +166,7 @@ answers_table holds gives words asked text command read is = record {
   explained = λ explain. absurd (no_table refl refl asked.table (sym explain.command ∙ command));
   checked = λ check. absurd (no_table refl refl asked.table (sym check.command ∙ command));
   merged = λ merge. absurd (no_table refl refl asked.table (sym merge.command ∙ command));
+  adjusted = λ adjust. absurd (no_table refl refl asked.table (sym adjust.command ∙ command));
   table = λ table asks. table_given holds (drop 1 words) table asked text (read table asks.command) is;
   others = λ other no_import. refl;
   in_order = λ run. absurd (no_table refl refl asked.table (sym run.command ∙ command));
@@ -155,6 +181,7 @@ answers_import holds gives words sound text command = record {
   explained = λ explain. absurd (differ (sym command ∙ explain.command) refl);
   checked = λ check. absurd (differ (sym command ∙ check.command) refl);
   merged = λ merge. absurd (differ (sym command ∙ merge.command) refl);
+  adjusted = λ adjust. absurd (differ (sym command ∙ adjust.command) refl);
   table = λ table asks. absurd (no_table refl refl table (sym command ∙ asks.command));
   others = λ other no_import. absurd (no_import command);
   in_order = λ run. absurd (differ (sym command ∙ run.command) refl);
@@ -165,7 +192,7 @@ returns-in-Ok-clause-answered g c =
     let words = map string_bytes c.args.words.now in
     let text = c.as_slice-in-Ok.result.now in
     let command : word_at words 1 ≡ codes "split" = rw (c.in-Ok-Division.is, c.in-Ok-Division.field-0-is) at c.read_words.ensures.named in
-    let no_file = no_output (g.T.Target.keeps c.args.target.now) words (λ run. differ (sym command ∙ run) refl) (λ merge. differ (sym command ∙ merge) refl) in
+    let no_file = no_output (g.T.Target.keeps c.args.target.now) words (λ run. differ (sym command ∙ run) refl) (λ merge. differ (sym command ∙ merge) refl) (λ adjust. differ (sym command ∙ adjust) refl) in
     let rows : IsDivision words → IsAnswerTo words text = search rules in
     let answered : IsAnswered (g.S.Source.holds c.args.files.now) (g.S.Texts.gives c.args.files.now) words true text = answers_division words text command rows in
     on_ok_weaker c.write_all.result (λ wrote. (text, delivered_out _ words _ _ text no_file wrote, answered)) c.write_all.ensures.bytes
@@ -215,9 +242,14 @@ returns-in-Ok-format-clause-answered g c =
     let bad : false ≡ true = c.if-use_stderr.ensures.1 (no_check_help_given (drop 1 words) c.in-Err.error (c.in-Err.ensures.unchecked command) none) in cc in
     let no_merge_help : word_at words 1 ≡ codes "merge" → ¬ AskForHelp merge_app (drop 1 words) → ⊥ = λ command none.
     let bad : false ≡ true = c.if-use_stderr.ensures.1 (no_merge_help_given (drop 1 words) c.in-Err.error (c.in-Err.ensures.unmerged command) none) in cc in
+    let no_adjust_help : word_at words 1 ≡ codes "adjust" → ¬ AskForHelp adjust_app (drop 1 words) → ⊥ = λ command none.
+    let bad : false ≡ true = c.if-use_stderr.ensures.1 (no_help_given adjust_app (drop 1 words) c.in-Err.error (c.in-Err.ensures.unadjusted command) none) in cc in
     let no_file : (path : List ℕ) → ¬ AskForOutput words path = λ path asks. elim asks [
       | inl (run, named) ↦ no_run_help run
-      | inr (merge, named) ↦ no_merge_help merge.command merge.no_help
+      | inr others ↦ elim others [
+        | inl (merge, named) ↦ no_merge_help merge.command merge.no_help
+        | inr (adjust, named) ↦ no_adjust_help adjust.command adjust.no_help
+      ]
     ] in
     let answered : IsAnswered (g.S.Source.holds c.args.files.now) (g.S.Texts.gives c.args.files.now) words true c.as_bytes.result.now = record {
       division = λ asked. let bad : false ≡ true = c.if-use_stderr.ensures.1 (c.in-Err.ensures.no_help asked) in cc;
@@ -226,6 +258,7 @@ returns-in-Ok-format-clause-answered g c =
       explained = λ asked. absurd (no_explain_help asked.command asked.no_help);
       checked = λ asked. absurd (no_check_help asked.command asked.no_help);
       merged = λ asked. absurd (no_merge_help asked.command asked.no_help);
+      adjusted = λ asked. absurd (no_adjust_help asked.command asked.no_help);
       table = λ table asked. absurd (no_table_help table asked);
       others = λ other no_import. refl;
       in_order = λ asked. absurd (no_run_help (inl (record {
@@ -272,6 +305,12 @@ returns-in-Err-2-clause-merge g c command =
     let not_memory : kind_of c.in-Err.error ≢ kinds.OutOfMemory = search rules in
     unmerged_words (g.S.Texts.gives c.args.files.now) (drop 1 words) c.in-Err.error not_memory (c.in-Err.ensures.unmerged command)
 
+pub returns-in-Err-2-clause-adjustment : goal.returns-in-Err-2-clause-adjustment
+returns-in-Err-2-clause-adjustment g c command accepted =
+    let words = map string_bytes c.args.words.now in
+    let not_memory : kind_of c.in-Err-2.error ≢ kinds.OutOfMemory = search rules in
+    not_memory (accepted_is_memory adjust_app (drop 1 words) c.in-Err-2.error (c.in-Err-2.ensures.unadjusted command) accepted)
+
 pub returns-in-Ok-Run-clause-pairs : goal.returns-in-Ok-Run-clause-pairs
 returns-in-Ok-Run-clause-pairs g c division =
     let none : ⊥ = rw (c.in-Ok-Run.is, c.in-Ok-Run.field-0-is) at (c.read_words.ensures.division division) in
@@ -287,7 +326,7 @@ returns-in-Ok-Starting-clause-answered g c =
     let command : word_at words 1 ≡ starting_name asked.table = rw (c.in-Ok-Starting.is, c.in-Ok-Starting.field-0-is) at c.read_words.ensures.named in
     let read : (table : StartingTable) → word_at words 1 ≡ starting_name table → AreStarting table (drop 1 words) asked = λ table named.
     rw (c.in-Ok-Starting.is, c.in-Ok-Starting.field-0-is) at (c.read_words.ensures.table table named) in
-    let no_file = no_output (g.T.Target.keeps c.args.target.now) words (λ run. no_table refl refl asked.table (sym run ∙ command)) (λ merge. no_table refl refl asked.table (sym merge ∙ command)) in
+    let no_file = no_output (g.T.Target.keeps c.args.target.now) words (λ run. no_table refl refl asked.table (sym run ∙ command)) (λ merge. no_table refl refl asked.table (sym merge ∙ command)) (λ adjust. no_table refl refl asked.table (sym adjust ∙ command)) in
     let answered : IsAnswered holds gives words true text = answers_table holds gives words asked text command read c.in_ok-text-in-Ok-Starting.ensures.table in
     on_ok_weaker c.write_all-in-Ok-Starting.result (λ wrote. (text, delivered_out (g.T.Target.keeps c.args.target.now) words _ _ text no_file wrote, answered)) (rw c.as_slice-in-Ok-Starting.ensures.value at c.write_all-in-Ok-Starting.ensures.bytes)
 
@@ -300,7 +339,7 @@ returns-in-Ok-Explanation-clause-answered g c =
     let text = c.in_ok-text-in-Ok-Explanation.text.items in
     let command : word_at words 1 ≡ codes "explain" = rw (c.in-Ok-Explanation.is, c.in-Ok-Explanation.field-0-is) at c.read_words.ensures.named in
     let read : AreExplainedFrom (drop 1 words) asked = rw (c.in-Ok-Explanation.is, c.in-Ok-Explanation.field-0-is) at (c.read_words.ensures.explanation command) in
-    let no_file = no_output (g.T.Target.keeps c.args.target.now) words (λ run. differ (sym command ∙ run) refl) (λ merge. differ (sym command ∙ merge) refl) in
+    let no_file = no_output (g.T.Target.keeps c.args.target.now) words (λ run. differ (sym command ∙ run) refl) (λ merge. differ (sym command ∙ merge) refl) (λ adjust. differ (sym command ∙ adjust) refl) in
     let answered : IsAnswered holds gives words true text = answers_explanation holds gives words asked text command read c.in_ok-text-in-Ok-Explanation.ensures.explanation in
     on_ok_weaker c.write_all-in-Ok-Explanation.result (λ wrote. (text, delivered_out (g.T.Target.keeps c.args.target.now) words _ _ text no_file wrote, answered)) (rw c.as_slice-in-Ok-Explanation.ensures.value at c.write_all-in-Ok-Explanation.ensures.bytes)
 
@@ -320,7 +359,7 @@ returns-in-Ok-Check-clause-answered g c =
     let checked = c.in_ok-checked-in-Ok-Check.checked in
     let command : word_at words 1 ≡ codes "check" = rw (c.in-Ok-Check.is, c.in-Ok-Check.field-0-is) at c.read_words.ensures.named in
     let read : AreCheckedFrom (drop 1 words) inputs = rw (c.in-Ok-Check.is, c.in-Ok-Check.field-0-is) at (c.read_words.ensures.checked command) in
-    let no_file = no_output (g.T.Target.keeps c.args.target.now) words (λ run. differ (sym command ∙ run) refl) (λ merge. differ (sym command ∙ merge) refl) in
+    let no_file = no_output (g.T.Target.keeps c.args.target.now) words (λ run. differ (sym command ∙ run) refl) (λ merge. differ (sym command ∙ merge) refl) (λ adjust. differ (sym command ∙ adjust) refl) in
     let answered : IsAnswered holds gives words checked.is_sound checked.text.items = answers_check holds gives words inputs checked.is_sound checked.text.items command read c.in_ok-checked-in-Ok-Check.ensures.report in
     on_ok_weaker c.write_all-in-Ok-Check.result (λ wrote. (checked.text.items, delivered_out (g.T.Target.keeps c.args.target.now) words _ _ checked.text.items no_file wrote, answered)) (rw c.as_slice-in-Ok-Check.ensures.value at c.write_all-in-Ok-Check.ensures.bytes)
 
@@ -434,7 +473,7 @@ returns-in-Ok-Statements-clause-answered g c =
     let holds = g.S.Source.holds c.args.files.now in
     let gives = g.S.Texts.gives c.args.files.now in
     let command : word_at words 1 ≡ codes "statements" = rw (c.in-Ok-Statements.is, c.in-Ok-Statements.field-0-is) at c.read_words.ensures.named in
-    let no_file = no_output (g.T.Target.keeps c.document_out.new.target) words (λ run. differ (sym command ∙ run) refl) (λ merge. differ (sym command ∙ merge) refl) in
+    let no_file = no_output (g.T.Target.keeps c.document_out.new.target) words (λ run. differ (sym command ∙ run) refl) (λ merge. differ (sym command ∙ merge) refl) (λ adjust. differ (sym command ∙ adjust) refl) in
     ([], delivered_out (g.T.Target.keeps c.document_out.new.target) words _ _ [] no_file (nothing_added _), answers_documents holds gives words [] command)
 
 pub returns-in-Ok-Statements-clause-documents : goal.returns-in-Ok-Statements-clause-documents
@@ -513,7 +552,7 @@ returns-in-Ok-Import-clause-answered g c =
     let keeps = g.T.Target.keeps c.import_out.new.target in
     let imported = c.in_ok-imported-in-Ok-Import.imported in
     let command : word_at words 1 ≡ codes "import" = rw (c.in-Ok-Import.is, c.in-Ok-Import.field-0-is) at c.read_words.ensures.named in
-    let no_file = no_output keeps words (λ run. differ (sym command ∙ run) refl) (λ merge. differ (sym command ∙ merge) refl) in
+    let no_file = no_output keeps words (λ run. differ (sym command ∙ run) refl) (λ merge. differ (sym command ∙ merge) refl) (λ adjust. differ (sym command ∙ adjust) refl) in
     let answered = answers_import (g.S.Source.holds c.args.files.now) (g.S.Texts.gives c.args.files.now) words imported.is_whole imported.text.items command in
     on_ok_weaker c.write_all-in-Ok-Import.result (λ wrote. (imported.text.items, delivered_out keeps words _ _ imported.text.items no_file wrote, answered))
     (rw c.as_slice-in-Ok-Import.ensures.value at c.write_all-in-Ok-Import.ensures.bytes)
@@ -560,3 +599,93 @@ returns-in-Err-2-clause-unimported g c named =
     let words = map string_bytes c.args.words.now in
     let not_memory : kind_of c.in-Err.error ≢ kinds.OutOfMemory = search rules in
     inr (inl (c.in-Err.error, refl, not_accepted_import (drop 1 words) c.in-Err.error not_memory (c.in-Err.ensures.unimported named)))
+
+pub returns-in-Ok-Adjustment-clause-answered : goal.returns-in-Ok-Adjustment-clause-answered
+returns-in-Ok-Adjustment-clause-answered g c =
+    let words = map string_bytes c.args.words.now in
+    let holds = g.S.Source.holds c.args.files.now in
+    let gives = g.S.Texts.gives c.args.files.now in
+    let keeps = g.T.Target.keeps c.adjust_out.new.target in
+    let asked = c.in-Ok-Adjustment.asked in
+    let command : word_at words 1 ≡ codes "adjust" = rw (c.in-Ok-Adjustment.is, c.in-Ok-Adjustment.field-0-is) at c.read_words.ensures.named in
+    let read : AreAdjustFrom (drop 1 words) asked = rw (c.in-Ok-Adjustment.is, c.in-Ok-Adjustment.field-0-is) at (c.read_words.ensures.adjusted command) in
+    on_ok_weaker c.in_ok-adjust_out-in-Ok-Adjustment.field-0
+    (λ wrote. (
+      wrote.0,
+      delivered_adjustment keeps words (string_bytes asked.paid) (string_bytes asked.right) (option_map string_bytes asked.output) _ _ wrote.0 command read.paid read.right read.output
+          c.in_ok-adjust_out-in-Ok-Adjustment.ensures.apart wrote.1,
+      answers_adjustment holds gives words asked wrote.0 command read wrote.2,
+    ))
+    c.in_ok-adjust_out-in-Ok-Adjustment.ensures.adjusted
+
+pub returns-in_err-adjust_out-in-Ok-Adjustment-clause-left : goal.returns-in_err-adjust_out-in-Ok-Adjustment-clause-left
+returns-in_err-adjust_out-in-Ok-Adjustment-clause-left g c path named =
+    let words = map string_bytes c.args.words.now in
+    let asked = c.in-Ok-Adjustment.asked in
+    let command : word_at words 1 ≡ codes "adjust" = rw (c.in-Ok-Adjustment.is, c.in-Ok-Adjustment.field-0-is) at c.read_words.ensures.named in
+    let read : AreAdjustFrom (drop 1 words) asked = rw (c.in-Ok-Adjustment.is, c.in-Ok-Adjustment.field-0-is) at (c.read_words.ensures.adjusted command) in
+    left_adjustment (g.T.Target.keeps c.args.target.now) (g.T.Target.keeps c.adjust_out.new.target) words asked.output _ _ command read.output
+    (λ text over. answers_adjustment (g.S.Source.holds c.args.files.now) (g.S.Texts.gives c.args.files.now) words asked text command read over) c.adjust_out.ensures.left path named
+
+pub returns-in_err-adjust_out-in-Ok-Adjustment-clause-unused : goal.returns-in_err-adjust_out-in-Ok-Adjustment-clause-unused
+returns-in_err-adjust_out-in-Ok-Adjustment-clause-unused g c none other no_import =
+    let words = map string_bytes c.args.words.now in
+    let command : word_at words 1 ≡ codes "adjust" = rw (c.in-Ok-Adjustment.is, c.in-Ok-Adjustment.field-0-is) at c.read_words.ensures.named in
+    let read : AreAdjustFrom (drop 1 words) c.in-Ok-Adjustment.asked = rw (c.in-Ok-Adjustment.is, c.in-Ok-Adjustment.field-0-is) at (c.read_words.ensures.adjusted command) in
+    unused_adjustment words c.in-Ok-Adjustment.asked.output _ command read.output c.adjust_out.ensures.unused none
+
+pub returns-in_err-adjust_out-in-Ok-Adjustment-clause-left_folder : goal.returns-in_err-adjust_out-in-Ok-Adjustment-clause-left_folder
+returns-in_err-adjust_out-in-Ok-Adjustment-clause-left_folder g c statements =
+    let command : word_at (map string_bytes c.args.words.now) 1 ≡ codes "adjust" = rw (c.in-Ok-Adjustment.is, c.in-Ok-Adjustment.field-0-is) at c.read_words.ensures.named in
+    absurd (differ (sym command ∙ statements) refl)
+
+pub returns-in-Ok-Adjustment-clause-left : goal.returns-in-Ok-Adjustment-clause-left
+returns-in-Ok-Adjustment-clause-left g c path named =
+    let words = map string_bytes c.args.words.now in
+    let asked = c.in-Ok-Adjustment.asked in
+    let command : word_at words 1 ≡ codes "adjust" = rw (c.in-Ok-Adjustment.is, c.in-Ok-Adjustment.field-0-is) at c.read_words.ensures.named in
+    let read : AreAdjustFrom (drop 1 words) asked = rw (c.in-Ok-Adjustment.is, c.in-Ok-Adjustment.field-0-is) at (c.read_words.ensures.adjusted command) in
+    left_adjustment (g.T.Target.keeps c.args.target.now) (g.T.Target.keeps c.adjust_out.new.target) words asked.output _ _ command read.output
+    (λ text over. answers_adjustment (g.S.Source.holds c.args.files.now) (g.S.Texts.gives c.args.files.now) words asked text command read over) c.adjust_out.ensures.left path named
+
+pub returns-in-Ok-Adjustment-clause-unused : goal.returns-in-Ok-Adjustment-clause-unused
+returns-in-Ok-Adjustment-clause-unused g c none other no_import =
+    let words = map string_bytes c.args.words.now in
+    let command : word_at words 1 ≡ codes "adjust" = rw (c.in-Ok-Adjustment.is, c.in-Ok-Adjustment.field-0-is) at c.read_words.ensures.named in
+    let read : AreAdjustFrom (drop 1 words) c.in-Ok-Adjustment.asked = rw (c.in-Ok-Adjustment.is, c.in-Ok-Adjustment.field-0-is) at (c.read_words.ensures.adjusted command) in
+    unused_adjustment words c.in-Ok-Adjustment.asked.output _ command read.output c.adjust_out.ensures.unused none
+
+pub returns-in-Ok-Adjustment-clause-left_folder : goal.returns-in-Ok-Adjustment-clause-left_folder
+returns-in-Ok-Adjustment-clause-left_folder g c statements =
+    let command : word_at (map string_bytes c.args.words.now) 1 ≡ codes "adjust" = rw (c.in-Ok-Adjustment.is, c.in-Ok-Adjustment.field-0-is) at c.read_words.ensures.named in
+    absurd (differ (sym command ∙ statements) refl)
+
+pub returns-in_err-adjust_out-in-Ok-Adjustment-clause-adjustment : goal.returns-in_err-adjust_out-in-Ok-Adjustment-clause-adjustment
+returns-in_err-adjust_out-in-Ok-Adjustment-clause-adjustment g c command =
+    let words = map string_bytes c.args.words.now in
+    let asked = c.in-Ok-Adjustment.asked in
+    let failed = c.in_err-adjust_out-in-Ok-Adjustment in
+    let read : AreAdjustFrom (drop 1 words) asked = rw (c.in-Ok-Adjustment.is, c.in-Ok-Adjustment.field-0-is) at (c.read_words.ensures.adjusted command) in
+    let exit = err_from_is_err_and c.from_residual-in_err-adjust_out-in-Ok-Adjustment.result c.from_residual-in_err-adjust_out-in-Ok-Adjustment.ensures.1 in
+    rw (exit.1, exit.2)
+    (unadjusted_given (g.S.Texts.gives c.args.files.now) (drop 1 words) asked read failed.field-0.0 failed.ensures.files)
+
+pub returns-in_err-merge_out-in-Ok-Merge-clause-silent : goal.returns-in_err-merge_out-in-Ok-Merge-clause-silent
+returns-in_err-merge_out-in-Ok-Merge-clause-silent g c =
+    let words = map string_bytes c.args.words.now in
+    let asked = c.in-Ok-Merge.asked in
+    let failed = c.in_err-merge_out-in-Ok-Merge in
+    let command : word_at words 1 ≡ codes "merge" = rw (c.in-Ok-Merge.is, c.in-Ok-Merge.field-0-is) at c.read_words.ensures.named in
+    let read : AreMergeFrom (drop 1 words) asked = rw (c.in-Ok-Merge.is, c.in-Ok-Merge.field-0-is) at (c.read_words.ensures.merged command) in
+    let exit = err_from_is_err_and c.from_residual-in_err-merge_out-in-Ok-Merge.result c.from_residual-in_err-merge_out-in-Ok-Merge.ensures.1 in
+    rw (exit.1, exit.2) (λ which. silent_merge words asked.output _ _ command read.output failed.ensures.silent c.merge_out.ensures.unprinted which)
+
+pub returns-in_err-adjust_out-in-Ok-Adjustment-clause-silent : goal.returns-in_err-adjust_out-in-Ok-Adjustment-clause-silent
+returns-in_err-adjust_out-in-Ok-Adjustment-clause-silent g c =
+    let words = map string_bytes c.args.words.now in
+    let asked = c.in-Ok-Adjustment.asked in
+    let failed = c.in_err-adjust_out-in-Ok-Adjustment in
+    let command : word_at words 1 ≡ codes "adjust" = rw (c.in-Ok-Adjustment.is, c.in-Ok-Adjustment.field-0-is) at c.read_words.ensures.named in
+    let read : AreAdjustFrom (drop 1 words) asked = rw (c.in-Ok-Adjustment.is, c.in-Ok-Adjustment.field-0-is) at (c.read_words.ensures.adjusted command) in
+    let exit = err_from_is_err_and c.from_residual-in_err-adjust_out-in-Ok-Adjustment.result c.from_residual-in_err-adjust_out-in-Ok-Adjustment.ensures.1 in
+    rw (exit.1, exit.2) (λ which. silent_adjustment words asked.output _ _ command read.output failed.ensures.silent c.adjust_out.ensures.unprinted which)

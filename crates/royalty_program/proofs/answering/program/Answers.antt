@@ -7,7 +7,7 @@ use Rattle.pair_split.specs.Pair.{word_at}
 use Rattle.royalty_program.specs.Answered.{IsAnswered, IsDelivered}
 use Rattle.royalty_program.specs.DocumentsAnswered.{AreDocumentsAnswered, AskForDocuments, folder_given}
 use Rattle.royalty_program.specs.ImportAnswered.{IsImportAnswered, IsOfImport, NameImport}
-use Rattle.royalty_program.specs.Status.{IsStatusOfSilence, status_of}
+use Rattle.royalty_program.specs.Status.{IsStatusOfSilence, MayHaveBegun, status_of}
 use Rattle.royalty_program.specs.declared.failure.Failure.{Failure}
 use Rattle.royalty_program.proofs.EndLemmas.{check_fails_with, fails_with, left_alone, printed_whole, quiet_then, rejected_then, sent_on, silent_then}
 use Rattle.royalty_program.proofs.OutputLemmas.{delivered_on, printed_check}
@@ -17,7 +17,7 @@ use Rattle.royalty_program.proofs.answering.program.Goals as goal
 pub returns-clause-failed : goal.returns-clause-failed
 returns-clause-failed g c = ends_with c.answer-printed.result c.end.result (g.S.Source.holds c.args.files.now) (g.S.Texts.gives c.args.files.now) (g.S.Source.refuses c.args.files.now) (map string_bytes c.args.words.now) _ _
     c.end.ensures.failed c.end.ensures.answered c.answer-printed.ensures.others c.answer-printed.ensures.failure c.answer-printed.ensures.pairs c.answer-printed.ensures.run c.answer-printed.ensures.explanation
-    c.answer-printed.ensures.checked c.answer-printed.ensures.merge c.answer-printed.ensures.table c.answer-printed.ensures.undocumented c.answer-printed.ensures.unimported
+    c.answer-printed.ensures.checked c.answer-printed.ensures.merge c.answer-printed.ensures.adjustment c.answer-printed.ensures.table c.answer-printed.ensures.undocumented c.answer-printed.ensures.unimported
 
 pub returns-clause-printed : goal.returns-clause-printed
 returns-clause-printed g c same =
@@ -46,16 +46,16 @@ returns-clause-quiet g c which = elim which [
 
 -- the status says that nothing was printed, where neither a report nor an import was asked for, or whatever was
 silence_of : (words : List (List ℕ)) (status : ℕ) → IsStatusOfSilence status words
-    → ((status ≡ 1) × ¬ ((word_at words 1 ≡ codes "check") ⊎ NameImport words)) ⊎ ((status ≡ 2) ⊎ ((status ≡ 3) × ¬ (word_at words 1 ≡ codes "merge")))
+    → ((status ≡ 1) × ¬ ((word_at words 1 ≡ codes "check") ⊎ NameImport words)) ⊎ ((status ≡ 2) ⊎ ((status ≡ 3) × ¬ MayHaveBegun words))
 silence_of words status (inl (one, no_check, no_import)) = inl (one, λ either. elim either [ inl check ↦ no_check check | inr named ↦ no_import named ])
 silence_of words status (inr other) = inr other
 
 pub returns-clause-silent : goal.returns-clause-silent
 returns-clause-silent g c which =
     let words = map string_bytes c.args.words.now in
-    silent_then c.answer-printed.result c.end.result ((word_at words 1 ≡ codes "check") ⊎ NameImport words) (word_at words 1 ≡ codes "merge") _ _ _ c.end.ensures.answered
+    silent_then c.answer-printed.result c.end.result ((word_at words 1 ≡ codes "check") ⊎ NameImport words) (MayHaveBegun words) _ _ _ c.end.ensures.answered
     (IfOk-weaker c.answer-printed.result _ _ (λ done sound none. sound (λ check. none (inl check)) (λ named. none (inr named))) c.answer-printed.ensures.others) c.end.ensures.failed
-    (left_alone c.answer-printed.result (λ (failure : Failure). (status_of failure ≤ 2) ⊎ (¬ (word_at words 1 ≡ codes "merge"))) _ _ _ c.end.ensures.silent c.answer-printed.ensures.silent) (silence_of words c.end.result which)
+    (left_alone c.answer-printed.result (λ (failure : Failure). (status_of failure ≤ 2) ⊎ (¬ MayHaveBegun words)) _ _ _ c.end.ensures.silent c.answer-printed.ensures.silent) (silence_of words c.end.result which)
 
 pub returns-clause-documents : goal.returns-clause-documents
 returns-clause-documents g c same asks =
@@ -84,5 +84,5 @@ returns-clause-rejected g c same named =
     (λ text added kept. sent_on (g.W.Write.contents c.args.out.now) _ _ text added kept)
     (IfOk-weaker c.answer-printed.result _ _ (λ done given unsound. given (inr unsound)) (c.answer-printed.ensures.imported named)) c.end.ensures.answered c.end.ensures.quiet c.end.ensures.failed
     (IfErr-weaker c.answer-printed.result _ _ (λ failure alone few. alone (inl few))
-    (left_alone c.answer-printed.result (λ (failure : Failure). (status_of failure ≤ 2) ⊎ (¬ (word_at words 1 ≡ codes "merge"))) _ _ _ c.end.ensures.silent c.answer-printed.ensures.silent))
+    (left_alone c.answer-printed.result (λ (failure : Failure). (status_of failure ≤ 2) ⊎ (¬ MayHaveBegun words)) _ _ _ c.end.ensures.silent c.answer-printed.ensures.silent))
     (c.answer-printed.ensures.unimported named) same

@@ -1,7 +1,7 @@
 use Rattle.std.proofs.Common.{All, List, map, drop, ap, subst, sym, ℕ, ◌∙◌}
 use Rattle.std.specs.Prelude.{string_bytes}
 use Rattle.royalty_program.specs.Asked.{IsValue, number_in}
-use Rattle.royalty_program.specs.Answered.{AreCheckedFrom, AreDocumentsFrom, AreExplainedFrom, AreMergeFrom, AreReadFrom}
+use Rattle.royalty_program.specs.Answered.{AreAdjustFrom, AreCheckedFrom, AreDocumentsFrom, AreExplainedFrom, AreMergeFrom, AreReadFrom}
 use Rattle.royalty_program.specs.Asked.{files_given}
 use Rattle.royalty_program.specs.ImportCommand.{AreImportFrom}
 use Rattle.royalty_program.specs.NamedFiles.{AreNamedBy}
@@ -54,6 +54,12 @@ pub returns-in_ok-read_merge-in-merge-clause-merged : goal.returns-in_ok-read_me
 returns-in_ok-read_merge-in-merge-clause-merged c command =
     let words = c.args.words.now in
     let read : AreMergeFrom (map string_bytes (others words)) c.in_ok-read_merge-in-merge.field-0 = c.in_ok-read_merge-in-merge.ensures.read in
+    rw (mapped_others string_bytes words) at read
+
+pub returns-in_ok-read_adjust-in-adjust-clause-adjusted : goal.returns-in_ok-read_adjust-in-adjust-clause-adjusted
+returns-in_ok-read_adjust-in-adjust-clause-adjusted c command =
+    let words = c.args.words.now in
+    let read : AreAdjustFrom (map string_bytes (others words)) c.in_ok-read_adjust-in-adjust.field-0 = c.in_ok-read_adjust-in-adjust.ensures.read in
     rw (mapped_others string_bytes words) at read
 
 pub returns-in_ok-read_starting-in-works-clause-table : goal.returns-in_ok-read_starting-in-works-clause-table

@@ -4,6 +4,7 @@ use Rattle.std.proofs.lemmas.List.{get_or-map, length-map, take_all, take_more}
 use Rattle.std.proofs.lemmas.List.Elements.{All-push}
 use Rattle.std.specs.Prelude.{string_bytes}
 use Rattle.royalty_program.specs.OutputPath.{IsOther}
+use Rattle.royalty_program.proofs.MergeFileLemmas.{among_mapped}
 use Rattle.royalty_program.proofs.submitted_files.is_among.Goals as goal
 
 pub returns : goal.returns
@@ -11,7 +12,17 @@ returns g c = record {
   none = λ _. subst (All (IsOther c.args.path.now))
       (take_all c.loop-other.other-index (map string_bytes c.args.paths.now) (omega (arith, c.loop-other-test.false, length-map c.args.paths.now string_bytes)))
       c.loop-other.invariant;
+  some = λ found. absurd (false≢true found);
 }
+
+pub returns-then-branch-clause-some : goal.returns-then-branch-clause-some
+returns-then-branch-clause-some g c found =
+    let one_file = g.T.Target.one_file c.args.target.now in
+    let name = c.other-item.result in (
+      string_bytes name,
+      among_mapped string_bytes c.args.paths.now c.loop-other.other-index name c.loop-other-test.true c.other-item.is,
+      subst (one_file c.args.path.now) c.as_str.ensures.value (c.in_ok-is_one_file.ensures.one c.if-branch.true),
+    )
 
 pub loop-other-preserved : goal.loop-other-preserved
 loop-other-preserved g c =
