@@ -62,7 +62,7 @@ check 'help' 0 '*' '' "$program" --help
 kit=$(rt version)
 logic="logic ${kit##* logic }"
 ! grep -q 'not proved, for trials' "$program" || logic='not proved, for trials'
-check 'the version' 0 "royalty_run 0.1.0\n$logic\n" '' "$program" --version
+check 'the version' 0 "royalty_run 0.1.0\n$logic\nMIT or Apache-2.0, at your choice\n" '' "$program" --version
 check 'a bad table' 1 '' 'royalty_run: tis fault 1 at row 0\n' "$program" run --tis usage.csv --cwr works.cwr --usage usage.csv "${plan[@]}"
 facts='territories.csv: territories: 22
 works.cwr: works with a registration in force: 3
@@ -429,6 +429,7 @@ shows() {
     [ "$(grep -c "^\\$ royalty_run $2" commands)" -ge "$3" ] || { echo "program.sh: $1 shows no examples"; failed=$((failed + 1)); }
 }
 shows RULES.md explain 10
+shows GUIDE.md import 1
 shows CORRECTED_MONTH.md run 3
 
 # A table of the most bytes is read and refused for its first row, and one of a byte more is not cut short but not

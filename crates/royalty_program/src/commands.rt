@@ -31,9 +31,9 @@ use pair_split::word;
 use starting_files::StartingTable;
 use std::alloc::{AllocError, Global};
 
-/// What `--version` says below the name: the version, and the checker and libraries that the
-/// program is proved with, by their checksum.
-const VERSION: &str = "0.1.0\nlogic dac8208d650f15bf";
+/// What `--version` says below the name: the version, the checker and libraries that the program is
+/// proved with, by their checksum, and the licences.
+const VERSION: &str = "0.1.0\nlogic dac8208d650f15bf\nMIT or Apache-2.0, at your choice";
 
 /// What stands below the help of the whole program.
 const HELP: &str = "\
