@@ -210,6 +210,18 @@ check 'no usage lines' 0 '' "${files[@]/usage.csv/empty.csv}" --to empty --title
 agree empty 2
 documents "$room/empty" --texts >found
 same 'no usage lines' <(printf '%s\n' 'title Dé\x1b') found
+# An empty title is none.
+check 'an empty title' 0 '' "${files[@]}" --to untitled --title ''
+diff -r small untitled >differs || fail "an empty title: $(head -c 400 differs)"
+# A right and a reason may come to less than nothing: their rows are red, and no others.
+{
+    cat empty.csv
+    printf '%s\n' B1,NT0001,276,P,100 B2,NT0001,276,M,-50 B3,NONE,276,S,-3 B4,NT0001,4,P,7
+} >back.csv
+check 'rights and reasons below 0' 0 '' "${files[@]/usage.csv/back.csv}" --to back
+agree back "$(find back -name '*.html' | wc -l)"
+[ "$(grep -c '<tr class="neg"><th scope="row">' back/index.html)" = 3 ] ||
+    fail "rights and reasons below 0: $(grep -o '<tr class="neg">.*' back/index.html)"
 
 # Where it is refused, there is no folder, and nothing beside it.
 mkdir to

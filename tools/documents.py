@@ -37,6 +37,7 @@ ATTRIBUTES = set("""lang charset http-equiv content name id class href scope col
     width height viewbox preserveaspectratio aria-label aria-hidden aria-current""".split())
 POLICY = "default-src 'none'; style-src 'unsafe-inline'"
 
+FIGURE = re.compile("\u2212?[0-9\u202f]+([.][0-9]+)?")
 PAYEE_FILES = re.compile(r"payees/(\d{4,5})-([A-Za-z0-9-]{1,40})\.(html|csv)")
 
 Payee = namedtuple("Payee", "name portions total")
@@ -226,6 +227,16 @@ def check_total(table, decimals, count, amount):
     same(f"last row of {what!r}", last, rows_of(table, "tfoot")[0][-2:])
 
 
+def check_ink(page):
+    """A row is red where its last figure is below 0 alone. Of tables of uses, these are the works'."""
+    for table in page.all("table"):
+        for row in table.all("tr", "work" if "uses" in table.kind().split() else None):
+            figures = [it for it in cells_of(row) if FIGURE.fullmatch(it)]
+            if figures:
+                same(f"ink of the row {row.text()!r}", figures[-1].startswith("\u2212"),
+                     "neg" in row.kind().split())
+
+
 def figures_of(page):
     """The large figures of a page."""
     for it in page.all("p", "fig"):
@@ -336,6 +347,7 @@ class Documents:
         if path not in self.pages:
             page = page_of(text_of(os.path.join(self.folder, path)))
             check_elements(page)
+            check_ink(page)
             for link in links_of(page):
                 check_link(self.folder, path, link)
             self.pages[path] = page

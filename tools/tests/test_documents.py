@@ -48,30 +48,37 @@ SECOND = ('<tr><td>2</td><th scope="row">u2</th><td>France <span class="code">25
           '<td>12\u202f345.67</td></tr>\n')
 
 
+def ink(amount):
+    """The class of what has an amount below 0, behind another."""
+    return " neg" if "\u2212" in amount else ""
+
+
 def figure(label, amount, note, currency=""):
     """A large figure."""
-    ink = " neg" if amount.startswith("\u2212") else ""
-    return (f'<p class="fig{ink}"><span>{label}</span><b>{amount}{currency}</b> '
+    return (f'<p class="fig{ink(amount)}"><span>{label}</span><b>{amount}{currency}</b> '
             f"<i>{note}</i></p>\n")
 
 
 def table(caption, rows, total, kind=""):
     """A table, of rows of cells."""
-    lines = ["".join(f"<td>{cell}</td>" for cell in row) for row in [*rows, total]]
-    body = "".join(f"<tr>{it}</tr>\n" for it in lines[:-1])
+    def line(row):
+        tag = '<tr class="neg">' if ink("".join(row)) else "<tr>"
+        return tag + "".join(f"<td>{it}</td>" for it in row) + "</tr>"
+
+    body = "".join(line(it) + "\n" for it in rows)
     return (f'<table class="{kind}"><caption>{caption}</caption><tbody>\n{body}</tbody>'
-            f'<tfoot><tr>{lines[-1]}</tr></tfoot></table>\n')
+            f'<tfoot>{line(total)}</tfoot></table>\n')
 
 
 def uses(works, total):
     """A table of uses, of works with their rows."""
-    return (f'<table class="uses"><caption>Works</caption>{works}<tfoot><tr class="work"><th>'
-            f'{total[0]}</th><td>{total[1]}</td></tr></tfoot></table>\n')
+    return (f'<table class="uses"><caption>Works</caption>{works}<tfoot>'
+            f'<tr class="work{ink(total[1])}"><th>{total[0]}</th><td>{total[1]}</td></tr></tfoot></table>\n')
 
 
 def work(name, amount, rows):
     """A work and its rows."""
-    return (f'<tbody class="short"><tr class="work"><th scope="rowgroup">{name}</th>'
+    return (f'<tbody class="short"><tr class="work{ink(amount)}"><th scope="rowgroup">{name}</th>'
             f'<td>{amount}</td></tr>\n{rows}</tbody>\n')
 
 
@@ -244,6 +251,15 @@ class Folders(unittest.TestCase):
     def test_a_reversal_without_its_mark_is_found(self):
         self.change("payees/0001-A.html", '<span class="back">Reversal</span>', "")
         self.check_found("mark of a reversal")
+
+    def test_the_ink_of_rows_is_compared(self):
+        for name, old, new in (("payees/0001-A.html", '<tr class="work">', '<tr class="work neg">'),
+                               ("payees/0003-B-b.html", '<tr class="neg">', "<tr>"),
+                               ("index.html", '<tr class="neg"><td>Owed', "<tr><td>Owed")):
+            with self.subTest(name=name):
+                self.files = good_folder()
+                self.files[name] = self.files[name].replace(old, new)
+                self.check_found(f"{name}: ink of the row")
 
     def test_texts_that_are_not_escaped_are_found(self):
         for new in ("<TOM>", "&lt;TOM>&", "<b>TOM</b>", "<TOM/>", "<TOM"):

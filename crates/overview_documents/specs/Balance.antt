@@ -12,7 +12,8 @@ use Rattle.residue_documents.specs.Reasons.{amount_in, lines_in}
 -- the row of a right
 abbrev pub in_row_text : (decimals : ℕ) → (right : List ℕ) → LineSum → List ℕ
 in_row_text decimals right sum = all_of (
-    codes "<tr><th scope=\"row\">" ∷ right ∷ codes "</th><td class=\"n\">" ∷ count_text sum.lines
+    row_tag_text (int_lt sum.amount (pos 0)) ∷ codes "<th scope=\"row\">" ∷ right
+    ∷ codes "</th><td class=\"n\">" ∷ count_text sum.lines
     ∷ codes "</td><td class=\"n\">" ∷ amount_text decimals sum.amount ∷ codes "</td></tr>\n" ∷ [])
 
 -- the row of a total, and the end of the table

@@ -83,7 +83,8 @@ fn add_in_row(
         page,
         decimals,
         &[
-            Piece::Tag("<tr><th scope=\"row\">"),
+            Piece::Tag(row_tag(sum.amount < 0)),
+            Piece::Tag("<th scope=\"row\">"),
             Piece::Tag(right),
             Piece::Tag("</th><td class=\"n\">"),
             Piece::Count(sum.lines),

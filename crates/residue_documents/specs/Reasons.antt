@@ -75,17 +75,17 @@ link_text link reason = all_of (
     codes "<a href=\"" ∷ link ∷ codes "#" ∷ reason_text reason ∷ codes "\">" ∷ reason_name reason ∷ codes "</a>" ∷ [])
 
 -- there is such a section where lines have the reason
-abbrev pub linked_name_text : (link : List ℕ) → Reason → (lines : ℕ) → List ℕ
-linked_name_text link reason lines = all_of (
-    codes "<tr><th scope=\"row\"><svg class=\"key " ∷ reason_text reason
+abbrev pub linked_name_text : (link : List ℕ) → Reason → HeldSum → List ℕ
+linked_name_text link reason sum = all_of (
+    row_tag_text (int_lt sum.amount (pos 0)) ∷ codes "<th scope=\"row\"><svg class=\"key " ∷ reason_text reason
     ∷ codes "\" viewBox=\"0 0 1 1\" aria-hidden=\"true\"><rect width=\"1\" height=\"1\"/></svg>"
-    ∷ (if lines == 0 then reason_name reason else link_text link reason)
+    ∷ (if sum.lines == 0 then reason_name reason else link_text link reason)
     ∷ codes " <span class=\"code\">" ∷ reason_text reason ∷ codes "</span>" ∷ [])
 
 -- the row of a reason
 abbrev pub reason_row_text : (decimals : ℕ) → (link : List ℕ) → Reason → HeldSum → List ℕ
 reason_row_text decimals link reason sum = all_of (
-    linked_name_text link reason sum.lines ∷ codes "</th><td class=\"n\">" ∷ count_text sum.lines
+    linked_name_text link reason sum ∷ codes "</th><td class=\"n\">" ∷ count_text sum.lines
     ∷ codes "</td><td class=\"n opt\">" ∷ count_text sum.works ∷ codes "</td><td class=\"n\">"
     ∷ amount_text decimals sum.amount ∷ codes "</td></tr>\n" ∷ [])
 

@@ -140,7 +140,7 @@ fn add_row(
     ensures { OnOk result (page.new.items
         ≡ page.old.items ++ reason_row_text decimals link.entry.now reason (sum_shown sum)) }
 {
-    add_name(alloc, page, link, reason, sum.lines)?;
+    add_name(alloc, page, link, reason, sum)?;
     add(
         alloc,
         page,
@@ -163,9 +163,9 @@ fn add_name(
     page: &mut Vec<u8>,
     link: &'static str,
     reason: Reason,
-    lines: u64,
+    sum: HeldSum,
 ) -> Result<(), AllocError>
-    ensures { OnOk result (page.new.items ≡ page.old.items ++ linked_name_text link.entry.now reason lines) }
+    ensures { OnOk result (page.new.items ≡ page.old.items ++ linked_name_text link.entry.now reason (sum_shown sum)) }
 {
     let word = reason.word();
     add(
@@ -173,14 +173,15 @@ fn add_name(
         page,
         0,
         &[
-            Piece::Tag("<tr><th scope=\"row\"><svg class=\"key "),
+            Piece::Tag(row_tag(sum.amount < 0)),
+            Piece::Tag("<th scope=\"row\"><svg class=\"key "),
             Piece::Tag(word),
             Piece::Tag(
                 "\" viewBox=\"0 0 1 1\" aria-hidden=\"true\"><rect width=\"1\" height=\"1\"/></svg>",
             ),
         ],
     )?;
-    if lines == 0 {
+    if sum.lines == 0 {
         page.extend_from_slice(name_of(reason).as_bytes())?;
     } else {
         add_link(alloc, page, link, reason)?;

@@ -5,4 +5,4 @@ use mir.Syntax.{w128}
 use Rattle.overview_documents.proofs.balance.add_in_row.Goals as goal
 
 pub returns : goal.returns
-returns c = IfOk-equal c.add.result _ _ _ c.add.ensures (rw (to_z-of_z w128 c.from.result (search rules), c.from.ensures, to_z-of_z w64 c.args.sum.amount (search rules)))
+returns c = IfOk-equal c.add.result _ _ _ c.add.ensures (rw (c.row_tag.ensures, to_z-of_z w128 c.from.result (search rules), c.from.ensures, to_z-of_z w64 c.args.sum.amount (search rules)))
