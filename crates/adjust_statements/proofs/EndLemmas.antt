@@ -1,5 +1,5 @@
 -- Both texts have ended, and their differences are written.
-use Rattle.std.proofs.Common.{inl, ◌≡◌, ◌∙◌, ◌-◌, ◌^◌, ◌+◌, ◌<◌, ◌+ℤ◌, ◌++◌, ◌∷◌, [], ℕ, ℤ, List, Option, Some, None, length, map, ap, refl, sym, subst, arith, codes, append_assoc}
+use Rattle.std.proofs.Common.{◌≡◌, ◌∙◌, ◌-◌, ◌^◌, ◌+◌, ◌<◌, ◌+ℤ◌, ◌++◌, ◌∷◌, [], ℕ, ℤ, List, Option, Some, None, get_or, length, map, ap, refl, sym, subst, arith, codes, append_assoc}
 use Rattle.std.specs.Prelude.{IfSome, flat_map, sum_by}
 use Rattle.std.specs.Io.KnownBytes.{Appends, IsAtEnd, append_known}
 use Rattle.std.proofs.KnownBytes.{Appends-trans, Consumes-whole}
@@ -10,7 +10,7 @@ use Rattle.csv_table.specs.Written.{text_of, text_of_row}
 use Rattle.line_split.specs.Signs.{int_sum_by}
 use Rattle.merge_statements.specs.Statements.{IsCount, Rest, Statement, Statements, rest_row, rests_rows, statement_rows, text_of_statements, total_of, total_of_rests, total_row}
 use Rattle.merge_statements.specs.Places.{At}
-use Rattle.merge_statements.specs.Refused.{IsStatementText}
+use Rattle.merge_statements.specs.Refused.{IsOfSystem, IsRefusedFor, IsStatementText}
 use Rattle.merge_statements.specs.SoFar.{AreRead, CanEnd, HasPassed, IsRead, RefusesRest, Unread}
 use Rattle.merge_statements.specs.SoFar.AreRead.{none as none_were, more as more_were}
 use Rattle.merge_statements.specs.declared.walk.Place.TheVariants.{Ended}
@@ -18,11 +18,10 @@ use Rattle.merge_statements.specs.declared.refusal.Refusal.{Refusal}
 use Rattle.merge_statements.specs.declared.refusal.Refusal.TheVariants as refusal
 use Rattle.merge_statements.proofs.Passing.{text_more}
 use Rattle.merge_statements.proofs.ReadBack.{the_statements}
-use Rattle.merge_statements.proofs.Refusing.{refusal_of, system_of}
-use Rattle.merge_statements.proofs.TooMany.{many_read}
+use Rattle.merge_statements.proofs.TooMany.{many_read, unknown_one}
 use Rattle.merge_statements.proofs.Whole.{says, sound_statements, text_is, text_sound}
 use Rattle.adjust_statements.specs.Adjusted.{WritesAdjustment}
-use Rattle.adjust_statements.specs.Refused.{IsRefusalFor}
+use Rattle.adjust_statements.specs.Refused.{IsRefusalFor, IsRefusalOfBoth}
 use Rattle.adjust_statements.specs.SoFar.{AdjustsRests, AreAdjustedSoFar, AreRestsRows, EndBoth, IsSystemRefusal, RefusesRead}
 use Rattle.adjust_statements.specs.declared.refusal.AdjustRefusal.{AdjustRefusal}
 use Rattle.adjust_statements.specs.declared.refusal.AdjustRefusal.TheVariants.{Lines, Text}
@@ -128,11 +127,26 @@ adjust_passed paid right first after last page none was passed = record {
 
 -- ---- refusals
 
+-- a text that is refused by itself is refused among both
+pub text_refused : (both : List (Option (List ℕ))) (place : ℕ) (why : Refusal) → place < length both → IfSome (get_or both place None) (λ text. IsRefusedFor text why) → IsRefusalOfBoth both place why
+text_refused both place (refusal.Fault fault) low is = (low, is)
+text_refused both place refusal.Memory low is = tt
+text_refused both place refusal.Many low is = unknown_one both place low is
+text_refused both place (refusal.Read error) low is = tt
+text_refused both place (refusal.Write error) low is = tt
+
+system_of_both : (both : List (Option (List ℕ))) (place : ℕ) (why : Refusal) → IsOfSystem why → IsRefusalOfBoth both place why
+system_of_both both place (refusal.Fault fault) of = absurd of
+system_of_both both place refusal.Memory of = tt
+system_of_both both place refusal.Many of = absurd of
+system_of_both both place (refusal.Read error) of = tt
+system_of_both both place (refusal.Write error) of = tt
+
 pub paid_refused : (paid right : Unread) (why : Refusal) → RefusesRest paid why → RefusesRead paid right (Text (record { place = 0; refusal = why }))
-paid_refused paid right why is = λ paid_start right_start paid_read right_read. refusal_of (paid_start ∷ right_start ∷ []) 0 why (omega arith) (is paid_start paid_read)
+paid_refused paid right why is = λ paid_start right_start paid_read right_read. text_refused (paid_start ∷ right_start ∷ []) 0 why (omega arith) (is paid_start paid_read)
 
 pub right_refused : (paid right : Unread) (why : Refusal) → RefusesRest right why → RefusesRead paid right (Text (record { place = 1; refusal = why }))
-right_refused paid right why is = λ paid_start right_start paid_read right_read. refusal_of (paid_start ∷ right_start ∷ []) 1 why (omega arith) (is right_start right_read)
+right_refused paid right why is = λ paid_start right_start paid_read right_read. text_refused (paid_start ∷ right_start ∷ []) 1 why (omega arith) (is right_start right_read)
 
 pub both_read : (paid_start right_start : Option (List ℕ)) (paid right : Unread) → IsRead paid_start paid → IsRead right_start right → AreRead (paid_start ∷ right_start ∷ []) (paid ∷ right ∷ [])
 both_read paid_start right_start paid right paid_read right_read =
@@ -141,10 +155,10 @@ both_read paid_start right_start paid right paid_read right_read =
 pub many_refused : (paid_start right_start : Option (List ℕ)) (paid right : Unread) → IsRead paid_start paid → IsRead right_start right → 10 ^ 18 < paid.at.portions + right.at.portions
     → IsRefusalFor paid_start right_start (Text (record { place = 0; refusal = refusal.Many }))
 many_refused paid_start right_start paid right paid_read right_read many =
-    inl (many_read (paid_start ∷ right_start ∷ []) (paid ∷ right ∷ []) (both_read paid_start right_start paid right paid_read right_read) (omega (arith, many)))
+    many_read (paid_start ∷ right_start ∷ []) (paid ∷ right ∷ []) (both_read paid_start right_start paid right paid_read right_read) (omega (arith, many))
 
 pub system_refused : (paid right : Option (List ℕ)) (why : AdjustRefusal) → IsSystemRefusal why → IsRefusalFor paid right why
-system_refused paid right (Text refused) is = system_of (paid ∷ right ∷ []) refused.place refused.refusal is
+system_refused paid right (Text refused) is = system_of_both (paid ∷ right ∷ []) refused.place refused.refusal is
 system_refused paid right (Lines row) is = absurd is
 
 -- a text that was read to its end, by its rows

@@ -109,7 +109,7 @@ fn adjust_payees<R: Read + Drop, W: Write>(
         let own = adjust_payee(alloc, texts, payee.as_slice(), rows, page, out)?;
         all = both(all, own);
     }
-    Err(refused(0, Refusal::Many))
+    unreachable!()
 }
 
 /// Passes over both texts from behind their last payees to their ends, and puts the rows of what nobody gets into

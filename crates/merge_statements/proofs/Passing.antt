@@ -136,9 +136,10 @@ more_within old between new before middle after was first passed reads written =
     all = omega (arith, ap (λ (at : At). at.portions) was.at, length_push was.portions p.portion)
 
 -- each is counted
-pub portion_counted : (old new : Unread) → get_or old.line 0 0 ≡ 76 → Steps old new → new.at.portions ≡ old.at.portions + 1
+pub portion_counted : (old new : Unread) → get_or old.line 0 0 ≡ 76 → Steps old new → (new.at.portions ≡ old.at.portions + 1) × IsCount (old.at.portions + 1)
 portion_counted old new first passed =
-    ap (λ (at : At). at.portions) (portion_passed old.at new.at passed.row passed.follows (ap (λ (text : List ℕ). get_or text 0 0) passed.line ∙ first)).leads
+    let p = portion_passed old.at new.at passed.row passed.follows (ap (λ (text : List ℕ). get_or text 0 0) passed.line ∙ first) in
+    (ap (λ (at : At). at.portions) p.leads, p.count)
 
 -- ---- the end of a statement
 
@@ -229,9 +230,10 @@ more_rests old between new before middle after was first passed reads written =
       reads = λ start read. reads start (was.reads start read);
     }
 
-pub rest_counted : (old new : Unread) → get_or old.line 0 0 ≡ 77 → Steps old new → new.at.portions ≡ old.at.portions + 1
+pub rest_counted : (old new : Unread) → get_or old.line 0 0 ≡ 77 → Steps old new → (new.at.portions ≡ old.at.portions + 1) × IsCount (old.at.portions + 1)
 rest_counted old new first passed =
-    ap (λ (at : At). at.portions) (rest_passed old.at new.at passed.row passed.follows (ap (λ (text : List ℕ). get_or text 0 0) passed.line ∙ first)).leads
+    let r = rest_passed old.at new.at passed.row passed.follows (ap (λ (text : List ℕ). get_or text 0 0) passed.line ∙ first) in
+    (ap (λ (at : At). at.portions) r.leads, r.count)
 
 pub rests_written : (old between new : Unread) (before after : Option (List ℕ)) (count : ℕ) (total : ℤ) → HasRests old between before after
     → PassesSum IsRestsSumAt between new count total → WritesRests old new before after count total

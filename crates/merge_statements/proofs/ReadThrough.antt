@@ -1,5 +1,5 @@
 -- A text is read through: its rows so far, and what is wrong with the rest.
-use Rattle.std.proofs.Common.{inl, inr, ◌≡◌, ◌∙◌, ◌≤◌, ◌<◌, ◌+◌, ◌^◌, ◌++◌, ◌∷◌, ◌||◌, [], ℕ, zero, suc, List, Option, Some, None, Bool, true, false}
+use Rattle.std.proofs.Common.{inl, inr, ◌≡◌, ◌∙◌, ◌≤◌, ◌<◌, ◌+◌, ◌*◌, ◌^◌, ◌++◌, ◌∷◌, ◌||◌, [], ℕ, zero, suc, List, Option, Some, None, Bool, true, false}
 use Rattle.std.proofs.Common.{true≢false, length, get_or, take, ap, sym, refl, subst, append_assoc, arith}
 use Rattle.std.specs.Prelude.{IfSome, drop, ⊤}
 use Rattle.std.specs.Io.KnownBytes.{Consumes, IsAtEnd}
@@ -9,23 +9,24 @@ use Rattle.std.proofs.lemmas.List.{append-nil, length-append}
 use Rattle.std.proofs.lemmas.List.Folds.{list_any-append}
 use Rattle.csv_table.specs.Written.{text_of, text_of_row}
 use Rattle.merge_statements.specs.Buffered.{is_feed}
-use Rattle.merge_statements.specs.Places.{At, Follows, at_first, row_of}
+use Rattle.merge_statements.specs.Places.{At, Follows, KindFits, at_first, row_of}
 use Rattle.merge_statements.specs.Reading.{IsFaultOf}
-use Rattle.merge_statements.specs.Refused.{AreRows, BeginsWithRows, BeginsWithWrong, HasTooManyRows, IsFaultFrom, IsRefusedFor, IsRefusedFrom, IsStatementText, IsTextOfRows, refusal_of_field, refusal_of_line}
+use Rattle.merge_statements.specs.Refused.{AreRows, BeginsWithPortions, BeginsWithWrong, IsFaultFrom, IsRefusedFor, IsRefusedFrom, IsStatementText, IsTextOfRows, refusal_of_field, refusal_of_line}
 use Rattle.merge_statements.specs.Refused.AreRows.{none as no_rows, more as more_rows}
-use Rattle.merge_statements.specs.SoFar.{FollowsAs, IsRead, IsReadTo, Unread}
+use Rattle.merge_statements.specs.SoFar.{FollowsAs, IsReadTo}
+use Rattle.merge_statements.specs.Statements.{IsCount}
 use Rattle.merge_statements.specs.Wrong.{IsWrongAt}
 use Rattle.merge_statements.specs.declared.read_fault.ReadFault.{ReadFault}
 use Rattle.merge_statements.specs.declared.read_fault.ReadFault.TheVariants.{Refused, TooLong, Unended}
 use Rattle.merge_statements.specs.declared.refusal.Refusal.{Refusal}
 use Rattle.merge_statements.specs.declared.refusal.Refusal.TheVariants as refusal
 use Rattle.merge_statements.specs.declared.refusal.StatementFault.TheVariants.{End, Row}
-use Rattle.merge_statements.specs.declared.walk.Place.TheVariants.{Ended}
+use Rattle.merge_statements.specs.declared.walk.Place.{Place}
+use Rattle.merge_statements.specs.declared.walk.Place.TheVariants.{Between, Ended, Resting, Summed, Within}
 use Rattle.merge_statements.specs.declared.walk.Wrong.{Wrong}
 use Rattle.merge_statements.specs.declared.walk.Wrong.TheVariants as wrong
 use Rattle.merge_statements.proofs.FieldLemmas.{or-right}
 use Rattle.merge_statements.proofs.Passing.{text_more}
-use Rattle.merge_statements.proofs.Steps.{kind_of}
 
 -- ---- line feeds
 
@@ -169,40 +170,67 @@ pub nothing_claimed : (start : Option (List ℕ)) → IfSome start (λ text. ⊤
 nothing_claimed None = tt
 nothing_claimed (Some text) = tt
 
--- ---- more rows than are counted
+-- ---- how many portions and rows there are
 
-pub begun : (start left : Option (List ℕ)) (at : At) (number : ℕ) (was : IsReadTo start at left number) → IfSome start (λ text. BeginsWithRows text (length was.rows))
+pub begun : (start left : Option (List ℕ)) (at : At) (number : ℕ) → IsReadTo start at left number → IfSome start (λ text. BeginsWithPortions text at.portions)
 begun None left at number was = tt
 begun (Some text) None at number was = absurd was.consumed
 begun (Some text) (Some rest) at number was = record { rows = was.rows; at = at; rest = rest; are = was.are; bytes = was.consumed; counted = refl }
 
-pub too_many_read : (start left : Option (List ℕ)) (at : At) (number : ℕ) → IsReadTo start at left number → 10 ^ 18 + 1 < number → IfSome start HasTooManyRows
-too_many_read None left at number was many = tt
-too_many_read (Some text) left at number was many = (length was.rows, begun (Some text) left at number was, omega (arith, was.counted, many))
+-- how many rows there may be more than two for each portion
+abbrev more_at : Place → ℕ
+more_at (Within count so_far) = 0
+more_at Summed = 2
+more_at (Ended lines) = 3
+more_at _ = 1
 
--- a row is of one portion at most
-one_portion : (at next : At) (row : List (List ℕ)) → Follows at row next → next.portions ≤ at.portions + 1
-one_portion at next row follows = elim (kind_of at.place follows.kind follows.fits.kind_fits) [
-  | inl l ↦ let (amount, sound, written, leads) = follows.leads.portion l in omega (arith, ap (λ (a : At). a.portions) leads)
-  | inr others ↦ elim others [
-    | inl s ↦ omega (arith, ap (λ (a : At). a.portions) (follows.leads.sum s))
-    | inr more ↦ elim more [
-      | inl m ↦ let (amount, sound, written, leads) = follows.leads.rest m in omega (arith, ap (λ (a : At). a.portions) leads)
-      | inr last ↦ elim last [
-        | inl t ↦ omega (arith, ap (λ (a : At). a.portions) (follows.leads.rests t))
-        | inr r ↦ let (lines, few, written, leads) = follows.leads.run r in omega (arith, ap (λ (a : At). a.portions) leads)
-      ]
+few_more : (place : Place) → more_at place ≤ 3
+few_more Between = omega arith
+few_more (Within count so_far) = omega arith
+few_more (Resting count so_far) = omega arith
+few_more Summed = omega arith
+few_more (Ended lines) = omega arith
+
+-- as many rows as two for each portion, and those
+abbrev most_rows : At → ℕ
+most_rows at = 2 * at.portions + more_at at.place
+
+module _ (at next : At) (row : List (List ℕ)) (follows : Follows at row next) where
+  leads_on : (to : At) → next ≡ to → most_rows at + 1 ≤ most_rows to → IsCount to.portions → (most_rows at + 1 ≤ most_rows next) × IsCount next.portions
+  leads_on to is more few = (omega (arith, more, ap most_rows is), omega (arith, few, ap (λ (a : At). a.portions) is))
+
+  -- a row is a portion, or a sum of some; the portions of all are counted
+  one_row : (place : Place) → at.place ≡ place → KindFits place follows.kind → IsCount at.portions → (most_rows at + 1 ≤ most_rows next) × IsCount next.portions
+  one_row Between is fits few = elim fits [
+    | inl l ↦ let (amount, sound, written, leads) = follows.leads.portion l in leads_on _ leads (omega (arith, ap more_at is)) (follows.fits.amount_or_total_fits.amount (inl l)).0
+    | inr others ↦ elim others [
+      | inl m ↦ let (amount, sound, written, leads) = follows.leads.rest m in leads_on _ leads (omega (arith, ap more_at is)) (follows.fits.amount_or_total_fits.amount (inr m)).0
+      | inr t ↦ leads_on _ (follows.leads.rests t) (omega (arith, ap more_at is)) few
     ]
   ]
-]
+  one_row (Within count so_far) is fits few = elim fits [
+    | inl l ↦ let (amount, sound, written, leads) = follows.leads.portion l in leads_on _ leads (omega (arith, ap more_at is)) (follows.fits.amount_or_total_fits.amount (inl l)).0
+    | inr s ↦ leads_on _ (follows.leads.sum s) (omega (arith, ap more_at is)) few
+  ]
+  one_row (Resting count so_far) is fits few = elim fits [
+    | inl m ↦ let (amount, sound, written, leads) = follows.leads.rest m in leads_on _ leads (omega (arith, ap more_at is)) (follows.fits.amount_or_total_fits.amount (inr m)).0
+    | inr t ↦ leads_on _ (follows.leads.rests t) (omega (arith, ap more_at is)) few
+  ]
+  one_row Summed is r few = let (lines, some, written, leads) = follows.leads.run r in leads_on _ leads (omega (arith, ap more_at is)) few
+  one_row (Ended lines) is fits few = absurd fits
 
-pub portions_are_rows : (at last : At) (rows : List (List (List ℕ))) → AreRows at rows last → last.portions ≤ at.portions + length rows
-portions_are_rows _ _ _ (no_rows at) = omega arith
-portions_are_rows _ _ _ (more_rows at next last row rows follows are) = omega (arith, one_portion at next row follows, portions_are_rows next last rows are)
+few_rows : (at last : At) (rows : List (List (List ℕ))) → AreRows at rows last → IsCount at.portions → (most_rows at + length rows ≤ most_rows last) × IsCount last.portions
+few_rows _ _ _ (no_rows at) few = (omega arith, few)
+few_rows _ _ _ (more_rows at next last row rows follows are) few =
+    let one = one_row at next row follows at.place refl follows.fits.kind_fits few in
+    let rest = few_rows next last rows are one.1 in
+    (omega (arith, one.0, rest.0), rest.1)
 
--- a text of which more portions were read than are counted
-pub too_many_portions : (start : Option (List ℕ)) (part : Unread) → IsRead start part → 10 ^ 18 < part.at.portions → IfSome start HasTooManyRows
-too_many_portions start part read many = too_many_read start part.left part.at part.number read (omega (arith, many, read.counted, portions_are_rows at_first part.at read.rows read.are))
+-- so no text has more rows than can be numbered
+pub few_read : (start left : Option (List ℕ)) (at : At) (number : ℕ) → IsReadTo start at left number → number ≤ 2 * 10 ^ 18 + 3
+few_read start left at number was =
+    let few = few_rows at_first at was.rows was.are (omega arith) in
+    omega (arith, was.counted, few.0, few.1, few_more at.place)
 
 -- ---- what is refused further on
 
@@ -219,6 +247,6 @@ rest_refused (Some text) (Some rest) at number (refusal.Fault fault) was from = 
   fault_from = subst (λ (k : ℕ). IsFaultFrom at k rest fault) was.counted from;
 }
 rest_refused start left at number refusal.Memory was from = nothing_claimed start
-rest_refused start left at number refusal.Many was from = too_many_read start left at number was from
+rest_refused start left at number refusal.Many was from = absurd from
 rest_refused start left at number (refusal.Read error) was from = nothing_claimed start
 rest_refused start left at number (refusal.Write error) was from = nothing_claimed start

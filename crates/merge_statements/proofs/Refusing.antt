@@ -1,6 +1,7 @@
 -- What is read of texts, and what is refused.
-use Rattle.std.proofs.Common.{◌≡◌, ◌∙◌, ◌<◌, ◌+◌, ◌++◌, ◌∷◌, ◌⊎◌, inl, inr, ℕ, zero, suc, List, [], Option, Some, None, Bool, true, false, true≢false, not, All, length, codes, get_or, map, ap, sym, refl, subst, arith}
-use Rattle.std.specs.Prelude.{IfSome, if◌then◌else◌}
+use Rattle.std.proofs.Common.{◌≡◌, ◌∙◌, ◌<◌, ◌+◌, ◌-◌, ◌^◌, ◌++◌, ◌∷◌, ◌⊎◌, inl, inr, ℕ, zero, suc, List, [], Option, Some, None, Bool, true, false, true≢false, not}
+use Rattle.std.proofs.Common.{All, length, codes, get_or, map, ap, sym, refl, subst, arith}
+use Rattle.std.specs.Prelude.{IfSome, if◌then◌else◌, min}
 use Rattle.std.specs.Io.KnownBytes.{Consumes, IsAtEnd, Keeps, prepend_known}
 use Rattle.std.specs.List.{list_any}
 use Rattle.std.specs.Str.{bytes_eq}
@@ -12,7 +13,7 @@ use Rattle.csv_table.specs.Written.{text_of, text_of_row}
 use Rattle.merge_statements.specs.Buffered.{is_feed}
 use Rattle.merge_statements.specs.SoFar.{AreOpen, AreRead, CanEnd, FollowsAs, HavePassed, IsAmongRests, IsOfKind, IsRead, IsReadTo, IsWithinOne, NeedsRow, ReadsOn, RefusesRest, Unread}
 use Rattle.merge_statements.specs.Places.{At, IsPayeeAt, KindFits, at_first, row_of}
-use Rattle.merge_statements.specs.Refused.{HaveTooManyLines, HaveTooManyRows, IsFaultFrom, IsOfSystem, IsRefusalOf, IsRefusedFor, IsRefusedFrom}
+use Rattle.merge_statements.specs.Refused.{HaveTooManyLines, HaveTooManyPortions, IsFaultFrom, IsOfSystem, IsRefusalOf, IsRefusedFor, IsRefusedFrom}
 use Rattle.merge_statements.specs.Refused.AreRows.{none as no_rows}
 use Rattle.merge_statements.specs.Statements.{Statement}
 use Rattle.merge_statements.specs.SoFar.AreOpen.{none as no_open, more as more_open}
@@ -26,8 +27,8 @@ use Rattle.merge_statements.specs.declared.walk.Place.TheVariants.{Between, Ende
 use Rattle.merge_statements.specs.declared.walk.Wrong.TheVariants as wrong
 use Rattle.merge_statements.proofs.Passing.{opened}
 use Rattle.merge_statements.proofs.Chains.{same_row}
-use Rattle.merge_statements.proofs.ReadThrough.{field_refused, more_read, none_read, nothing_claimed, rest_refused}
-use Rattle.merge_statements.proofs.TooMany.{one_has}
+use Rattle.merge_statements.proofs.ReadThrough.{few_read, field_refused, more_read, none_read, nothing_claimed, rest_refused}
+use Rattle.merge_statements.proofs.TooMany.{unknown_one}
 
 -- ---- one text
 
@@ -160,16 +161,23 @@ stepped : (start : Option (List ℕ)) (at next : At) (number : ℕ) (line : List
 stepped start at next number line left follows read =
     more_read start at next (prepend_known (line ++ 10 ∷ []) left) left number (line ++ 10 ∷ []) read follows (takes_first (line ++ 10 ∷ []) left)
 
+-- and its number is not too large
+goes_up : (start : Option (List ℕ)) (at : At) (number behind : ℕ) (left : Option (List ℕ)) → behind ≡ min (number + 1) (2 ^ 64 - 1) → IsReadTo start at left number → behind ≡ number + 1
+goes_up start at number behind left counted read = omega (arith, counted, few_read start left at number read)
+
 pub step_refused : (part : Unread) (at next : At) (number behind : ℕ) (line : List ℕ) (left payee : Option (List ℕ)) (has_row : Bool) (why : Refusal)
-    → unread at number line left payee has_row ≡ part → has_row ≡ true → FollowsAs at (line ++ 10 ∷ []) next → behind ≡ number + 1 → IsRefusedFrom next behind left why → RefusesRest part why
+    → unread at number line left payee has_row ≡ part → has_row ≡ true → FollowsAs at (line ++ 10 ∷ []) next → behind ≡ min (number + 1) (2 ^ 64 - 1) → IsRefusedFrom next behind left why
+    → RefusesRest part why
 step_refused part at next number behind line left payee false why is row follows counted from = cc row
 step_refused part at next number behind line left payee true why is row follows counted from = subst (λ (p : Unread). RefusesRest p why) is by
   where
     by : RefusesRest (unread at number line left payee true) why
-    by = λ start read. rest_refused start left next (number + 1) why (stepped start at next number line left follows read) (subst (λ (k : ℕ). IsRefusedFrom next k left why) counted from)
+    by = λ start read.
+        let one_more = goes_up start at number behind (prepend_known (line ++ 10 ∷ []) left) counted read in
+        rest_refused start left next (number + 1) why (stepped start at next number line left follows read) (subst (λ (k : ℕ). IsRefusedFrom next k left why) one_more from)
 
 pub step_reads : (part : Unread) (at next : At) (number behind : ℕ) (line new_line : List ℕ) (left new_left payee new_payee : Option (List ℕ)) (has_row found : Bool)
-    → unread at number line left payee has_row ≡ part → has_row ≡ true → FollowsAs at (line ++ 10 ∷ []) next → behind ≡ number + 1
+    → unread at number line left payee has_row ≡ part → has_row ≡ true → FollowsAs at (line ++ 10 ∷ []) next → behind ≡ min (number + 1) (2 ^ 64 - 1)
     → (found ≡ true → Consumes left new_left (new_line ++ 10 ∷ [])) → (found ≡ false → Keeps left new_left) → ReadsOn part (unread next behind new_line new_left new_payee found)
 step_reads part at next number behind line new_line left new_left payee new_payee false found is row follows counted more ends = cc row
 step_reads part at next number behind line new_line left new_left payee new_payee true found is row follows counted more ends =
@@ -182,7 +190,7 @@ step_reads part at next number behind line new_line left new_left payee new_paye
           rows = was.rows;
           are = was.are;
           consumed = Consumes-kept start left (prepend_known (if found then new_line ++ 10 ∷ [] else []) new_left) (text_of was.rows) was.consumed (opened left left new_left new_line found refl more ends);
-          counted = counted ∙ was.counted;
+          counted = goes_up start at number behind (prepend_known (line ++ 10 ∷ []) left) counted read ∙ was.counted;
         }
 
 -- ---- the first row
@@ -222,11 +230,11 @@ system_of starts place (refusal.Write error) of = tt
 pub refusal_of : (starts : List (Option (List ℕ))) (place : ℕ) (why : Refusal) → place < length starts → IfSome (get_or starts place None) (λ text. IsRefusedFor text why) → IsRefusalOf starts place why
 refusal_of starts place (refusal.Fault fault) low is = (low, is)
 refusal_of starts place refusal.Memory low is = tt
-refusal_of starts place refusal.Many low is = inl (one_has starts place low is)
+refusal_of starts place refusal.Many low is = inl (unknown_one starts place low is)
 refusal_of starts place (refusal.Read error) low is = tt
 refusal_of starts place (refusal.Write error) low is = tt
 
-pub many_refused : (starts : List (Option (List ℕ))) (place : ℕ) (why : Refusal) → why ≡ refusal.Many → HaveTooManyRows starts ⊎ HaveTooManyLines starts → IsRefusalOf starts place why
+pub many_refused : (starts : List (Option (List ℕ))) (place : ℕ) (why : Refusal) → why ≡ refusal.Many → HaveTooManyPortions starts ⊎ HaveTooManyLines starts → IsRefusalOf starts place why
 many_refused starts place why is many = subst (IsRefusalOf starts place) (sym is) many
 
 record IsReadAt (starts : List (Option (List ℕ))) (parts : List Unread) (place : ℕ) (default : Unread) : Type 0 where

@@ -1,67 +1,50 @@
--- Texts that begin with more rows, or are of more usage lines, than are counted.
+-- Texts that begin with more portions, or are of more usage lines, than are counted.
 use Rattle.std.proofs.Common.{◌≡◌, ◌≤◌, ◌<◌, ◌+◌, ◌^◌, ◌++◌, ◌∷◌, ℕ, zero, suc, ℤ, unsigned_abs, List, [], Option, Some, None, length, get_or, take, ap, sym, refl, subst, arith}
 use Rattle.std.specs.Prelude.{IfSome}
 use Rattle.std.proofs.lemmas.List.Sums.{sum_by-cons}
 use Rattle.merge_statements.specs.Places.{at_first}
-use Rattle.merge_statements.specs.Refused.{BeginsWithRows, HasTooManyRows, HaveTogether, HaveTooManyLines, HaveTooManyRows, IsStatementText}
+use Rattle.merge_statements.specs.Refused.{BeginsWithPortions, HaveTogether, HaveTooManyLines, HaveTooManyPortions, IsStatementText}
 use Rattle.merge_statements.specs.Refused.AreRows.{none as no_rows}
 use Rattle.merge_statements.specs.SoFar.{AreMergedSoFar, AreRead, Ending, EndsEach, EndsOne, TakesEach, Unread, WritesAll, WritesEnding, WritesOne, lines_of, portions_read, rests_of}
 use Rattle.merge_statements.specs.SoFar.AreRead.{none as none_were, more as more_were}
 use Rattle.merge_statements.specs.SoFar.TakesEach.{none as none_of, more as more_of}
 use Rattle.merge_statements.proofs.Counting.{AreCounted, each_counts, each_read}
-use Rattle.merge_statements.proofs.ReadThrough.{all_read, begun, portions_are_rows}
+use Rattle.merge_statements.proofs.ReadThrough.{all_read, begun}
 use Rattle.merge_statements.proofs.Whole.{portions_small, rests_small, statements_small}
 
--- ---- rows of texts that were read
+-- ---- portions of texts that were read
 
-no_row_begun : (start : Option (List ℕ)) → IfSome start (λ text. BeginsWithRows text 0)
-no_row_begun None = tt
-no_row_begun (Some text) = record { rows = []; at = at_first; rest = text; are = no_rows at_first; bytes = refl; counted = refl }
+none_begun : (start : Option (List ℕ)) → IfSome start (λ text. BeginsWithPortions text 0)
+none_begun None = tt
+none_begun (Some text) = record { rows = []; at = at_first; rest = text; are = no_rows at_first; bytes = refl; counted = refl }
 
-no_rows_begun : (starts : List (Option (List ℕ))) → HaveTogether BeginsWithRows starts 0
-no_rows_begun [] = refl
-no_rows_begun (start ∷ starts) = (0, 0, no_row_begun start, no_rows_begun starts, refl)
+all_unbegun : (starts : List (Option (List ℕ))) → HaveTogether BeginsWithPortions starts 0
+all_unbegun [] = refl
+all_unbegun (start ∷ starts) = (0, 0, none_begun start, all_unbegun starts, refl)
 
--- the rows of the first texts are rows of all
-rows_of_first : (starts : List (Option (List ℕ))) (n count : ℕ) → HaveTogether BeginsWithRows (take n starts) count → HaveTogether BeginsWithRows starts count
-rows_of_first [] zero count have = have
-rows_of_first [] (suc n) count have = have
-rows_of_first (start ∷ starts) zero count have = subst (HaveTogether BeginsWithRows (start ∷ starts)) (sym have) (no_rows_begun (start ∷ starts))
-rows_of_first (start ∷ starts) (suc n) count (own, others, begins, have, sum) = (own, others, begins, rows_of_first starts n others have, sum)
+-- the portions of the first texts are portions of all
+portions_of_first : (starts : List (Option (List ℕ))) (n count : ℕ) → HaveTogether BeginsWithPortions (take n starts) count → HaveTogether BeginsWithPortions starts count
+portions_of_first [] zero count have = have
+portions_of_first [] (suc n) count have = have
+portions_of_first (start ∷ starts) zero count have = subst (HaveTogether BeginsWithPortions (start ∷ starts)) (sym have) (all_unbegun (start ∷ starts))
+portions_of_first (start ∷ starts) (suc n) count (own, others, begins, have, sum) = (own, others, begins, portions_of_first starts n others have, sum)
 
--- what holds of one text holds of all together
-pub one_has : (starts : List (Option (List ℕ))) (place : ℕ) → place < length starts → IfSome (get_or starts place None) HasTooManyRows → HaveTooManyRows starts
-one_has [] place low has = absurd (omega (arith, low))
-one_has (start ∷ starts) zero low has = by start has
-  where
-    by : (known : Option (List ℕ)) → IfSome known HasTooManyRows → HaveTooManyRows (known ∷ starts)
-    by None has = (10 ^ 18 + 1, (10 ^ 18 + 1, 0, tt, no_rows_begun starts, omega arith), omega arith)
-    by (Some text) (count, begins, many) = (count, (count, 0, begins, no_rows_begun starts, omega arith), many)
-one_has (start ∷ starts) (suc place) low has =
-    let rest : HaveTooManyRows starts = one_has starts place (omega (arith, low)) has in
-    (rest.0, (0, rest.0, no_row_begun start, rest.1, omega arith), rest.2)
+-- where the bytes of a text are not known, nothing is claimed of how many portions all have
+pub unknown_one : (starts : List (Option (List ℕ))) (place : ℕ) → place < length starts → IfSome (get_or starts place None) (λ text. ⊥) → HaveTooManyPortions starts
+unknown_one [] place low none = absurd (omega (arith, low))
+unknown_one (None ∷ starts) zero low none = (10 ^ 18 + 1, (10 ^ 18 + 1, 0, tt, all_unbegun starts, omega arith), omega arith)
+unknown_one (Some text ∷ starts) zero low none = absurd none
+unknown_one (start ∷ starts) (suc place) low none =
+    let rest : HaveTooManyPortions starts = unknown_one starts place (omega (arith, low)) none in
+    (rest.0, (0, rest.0, none_begun start, rest.1, omega arith), rest.2)
 
--- ---- portions are rows
+have_read : (starts : List (Option (List ℕ))) (parts : List Unread) → AreRead starts parts → HaveTogether BeginsWithPortions starts (portions_read parts)
+have_read _ _ none_were = refl
+have_read _ _ (more_were start part starts parts read others) =
+    (part.at.portions, portions_read parts, begun start part.left part.at part.number read, have_read starts parts others, sum_by-cons (λ (p : Unread). p.at.portions) part parts)
 
-record HaveRows (starts : List (Option (List ℕ))) (parts : List Unread) : Type 0 where
-  pub rows : ℕ
-  pub have : HaveTogether BeginsWithRows starts rows
-  pub most : portions_read parts ≤ rows
-
-rows_read : (starts : List (Option (List ℕ))) (parts : List Unread) → AreRead starts parts → HaveRows starts parts
-rows_read _ _ none_were = record { rows = 0; have = refl; most = omega arith }
-rows_read _ _ (more_were start part starts parts read others) =
-    let rest = rows_read starts parts others in
-    record {
-      rows = length read.rows + rest.rows;
-      have = (length read.rows, rest.rows, begun start part.left part.at part.number read, rest.have, refl);
-      most = omega (arith, rest.most, portions_are_rows at_first part.at read.rows read.are, sum_by-cons (λ (p : Unread). p.at.portions) part parts);
-    }
-
-pub many_read : (starts : List (Option (List ℕ))) (parts : List Unread) → AreRead starts parts → 10 ^ 18 < portions_read parts → HaveTooManyRows starts
-many_read starts parts are many =
-    let read = rows_read starts parts are in
-    (read.rows, read.have, omega (arith, read.most, many))
+pub many_read : (starts : List (Option (List ℕ))) (parts : List Unread) → AreRead starts parts → 10 ^ 18 < portions_read parts → HaveTooManyPortions starts
+many_read starts parts are many = (portions_read parts, have_read starts parts are, many)
 
 -- ---- portions that are passed over
 
@@ -74,15 +57,15 @@ take_read (suc n) _ _ (more_were start part starts parts read others) = more_wer
 module _ {X : Type 0} (One : Unread → Unread → List X → Type 0) (count : List X → ℕ) (are : AreCounted One count) where
   -- more than are counted are passed over in all texts
   pub too_many_passed : (starts : List (Option (List ℕ))) (olds news : List Unread) (xs : List X) → AreRead starts olds → TakesEach One olds news xs → 10 ^ 18 < portions_read olds + count xs
-      → HaveTooManyRows starts
+      → HaveTooManyPortions starts
   too_many_passed starts olds news xs read each many = many_read starts news (each_read One count are starts olds news xs read each) (omega (arith, each_counts One count are olds news xs each, many))
 
   -- or in the first of them
   pub too_many_of_first : (starts : List (Option (List ℕ))) (olds news : List Unread) (xs : List X) (n : ℕ) → AreRead starts olds → TakesEach One (take n olds) news xs → 10 ^ 18 < count xs
-      → HaveTooManyRows starts
+      → HaveTooManyPortions starts
   too_many_of_first starts olds news xs n read each many =
-      let first : HaveTooManyRows (take n starts) = too_many_passed (take n starts) (take n olds) news xs (take_read n starts olds read) each (omega (arith, many)) in
-      (first.0, rows_of_first starts n first.0 first.1, first.2)
+      let first : HaveTooManyPortions (take n starts) = too_many_passed (take n starts) (take n olds) news xs (take_read n starts olds read) each (omega (arith, many)) in
+      (first.0, portions_of_first starts n first.0 first.1, first.2)
 
 -- ---- usage lines
 

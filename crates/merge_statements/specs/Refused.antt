@@ -1,4 +1,5 @@
--- Why a text is no text of statements: the first row that cannot stand where it does. Or it has too many rows.
+-- Why a text is no text of statements: the first row that cannot stand where it does. Or why texts cannot be merged:
+-- together they have too many portions, or are of too many usage lines.
 use Rattle.std.specs.Prelude.{ℕ, ◌≡◌, ◌<◌, ◌≤◌, ◌+◌, ◌^◌, ◌++◌, ◌∷◌, ◌⊎◌, [], List, None, Option, IfSome}
 use Rattle.std.specs.Prelude.{false, length, slice_index_or, take, ⊤}
 use Rattle.std.specs.List.{list_any}
@@ -78,18 +79,14 @@ pub record IsFaultIn (text : List ℕ) (fault : StatementFault) : Type 0 where
   pub bytes : text ≡ text_of rows ++ rest
   pub fault_from : IsFaultFrom at (length rows + 1) rest fault
 
--- the text begins with so many rows that can stand one after another
-pub record BeginsWithRows (text : List ℕ) (count : ℕ) : Type 0 where
+-- the text begins with rows that can stand one after another, and this is how many of them are portions
+pub record BeginsWithPortions (text : List ℕ) (count : ℕ) : Type 0 where
   pub rows : List (List (List ℕ))
   pub at : At
   pub rest : List ℕ
   pub are : AreRows at_first rows at
   pub bytes : text ≡ text_of rows ++ rest
-  pub counted : count ≡ length rows
-
--- and they are more than portions are counted to
-abbrev pub HasTooManyRows : List ℕ → Type 0
-HasTooManyRows text = (count : ℕ) × BeginsWithRows text count × (10 ^ 18 < count)
+  pub counted : count ≡ at.portions
 
 -- Texts have so many of something together. Nothing is claimed of one whose bytes are not known.
 abbrev pub HaveTogether : (Has : List ℕ → ℕ → Type 0) → List (Option (List ℕ)) → (count : ℕ) → Type 0
@@ -98,9 +95,9 @@ HaveTogether Has (start ∷ starts) count =
     (own : ℕ) × (others : ℕ)
     × IfSome start (λ text. Has text own) × HaveTogether Has starts others × (count ≡ own + others)
 
--- together they begin with more rows than that
-abbrev pub HaveTooManyRows : List (Option (List ℕ)) → Type 0
-HaveTooManyRows starts = (count : ℕ) × HaveTogether BeginsWithRows starts count × (10 ^ 18 < count)
+-- together they begin with more portions than are counted
+abbrev pub HaveTooManyPortions : List (Option (List ℕ)) → Type 0
+HaveTooManyPortions starts = (count : ℕ) × HaveTogether BeginsWithPortions starts count × (10 ^ 18 < count)
 
 -- the first of them, up to a place, are texts of statements, and together of more usage lines than are counted
 pub record HaveTooManyLines (starts : List (Option (List ℕ))) : Type 0 where
@@ -110,25 +107,25 @@ pub record HaveTooManyLines (starts : List (Option (List ℕ))) : Type 0 where
   pub sound : HaveTogether IsStatementText (take count starts) lines
   pub many : 10 ^ 18 < lines
 
--- A text is refused for its first fault, or since it has too many rows. Nothing is claimed of lack of memory, nor of a
--- read or a write that was refused.
+-- A text is refused for its first fault, and a portion too many is one: so it is never refused for too many. Nothing is
+-- claimed of lack of memory, nor of a read or a write that was refused.
 abbrev pub IsRefusedFor : List ℕ → Refusal → Type 0
 IsRefusedFor text (refusal.Fault fault) = IsFaultIn text fault
-IsRefusedFor text refusal.Many = HasTooManyRows text
+IsRefusedFor text refusal.Many = ⊥
 IsRefusedFor text _ = ⊤
 
 -- Of several texts the one in a place, from 0, is refused for its first fault, where its bytes are known; or all are,
--- since together they have too many rows, or are of too many usage lines. Nothing is claimed of the same as above.
+-- since together they have too many portions, or are of too many usage lines. Nothing is claimed of the same as above.
 abbrev pub IsRefusalOf : List (Option (List ℕ)) → ℕ → Refusal → Type 0
 IsRefusalOf starts place (refusal.Fault fault) =
     (place < length starts) × IfSome (slice_index_or starts place None) (λ text. IsFaultIn text fault)
-IsRefusalOf starts place refusal.Many = HaveTooManyRows starts ⊎ HaveTooManyLines starts
+IsRefusalOf starts place refusal.Many = HaveTooManyPortions starts ⊎ HaveTooManyLines starts
 IsRefusalOf starts place _ = ⊤
 
 -- the same of the rest of one text from the row of a number on, where its bytes are known
 abbrev pub IsRefusedFrom : At → ℕ → Option (List ℕ) → Refusal → Type 0
 IsRefusedFrom at number left (refusal.Fault fault) = IfSome left (λ text. IsFaultFrom at number text fault)
-IsRefusedFrom at number left refusal.Many = 10 ^ 18 + 1 < number
+IsRefusedFrom at number left refusal.Many = ⊥
 IsRefusedFrom at number left _ = ⊤
 
 -- memory, a read or a write was refused

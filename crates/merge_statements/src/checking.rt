@@ -34,6 +34,7 @@ pub struct Counts {
 pub fn check<R: Read + Drop>(alloc: Global, from: R) -> Result<Counts, Refusal>
     ensures sound { IfOk result (λ counts. IfSome (R.remaining from) (λ text. IsTextOfRows text counts.lines counts.rows)) }
     ensures refused { IfErr result (λ refusal. IfSome (R.remaining from) (λ text. IsRefusedFor text refusal)) }
+    ensures never_many { IfErr result (λ refusal. ¬ (refusal ≡ Refusal.Many)) }
 {
     let Ok(mut rows) = RowReader::new(alloc, from) else {
         return Err(Refusal::Memory);
@@ -49,7 +50,7 @@ pub fn check<R: Read + Drop>(alloc: Global, from: R) -> Result<Counts, Refusal>
             Err(refusal) => return Err(refusal),
         }
     }
-    Err(Refusal::Many)
+    unreachable!()
 }
 
 /// What is answered where a text ends before the row of a number.

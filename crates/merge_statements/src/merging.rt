@@ -195,7 +195,7 @@ fn merge_payees<R: Read + Drop, W: Write>(
         push_total(page, out, "S", payee.as_slice(), own)?;
         all = both(all, own, 0)?;
     }
-    Err(refused(0, Refusal::Many))
+    unreachable!()
 }
 
 /// The least of the payees that come next, as above.

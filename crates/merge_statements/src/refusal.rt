@@ -25,7 +25,8 @@ pub enum StatementFault {
     /// The use has no name, or the count is not that of the rows.
     #[error("row {0} has no use, or another count than its rows")]
     UsageOrCount(u64),
-    /// The amount is none, or 0, or out of range; or the total is not that of the rows.
+    /// The amount is none, or 0, or out of range, or that of a portion after 1,000,000,000,000,000,000 others; or the
+    /// total is not that of the rows.
     #[error("row {0} has no amount in range, or another total than its rows")]
     AmountOrTotal(u64),
     /// The text ends before this row.
@@ -72,8 +73,8 @@ pub enum Refusal {
     /// Memory was refused.
     #[error("out of room")]
     Memory,
-    /// There are more portions or usage lines than are counted, 1,000,000,000,000,000,000, in one text or in all
-    /// together. So they begin with more rows than that, or are of more usage lines.
+    /// All texts together have more portions, or are of more usage lines, than are counted: 1,000,000,000,000,000,000.
+    /// Of one text a portion more than that has no amount in range, so one alone is never refused for this.
     #[error("too many")]
     Many,
     /// A read was refused.

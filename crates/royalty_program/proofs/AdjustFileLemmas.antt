@@ -6,15 +6,16 @@ use Rattle.std.specs.Io.KnownBytes.{Appends}
 use Rattle.std.specs.Prelude.{String, string_bytes}
 use Rattle.std.specs.declared.alloc.Global.{Global}
 use Rattle.adjust_statements.specs.Adjusted.{WritesAdjustment}
-use Rattle.adjust_statements.specs.Refused.{HaveOtherLines}
+use Rattle.adjust_statements.specs.Refused.{HaveOtherLines, IsRefusalOfBoth}
 use Rattle.merge_statements.specs.Refused.{IsTextOfRows}
+use Rattle.merge_statements.specs.declared.refusal.Refusal.{Refusal}
 use Rattle.royalty_program.specs.AdjustFiles.{AreAlike, GiveOtherLines, IsAdjustmentOver, IsNotAsBefore, IsOfBoth, IsOfReading, IsOneOfBoth}
 use Rattle.royalty_program.specs.AdjustFiles.{IsSaidChanged, IsSaidOther}
 use Rattle.royalty_program.specs.MergeFiles.{Gives, IsCountedText, IsSoundText}
-use Rattle.royalty_program.specs.Status.{IsOfOne, IsOfRunOutput, IsOfText, IsUnopened}
+use Rattle.royalty_program.specs.Status.{IsOfPlace, IsOfRunOutput, IsOfText, IsUnopened}
 use Rattle.royalty_program.specs.declared.failure.Failure.{Failure}
 use Rattle.royalty_program.specs.declared.failure.Failure.TheVariants.{Changed, File, ManyMerged, OtherLines, Replaces, Room, Target}
-use Rattle.royalty_program.proofs.MergeFileLemmas.{sound_text, unopened_text}
+use Rattle.royalty_program.proofs.MergeFileLemmas.{fault_over, sound_text, too_many_portions_over}
 
 -- a path among two is one of both
 one_of_both : (paid right path : List ℕ) → Contains (paid ∷ right ∷ []) path → IsOneOfBoth paid right path
@@ -52,13 +53,19 @@ module _ (gives : List ℕ → List ℕ → Type 0) (paid right : List ℕ) wher
     },
   )
 
-  -- one of the two that is refused among both
-  pub of_one : (failure : Failure) → IsOfOne gives (paid ∷ right ∷ []) failure → IsOfReading gives paid right failure
-  of_one Room is = tt
-  of_one ManyMerged is = is
-  of_one (File name) is = one_of_both paid right (string_bytes name) is
-  of_one (Changed name) is = (one_of_both paid right (string_bytes name) is.0, inl is.1)
-  of_one failure is = absurd is
+  -- the one of the two in a place that is refused, or both
+  pub of_place : (before after : Option (List ℕ)) (place : ℕ) (was : Refusal) (failure : Failure) → Gives (gives paid) before → Gives (gives right) after
+      → IsRefusalOfBoth (before ∷ after ∷ []) place was → IsOfPlace (paid ∷ right ∷ []) place was failure → IsOfReading gives paid right failure
+  of_place before after place was Room given_paid given_right refused is = tt
+  of_place before after place was ManyMerged given_paid given_right refused is =
+      too_many_portions_over gives (paid ∷ right ∷ []) (before ∷ after ∷ []) (given_paid, (given_right, tt)) (subst (IsRefusalOfBoth (before ∷ after ∷ []) place) is refused)
+  of_place before after place was (File name) given_paid given_right refused is = one_of_both paid right (string_bytes name) (place, is.0.0, is.0.1)
+  of_place before after place was (Changed name) given_paid given_right refused is = (
+    one_of_both paid right (string_bytes name) (place, is.0.0, is.0.1),
+    inl (fault_over gives (paid ∷ right ∷ []) (before ∷ after ∷ []) place (string_bytes name) is.1.0 (given_paid, (given_right, tt)) is.0
+        (subst (IsRefusalOfBoth (before ∷ after ∷ []) place) is.1.1 refused).1),
+  )
+  of_place before after place was failure given_paid given_right refused is = absurd is
 
   -- a path that cannot be opened
   pub unopened_paid : (failure : Failure) → IsUnopened paid failure → IsOfReading gives paid right failure

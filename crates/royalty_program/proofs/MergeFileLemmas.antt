@@ -8,11 +8,13 @@ use Rattle.std.specs.Prelude.{String, string_bytes}
 use Rattle.std.specs.declared.alloc.Global.{Global}
 use Rattle.std.specs.declared.io.ErrorKind.{ErrorKind}
 use Rattle.std.specs.declared.io.ErrorKind.TheVariants.{OutOfMemory}
-use Rattle.merge_statements.specs.Refused.{BeginsWithRows, HaveTogether, HaveTooManyLines, HaveTooManyRows, IsFaultIn, IsRefusalOf, IsRefusedFor, IsStatementText, IsTextOfRows}
+use Rattle.merge_statements.specs.Refused.{BeginsWithPortions, HaveTogether, HaveTooManyLines, HaveTooManyPortions, IsFaultIn, IsRefusalOf, IsRefusedFor, IsStatementText, IsTextOfRows}
 use Rattle.merge_statements.specs.Merged.{AreTexts, WritesMerge}
 use Rattle.merge_statements.specs.Merged.AreTexts.{none as no_texts, more as more_texts}
 use Rattle.merge_statements.specs.declared.refusal.Refusal.{Refusal}
-use Rattle.royalty_program.specs.MergeFiles.{AreOpened, AreSoundTexts, AreTextsAt, AreTooMany, BeginWithRows, Gives, HoldsOf, IsCountedText, IsMergeOver, IsSoundText}
+use Rattle.merge_statements.specs.declared.refusal.StatementFault.{StatementFault}
+use Rattle.royalty_program.specs.MergeFiles.{AreOpened, AreSoundTexts, AreTextsAt, AreTooMany, BeginWithPortions, BeginWithTooManyPortions, Gives, GivesFault}
+use Rattle.royalty_program.specs.MergeFiles.{HoldsOf, IsCountedText, IsMergeOver, IsSoundText}
 use Rattle.royalty_program.specs.Status.{IsAt, IsOfOne, IsOfPlace, IsOfRefusal, IsOfText, IsOfTexts, IsUnopened, IsUnreadable, failure_of_file}
 use Rattle.royalty_program.specs.declared.failure.Failure.{Failure}
 use Rattle.royalty_program.specs.declared.failure.Failure.TheVariants.{Room, File, Statement, Many, ManyMerged, Changed}
@@ -58,13 +60,17 @@ module _ (gives : List ℕ → List ℕ → Type 0) where
   opened_at (p ∷ paths) (k ∷ knowns) zero path opened at = subst (λ (it : List ℕ). Gives (gives it) k) at.1 opened.0
   opened_at (p ∷ paths) (k ∷ knowns) (suc place) path opened at = opened_at paths knowns place path opened.1 (omega (arith, at.0), at.1)
 
-  -- rows of what readers have left are rows of what their files give
-  rows_over : (paths : List (List ℕ)) (knowns : List (Option (List ℕ))) (rows : ℕ) → AreOpened gives paths knowns → HaveTogether BeginsWithRows knowns rows → BeginWithRows gives paths rows
-  rows_over [] [] rows opened have = have
-  rows_over [] (known ∷ knowns) rows opened have = absurd opened
-  rows_over (path ∷ paths) [] rows opened have = absurd opened
-  rows_over (path ∷ paths) (known ∷ knowns) rows opened (own, others, begins, have, sum) =
-      (own, others, record { known = known; given = opened.0; holds_of = begins }, rows_over paths knowns others opened.1 have, sum)
+  -- portions of what readers have left are portions of what their files give
+  portions_over : (paths : List (List ℕ)) (knowns : List (Option (List ℕ))) (portions : ℕ) → AreOpened gives paths knowns → HaveTogether BeginsWithPortions knowns portions
+      → BeginWithPortions gives paths portions
+  portions_over [] [] portions opened have = have
+  portions_over [] (known ∷ knowns) portions opened have = absurd opened
+  portions_over (path ∷ paths) [] portions opened have = absurd opened
+  portions_over (path ∷ paths) (known ∷ knowns) portions opened (own, others, begins, have, sum) =
+      (own, others, record { known = known; given = opened.0; holds_of = begins }, portions_over paths knowns others opened.1 have, sum)
+
+  pub too_many_portions_over : (paths : List (List ℕ)) (knowns : List (Option (List ℕ))) → AreOpened gives paths knowns → HaveTooManyPortions knowns → BeginWithTooManyPortions gives paths
+  too_many_portions_over paths knowns opened (portions, have, many) = (portions, portions_over paths knowns portions opened have, many)
 
   -- and so are their statements, of the first so many
   sound_over : (paths : List (List ℕ)) (knowns : List (Option (List ℕ))) (count lines : ℕ) → AreOpened gives paths knowns → HaveTogether IsStatementText (take count knowns) lines
@@ -83,8 +89,8 @@ module _ (gives : List ℕ → List ℕ → Type 0) where
   opened_length (path ∷ paths) [] opened = absurd opened
   opened_length (path ∷ paths) (known ∷ knowns) opened = omega (arith, opened_length paths knowns opened.1)
 
-  too_many_over : (paths : List (List ℕ)) (knowns : List (Option (List ℕ))) → AreOpened gives paths knowns → HaveTooManyRows knowns ⊎ HaveTooManyLines knowns → AreTooMany gives paths
-  too_many_over paths knowns opened (inl (rows, have, many)) = inr (inr (rows, rows_over paths knowns rows opened have, many))
+  too_many_over : (paths : List (List ℕ)) (knowns : List (Option (List ℕ))) → AreOpened gives paths knowns → HaveTooManyPortions knowns ⊎ HaveTooManyLines knowns → AreTooMany gives paths
+  too_many_over paths knowns opened (inl portions) = inr (too_many_portions_over paths knowns opened portions)
   too_many_over paths knowns opened (inr lines) = inl record {
     count = lines.count;
     inside = omega (arith, lines.inside, opened_length paths knowns opened);
@@ -93,18 +99,18 @@ module _ (gives : List ℕ → List ℕ → Type 0) where
     many = lines.many;
   }
 
+  -- a fault of what the reader in a place has left is one of what its file gives
+  pub fault_over : (paths : List (List ℕ)) (knowns : List (Option (List ℕ))) (place : ℕ) (path : List ℕ) (fault : StatementFault) → AreOpened gives paths knowns → IsAt paths place path
+      → IfSome (slice_index_or knowns place None) (λ text. IsFaultIn text fault) → GivesFault (gives path)
+  fault_over paths knowns place path fault opened at has = (fault, record { known = slice_index_or knowns place None; given = opened_at paths knowns place path opened at; holds_of = has })
+
   -- so the one in a place that is refused is one of them
   pub one_of_place : (paths : List (List ℕ)) (knowns : List (Option (List ℕ))) (place : ℕ) (was : Refusal) (failure : Failure) → AreOpened gives paths knowns → IsRefusalOf knowns place was → IsOfPlace paths place was failure
       → IsOfOne gives paths failure
   one_of_place paths knowns place was Room opened refused is = tt
   one_of_place paths knowns place was (File name) opened refused is = (place, is.0.0, is.0.1)
   one_of_place paths knowns place was (Changed name) opened refused is =
-      let own : HoldsOf (gives (string_bytes name)) (λ text. IsFaultIn text is.1.0) = record {
-        known = slice_index_or knowns place None;
-        given = opened_at paths knowns place (string_bytes name) opened is.0;
-        holds_of = (subst (IsRefusalOf knowns place) is.1.1 refused).1;
-      } in
-      ((place, is.0.0, is.0.1), (is.1.0, own))
+      ((place, is.0.0, is.0.1), fault_over paths knowns place (string_bytes name) is.1.0 opened is.0 (subst (IsRefusalOf knowns place) is.1.1 refused).1)
   one_of_place paths knowns place was ManyMerged opened refused is = too_many_over paths knowns opened (subst (IsRefusalOf knowns place) is refused)
   one_of_place paths knowns place was failure opened refused is = absurd is
 
@@ -144,7 +150,6 @@ module _ (gives : List ℕ → List ℕ → Type 0) where
   refused_text path known was (File name) given for is = is.0
   refused_text path known was (Statement fault name) given for is =
       (is.0, record { known = known; given = given; holds_of = subst (λ (w : Refusal). IfSome known (λ text. IsRefusedFor text w)) is.1 for })
-  refused_text path known was Many given for is = record { known = known; given = given; holds_of = subst (λ (w : Refusal). IfSome known (λ text. IsRefusedFor text w)) is for }
   refused_text path known was failure given for is = absurd is
 
   -- and so all fail
@@ -168,8 +173,6 @@ module _ (gives : List ℕ → List ℕ → Type 0) where
     };
     fault_of = subst (λ (p : List ℕ). HoldsOf (gives p) (λ text. IsFaultIn text fault)) (sym is.0) is.1;
   }
-  refused_first paths place path lines Many inside there before is =
-      inr (inl record { path = path; first = record { place = place; inside = inside; there = there; lines = lines; before = before }; rows_of = is })
   refused_first paths place path lines failure inside there before is = absurd is
 
   -- of texts that are sound the first so many are
@@ -211,7 +214,7 @@ module _ (gives : List ℕ → List ℕ → Type 0) where
   pub too_many_there : (paths : List (String Global)) (place : ℕ) (path : String Global) (lines own : ℕ) (failure : Failure) → place < length paths → path ≡ slice_index_or paths place path
       → AreSoundTexts gives (map string_bytes (take place paths)) lines → IsSoundText gives (string_bytes path) own → failure ≡ Many → 10 ^ 18 < lines + own → IsOfTexts gives (map string_bytes paths) failure
   too_many_there paths place path lines own failure inside is before sound many over =
-      let all : IsOfTexts gives (map string_bytes paths) Many = inl record {
+      let all : IsOfTexts gives (map string_bytes paths) Many = record {
         count = place + 1;
         inside = omega (arith, length-map paths (string_bytes {Z = Global}));
         lines = lines + own;

@@ -3,7 +3,7 @@
 use Rattle.std.specs.Prelude.{ℕ, ◌≡◌, ◌≢◌, ◌⊎◌, ◌∷◌, [], List, Option, IfSome, string_bytes, ⊤}
 use Rattle.adjust_statements.specs.Adjusted.{IsAdjustmentOf}
 use Rattle.adjust_statements.specs.Refused.{HaveOtherLines}
-use Rattle.royalty_program.specs.MergeFiles.{AreTooMany, Gives, GivesFault, IsSoundText}
+use Rattle.royalty_program.specs.MergeFiles.{BeginWithTooManyPortions, Gives, GivesFault, IsSoundText}
 use Rattle.royalty_program.specs.Status.{IsOfText}
 use Rattle.royalty_program.specs.declared.failure.Failure.{Failure}
 use Rattle.royalty_program.specs.declared.failure.Failure.TheVariants.{Changed, File, ManyMerged, OtherLines, Room}
@@ -41,20 +41,20 @@ abbrev pub IsNotAsBefore : (gives : List ℕ → List ℕ → Type 0) → (paid 
 IsNotAsBefore gives paid right path =
     IsOneOfBoth paid right path × (GivesFault (gives path) ⊎ ((row : ℕ) × GiveOtherLines gives paid right row))
 
--- What an adjustment fails for as it reads both texts side by side: for lack of memory, since they have too many rows,
--- for one that cannot be read, or for one that is no text of statements of as many usage lines as the other.
+-- What an adjustment fails for as it reads both texts side by side: for lack of memory, since they have too many
+-- portions, for one that cannot be read, or for one that is no text of statements of as many usage lines as the other.
 abbrev pub IsOfReading : (gives : List ℕ → List ℕ → Type 0) → (paid right : List ℕ) → Failure → Type 0
 IsOfReading gives paid right Room = ⊤
-IsOfReading gives paid right ManyMerged = AreTooMany gives (paid ∷ right ∷ [])
+IsOfReading gives paid right ManyMerged = BeginWithTooManyPortions gives (paid ∷ right ∷ [])
 IsOfReading gives paid right (File path) = IsOneOfBoth paid right (string_bytes path)
 IsOfReading gives paid right (Changed path) = IsNotAsBefore gives paid right (string_bytes path)
 IsOfReading gives paid right _ = ⊥
 
 -- what it fails for that is not one text's own: both were read through, and are of other numbers of usage lines; or
--- they were alike, and then had too many rows all the same, or one had changed
+-- they were alike, and then had too many portions, or one had changed
 abbrev pub IsOfTwo : (gives : List ℕ → List ℕ → Type 0) → (paid right : List ℕ) → Failure → Type 0
 IsOfTwo gives paid right (OtherLines row path) = (string_bytes path ≡ right) × GiveOtherLines gives paid right row
-IsOfTwo gives paid right ManyMerged = AreAlike gives paid right × AreTooMany gives (paid ∷ right ∷ [])
+IsOfTwo gives paid right ManyMerged = AreAlike gives paid right × BeginWithTooManyPortions gives (paid ∷ right ∷ [])
 IsOfTwo gives paid right (Changed path) =
     AreAlike gives paid right × IsNotAsBefore gives paid right (string_bytes path)
 IsOfTwo gives paid right _ = ⊥

@@ -2,8 +2,7 @@
 use Rattle.std.specs.Prelude.{ℕ, Contains, ◌≡◌, ◌<◌, ◌≤◌, ◌+◌, ◌^◌, ◌∷◌, ◌⊎◌, [], List, Option, IfSome, length}
 use Rattle.std.specs.Prelude.{slice_index_or, take, ⊤}
 use Rattle.merge_statements.specs.Merged.{IsMergeOf}
-use Rattle.merge_statements.specs.Refused.{BeginsWithRows, HasTooManyRows, IsFaultIn}
-use Rattle.merge_statements.specs.Refused.{IsStatementText, IsTextOfRows}
+use Rattle.merge_statements.specs.Refused.{BeginsWithPortions, IsFaultIn, IsStatementText, IsTextOfRows}
 use Rattle.merge_statements.specs.declared.refusal.StatementFault.{StatementFault}
 
 -- What a file of the system gives no contract can say.
@@ -72,27 +71,21 @@ pub record AreOfTooManyLines (gives : List ℕ → List ℕ → Type 0) (paths :
   pub sound : AreSoundTexts gives (take count paths) lines
   pub many : 10 ^ 18 < lines
 
--- or one is the first that is refused, since it begins with too many rows
-pub record OneHasTooManyRows (gives : List ℕ → List ℕ → Type 0) (paths : List (List ℕ)) : Type 0 where
-  pub path : List ℕ
-  pub first : IsFirstRefused gives paths path
-  pub rows_of : HoldsOf (gives path) HasTooManyRows
-
--- the texts of all these paths begin with so many rows together
-abbrev pub BeginWithRows : (gives : List ℕ → List ℕ → Type 0) → List (List ℕ) → (rows : ℕ) → Type 0
-BeginWithRows gives [] rows = rows ≡ 0
-BeginWithRows gives (path ∷ paths) rows =
+-- the texts of all these paths begin with this number of portions together
+abbrev pub BeginWithPortions : (gives : List ℕ → List ℕ → Type 0) → List (List ℕ) → (portions : ℕ) → Type 0
+BeginWithPortions gives [] portions = portions ≡ 0
+BeginWithPortions gives (path ∷ paths) portions =
     (own : ℕ) × (others : ℕ)
-    × HoldsOf (gives path) (λ text. BeginsWithRows text own) × BeginWithRows gives paths others × (rows ≡ own + others)
+    × HoldsOf (gives path) (λ text. BeginsWithPortions text own) × BeginWithPortions gives paths others
+    × (portions ≡ own + others)
 
 -- which are too many
-abbrev pub BeginWithTooManyRows : (gives : List ℕ → List ℕ → Type 0) → List (List ℕ) → Type 0
-BeginWithTooManyRows gives paths = (rows : ℕ) × BeginWithRows gives paths rows × (10 ^ 18 < rows)
+abbrev pub BeginWithTooManyPortions : (gives : List ℕ → List ℕ → Type 0) → List (List ℕ) → Type 0
+BeginWithTooManyPortions gives paths = (portions : ℕ) × BeginWithPortions gives paths portions × (10 ^ 18 < portions)
 
--- the texts of paths are of too many usage lines, or have too many rows, one of them or all
+-- the texts of paths are of too many usage lines, or have too many portions
 abbrev pub AreTooMany : (gives : List ℕ → List ℕ → Type 0) → List (List ℕ) → Type 0
-AreTooMany gives paths =
-    AreOfTooManyLines gives paths ⊎ OneHasTooManyRows gives paths ⊎ BeginWithTooManyRows gives paths
+AreTooMany gives paths = AreOfTooManyLines gives paths ⊎ BeginWithTooManyPortions gives paths
 
 -- The texts of all these paths were those of statements, and not of too many usage lines. They are too many all the
 -- same.

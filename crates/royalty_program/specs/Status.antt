@@ -25,7 +25,7 @@ use Rattle.submitted_inputs.specs.declared.fault.SubmittedFault.{SubmittedFault}
 use Rattle.submitted_inputs.specs.declared.fault.SubmittedFault.TheVariants as submitted
 use Rattle.submitted_inputs.specs.declared.inputs.SubmittedTables.{SubmittedTables}
 use Rattle.line_split.specs.UsageTable as usage
-use Rattle.merge_statements.specs.Refused.{HasTooManyRows, IsFaultIn}
+use Rattle.merge_statements.specs.Refused.{IsFaultIn}
 use Rattle.merge_statements.specs.Refused as statement
 use Rattle.merge_statements.specs.declared.refusal.Refusal.{Refusal}
 use Rattle.merge_statements.specs.declared.refusal.Refusal.TheVariants as refusal
@@ -43,8 +43,8 @@ use Rattle.royalty_program.specs.SubmittedFiles.{AreTablesRead, HoldsAt, IsSubmi
 use Rattle.royalty_program.specs.SubmittedFiles.{SubmittedHaveNoRowOver, SubmittedPaths}
 use Rattle.starting_files.specs.declared.making.StartingTable.{StartingTable}
 use Rattle.submitted_inputs.specs.Files.{IsFaultOfFiles}
-use Rattle.royalty_program.specs.MergeFiles.{AreFoundTooMany, AreTooMany, GivesFault, HasChanged, HoldsOf, IsFaultAt}
-use Rattle.royalty_program.specs.MergeFiles.{IsFirstRefused}
+use Rattle.royalty_program.specs.MergeFiles.{AreFoundTooMany, AreOfTooManyLines, AreTooMany, GivesFault, HasChanged}
+use Rattle.royalty_program.specs.MergeFiles.{HoldsOf, IsFaultAt, IsFirstRefused}
 use Rattle.royalty_program.specs.declared.failure.Failure.{Failure}
 use Rattle.royalty_program.specs.declared.failure.Failure.TheVariants.{Words, NotText, Pairs, Input, Works}
 use Rattle.royalty_program.specs.declared.failure.Failure.TheVariants.{Registrations, Row, Room, File, Output, Target}
@@ -360,24 +360,23 @@ IsOfExplanation holds refuses words failure =
     (row_given words) failure)
     (IsSubmittedUnexplained holds refuses (submitted_given submitted_explain_app words) (row_given words) failure)
 
--- A merge of the texts of these paths fails for the first fault of the first that has one, since they have too many
--- rows or are of too many usage lines, for lack of memory, for one that cannot be read, or since one changed after all
--- were found to be sound.
+-- A merge of the texts of these paths fails for the first fault of the first that has one, since they are of too many
+-- usage lines, for lack of memory, for one that cannot be read, or, after all were found to be sound, since they have
+-- too many portions or one changed.
 abbrev pub IsOfTexts : (gives : List ℕ → List ℕ → Type 0) → List (List ℕ) → Failure → Type 0
 IsOfTexts gives paths (Statement fault path) = IsFaultAt gives paths (string_bytes path) fault
-IsOfTexts gives paths Many = AreTooMany gives paths
+IsOfTexts gives paths Many = AreOfTooManyLines gives paths
 IsOfTexts gives paths ManyMerged = AreFoundTooMany gives paths
 IsOfTexts gives paths Room = ⊤
 IsOfTexts gives paths (File path) = IsFirstRefused gives paths (string_bytes path)
 IsOfTexts gives paths (Changed path) = HasChanged gives paths (string_bytes path)
 IsOfTexts gives paths _ = ⊥
 
--- one text alone fails for its first fault, for lack of memory, or since it has too many rows or cannot be read
+-- one text alone fails for its first fault, for lack of memory, or since it cannot be read
 abbrev pub IsOfText : (gives : List ℕ → List ℕ → Type 0) → List ℕ → Failure → Type 0
 IsOfText gives path (Statement fault name) = (string_bytes name ≡ path)
     × HoldsOf (gives path) (λ text. IsFaultIn text fault)
 IsOfText gives path Room = ⊤
-IsOfText gives path Many = HoldsOf (gives path) HasTooManyRows
 IsOfText gives path (File name) = string_bytes name ≡ path
 IsOfText gives path _ = ⊥
 
@@ -387,7 +386,7 @@ IsUnopened path Room = ⊤
 IsUnopened path (File name) = string_bytes name ≡ path
 IsUnopened path _ = ⊥
 
--- no fault was found, there were not too many rows, and memory was not refused: so a read was
+-- no fault was found, there were not too many portions or usage lines, and memory was not refused: so a read was
 abbrev pub IsUnreadable : Refusal → Type 0
 IsUnreadable (refusal.Fault fault) = ⊥
 IsUnreadable refusal.Memory = ⊥
@@ -398,7 +397,6 @@ IsUnreadable _ = ⊤
 abbrev pub IsOfRefusal : List ℕ → Refusal → Failure → Type 0
 IsOfRefusal path was (Statement fault name) = (string_bytes name ≡ path) × (was ≡ refusal.Fault fault)
 IsOfRefusal path was Room = ⊤
-IsOfRefusal path was Many = was ≡ refusal.Many
 IsOfRefusal path was (File name) = (string_bytes name ≡ path) × IsUnreadable was
 IsOfRefusal path was _ = ⊥
 

@@ -231,7 +231,7 @@ fn changed_lines(alloc: Global, path: &str) -> Failure
 }
 
 /// Why there is none where of texts that were read through the one in a place is refused, from 0: it
-/// changed, or cannot be read any more, or both have too many rows.
+/// changed, or cannot be read any more, or both have too many portions.
 fn changed_text(alloc: Global, paid: &str, right: &str, place: u64, refusal: Refusal) -> Failure
     ensures failure { IsRefusal result }
     ensures one { IsOfPlace (paid.now ∷ right.now ∷ []) place refusal result }

@@ -45,9 +45,9 @@ pub enum Failure {
     Target(String),
     /// The text of statements in the file of a path is refused.
     Statement { fault: StatementFault, path: String },
-    /// Texts of statements are of more than 1,000,000,000,000,000,000 portions or usage lines.
+    /// Texts of statements are of more than 1,000,000,000,000,000,000 usage lines.
     Many,
-    /// They are, which was seen only when their merge had begun.
+    /// They are, or have more portions than that, which was seen only when their merge or comparison had begun.
     ManyMerged,
     /// The file of this path changed between two readings.
     Changed(String),

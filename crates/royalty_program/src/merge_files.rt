@@ -8,6 +8,7 @@ ghost use Rattle.royalty_program.specs.MergeFiles.{AreOpened, AreSoundTexts, IsC
 ghost use Rattle.royalty_program.specs.Status.{IsOfOne, IsOfOutput, IsOfPlace, IsOfRefusal, IsOfText, IsOfTexts};
 ghost use Rattle.royalty_program.specs.Status.{IsRefusal, IsUnopened, status_of};
 ghost use Rattle.royalty_program.specs.Targets.{IsLeftOrHas, IsPut};
+ghost use Rattle.merge_statements.specs.declared.refusal.Refusal.TheVariants as Refusal;
 ghost use Rattle.royalty_program.specs.declared.failure.Failure.TheVariants.{Many};
 
 use crate::failure::Failure;
@@ -216,8 +217,9 @@ pub(crate) fn unopened(alloc: Global, kind: ErrorKind, path: &str) -> Failure
     }
 }
 
-/// Why the text of a path is refused.
+/// Why the text of a path is refused, which is never since it has too many portions.
 fn refused(alloc: Global, refusal: Refusal, path: &str) -> Failure
+    requires { ¬ (refusal ≡ Refusal.Many) }
     ensures failure { IsRefusal result }
     ensures refused { IsOfRefusal path.now refusal result }
 {
@@ -227,7 +229,7 @@ fn refused(alloc: Global, refusal: Refusal, path: &str) -> Failure
     match refusal {
         Refusal::Fault(fault) => Failure::Statement { fault, path },
         Refusal::Memory => Failure::Room,
-        Refusal::Many => Failure::Many,
+        Refusal::Many => unreachable!(),
         Refusal::Read(error) | Refusal::Write(error) => unread(error.kind(), path),
     }
 }

@@ -1,8 +1,7 @@
 use Rattle.std.proofs.Common.{◌∷◌, [], arith, subst, sym}
 use Rattle.std.proofs.lemmas.Result.{err_from_is_err_and}
-use Rattle.merge_statements.proofs.Refusing.{refusal_of}
 use Rattle.merge_statements.specs.SoFar.{output}
-use Rattle.adjust_statements.proofs.EndLemmas.{adjust_passed}
+use Rattle.adjust_statements.proofs.EndLemmas.{adjust_passed, text_refused}
 use Rattle.adjust_statements.specs.Refused.{IsRefusalFor}
 use Rattle.adjust_statements.proofs.adjusting.adjust.Goals as goal
 
@@ -10,13 +9,13 @@ pub returns-in-Err-clause-refused : goal.returns-in-Err-clause-refused
 returns-in-Err-clause-refused g c =
     let paid = g.R.Read.remaining c.args.paid in
     let right = g.R.Read.remaining c.args.right in
-    subst (IsRefusalFor paid right) (sym c.refused.ensures) (refusal_of (paid ∷ right ∷ []) 0 c.in-Err.refusal (omega arith) c.in-Err.ensures.refused)
+    subst (IsRefusalFor paid right) (sym c.refused.ensures) (text_refused (paid ∷ right ∷ []) 0 c.in-Err.refusal (omega arith) c.in-Err.ensures.refused)
 
 pub returns-in-Err-open-clause-refused : goal.returns-in-Err-open-clause-refused
 returns-in-Err-open-clause-refused g c =
     let paid = g.R.Read.remaining c.args.paid in
     let right = g.R.Read.remaining c.args.right in
-    subst (IsRefusalFor paid right) (sym c.refused-in-Err-open.ensures) (refusal_of (paid ∷ right ∷ []) 1 c.in-Err-open.refusal (omega arith) c.in-Err-open.ensures.refused)
+    subst (IsRefusalFor paid right) (sym c.refused-in-Err-open.ensures) (text_refused (paid ∷ right ∷ []) 1 c.in-Err-open.refusal (omega arith) c.in-Err-open.ensures.refused)
 
 pub returns-in_err-adjust_texts-clause-refused : goal.returns-in_err-adjust_texts-clause-refused
 returns-in_err-adjust_texts-clause-refused g c =

@@ -65,8 +65,8 @@ returns-in_err-own-clause-refused g c =
     let was = c.loop-done.invariant.so_far paid_start right_start paid_open right_open in
     c.in_err-own.ensures.refused paid_start right_start was.paid_passed.read was.right_passed.read)
 
-pub returns-clause-refused : goal.returns-clause-refused
-returns-clause-refused g c = λ paid_start right_start paid_open right_open.
+pub unreachable-requires : goal.unreachable-requires
+unreachable-requires g c =
     let l = c.loop-done in
-    let read : IsCount (l.texts.paid.at.portions + l.texts.right.at.portions) = (l.invariant.so_far paid_start right_start paid_open right_open).read in
-    absurd (omega (arith, read, l.invariant.done, c.loop-done-test.false))
+    let read : IsCount (l.texts.paid.at.portions + l.texts.right.at.portions) = (l.invariant.so_far c.requires.0 c.requires.1 c.requires.2 c.requires.3).read in
+    omega (arith, read, l.invariant.done, c.loop-done-test.false)

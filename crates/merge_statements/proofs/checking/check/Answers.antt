@@ -10,7 +10,7 @@ use Rattle.merge_statements.specs.declared.refusal.Refusal.TheVariants as refusa
 use Rattle.merge_statements.specs.declared.refusal.StatementFault.TheVariants.{End}
 use Rattle.merge_statements.specs.declared.walk.Place.TheVariants.{Ended}
 use Rattle.merge_statements.specs.SoFar.{IsReadTo}
-use Rattle.merge_statements.proofs.ReadThrough.{all_rows_read, end_refused, more_read, none_read, rest_refused, too_many_read}
+use Rattle.merge_statements.proofs.ReadThrough.{all_rows_read, end_refused, few_read, more_read, none_read, rest_refused}
 use Rattle.merge_statements.proofs.checking.check.Goals as goal
 
 counts_read : (start left : Option (List ℕ)) (at : At) (number : ℕ) (result : Result Counts Refusal) → IsReadTo start at left number → IsAtEnd left
@@ -55,7 +55,7 @@ loop-number-preserved g c =
     more_read (g.R.Read.remaining c.args.from) l.progress c.pass_next.new.progress l.rows.left c.pass_next.new.rows.left l.number (c.pass_next.new.rows.line ++ 10 ∷ []) l.invariant
     (c.in-Ok-true.ensures.row c.in-Ok-true.field-0-test) (c.in-Ok-true.ensures.passed c.in-Ok-true.field-0-test)
 
-pub returns-clause-refused : goal.returns-clause-refused
-returns-clause-refused g c =
+pub unreachable-requires : goal.unreachable-requires
+unreachable-requires g c =
     let l = c.loop-number in
-    too_many_read (g.R.Read.remaining c.args.from) l.rows.left l.progress l.number l.invariant (omega (arith, c.loop-number-test.false))
+    omega (arith, few_read (g.R.Read.remaining c.args.from) l.rows.left l.progress l.number l.invariant, c.loop-number-test.false)

@@ -68,11 +68,11 @@ returns-in_err-all-clause-refused g c =
     (omega (arith, refused.1, was.read, wrote.counted)))))
 
 -- so many payees that their portions cannot have been counted
-pub returns-clause-refused : goal.returns-clause-refused
-returns-clause-refused g c = λ starts are.
+pub unreachable-requires : goal.unreachable-requires
+unreachable-requires g c =
     let l = c.loop-done in
-    let few : IsCount l.all.0 = (l.invariant.0 starts are).few in
-    absurd (omega (arith, few, l.invariant.1, c.loop-done-test.false))
+    let few : IsCount l.all.0 = (l.invariant.0 c.requires.0 c.requires.1).few in
+    omega (arith, few, l.invariant.1, c.loop-done-test.false)
 
 pub returns-then-not-found-clause-none : goal.returns-then-not-found-clause-none
 returns-then-not-found-clause-none g c = c.in_ok-found.ensures.least.none c.if-not-found.true
