@@ -222,6 +222,15 @@ check 'rights and reasons below 0' 0 '' "${files[@]/usage.csv/back.csv}" --to ba
 agree back "$(find back -name '*.html' | wc -l)"
 [ "$(grep -c '<tr class="neg"><th scope="row">' back/index.html)" = 3 ] ||
     fail "rights and reasons below 0: $(grep -o '<tr class="neg">.*' back/index.html)"
+# The largest amounts, with most decimals and with none.
+awk 'BEGIN { print "usage,work,territory,right,amount"
+    for (n = 1; n <= 2000; n++)
+        print "L" n ",NT0001,276,P," (n % 4 ? "" : "-") "1000000000000" }' >most.csv
+for decimals in 0 9; do
+    check "the largest amounts, $decimals decimals" 0 '' "${files[@]/usage.csv/most.csv}" \
+        --to "most.$decimals" --decimals "$decimals"
+    agree "most.$decimals" "$(find "most.$decimals" -name '*.html' | wc -l)" --decimals "$decimals"
+done
 
 # Where it is refused, there is no folder, and nothing beside it.
 mkdir to

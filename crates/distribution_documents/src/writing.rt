@@ -161,7 +161,7 @@ fn print_statements<R: Threads + Sync, F: Folder>(
     let divided = documents.divided;
     let lines = &divided.tables.usage;
     let parties = divided.tables.registry.parties();
-    let mut draft = folder.begin(alloc, b"statements.csv")?;
+    let (mut draft, place) = folder.begin(alloc, b"statements.csv")?;
     divided.book.print(
         rt,
         sheets,
@@ -170,7 +170,7 @@ fn print_statements<R: Threads + Sync, F: Folder>(
         divided.reasons.as_slice(),
         &mut draft,
     )?;
-    folder.store(draft, b"statements.csv")
+    folder.store(draft, place)
 }
 
 /// What became of the files of a payee. Nothing, before they are written.

@@ -31,7 +31,6 @@ pub fn of_one_file<R: Files + AllocGlobal + Threads + Wait + Sync>(
     let plan = plan_in(question)?;
     let what = what_in(question);
     let folder = Memory {
-        alloc,
         refused: refused_in(what).as_bytes(),
     };
     match document_files(rt, alloc, &inputs, &wording(&lands), plan, &folder) {
@@ -73,7 +72,6 @@ fn written_for<R: Threads + Wait + Sync>(
     what: &str,
 ) -> Result<String> {
     let folder = Memory {
-        alloc,
         refused: refused_in(what).as_bytes(),
     };
     let run = SubmittedRun {

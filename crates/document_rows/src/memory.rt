@@ -8,7 +8,6 @@ use submitted_inputs::SubmitterFiles;
 /// A folder in memory, which refuses the file of one name.
 #[derive(Drop)]
 pub struct Memory<'a> {
-    pub alloc: Global,
     pub refused: &'a [u8],
 }
 
@@ -36,28 +35,33 @@ pub struct NamedPage {
 }
 
 impl<'a> Folder for Memory<'a> {
-    ghost use Rattle.std.specs.Prelude.{None};
+    ghost use Rattle.std.specs.Prelude.{◌≡◌, None};
 
     type Draft = Page;
+
+    type Place = Vec<u8>;
 
     type Stored = NamedPage;
 
     ghost blank = { None };
 
-    ghost has = { λ _ _ _. Unit {0} };
+    ghost named = { λ place name. place.items ≡ name };
 
-    fn begin(&self, alloc: Global, name: &[u8]) -> io::Result<Page> {
+    ghost has = { λ page name bytes. page.name.items ≡ name };
+
+    fn begin(&self, alloc: Global, name: &[u8]) -> io::Result<(Page, Vec<u8>)> {
         if name == self.refused {
             return Err(io::Error::from(ErrorKind::PermissionDenied));
         }
-        Ok(Page {
+        let page = Page {
             bytes: Vec::new(alloc),
-        })
+        };
+        Ok((page, Vec::from_slice(alloc, name)?))
     }
 
-    fn store(&self, draft: Page, name: &[u8]) -> io::Result<NamedPage> {
+    fn store(&self, draft: Page, place: Vec<u8>) -> io::Result<NamedPage> {
         Ok(NamedPage {
-            name: Vec::from_slice(self.alloc, name)?,
+            name: place,
             bytes: draft.bytes,
         })
     }

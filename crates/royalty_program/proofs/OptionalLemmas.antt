@@ -1,5 +1,5 @@
 -- What a parse gives of an option that need not be there.
-use Rattle.std.proofs.Common.{◌≡◌, ◌≤◌, ◌<◌, ◌∙◌, ap, sym, subst, ℕ, Bool, true, List, [], ◌∷◌, length, Option, Some, None, inl, inr, arith, refl}
+use Rattle.std.proofs.Common.{◌≡◌, ◌≤◌, ◌<◌, ◌∙◌, ap, sym, subst, ℕ, Bool, true, List, [], ◌∷◌, codes, length, Option, Some, None, inl, inr, arith, refl}
 use Rattle.std.specs.Borrow.{Bor}
 use Rattle.std.specs.List.{All, slice_index_or}
 use Rattle.std.specs.Option.{option_map, unwrap_or}
@@ -22,7 +22,7 @@ use Rattle.clap.specs.declared.parser.matches.MatchedArg.{MatchedArg}
 use Rattle.clap.proofs.CallerLemmas.{entry_by_id, same_rules_by_id}
 use Rattle.clap.proofs.WalkLemmas.{first_value-rows, one_text-rows}
 use Rattle.royalty_program.specs.Args.{IsOptionalArg}
-use Rattle.royalty_program.specs.Asked.{number_in, number_or, text_or}
+use Rattle.royalty_program.specs.Asked.{number_in, number_or, some_unless_empty, text_or, title_given}
 use Rattle.royalty_program.specs.PlanWords.{MayFindNumber}
 use Rattle.royalty_program.proofs.OptionLemmas.{HasOptions, IsNumberOf, count, is_own, only_one}
 use Rattle.royalty_program.proofs.SplitLemmas.{ReadsU64}
@@ -159,3 +159,10 @@ pub text_or_is : (missing : Text) (app : App) (m : ArgMatches) (words : List Tex
 unfolding text_or
 text_or_is missing app m words name r are got =
     ap (λ (o : Option Text). unwrap_or o missing) (got ∙ first_value-rows (found_of m) name ∙ ap (first_of name) are)
+
+-- and the title, where an empty one counts as none
+pub title_is : (app : App) (m : ArgMatches) (words : List Text) (r : Option (Bor Text)) → rows_of (found_of m) ≡ matches_of app words
+    → option_map (λ s. s.now) r ≡ first_value (found_of m) (codes "title") → unwrap_or (some_unless_empty (option_map (λ s. s.now) r)) (codes "Distribution") ≡ title_given app words
+unfolding title_given
+title_is app m words r are got =
+    ap (λ (o : Option Text). unwrap_or (some_unless_empty o) (codes "Distribution")) (got ∙ first_value-rows (found_of m) (codes "title") ∙ ap (first_of (codes "title")) are)

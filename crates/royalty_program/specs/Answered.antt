@@ -13,7 +13,7 @@ use Rattle.royalty_program.specs.Asked.{amount_of, files_given, inputs_given, na
 use Rattle.royalty_program.specs.Asked.{path_if_given, paths_given, paths_in_order, plan_given, row_given, run_grammar}
 use Rattle.royalty_program.specs.Asked.{run_output, submitted_given}
 use Rattle.royalty_program.specs.Asked.{adjust_output, number_or, paid_given, path_given, plan_or_usual, right_given}
-use Rattle.royalty_program.specs.Asked.{statements_grammar, text_or}
+use Rattle.royalty_program.specs.Asked.{statements_grammar, text_or, title_given}
 use Rattle.royalty_program.specs.AdjustCommand.{adjust_app}
 use Rattle.royalty_program.specs.AdjustFiles.{IsAdjustmentOver, IsNeither}
 use Rattle.run_inputs.specs.Inputs.{map_inputs}
@@ -112,7 +112,7 @@ pub record AreChosenFrom (app : App) (words : List (List ℕ)) (asked : Statemen
   pub plan : asked.plan ≡ plan_or_usual app words
   pub to : string_bytes asked.to ≡ path_given app (codes "to") words
   pub names : option_map string_bytes asked.names ≡ path_if_given app (codes "names") words
-  pub title : string_bytes asked.title ≡ text_or (codes "Distribution") app (codes "title") words
+  pub title : string_bytes asked.title ≡ title_given app words
   pub currency : string_bytes asked.currency ≡ text_or [] app (codes "currency") words
   pub decimals : asked.decimals ≡ number_or 2 app (codes "decimals") words
 

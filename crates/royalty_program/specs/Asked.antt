@@ -77,6 +77,16 @@ number_or missing app name words = unwrap_or (option_map number_in (one_of name 
 unfoldable pub text_or : (missing : List ℕ) → App → (name : List ℕ) → List (List ℕ) → List ℕ
 text_or missing app name words = unwrap_or (first_of name (matches_of app words)) missing
 
+-- a text, if it is not empty
+abbrev pub some_unless_empty : Option (List ℕ) → Option (List ℕ)
+some_unless_empty None = None
+some_unless_empty (Some []) = None
+some_unless_empty (Some (byte ∷ bytes)) = Some (byte ∷ bytes)
+
+-- the title of documents: the text of its option, or `Distribution` where that is not there or is empty
+unfoldable pub title_given : App → List (List ℕ) → List ℕ
+title_given app words = unwrap_or (some_unless_empty (first_of (codes "title") (matches_of app words))) (codes "Distribution")
+
 -- clap comes upon a word that asks for help, or for the version
 unfoldable pub AskForHelp : App → List (List ℕ) → Type 0
 AskForHelp app words = IsAmong kinds.DisplayHelp (fault_of app words) ⊎ IsAmong kinds.DisplayVersion

@@ -6,7 +6,7 @@ use Rattle.document_run.specs.Wordings.{Said}
 use Rattle.pair_split.specs.Pair.{word_at}
 use Rattle.royalty_program.specs.Asked.{AreAccepted, AreFilesAccepted, AskForHelp, EitherRun, inputs_given, name_works}
 use Rattle.royalty_program.specs.Asked.{number_or, path_given, path_if_given, statements_grammar, submitted_given}
-use Rattle.royalty_program.specs.Asked.{text_or}
+use Rattle.royalty_program.specs.Asked.{text_or, title_given}
 use Rattle.royalty_program.specs.DocumentFiles.{AreDocumentsOver, AreLandsOver}
 use Rattle.royalty_program.specs.DocumentFiles.{AreSubmittedDocumentsOver, IsOfNames}
 use Rattle.royalty_program.specs.Folders.{IsOfFolderNamed}
@@ -29,7 +29,7 @@ folder_given words = path_given (statements_grammar words) (codes "to") words
 abbrev pub said_in : List (List ℕ) → (lands : List (ℕ × List ℕ)) → Said
 said_in words lands = record {
   distribution = record {
-    title = text_or (codes "Distribution") (statements_grammar words) (codes "title") words;
+    title = title_given (statements_grammar words) words;
     currency = text_or [] (statements_grammar words) (codes "currency") words;
     sources = [];
     decimals = number_or 2 (statements_grammar words) (codes "decimals") words;

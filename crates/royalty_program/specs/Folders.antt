@@ -11,7 +11,10 @@ use Rattle.royalty_program.specs.declared.failure.Failure.TheVariants.{Room, Tak
 abbrev pub in_any_folder : List ℕ → Option (List File) → Type 0
 in_any_folder path folder = ⊤
 
--- Nor what a file of a folder has.
+-- Nor which name a place in a folder has, or what a file of it has.
+abbrev pub any_place : {X : Type 0} → X → List ℕ → Type 0
+any_place place name = ⊤
+
 abbrev pub any_page : {X : Type 0} → X → List ℕ → List ℕ → Type 0
 any_page page name bytes = ⊤
 

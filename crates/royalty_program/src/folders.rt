@@ -3,7 +3,7 @@
 ghost use Rattle.std.specs.Prelude.{ℕ, List, Option, Some, OnErr, OnOk};
 ghost use Rattle.distribution_documents.specs.Documents.{File};
 ghost use Rattle.distribution_documents.specs.Written.{AreWritten};
-ghost use Rattle.royalty_program.specs.Folders.{IsFolderLeft, IsLeftOrKept, any_page, in_any_folder};
+ghost use Rattle.royalty_program.specs.Folders.{IsFolderLeft, IsLeftOrKept, any_page, any_place, in_any_folder};
 
 use crate::sources::Disk;
 use crate::targets::{directory_of, name_beside};
@@ -100,6 +100,10 @@ impl<F: Write> Write for NewPage<F> {
     }
 }
 
+/// The place of a file in a new folder.
+#[derive(Drop)]
+pub struct PagePlace {}
+
 /// A file of a folder that is on the disk whole.
 #[derive(Drop)]
 pub struct StoredPage {}
@@ -112,22 +116,26 @@ where
 
     type Draft = NewPage<R::File>;
 
+    type Place = PagePlace;
+
     type Stored = StoredPage;
 
     ghost blank = { None };
 
+    ghost named = { any_place };
+
     ghost has = { any_page };
 
-    fn begin(&self, alloc: Global, name: &[u8]) -> io::Result<NewPage<R::File>> {
+    fn begin(&self, alloc: Global, name: &[u8]) -> io::Result<(NewPage<R::File>, PagePlace)> {
         let Ok(name) = str::from_utf8(name) else {
             return Err(io::Error::from(ErrorKind::InvalidInput));
         };
         let path = path_in(alloc, self.path.as_str(), name)?;
         let file = fs::File::create_new(self.rt, path.as_str())?;
-        Ok(NewPage { file })
+        Ok((NewPage { file }, PagePlace {}))
     }
 
-    fn store(&self, draft: NewPage<R::File>, _name: &[u8]) -> io::Result<StoredPage> {
+    fn store(&self, draft: NewPage<R::File>, _place: PagePlace) -> io::Result<StoredPage> {
         draft.file.sync_all()?;
         self.progress.note();
         Ok(StoredPage {})

@@ -6,7 +6,8 @@ ghost use Rattle.clap.specs.declared.builder.value_parser.ValueParser.TheVariant
 ghost use Rattle.royalty_program.specs.Answered.{AreChosenFrom, AreDocumentsFrom, AreOneFile, AreSubmitted};
 ghost use Rattle.royalty_program.specs.Args.{IsOptionalArg, IsRequiredArg, file_rule};
 ghost use Rattle.royalty_program.specs.Asked.{IsErrorOf, IsStatementsError, IsSubmittedError, inputs_given};
-ghost use Rattle.royalty_program.specs.Asked.{submitted_given};
+ghost use Rattle.royalty_program.specs.Asked.{some_unless_empty, submitted_given};
+ghost use Rattle.std.specs.Option.{option_map};
 ghost use Rattle.royalty_program.specs.StatementsCommand.{AddsDocumentArgs, FindsDocuments, IsStatementsCommand};
 ghost use Rattle.royalty_program.specs.StatementsCommand.{IsSubmittedStatementsCommand, MOST_DECIMALS, decimals_rule};
 ghost use Rattle.royalty_program.specs.StatementsCommand.{statements_app, submitted_statements_app};
@@ -45,7 +46,7 @@ FOLDER must not exist. It has its name only once it is whole: the documents are 
 folder beside it, which then takes the name. Whatever fails before that, there is no FOLDER.
 
 Where options are left out, the title is Distribution, no currency is named, amounts have 2 decimal
-places, and there are 4 workers, 2 readers and 64 nodes. Amounts in the files are in minor units:
+places, and there are 4 workers, 2 readers and 64 nodes. An empty title counts as left out. Amounts in the files are in minor units:
 with 2 decimal places the documents have 151.01 for 15101.
 
 Examples:
@@ -64,7 +65,7 @@ pub struct StatementsWords {
     pub to: String,
     /// The table of names of territories, where there is one.
     pub names: Option<String>,
-    /// What the distribution is called.
+    /// What the distribution is called: never nothing.
     pub title: String,
     /// The currency of all amounts; none where it is empty.
     pub currency: String,
@@ -134,7 +135,7 @@ fn read_chosen(
     let plan = read_plan_or_usual(matches);
     let to = String::from_str(alloc, matches.get_str("to").unwrap())?;
     let names = owned(alloc, matches.get_str("names"))?;
-    let title = owned_or(alloc, matches.get_str("title"), "Distribution")?;
+    let title = owned_or(alloc, unless_empty(matches.get_str("title")), "Distribution")?;
     let currency = owned_or(alloc, matches.get_str("currency"), "")?;
     let decimals = matches.get_one::<u64>("decimals").unwrap_or(2) as u32;
     Ok(StatementsWords {
@@ -146,6 +147,16 @@ fn read_chosen(
         currency,
         decimals,
     })
+}
+
+/// The text that an option is given, if it is not empty.
+fn unless_empty<'a>(text: Option<&'a str>) -> Option<&'a str>
+    ensures { option_map (λ text. text.now) result ≡ some_unless_empty (option_map (λ text. text.now) text.entry) }
+{
+    match text {
+        Some(given) if given.is_empty() => None,
+        _ => text,
+    }
 }
 
 pub fn statements_command<'a>(alloc: Global) -> Result<Command<'a>, AllocError>
