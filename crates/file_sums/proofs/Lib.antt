@@ -1,0 +1,4 @@
+pub mod DigitLemmas
+pub mod LineLemmas
+pub mod SealLemmas
+pub mod Taking

@@ -1,0 +1,4 @@
+pub mod Shown
+pub mod Stuck
+pub mod Summed
+pub mod Sums
