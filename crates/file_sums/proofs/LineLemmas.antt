@@ -1,6 +1,6 @@
 -- Lines, and where a text is cut.
 use Rattle.std.proofs.Common.{◌≡◌, ◌<◌, ◌≤◌, ℕ, List, [], ◌∷◌, ◌++◌, All, arith, length, refl, sym, ap, ◌∙◌, append_assoc, take, drop, get_or}
-use Rattle.std.proofs.lemmas.List.{append_cancel_left, append_cancel_right, drop_at, get_or_at, length-append, take_at}
+use Rattle.std.proofs.lemmas.List.{append_cancel_right, drop_at, get_or_at, length-append, take_at}
 use Rattle.std.proofs.lemmas.List.Elements.{All-append, All-cons, All-head, All-tail, All-weaker}
 use Rattle.std.specs.Prelude.{◌≢◌}
 use Rattle.hex.specs.Hex.{encode_lower}
@@ -63,8 +63,7 @@ pub parts_of_sum : (sum : Sum) (line : List ℕ) → IsSum sum → line_of sum �
     → (64 ≤ length line) × (encode_lower sum.digest ≡ take 64 line) × (32 ∷ 32 ∷ sum.path ≡ drop 64 line)
 parts_of_sum sum line is e =
     let body : sum_body sum ≡ line = append_cancel_right (sum_body sum) line (10 ∷ []) e in
-    let size : length (encode_lower sum.digest) ≡ 64 = omega (arith, digits_of_digest sum.digest, is.size) in
-    (
+    let size : length (encode_lower sum.digest) ≡ 64 = omega (arith, digits_of_digest sum.digest, is.size) in (
       omega (arith, size, ap length body, length-append (encode_lower sum.digest) (32 ∷ 32 ∷ sum.path)),
       sym (take_at (encode_lower sum.digest) (32 ∷ 32 ∷ sum.path) 64 size) ∙ ap (take 64) body,
       sym (drop_at (encode_lower sum.digest) (32 ∷ 32 ∷ sum.path) 64 size) ∙ ap (drop 64) body,

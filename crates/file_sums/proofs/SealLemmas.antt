@@ -97,10 +97,19 @@ lines_are_longest (c ∷ cs) (d ∷ ds) ss ts rest behind fits others is are stu
     let same = same_comments c d (flat_map comment_line cs) (flat_map comment_line ds) (flat_map line_of ss) (flat_map line_of ts) rest behind
     (All-head FitsInComment c cs fits) (All-head FitsInComment d ds others) e in
     let least = lines_are_longest cs ds ss ts rest behind (All-tail FitsInComment c cs fits) (All-tail FitsInComment d ds others) is are stuck same.1 in
-    omega (arith, least, ap length same.0, length-append (comment_line c ++ flat_map comment_line cs) (flat_map line_of ss), length-append (comment_line c) (flat_map comment_line cs),
-      length-append (comment_line d ++ flat_map comment_line ds) (flat_map line_of ts), length-append (comment_line d) (flat_map comment_line ds),
-      length-append (flat_map comment_line cs) (flat_map line_of ss), length-append (flat_map comment_line ds) (flat_map line_of ts),
-      length-append (comment_body c) (10 ∷ []), length-append (comment_body d) (10 ∷ []))
+    omega (
+      arith,
+      least,
+      ap length same.0,
+      length-append (comment_line c ++ flat_map comment_line cs) (flat_map line_of ss),
+      length-append (comment_line c) (flat_map comment_line cs),
+      length-append (comment_line d ++ flat_map comment_line ds) (flat_map line_of ts),
+      length-append (comment_line d) (flat_map comment_line ds),
+      length-append (flat_map comment_line cs) (flat_map line_of ss),
+      length-append (flat_map comment_line ds) (flat_map line_of ts),
+      length-append (comment_body c) (10 ∷ []),
+      length-append (comment_body d) (10 ∷ []),
+    )
 
 -- what reading is refused for, where it is stuck
 pub fault_if_stuck : (text rest : List ℕ) (before : Seal) (line : ℕ) → IsSeal before → text ≡ text_of_seal before ++ rest → 0 < length rest

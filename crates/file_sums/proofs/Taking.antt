@@ -1,5 +1,5 @@
 -- How reading goes on by a line.
-use Rattle.std.proofs.Common.{◌≡◌, ℕ, List, [], ◌∷◌, ◌++◌, All, arith, length, refl, sym, ap, ◌∙◌, append_assoc, append-nil}
+use Rattle.std.proofs.Common.{◌≡◌, ℕ, List, [], ◌∷◌, ◌++◌, All, sym, ap, ◌∙◌, append_assoc, append-nil}
 use Rattle.std.proofs.lemmas.List.{flat_map_more}
 use Rattle.std.proofs.lemmas.List.Elements.{All-nil, All-push}
 use Rattle.std.specs.List.{flat_map}
@@ -35,8 +35,7 @@ comment_taken before after line behind text sound takes cut =
     let comments : flat_map comment_line after.comments ≡ flat_map comment_line before.comments ++ comment_line takes.comment =
     ap (flat_map comment_line) takes.comments ∙ sym (flat_map_more comment_line [] before.comments takes.comment) in
     let after_text : text_of_seal after ≡ flat_map comment_line before.comments ++ comment_line takes.comment = rw (comments, takes.sums) (append-nil _) in
-    let before_text : text_of_seal before ≡ flat_map comment_line before.comments = rw takes.first (append-nil _) in
-    (
+    let before_text : text_of_seal before ≡ flat_map comment_line before.comments = rw takes.first (append-nil _) in (
       record {
         comments = rw takes.comments (All-push FitsInComment before.comments takes.comment sound.comments takes.fits);
         sums = rw takes.sums (All-nil IsSum);
@@ -48,8 +47,7 @@ pub sum_taken : (before after : Seal) (line behind text : List ℕ) → IsSeal b
     → IsSeal after × (text_of_seal after ++ behind ≡ text_of_seal before ++ text)
 sum_taken before after line behind text sound takes cut =
     let whole : text ≡ line_of takes.sum ++ behind = cut ∙ sym (append_assoc line (10 ∷ []) behind) ∙ ap (λ (t : List ℕ). t ++ behind) (sym takes.is) in
-    let after_text : text_of_seal after ≡ text_of_seal before ++ line_of takes.sum = rw (takes.comments, takes.sums) (sym (flat_map_more line_of (flat_map comment_line before.comments) before.sums takes.sum)) in
-    (
+    let after_text : text_of_seal after ≡ text_of_seal before ++ line_of takes.sum = rw (takes.comments, takes.sums) (sym (flat_map_more line_of (flat_map comment_line before.comments) before.sums takes.sum)) in (
       record {
         comments = rw takes.comments sound.comments;
         sums = rw takes.sums (All-push IsSum before.sums takes.sum sound.sums takes.fits);

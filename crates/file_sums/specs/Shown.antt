@@ -1,6 +1,6 @@
 -- What a program has in hand of a text of sums, and why it has none.
-use Rattle.std.specs.Prelude.{ℕ, ◌≡◌, ◌≢◌, ◌++◌, ◌∷◌, [], List, Option, Some, None, map, ⊤}
-use Rattle.file_sums.specs.Sums.{FitsInComment, IsFaultIn, IsSum, Seal, Sum, comment_line, line_of}
+use Rattle.std.specs.Prelude.{ℕ, List, Option, Some, None, map, ⊤}
+use Rattle.file_sums.specs.Sums.{IsFaultIn, Seal, Sum}
 use Rattle.file_sums.specs.declared.seal_fault.SealFault.{SealFault}
 use Rattle.file_sums.specs.declared.seal_fault.SealFault.TheVariants.{Line, Memory}
 use Rattle.file_sums.specs.declared.seal_text.FileSum.{FileSum}

@@ -1,8 +1,8 @@
 //! Lines of sums and comments, written and read.
 
 ghost use Rattle.std.specs.Prelude.{◌≡◌, ◌≢◌, ◌<◌, ◌++◌, ◌∷◌, [], ℕ, List, All, IfNone, IfSome, OnErr, OnOk, length};
-ghost use Rattle.file_sums.specs.Sums.{FitsInComment, FitsInLine, IsSum, Sum, comment_line, line_of};
 ghost use Rattle.hex.specs.Hex.{encode_lower};
+ghost use Rattle.file_sums.specs.Sums.{FitsInComment, FitsInLine, IsSum, Sum, comment_line, line_of};
 
 use crate::forms::{is_comment, is_path};
 use hex::{decode_to_slice, encode_to_slice};
@@ -47,7 +47,12 @@ fn add_line(text: &mut Vec<u8>, first: &[u8], second: &[u8], third: &[u8]) -> Re
 }
 
 /// Adds three parts and a line feed, or some of them.
-fn add_parts(text: &mut Vec<u8>, first: &[u8], second: &[u8], third: &[u8]) -> Result<(), AllocError>
+fn add_parts(
+    text: &mut Vec<u8>,
+    first: &[u8],
+    second: &[u8],
+    third: &[u8],
+) -> Result<(), AllocError>
     ensures line { OnOk result (text.new.items
         ≡ text.old.items ++ (first.now ++ second.now ++ third.now ++ 10 ∷ [])) }
     ensures front { OnErr result ((added : List ℕ) × (text.new.items ≡ text.old.items ++ added)) }
@@ -86,10 +91,10 @@ pub(crate) fn comment_of(line: &[u8]) -> Option<&[u8]>
     ensures none { IfNone result ((text : List ℕ) → FitsInComment text
         → ¬ (comment_line text ≡ line.now ++ 10 ∷ [])) }
 {
-    if line.len() < 2 || line[0] != b'#' || line[1] != b' ' || !is_comment(&line[2..]) {
-        return None;
+    match line {
+        [b'#', b' ', text @ ..] if is_comment(text) => Some(text),
+        _ => None,
     }
-    Some(&line[2..])
 }
 
 /// The digest and the path of the sum that a line is of, if it is of one.
@@ -114,10 +119,10 @@ fn path_of(named: &[u8]) -> Option<&[u8]>
     ensures fits { IfSome result (λ path. FitsInLine path.now) }
     ensures none { IfNone result ((path : List ℕ) → FitsInLine path → ¬ (32 ∷ 32 ∷ path ≡ named.now)) }
 {
-    if named.len() < 2 || named[0] != b' ' || named[1] != b' ' || !is_path(&named[2..]) {
-        return None;
+    match named {
+        [b' ', b' ', path @ ..] if is_path(path) => Some(path),
+        _ => None,
     }
-    Some(&named[2..])
 }
 
 /// The digest that 64 lower case digits write.
@@ -133,5 +138,9 @@ fn digest_of(digits: &[u8]) -> Option<[u8; 32]>
     }
     // What has capital digits decodes too.
     let again = digits_of(&digest);
-    if again.as_slice() == digits { Some(digest) } else { None }
+    if again.as_slice() == digits {
+        Some(digest)
+    } else {
+        None
+    }
 }

@@ -54,7 +54,11 @@ impl SealText {
     }
 
     /// Takes the first line of a text, and answers what stands behind it. None: it cannot stand here.
-    fn take_line<'a>(&mut self, alloc: Global, text: &'a [u8]) -> Result<Option<&'a [u8]>, AllocError>
+    fn take_line<'a>(
+        &mut self,
+        alloc: Global,
+        text: &'a [u8],
+    ) -> Result<Option<&'a [u8]>, AllocError>
         requires { IsSeal (seal_shown self.old) }
         ensures sound { IfOk result (λ found. IfSome found (λ _. IsSeal (seal_shown self.new))) }
         ensures text { IfOk result (λ found. IfSome found (λ behind. text_of_seal (seal_shown self.new) ++ behind.now
@@ -89,7 +93,7 @@ impl SealText {
         let Some(comment) = comment_of(line) else {
             return Ok(false);
         };
-        self.comments.push(owned(alloc, comment)?)?;
+        self.comments.push(Vec::from_slice(alloc, comment)?)?;
         Ok(true)
     }
 
@@ -105,17 +109,8 @@ impl SealText {
             return Ok(false);
         };
         let digest = found.0;
-        let path = owned(alloc, found.1)?;
+        let path = Vec::from_slice(alloc, found.1)?;
         self.sums.push(FileSum { digest, path })?;
         Ok(true)
     }
-}
-
-/// The same bytes, in memory of their own.
-fn owned(alloc: Global, bytes: &[u8]) -> Result<Vec<u8>, AllocError>
-    ensures { IfOk result (λ copy. copy.items ≡ bytes.now) }
-{
-    let mut copy = Vec::new(alloc);
-    copy.extend_from_slice(bytes)?;
-    Ok(copy)
 }

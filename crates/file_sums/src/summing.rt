@@ -7,7 +7,7 @@ ghost use Rattle.sha2.specs.Sha256.{sha256};
 
 use crate::RunningSum;
 use std::io::{self, Read};
-use std::marker::{Model, PhantomData};
+use std::marker::{Brand, Model, PhantomData};
 
 /// Which bytes a file has, where that is known before it is read or written.
 pub trait Known {
@@ -18,6 +18,13 @@ pub trait Known {
 pub struct Unknown;
 
 impl Known for Unknown {
+    ghost use Rattle.std.specs.Prelude.{None};
+
+    ghost bytes = { None };
+}
+
+/// What each call picks: nothing, or what its proof says.
+impl Known for Brand {
     ghost use Rattle.std.specs.Prelude.{None};
 
     ghost bytes = { None };

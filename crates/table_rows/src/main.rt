@@ -12,6 +12,7 @@ mod imports;
 mod pairs;
 mod payees;
 mod registrations;
+mod sums;
 mod territories;
 mod usage_lines;
 mod written_rows;
@@ -96,6 +97,7 @@ fn add_answer<R: Files + AllocGlobal>(
     match table {
         "division.txt" => division::add_answer(rt.alloc(), &asked, answer),
         "imports.txt" => imports::add_answer(rt.alloc(), &asked, answer),
+        "sums.txt" => Ok(sums::add_answer(rt.alloc(), &asked, answer)?),
         "written_rows.txt" => Ok(written_rows::add_answer(rt.alloc(), &asked, answer)?),
         _ => Ok(add_answer_in(rt.alloc(), table, &asked, answer)?),
     }

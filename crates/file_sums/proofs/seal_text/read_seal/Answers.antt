@@ -1,6 +1,6 @@
 use Rattle.std.proofs.Common.{◌<◌, ◌+◌, ap, length, rules, ◌∙◌}
 use Rattle.file_sums.specs.Shown.{seal_shown}
-use Rattle.file_sums.specs.Sums.{Seal, lines_in}
+use Rattle.file_sums.specs.Sums.{lines_in}
 use Rattle.file_sums.proofs.SealLemmas.{fault_if_stuck}
 use Rattle.file_sums.proofs.seal_text.read_seal.Goals as goal
 
