@@ -37,7 +37,7 @@ ENDINGS = ("rt antt edit md sh py rs txt csv cwr sbatch made failed statements")
 # Words that no source declares or takes from the kit, and why they stand in backquotes.
 WORDS = {
     "commands, and packages of the system":
-        "bash cc cargo make python3 rt sbatch scancel slurmctld slurmd munged slurm-wlm fsync",
+        "bash cc cargo make python3 rt sbatch scancel slurmctld slurmd munged slurm-wlm fsync sha256sum",
     "words of Rattle, and of its kit's commands":
         "Self self main None Some Ok Err impl ensures requires search unused overflow_add-list",
     "words of Slurm": "afterok",

@@ -78,7 +78,15 @@ sums_are_longest [] (t ∷ ts) rest behind is are no_sum e =
 sums_are_longest (s ∷ ss) (t ∷ ts) rest behind is are no_sum e =
     let same = same_sums s t (flat_map line_of ss) (flat_map line_of ts) rest behind (All-head IsSum s ss is) (All-head IsSum t ts are) e in
     let least = sums_are_longest ss ts rest behind (All-tail IsSum s ss is) (All-tail IsSum t ts are) no_sum same.1 in
-    omega (arith, least, ap length same.0, length-append (line_of s) (flat_map line_of ss), length-append (line_of t) (flat_map line_of ts), length-append (sum_body s) (10 ∷ []), length-append (sum_body t) (10 ∷ []))
+    omega (
+      arith,
+      least,
+      ap length same.0,
+      length-append (line_of s) (flat_map line_of ss),
+      length-append (line_of t) (flat_map line_of ts),
+      length-append (sum_body s) (10 ∷ []),
+      length-append (sum_body t) (10 ∷ []),
+    )
 
 lines_are_longest : (cs ds : List (List ℕ)) (ss ts : List Sum) (rest behind : List ℕ) → All FitsInComment cs → All FitsInComment ds
     → All IsSum ss → All IsSum ts → IsStuck ss rest → text_of cs ss ++ rest ≡ text_of ds ts ++ behind

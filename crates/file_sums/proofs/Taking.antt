@@ -47,7 +47,8 @@ pub sum_taken : (before after : Seal) (line behind text : List ℕ) → IsSeal b
     → IsSeal after × (text_of_seal after ++ behind ≡ text_of_seal before ++ text)
 sum_taken before after line behind text sound takes cut =
     let whole : text ≡ line_of takes.sum ++ behind = cut ∙ sym (append_assoc line (10 ∷ []) behind) ∙ ap (λ (t : List ℕ). t ++ behind) (sym takes.is) in
-    let after_text : text_of_seal after ≡ text_of_seal before ++ line_of takes.sum = rw (takes.comments, takes.sums) (sym (flat_map_more line_of (flat_map comment_line before.comments) before.sums takes.sum)) in (
+    let after_text : text_of_seal after ≡ text_of_seal before ++ line_of takes.sum =
+    rw (takes.comments, takes.sums) (sym (flat_map_more line_of (flat_map comment_line before.comments) before.sums takes.sum)) in (
       record {
         comments = rw takes.comments sound.comments;
         sums = rw takes.sums (All-push IsSum before.sums takes.sum sound.sums takes.fits);

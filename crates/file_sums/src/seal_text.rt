@@ -4,7 +4,8 @@ ghost use Rattle.std.specs.Prelude.{◌≡◌, ◌+◌, ◌-◌, ◌^◌, ◌<�
 ghost use Rattle.std.specs.Prelude.{false, length, true};
 ghost use Rattle.file_sums.specs.Shown.{IsRefusedFor, seal_shown};
 ghost use Rattle.file_sums.specs.Stuck.{IsStuck, TakesComment, TakesSum};
-ghost use Rattle.file_sums.specs.Sums.{FitsInComment, IsSeal, IsSum, Sum, comment_line, line_of, lines_in, text_of_seal};
+ghost use Rattle.file_sums.specs.Sums.{FitsInComment, IsSeal, IsSum, Sum, comment_line, line_of, lines_in};
+ghost use Rattle.file_sums.specs.Sums.{text_of_seal};
 
 use crate::SealFault;
 use crate::lines::{comment_of, first_line, sum_of};
