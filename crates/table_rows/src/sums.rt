@@ -8,7 +8,7 @@ use file_sums::{
 };
 use row_tables::text_of;
 use std::alloc::{AllocError, Global};
-use std::io::{self, Read, Write};
+use std::io::{self, BufWriter, Read, Write};
 
 pub fn add_answer(alloc: Global, asked: &Asked<'_>, answer: &mut String) -> io::Result<()> {
     match asked.ask {
@@ -19,6 +19,7 @@ pub fn add_answer(alloc: Global, asked: &Asked<'_>, answer: &mut String) -> io::
         "fault" => add_fault(asked.text(), answer)?,
         "sum" => return add_sum_line(alloc, asked.text(), answer),
         "written" => return add_written(alloc, asked.text(), answer),
+        "flushed" => return add_flushed(alloc, asked.question, answer),
         _ => asked.add_unknown(answer)?,
     }
     Ok(())
@@ -96,5 +97,20 @@ fn add_written(alloc: Global, question: &str, answer: &mut String) -> io::Result
     let (left, digest) = file.into_parts();
     let digits = hex::encode(alloc, digest)?;
     write!(answer, "{is_first} {is_second} {} {digits}", left.len())?;
+    Ok(())
+}
+
+/// Adds what is below a buffer that a text is written to, before the file that is summed is flushed, and behind that.
+fn add_flushed(alloc: Global, text: &[u8], answer: &mut String) -> io::Result<()> {
+    for is_flushed in [false, true] {
+        let buffer = BufWriter::new(alloc, Vec::new(alloc))?;
+        let mut file = SummedFile::<BufWriter<Vec<u8>>, Unknown>::new(buffer);
+        file.write_all(text)?;
+        if is_flushed {
+            file.flush()?;
+        }
+        let (buffer, _) = file.into_parts();
+        add_in_brackets(buffer.get_ref().as_slice(), answer)?;
+    }
     Ok(())
 }
