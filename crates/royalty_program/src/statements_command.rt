@@ -135,7 +135,11 @@ fn read_chosen(
     let plan = read_plan_or_usual(matches);
     let to = String::from_str(alloc, matches.get_str("to").unwrap())?;
     let names = owned(alloc, matches.get_str("names"))?;
-    let title = owned_or(alloc, unless_empty(matches.get_str("title")), "Distribution")?;
+    let title = owned_or(
+        alloc,
+        unless_empty(matches.get_str("title")),
+        "Distribution",
+    )?;
     let currency = owned_or(alloc, matches.get_str("currency"), "")?;
     let decimals = matches.get_one::<u64>("decimals").unwrap_or(2) as u32;
     Ok(StatementsWords {
